@@ -1,0 +1,67 @@
+// Places in a line of text.
+ghost use Rattle.std.specs.Prelude.{◌≡◌, ◌≤◌, ◌+◌, ◌↔◌, true, chars, length, slice_range, IsCharBoundary, IsTrue};
+ghost use Rattle.rpl_text.specs.Places.{at, index, IsPlace, step_from, back_from, place_from};
+ghost use Rattle.rpl_text.specs.Seen.{text_of};
+
+use crate::line::{back_in, is_place_in, line_len, place_in, slice_in, step_in};
+
+/// A borrowed line.
+#[derive(Clone, Copy)]
+pub struct Text<'a> {
+    line: &'a str,
+}
+
+impl<'a> Text<'a> {
+    pub fn new(line: &'a str) -> Text<'a>
+        ensures { text_of result ≡ chars line.now }
+    {
+        Text { line }
+    }
+
+    /// The length in bytes.
+    pub fn len(self) -> usize
+        ensures { result ≡ at (text_of self.entry) (length (text_of self.entry)) }
+    {
+        line_len(self.line)
+    }
+
+    /// A character begins at the place, or the line ends there.
+    pub fn is_place(self, place: usize) -> bool
+        ensures { IsTrue result ↔ IsPlace (text_of self.entry) place }
+    {
+        is_place_in(self.line, place)
+    }
+
+    /// The character at a place, and the next place.
+    pub fn step(self, place: usize) -> Option<(char, usize)>
+        requires { IsPlace (text_of self) place }
+        ensures { result ≡ step_from (text_of self.entry) (index (text_of self.entry) place) }
+    {
+        step_in(self.line, place)
+    }
+
+    /// The place `count` characters before a place.
+    pub fn back(self, place: usize, count: u32) -> Option<usize>
+        requires { IsPlace (text_of self) place }
+        ensures { result ≡ back_from (text_of self.entry) (index (text_of self.entry) place) count }
+    {
+        back_in(self.line, place, count)
+    }
+
+    /// The place of the character with this number.
+    pub fn place_of(self, number: usize) -> Option<usize>
+        ensures { result ≡ place_from (text_of self.entry) number }
+    {
+        place_in(self.line, number)
+    }
+
+    /// The part between two places.
+    pub fn slice(self, from: usize, to: usize) -> &'a str
+        requires from { IsPlace (text_of self) from }
+        requires to { IsPlace (text_of self) to }
+        requires order { from ≤ to }
+        ensures { result.now ≡ slice_range self.entry.line.now from to }
+    {
+        slice_in(self.line, from, to)
+    }
+}
