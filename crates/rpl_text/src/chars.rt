@@ -1,6 +1,8 @@
+// A text of its own.
 ghost use Rattle.std.specs.Prelude.{◌≡◌, IfOk, chars};
 
-use std::alloc::{AllocError, Global};
+use crate::NoMemory;
+use std::alloc::Global;
 use std::marker::Model;
 
 /// A text of its own. Contracts see it as the list of its characters.
@@ -18,21 +20,23 @@ impl Model for Chars {
 }
 
 impl Chars {
-    /// A copy of `text`.
-    pub fn from_str(alloc: Global, text: &str) -> Result<Chars, AllocError>
+    /// A copy of the text.
+    pub fn from_str(alloc: Global, text: &str) -> Result<Chars, NoMemory>
         ensures { IfOk result (λ c. c ≡ chars text.now) }
     {
         let text = String::from_str(alloc, text)?;
         Ok(Chars { text })
     }
 
+    /// The text as a borrowed one.
     pub fn as_str(&self) -> &str
         ensures { chars result.now ≡ self.now }
     {
         &self.text
     }
 
-    pub fn copy(&self, alloc: Global) -> Result<Chars, AllocError>
+    /// The same text once more.
+    pub fn copy(&self, alloc: Global) -> Result<Chars, NoMemory>
         ensures { IfOk result (λ c. c ≡ self.now) }
     {
         Chars::from_str(alloc, self.as_str())

@@ -1,4 +1,9 @@
-//! Text as a list of characters, and places in it as numbers of bytes.
+//! Text by characters and by byte places.
+//!
+//! For the readers of patterns and for the machine, which walk over a line character by character.
+//! A text is seen as the list of its characters, and a place in it is the number of bytes before a
+//! character. Each call promises which character and which place it answers, and exactly where it
+//! answers none. Only the calls of `Chars` that copy take memory.
 #![tactic(auto)]
 
 mod chars;
@@ -6,4 +11,5 @@ mod line;
 mod text;
 
 pub use chars::Chars;
+pub use std::alloc::AllocError as NoMemory;
 pub use text::Text;

@@ -1,6 +1,6 @@
 use Rattle.std.proofs.Common.{◌≡◌, ◌≤◌, ◌-◌}
 use Rattle.std.specs.Prelude.{chars}
-use Rattle.rpl_text.specs.Places.{at, index, IsPlace}
+use Rattle.rpl_text.specs.Places.{at, index}
 use Rattle.rpl_text.proofs.line.back_in.Given as goal
 
 abbrev pub invariant-loop : goal.invariant-loop

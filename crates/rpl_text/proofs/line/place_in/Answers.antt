@@ -1,4 +1,4 @@
-use Rattle.std.proofs.Common.{◌≡◌, ◌<◌, length, sym, ap, subst, ◌∙◌, ◌+◌, Some, arith}
+use Rattle.std.proofs.Common.{◌≡◌, sym, ap, subst, ◌∙◌, Some, arith}
 use Rattle.std.specs.Prelude.{chars}
 use Rattle.rpl_text.specs.Places.{at, index, IsPlace, step_from}
 use Rattle.rpl_text.proofs.Walks.{at_zero, index_at, place_at, some_step, none_step, get_below, place_stop, place_done}

@@ -1,6 +1,6 @@
 use Rattle.std.specs.Int.{w64}
 use Rattle.std.proofs.lemmas.Nat.Bits.{bit_at_set_same, bit_at_set_other}
-use Rattle.rpl_classes.proofs.with_bit.Goals as goal
+use Rattle.rpl_classes.proofs.bits.with_bit.Goals as goal
 
 pub returns-clause-set : goal.returns-clause-set
 returns-clause-set c = bit_at_set_same w64 c.args.bits c.args.bit c.requires

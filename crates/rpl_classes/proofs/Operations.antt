@@ -1,0 +1,204 @@
+-- The members of what is done with sets, and that a class with these members is it.
+use Rattle.std.proofs.Common.{length, take, ◌≡◌, ℕ, zero, suc, ◌+◌, ◌<◌, ◌≤◌, List, [], ◌∷◌, ◌++◌, min, max, refl, sym, ap, ap₂, ◌∙◌, arith, subst}
+use Rattle.std.specs.Prelude.{Result, Ok, Err, IfOk, Bool, true, false, nat_le, ◌||◌, ◌&&◌, not}
+use Rattle.std.proofs.lemmas.Bool.Decides.{nat_tests}
+use Rattle.regex_class.specs.Ranges.{Range, in_range, in_ranges, range_at, IsCanonical, HasExactly}
+use Rattle.regex_class.proofs.RangesLemmas.{or_assoc, in_ranges-push, in_ranges-more, in_range_tells, in_ranges-nil, in_ranges-cons, in_ranges-append, or-false, same_members-same}
+use Rattle.rpl_classes.specs.Sets.{is_char, IsNormal, HasJust}
+use Rattle.rpl_classes.specs.Norm.{norm}
+use Rattle.rpl_classes.specs.Algebra.{shares, all_shares, both, outside, others, without}
+use Rattle.rpl_classes.proofs.Normal.{norm-nil, norm_whole, norm_members, norm_normal, norm_just}
+
+spread : (x y z : Bool) → ((x && y) || (x && z)) ≡ (x && (y || z))
+spread true y z = refl
+spread false y z = refl
+
+nothing : (x : Bool) → false ≡ (x && false)
+nothing true = refl
+nothing false = refl
+
+tells : (x y : Bool) → (y ≡ true → x ≡ true) → y ≡ (x && y)
+tells x true h = sym (ap (λ b. b && true) (h refl))
+tells true false h = refl
+tells false false h = refl
+
+meet : (r s : Range) (c : ℕ) → in_range (max r.0 s.0, min r.1 s.1) c ≡ (in_range r c && in_range s c)
+meet r s c = grind (arith, in_range_tells (max r.0 s.0, min r.1 s.1) c, in_range_tells r c, in_range_tells s c)
+
+pub char_below : (c : ℕ) → is_char c ≡ true → c ≤ 0x10_ffff
+char_below c h = grind (arith, nat_tests)
+
+within : (c : ℕ) → c ≤ 0x10_ffff → in_range (0, 0x10_ffff) c ≡ true
+within c le = grind (arith, in_range_tells (0, 0x10_ffff) c)
+
+cut_off : (x y : Bool) → (x ≡ true → y ≡ true) → (x && y) ≡ (x && true)
+cut_off true y h = h refl
+cut_off false y h = refl
+
+-- a class with the characters of some ranges is their normal form
+pub norm_from_class : (u rs : List Range) → IsCanonical u → HasExactly u (λ c. is_char c && in_ranges rs c) → u ≡ norm rs
+norm_from_class u rs k h = same_members-same u (norm rs) k (norm_normal rs).rises (λ c le. h c le ∙ sym (norm_members rs c))
+
+-- members of a normal list are characters
+pub only_chars : (s : List Range) (c : ℕ) → IsNormal s → in_ranges s c ≡ (is_char c && in_ranges s c)
+only_chars s c n = tells (is_char c) (in_ranges s c) (n.chars c)
+
+-- a class with the members of two normal lists is their union
+pub union_from_class : (a b all u : List Range) → IsNormal a → IsNormal b → all ≡ a ++ b → IsCanonical u → HasExactly u (in_ranges all) → u ≡ norm (a ++ b)
+union_from_class a b all u n m e k h = norm_from_class u (a ++ b) k (λ c le. h c le ∙ ap (λ l. in_ranges l c) e ∙ in_ranges-append a b c
+    ∙ ap₂ ◌||◌ (only_chars a c n) (only_chars b c m) ∙ spread (is_char c) (in_ranges a c) (in_ranges b c)
+    ∙ ap (λ x. is_char c && x) (sym (in_ranges-append a b c)))
+
+and_assoc : (x y z : Bool) → ((x && y) && z) ≡ (x && (y && z))
+and_assoc true y z = refl
+and_assoc false y z = refl
+
+drop_whole : (x y : Bool) → (x && ((x && true) && y)) ≡ (x && y)
+drop_whole true y = refl
+drop_whole false y = refl
+
+spelled : (a b c : ℕ) → in_range (a, b) c ≡ (nat_le a c && nat_le c b)
+unfolding in_range
+spelled a b c = refl
+
+gather : (x y z : Bool) → ((x && z) || (y && z)) ≡ ((x || y) && z)
+gather true y true = refl
+gather true true false = refl
+gather true false false = refl
+gather false y z = refl
+
+above : (high c : ℕ) → c ≤ 0x10_ffff → in_range (high + 1, 0x10_ffff) c ≡ not (in_range (0, high) c)
+above high c le = grind (arith, in_range_tells (high + 1, 0x10_ffff) c, in_range_tells (0, high) c)
+
+around : (low high c : ℕ) → c ≤ 0x10_ffff → (in_range (0, low) c || in_range (high + 1, 0x10_ffff) c) ≡ not (in_range (suc low, high) c)
+around low high c le = grind (arith, in_range_tells (0, low) c, in_range_tells (high + 1, 0x10_ffff) c, in_range_tells (suc low, high) c)
+
+whole : (c : ℕ) → (is_char c && in_ranges ((0, 0x10_ffff) ∷ []) c) ≡ (is_char c && not false)
+whole c = cut_off (is_char c) (in_ranges ((0, 0x10_ffff) ∷ []) c) (λ e. in_ranges-cons (0, 0x10_ffff) [] c ∙ ap (λ b. b || in_ranges [] c) (within c (char_below c e)))
+
+narrow : (x y r s : Bool) → (x ≡ true → y ≡ not r) → (x && (y && (x && not s))) ≡ (x && not (r || s))
+narrow true y true s h = ap (λ b. b && not s) (h refl)
+narrow true y false s h = ap (λ b. b && not s) (h refl)
+narrow false y r s h = refl
+
+again : (x y z : Bool) → (x && (y && (x && z))) ≡ (x && (y && z))
+again true y z = refl
+again false y z = refl
+
+shares_members : (r : Range) (ss : List Range) (c : ℕ) → in_ranges (shares r ss) c ≡ (in_range r c && in_ranges ss c)
+unfolding shares
+shares_members r [] c = in_ranges-nil c ∙ nothing (in_range r c) ∙ ap (λ b. in_range r c && b) (sym (in_ranges-nil c))
+shares_members r (s ∷ ss) c =
+    in_ranges-cons (max r.0 s.0, min r.1 s.1) (shares r ss) c
+    ∙ ap₂ ◌||◌ (meet r s c) (shares_members r ss c) ∙ spread (in_range r c) (in_range s c) (in_ranges ss c)
+    ∙ ap (λ b. in_range r c && b) (sym (in_ranges-cons s ss c))
+
+all_shares_members : (rs ss : List Range) (c : ℕ) → in_ranges (all_shares rs ss) c ≡ (in_ranges rs c && in_ranges ss c)
+unfolding all_shares
+all_shares_members [] ss c = in_ranges-nil c ∙ ap (λ b. b && in_ranges ss c) (sym (in_ranges-nil c))
+all_shares_members (r ∷ rs) ss c =
+    in_ranges-append (shares r ss) (all_shares rs ss) c
+    ∙ ap₂ ◌||◌ (shares_members r ss c) (all_shares_members rs ss c) ∙ gather (in_range r c) (in_ranges rs c) (in_ranges ss c)
+    ∙ ap (λ b. b && in_ranges ss c) (sym (in_ranges-cons r rs c))
+
+pub both_members : (rs ss : List Range) (c : ℕ) → in_ranges (both rs ss) c ≡ (is_char c && (in_ranges rs c && in_ranges ss c))
+unfolding both
+both_members rs ss c = norm_members (all_shares rs ss) c ∙ ap (λ b. is_char c && b) (all_shares_members rs ss c)
+
+outside_members : (r : Range) (c : ℕ) → c ≤ 0x10_ffff → in_ranges (outside r) c ≡ not (in_range r c)
+unfolding outside
+outside_members (zero, high) c le = in_ranges-cons (high + 1, 0x10_ffff) [] c ∙ ap (λ b. in_range (high + 1, 0x10_ffff) c || b) (in_ranges-nil c) ∙ or-false (in_range (high + 1, 0x10_ffff) c) ∙ above high c le
+outside_members (suc low, high) c le = in_ranges-cons (0, low) ((high + 1, 0x10_ffff) ∷ []) c
+    ∙ ap (λ b. in_range (0, low) c || b) (in_ranges-cons (high + 1, 0x10_ffff) [] c ∙ ap (λ b. in_range (high + 1, 0x10_ffff) c || b) (in_ranges-nil c) ∙ or-false (in_range (high + 1, 0x10_ffff) c))
+    ∙ around low high c le
+
+pub others_members : (rs : List Range) (c : ℕ) → in_ranges (others rs) c ≡ (is_char c && not (in_ranges rs c))
+unfolding others
+others_members [] c = norm_members ((0, 0x10_ffff) ∷ []) c ∙ whole c ∙ ap (λ b. is_char c && not b) (sym (in_ranges-nil c))
+others_members (r ∷ rs) c = both_members (outside r) (others rs) c
+    ∙ ap (λ b. is_char c && (in_ranges (outside r) c && b)) (others_members rs c)
+    ∙ narrow (is_char c) (in_ranges (outside r) c) (in_range r c) (in_ranges rs c) (λ e. outside_members r c (char_below c e))
+    ∙ ap (λ b. is_char c && not b) (sym (in_ranges-cons r rs c))
+
+pub without_members : (rs ss : List Range) (c : ℕ) → in_ranges (without rs ss) c ≡ (is_char c && (in_ranges rs c && not (in_ranges ss c)))
+unfolding without
+without_members rs ss c = both_members rs (others ss) c ∙ ap (λ b. is_char c && (in_ranges rs c && b)) (others_members ss c) ∙ again (is_char c) (in_ranges rs c) (not (in_ranges ss c))
+
+pub both_normal : (rs ss : List Range) → IsNormal (both rs ss)
+unfolding both
+both_normal rs ss = norm_normal (all_shares rs ss)
+
+pub others_normal : (rs : List Range) → IsNormal (others rs)
+unfolding others
+others_normal [] = norm_normal ((0, 0x10_ffff) ∷ [])
+others_normal (r ∷ rs) = both_normal (outside r) (others rs)
+
+pub without_normal : (rs ss : List Range) → IsNormal (without rs ss)
+unfolding without
+without_normal rs ss = both_normal rs (others ss)
+
+pub nil_normal : IsNormal []
+nil_normal = subst IsNormal norm-nil (norm_normal [])
+
+-- a class with the members of a normal list that another lacks
+pub without_from_class : (a b u : List Range) → IsNormal a → IsCanonical u → HasExactly u (λ c. in_ranges a c && not (in_ranges b c)) → u ≡ without a b
+without_from_class a b u n k h = same_members-same u (without a b) k (without_normal a b).rises (λ c le. h c le
+    ∙ ap (λ x. x && not (in_ranges b c)) (only_chars a c n) ∙ and_assoc (is_char c) (in_ranges a c) (not (in_ranges b c)) ∙ sym (without_members a b c))
+
+-- what a set made so has as members, of the characters
+pub without_just : (a b s : List Range) → s ≡ without a b → HasJust s (λ c. in_ranges a c && not (in_ranges b c))
+without_just a b s q c e = ap (λ l. in_ranges l c) q ∙ without_members a b c ∙ ap (λ x. x && (in_ranges a c && not (in_ranges b c))) e
+
+pub both_just : (a b s : List Range) → s ≡ both a b → HasJust s (λ c. in_ranges a c && in_ranges b c)
+both_just a b s q c e = ap (λ l. in_ranges l c) q ∙ both_members a b c ∙ ap (λ x. x && (in_ranges a c && in_ranges b c)) e
+
+pub others_just : (a s : List Range) → s ≡ others a → HasJust s (λ c. not (in_ranges a c))
+others_just a s q c e = ap (λ l. in_ranges l c) q ∙ others_members a c ∙ ap (λ x. x && not (in_ranges a c)) e
+
+pub union_just : (a b s : List Range) → s ≡ norm (a ++ b) → HasJust s (λ c. in_ranges a c || in_ranges b c)
+union_just a b s q c e = ap (λ l. in_ranges l c) q ∙ norm_just (a ++ b) c e ∙ in_ranges-append a b c
+
+pub range_just : (low high : ℕ) (s : List Range) → s ≡ norm ((low, high) ∷ []) → HasJust s (λ c. nat_le low c && nat_le c high)
+range_just low high s q c e = ap (λ l. in_ranges l c) q ∙ norm_just ((low, high) ∷ []) c e ∙ in_ranges-cons (low, high) [] c ∙ ap (λ x. in_range (low, high) c || x) (in_ranges-nil c)
+    ∙ or-false (in_range (low, high) c) ∙ spelled low high c
+
+-- all characters but those of a set
+pub all_without : (a : List Range) → without ((0, 0xd7ff) ∷ (0xe000, 0x10_ffff) ∷ []) a ≡ others a
+all_without a = ap (λ l. without l a) (sym norm_whole) ∙ same_members-same _ (others a) (without_normal (norm ((0, 0x10_ffff) ∷ [])) a).rises (others_normal a).rises (λ c le.
+    without_members (norm ((0, 0x10_ffff) ∷ [])) a c
+    ∙ ap (λ x. is_char c && (x && not (in_ranges a c))) (norm_members ((0, 0x10_ffff) ∷ []) c ∙ whole c)
+    ∙ drop_whole (is_char c) (not (in_ranges a c)) ∙ sym (others_members a c))
+
+pub cut_none : (ps : List Range) → ps ≡ [] → HasExactly ps (λ c. is_char c && in_ranges [] c)
+cut_none ps e c le = ap (λ l. in_ranges l c) e ∙ in_ranges-nil c ∙ nothing (is_char c) ∙ ap (λ b. is_char c && b) (sym (in_ranges-nil c))
+
+parted : (r : Range) (c : ℕ) → c ≤ 0x10_ffff → (in_range (r.0, min r.1 0xd7ff) c || in_range (max r.0 0xe000, r.1) c) ≡ (is_char c && in_range r c)
+parted r c le = grind (arith, nat_tests, in_range_tells (r.0, min r.1 0xd7ff) c, in_range_tells (max r.0 0xe000, r.1) c, in_range_tells r c)
+
+pub cut_more : (old ps rs : List Range) (i : ℕ) (r : Range) → i < length rs → r ≡ range_at rs i → HasExactly old (λ c. is_char c && in_ranges (take i rs) c)
+    → ps ≡ (old ++ (r.0, min r.1 0xd7ff) ∷ []) ++ (max r.0 0xe000, r.1) ∷ [] → HasExactly ps (λ c. is_char c && in_ranges (take (i + 1) rs) c)
+cut_more old ps rs i r lt s h e c le =
+    ap (λ l. in_ranges l c) e ∙ in_ranges-push (old ++ (r.0, min r.1 0xd7ff) ∷ []) (max r.0 0xe000, r.1) c
+    ∙ ap (λ b. b || in_range (max r.0 0xe000, r.1) c) (in_ranges-push old (r.0, min r.1 0xd7ff) c)
+    ∙ sym (or_assoc (in_ranges old c) (in_range (r.0, min r.1 0xd7ff) c) (in_range (max r.0 0xe000, r.1) c))
+    ∙ ap₂ ◌||◌ (h c le) (parted r c le)
+    ∙ spread (is_char c) (in_ranges (take i rs) c) (in_range r c)
+    ∙ ap (λ (x : Range). is_char c && (in_ranges (take i rs) c || in_range x c)) s
+    ∙ ap (λ b. is_char c && b) (sym (in_ranges-more rs i c lt))
+
+-- a class of the parts of some ranges is their normal form
+pub norm_from_cut : (u ps rs : List Range) → IsCanonical u → HasExactly ps (λ c. is_char c && in_ranges rs c) → HasExactly u (in_ranges ps) → u ≡ norm rs
+norm_from_cut u ps rs k h g = norm_from_class u rs k (λ c le. g c le ∙ h c le)
+
+-- the members of a set that was made, where it was
+pub range_made : {E : Type 0} (low high : ℕ) (r : Result (List Range) E) → IfOk r (λ s. s ≡ norm ((low, high) ∷ [])) → IfOk r (λ s. HasJust s (λ c. nat_le low c && nat_le c high))
+range_made low high (Ok s) e = range_just low high s e
+range_made low high (Err _) e = tt
+
+pub complement_made : {E : Type 0} (all a : List Range) (r : Result (List Range) E) → all ≡ (0, 0xd7ff) ∷ (0xe000, 0x10_ffff) ∷ [] → IfOk r (λ s. s ≡ without all a) → IfOk r (λ s. s ≡ others a)
+complement_made all a (Ok s) e q = q ∙ ap (λ l. without l a) e ∙ all_without a
+complement_made all a (Err _) e q = tt
+
+pub others_made : {E : Type 0} (a : List Range) (r : Result (List Range) E) → IfOk r (λ s. s ≡ others a) → IfOk r (λ s. HasJust s (λ c. not (in_ranges a c)))
+others_made a (Ok s) q = others_just a s q
+others_made a (Err _) q = tt

@@ -1,0 +1,32 @@
+-- What is done with sets, on any lists of ranges. Each answer is a normal form.
+use Rattle.std.specs.Prelude.{zero, suc, ◌+◌, List, [], ◌∷◌, ◌++◌, min, max}
+use Rattle.regex_class.specs.Ranges.{Range}
+use Rattle.rpl_classes.specs.Norm.{norm}
+
+-- what a range shares with each of the ranges
+unfoldable pub shares : Range → List Range → List Range
+shares r [] = []
+shares r (s ∷ ss) = (max r.0 s.0, min r.1 s.1) ∷ shares r ss
+
+-- what each of some ranges shares with each of others
+unfoldable pub all_shares : List Range → List Range → List Range
+all_shares [] ss = []
+all_shares (r ∷ rs) ss = shares r ss ++ all_shares rs ss
+
+-- the characters that are in both
+unfoldable pub both : List Range → List Range → List Range
+both rs ss = norm (all_shares rs ss)
+
+-- the numbers below and above a range
+unfoldable pub outside : Range → List Range
+outside (zero, high) = (high + 1, 0x10_ffff) ∷ []
+outside (suc low, high) = (0, low) ∷ (high + 1, 0x10_ffff) ∷ []
+
+-- the characters that are in none of the ranges
+unfoldable pub others : List Range → List Range
+others [] = norm ((0, 0x10_ffff) ∷ [])
+others (r ∷ rs) = both (outside r) (others rs)
+
+-- the characters that are in the first and not in the second
+unfoldable pub without : List Range → List Range → List Range
+without rs ss = both rs (others ss)

@@ -1,0 +1,167 @@
+// A set of characters: its ranges, and two masks for the test of an ASCII character.
+ghost use Rattle.std.specs.Prelude.{◌≡◌, ℕ, ◌≤◌, ◌||◌, ◌&&◌, ◌↔◌, [], ◌∷◌, ◌++◌, not, nat_le, IfOk, IsTrue, length};
+ghost use Rattle.regex_class.specs.Ranges.{in_ranges, HasExactly};
+ghost use Rattle.rpl_classes.specs.Sets.{is_char, IsNormal, HasJust};
+ghost use Rattle.rpl_classes.specs.Norm.{norm};
+ghost use Rattle.rpl_classes.specs.Algebra.{others, without};
+
+use crate::NoMemory;
+use crate::bits::bitmap;
+use regex_class::{Class, ClassRange};
+use std::alloc::Global;
+use std::marker::Model;
+
+/// A set of characters.
+///
+/// Contracts see it as its list of ranges, in numbers of characters with both ends.
+#[derive(Debug, Drop)]
+pub struct Set {
+    class: Class,
+    low: u64,
+    high: u64,
+}
+
+impl Model for Set {
+    ghost use Rattle.std.specs.Prelude.{List};
+    ghost use Rattle.regex_class.specs.Ranges.{Range};
+    ghost use Rattle.rpl_classes.specs.Sets.{IsNormal, IsBitmap};
+
+    ghost Value = { List Range };
+
+    ghost view = { λ a. a.class.ranges.items };
+
+    ghost invariant = { λ a. IsNormal a.class.ranges.items × IsBitmap 0 a.class.ranges.items a.low × IsBitmap 64 a.class.ranges.items a.high };
+}
+
+/// The set of a class that is normal, with its masks.
+fn sealed(class: Class) -> Set
+    requires { IsNormal class.ranges.items }
+    ensures { result ≡ class.ranges.items }
+{
+    let low = bitmap(&class, 0);
+    let high = bitmap(&class, 64);
+    Set { class, low, high }
+}
+
+/// The ranges without their surrogates, each in two parts.
+fn cut(alloc: Global, ranges: &[ClassRange]) -> Result<Vec<ClassRange>, NoMemory>
+    ensures { IfOk result (λ v. HasExactly v.items (λ c. is_char c && in_ranges ranges.now c)) }
+{
+    let mut parts = Vec::new(alloc);
+    for range in ranges {
+        parts.push((range.0, range.1.min(0xd7ff)))?;
+        parts.push((range.0.max(0xe000), range.1))?;
+    }
+    Ok(parts)
+}
+
+impl Set {
+    /// The set with no member.
+    pub fn empty(alloc: Global) -> Result<Set, NoMemory>
+        ensures { IfOk result (λ s. s ≡ []) }
+    {
+        Ok(sealed(Class::empty(alloc)))
+    }
+
+    /// The set of all characters.
+    pub fn all(alloc: Global) -> Result<Set, NoMemory>
+        ensures { IfOk result (λ s. s ≡ (0, 0xd7ff) ∷ (0xe000, 0x10_ffff) ∷ []) }
+    {
+        Set::from_ranges(alloc, &[(0, 0x10_ffff)])
+    }
+
+    /// The characters of the ranges, which come in any order and may overlap. A range whose start
+    /// is above its end is empty.
+    pub fn from_ranges(alloc: Global, ranges: &[(u32, u32)]) -> Result<Set, NoMemory>
+        ensures ranges { IfOk result (λ s. s ≡ norm ranges.now) }
+        ensures normal { IfOk result IsNormal }
+        ensures members { IfOk result (λ s. HasJust s (in_ranges ranges.now)) }
+    {
+        let class = Class::new(cut(alloc, ranges)?)?;
+        Ok(sealed(class))
+    }
+
+    /// The characters from `low` to `high`, both included.
+    pub fn range(alloc: Global, low: char, high: char) -> Result<Set, NoMemory>
+        requires { low ≤ high }
+        ensures ranges { IfOk result (λ s. s ≡ norm ((low, high) ∷ [])) }
+        ensures normal { IfOk result IsNormal }
+        ensures members { IfOk result (λ s. HasJust s (λ c. nat_le low c && nat_le c high)) }
+    {
+        Set::from_ranges(alloc, &[(low as u32, high as u32)])
+    }
+
+    /// The characters that are in at least one of the two.
+    pub fn union(&self, alloc: Global, other: &Set) -> Result<Set, NoMemory>
+        ensures ranges { IfOk result (λ s. s ≡ norm (self.now ++ other.now)) }
+        ensures normal { IfOk result IsNormal }
+        ensures members { IfOk result (λ s. HasJust s (λ c. in_ranges self.now c || in_ranges other.now c)) }
+    {
+        let mut ranges = Vec::from_slice(alloc, &self.class.ranges)?;
+        ranges.extend_from_slice(&other.class.ranges)?;
+        Ok(sealed(Class::new(ranges)?))
+    }
+
+    /// The characters that are not in the set.
+    pub fn complement(&self, alloc: Global) -> Result<Set, NoMemory>
+        ensures ranges { IfOk result (λ s. s ≡ others self.now) }
+        ensures normal { IfOk result IsNormal }
+        ensures members { IfOk result (λ s. HasJust s (λ c. not (in_ranges self.now c))) }
+    {
+        let all = Set::all(alloc)?;
+        all.without(alloc, self)
+    }
+
+    /// The characters that are in this set and not in the other.
+    pub fn without(&self, alloc: Global, other: &Set) -> Result<Set, NoMemory>
+        ensures ranges { IfOk result (λ s. s ≡ without self.now other.now) }
+        ensures normal { IfOk result IsNormal }
+        ensures members { IfOk result (λ s. HasJust s (λ c. in_ranges self.now c && not (in_ranges other.now c))) }
+    {
+        let own = self.copy(alloc)?;
+        Ok(sealed(own.class.difference(&other.class)?))
+    }
+
+    /// The same set once more.
+    pub fn copy(&self, alloc: Global) -> Result<Set, NoMemory>
+        ensures { IfOk result (λ s. s ≡ self.now) }
+    {
+        let ranges = Vec::from_slice(alloc, &self.class.ranges)?;
+        let class = Class { ranges };
+        Ok(Set {
+            class,
+            low: self.low,
+            high: self.high,
+        })
+    }
+
+    /// Whether the two have the same members.
+    pub fn same(&self, other: &Set) -> bool
+        ensures { IsTrue result ↔ (self.now ≡ other.now) }
+    {
+        self.class.ranges == other.class.ranges
+    }
+
+    /// Whether the character is in the set. For an ASCII character this is one test of a bit.
+    #[inline]
+    pub fn has(&self, c: char) -> bool
+        ensures { result ≡ in_ranges self.now c }
+    {
+        let number = c as u32;
+        if number < 64 {
+            (self.low >> number) & 1 != 0
+        } else if number < 128 {
+            (self.high >> (number - 64)) & 1 != 0
+        } else {
+            self.class.contains(number)
+        }
+    }
+
+    /// The ranges in order, as numbers of characters, each with both its ends.
+    pub fn ranges(&self) -> &[(u32, u32)]
+        ensures same { result.now ≡ self.now }
+        ensures normal { IsNormal self.now }
+    {
+        &self.class.ranges
+    }
+}
