@@ -1,0 +1,3 @@
+mod Examples
+mod Names
+pub mod Rows

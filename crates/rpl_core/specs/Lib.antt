@@ -1,0 +1,16 @@
+pub mod Core
+pub mod Forest
+pub mod Meaning
+pub mod Outcome
+pub mod Instr
+pub mod Machine
+pub mod Run
+pub mod Norm
+pub mod Head
+pub mod Code
+pub mod Programs
+pub mod View
+pub mod Table
+pub mod Numbers
+pub mod Program
+pub mod Listed

@@ -1,0 +1,109 @@
+// The machine's instructions, with numbers in place of sets and texts.
+ghost use Rattle.std.specs.Option.{option_copied};
+ghost use Rattle.std.specs.Prelude.{◌≡◌, List, [], ◌∷◌, ◌++◌, length, slice_get, OnOk, OnErr};
+
+use crate::NoMemory;
+use std::alloc::Global;
+use std::marker::Model;
+
+/// An instruction, with its operands in the order in which they print: an address from 0, the number of a set, the
+/// number of a text, or a count of characters. `specs/Machine.antt` defines the step of each.
+#[derive(Clone, Copy)]
+pub enum Instr {
+    /// Takes a character of the set, else fails.
+    Set(u32),
+    /// Fails anywhere but at the first place.
+    Start,
+    /// Fails anywhere but at the last place.
+    End,
+    /// Pushes an entry: a failure goes on at the address, from this place.
+    Choice(u32),
+    /// Takes the entry off and goes to the address.
+    Commit(u32),
+    /// Takes the entry off and fails.
+    FailTwice,
+    /// Takes the entry off, goes back to its place and captures, and goes to the address.
+    BackCommit(u32),
+    /// Fails.
+    Fail,
+    /// Goes so many characters back, or fails.
+    Back(u32),
+    /// Where this is the entry's place, takes it off, goes back to its captures and goes to the address; else fails.
+    Meet(u32),
+    /// Pushes the next address and goes to the address.
+    Call(u32),
+    /// Goes on where the call was.
+    Return,
+    /// Begins a tree of the type with this number.
+    Open(u32),
+    /// Ends the tree.
+    Close,
+    /// Adds a note of the text with this number.
+    Note(u32),
+    /// Ends the run with a match.
+    Finish,
+    /// Goes on where a character of the set follows, without taking it; else goes to the address.
+    TestSet(u32, u32),
+    /// Takes characters of the set as long as they follow.
+    Span(u32),
+    /// Sets the entry to this place and the present captures, and goes to the address.
+    PartialCommit(u32),
+    /// Ends each open tree here, and then the run with a match.
+    Halt,
+}
+
+/// Instructions in order, the first at address 0. Contracts see their list.
+#[derive(Drop)]
+pub struct Instrs {
+    items: Vec<Instr>,
+}
+
+impl Model for Instrs {
+    ghost use Rattle.std.specs.Prelude.{List};
+    ghost use Rattle.rpl_core.specs.declared.instr.Instr.{Instr};
+
+    ghost Value = { List Instr };
+
+    ghost view = { λ a. a.items.items };
+}
+
+impl Instrs {
+    /// No instructions. It takes no memory.
+    pub fn new(alloc: Global) -> Instrs
+        ensures { result ≡ [] }
+    {
+        Instrs {
+            items: Vec::new(alloc),
+        }
+    }
+
+    /// Adds an instruction at the end. Where memory is wanting, nothing changes.
+    pub fn push(&mut self, item: Instr) -> Result<(), NoMemory>
+        ensures ok { OnOk result (self.new ≡ self.old ++ item ∷ []) }
+        ensures err { OnErr result (self.new ≡ self.old) }
+    {
+        self.items.push(item)?;
+        Ok(())
+    }
+
+    /// The number of instructions.
+    pub fn len(&self) -> usize
+        ensures { result ≡ length self.now }
+    {
+        self.items.len()
+    }
+
+    /// The instruction at this address.
+    pub fn get(&self, index: usize) -> Option<&Instr>
+        ensures { option_copied result ≡ slice_get self.now index }
+    {
+        self.items.get(index)
+    }
+
+    /// All of them.
+    pub fn as_slice(&self) -> &[Instr]
+        ensures { result.now ≡ self.now }
+    {
+        &self.items
+    }
+}

@@ -1,0 +1,14 @@
+//! What a pattern means, what the machine does, and the code that joins them, as definitions (`specs/`);
+//! and the types that hold patterns, rules and code.
+#![tactic(auto)]
+
+mod instr;
+mod peg;
+mod program;
+mod rules;
+
+pub use instr::{Instr, Instrs};
+pub use peg::{Peg, Pegs};
+pub use program::{Labels, Program, Sets};
+pub use rules::{Rule, Rules};
+pub use std::alloc::AllocError as NoMemory;

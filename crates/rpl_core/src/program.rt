@@ -1,0 +1,156 @@
+// Code with its sets and texts.
+ghost use Rattle.std.specs.Option.{option_copied};
+ghost use Rattle.std.specs.Prelude.{◌≡◌, List, [], ◌∷◌, ◌++◌, length, slice_get, OnOk, OnErr, chars, option_map};
+ghost use Rattle.rpl_core.specs.Numbers.{AreInRange};
+
+use crate::NoMemory;
+use crate::instr::{Instr, Instrs};
+use rpl_classes::Set;
+use rpl_text::Chars;
+use std::alloc::Global;
+use std::marker::Model;
+
+/// Sets in order, numbered from 0. Contracts see the list of their lists of ranges.
+#[derive(Drop)]
+pub struct Sets {
+    items: Vec<Set>,
+}
+
+impl Model for Sets {
+    ghost use Rattle.std.specs.Prelude.{List};
+    ghost use Rattle.regex_class.specs.Ranges.{Range};
+
+    ghost Value = { List (List Range) };
+
+    ghost view = { λ a. a.items.items };
+}
+
+/// Texts in order, numbered from 0. Contracts see the list of their lists of characters.
+#[derive(Drop)]
+pub struct Labels {
+    items: Vec<Chars>,
+}
+
+impl Model for Labels {
+    ghost use Rattle.std.specs.Prelude.{List, ℕ};
+
+    ghost Value = { List (List ℕ) };
+
+    ghost view = { λ a. a.items.items };
+}
+
+/// Code, with the sets and the texts that its instructions name by number. Each number is in range, and each
+/// address is that of an instruction.
+#[derive(Drop)]
+pub struct Program {
+    code: Instrs,
+    sets: Sets,
+    labels: Labels,
+    ghost in_range: { AreInRange code sets labels },
+}
+
+impl Sets {
+    /// No sets. It takes no memory.
+    pub fn new(alloc: Global) -> Sets
+        ensures { result ≡ [] }
+    {
+        Sets {
+            items: Vec::new(alloc),
+        }
+    }
+
+    /// Adds a set at the end. Where memory is wanting, nothing changes.
+    pub fn push(&mut self, item: Set) -> Result<(), NoMemory>
+        ensures ok { OnOk result (self.new ≡ self.old ++ item ∷ []) }
+        ensures err { OnErr result (self.new ≡ self.old) }
+    {
+        self.items.push(item)?;
+        Ok(())
+    }
+
+    /// The number of sets.
+    pub fn len(&self) -> usize
+        ensures { result ≡ length self.now }
+    {
+        self.items.len()
+    }
+
+    /// The set with this number.
+    pub fn get(&self, index: usize) -> Option<&Set>
+        ensures { option_copied result ≡ slice_get self.now index }
+    {
+        self.items.get(index)
+    }
+}
+
+impl Labels {
+    /// No texts. It takes no memory.
+    pub fn new(alloc: Global) -> Labels
+        ensures { result ≡ [] }
+    {
+        Labels {
+            items: Vec::new(alloc),
+        }
+    }
+
+    /// Adds a text at the end. Where memory is wanting, nothing changes.
+    pub fn push(&mut self, item: Chars) -> Result<(), NoMemory>
+        ensures ok { OnOk result (self.new ≡ self.old ++ item ∷ []) }
+        ensures err { OnErr result (self.new ≡ self.old) }
+    {
+        self.items.push(item)?;
+        Ok(())
+    }
+
+    /// The number of texts.
+    pub fn len(&self) -> usize
+        ensures { result ≡ length self.now }
+    {
+        self.items.len()
+    }
+
+    /// The text with this number.
+    pub fn get(&self, index: usize) -> Option<&Chars>
+        ensures { option_copied result ≡ slice_get self.now index }
+    {
+        self.items.get(index)
+    }
+}
+
+impl Program {
+    ghost use Rattle.rpl_core.specs.Program.{code_of, sets_of, labels_of};
+
+    /// The program of these parts.
+    pub fn new(code: Instrs, sets: Sets, labels: Labels) -> Program
+        requires { AreInRange code sets labels }
+        ensures code { code_of result ≡ code }
+        ensures sets { sets_of result ≡ sets }
+        ensures labels { labels_of result ≡ labels }
+    {
+        Program { code, sets, labels }
+    }
+
+    /// The instructions, the first at address 0.
+    pub fn code(&self) -> &[Instr]
+        ensures { result.now ≡ code_of self.now }
+    {
+        self.code.as_slice()
+    }
+
+    /// The set with this number.
+    pub fn set(&self, id: u32) -> Option<&Set>
+        ensures { option_copied result ≡ slice_get (sets_of self.now) id }
+    {
+        self.sets.get(id as usize)
+    }
+
+    /// The text with this number: the type of a tree, or a note.
+    pub fn label(&self, id: u32) -> Option<&str>
+        ensures { option_map chars (option_copied result) ≡ slice_get (labels_of self.now) id }
+    {
+        match self.labels.get(id as usize) {
+            Some(text) => Some(text.as_str()),
+            None => None,
+        }
+    }
+}

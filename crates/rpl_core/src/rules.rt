@@ -1,0 +1,63 @@
+// The table of rules.
+ghost use Rattle.std.specs.Option.{option_copied};
+ghost use Rattle.std.specs.Prelude.{◌≡◌, ◌<◌, ◌^◌, [], ◌∷◌, ◌++◌, length, slice_get, OnOk, OnErr};
+ghost use Rattle.rpl_core.specs.Table.{AreDistinct, IsNew, names_of};
+
+use crate::NoMemory;
+use crate::peg::Peg;
+use rpl_text::Chars;
+use std::alloc::Global;
+
+/// A rule: its full name, the number of its recursive block if it stands in one, and its body.
+#[derive(Drop)]
+pub struct Rule {
+    pub name: Chars,
+    pub block: Option<u32>,
+    pub body: Peg,
+}
+
+/// The table of rules, in order. `Peg::Call` holds a place in it, from 0. No two rules have the same full name.
+#[derive(Drop)]
+pub struct Rules {
+    items: Vec<Rule>,
+    ghost few: { length items.items < 2 ^ 32 },
+    ghost distinct: { AreDistinct (names_of items.items) },
+}
+
+impl Rules {
+    ghost use Rattle.rpl_core.specs.Listed.{rules_of};
+
+    /// No rules. It takes no memory.
+    pub fn new(alloc: Global) -> Rules
+        ensures { rules_of result ≡ [] }
+    {
+        Rules {
+            items: Vec::new(alloc),
+        }
+    }
+
+    /// Adds a rule of a new name at the end. Where memory is wanting, nothing changes.
+    pub fn push(&mut self, rule: Rule) -> Result<(), NoMemory>
+        requires few { length (rules_of self.old) < 0xffff_ffff }
+        requires new_name { IsNew rule.name (names_of (rules_of self.old)) }
+        ensures ok { OnOk result (rules_of self.new ≡ rules_of self.old ++ rule ∷ []) }
+        ensures err { OnErr result (rules_of self.new ≡ rules_of self.old) }
+    {
+        self.items.push(rule)?;
+        Ok(())
+    }
+
+    /// The number of rules.
+    pub fn len(&self) -> usize
+        ensures { result ≡ length (rules_of self.now) }
+    {
+        self.items.len()
+    }
+
+    /// The rule with this number, from 0.
+    pub fn get(&self, rule: u32) -> Option<&Rule>
+        ensures { option_copied result ≡ slice_get (rules_of self.now) rule }
+    {
+        self.items.get(rule as usize)
+    }
+}
