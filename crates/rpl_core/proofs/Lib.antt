@@ -1,3 +1,7 @@
+pub mod Bounds
+pub mod Depth
 mod Examples
+pub mod Flat
+pub mod InRange
 mod Names
 pub mod Rows

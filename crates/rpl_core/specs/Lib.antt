@@ -6,6 +6,7 @@ pub mod Instr
 pub mod Machine
 pub mod Run
 pub mod Norm
+pub mod Laws
 pub mod Head
 pub mod Code
 pub mod Programs

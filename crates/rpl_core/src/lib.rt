@@ -3,11 +3,13 @@
 #![tactic(auto)]
 
 mod instr;
+mod laws;
 mod peg;
 mod program;
 mod rules;
 
 pub use instr::{Instr, Instrs};
+pub use laws::{depth_law, flat_law, run_law};
 pub use peg::{Peg, Pegs};
 pub use program::{Labels, Program, Sets};
 pub use rules::{Rule, Rules};
