@@ -5,7 +5,6 @@ pub mod Outcome
 pub mod Instr
 pub mod Machine
 pub mod Run
-pub mod Norm
 pub mod Laws
 pub mod Head
 pub mod Code

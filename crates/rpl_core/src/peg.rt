@@ -91,3 +91,56 @@ impl Pegs {
         &self.items
     }
 }
+
+/// A box with a copy of the pattern.
+#[cycle(copy)]
+fn boxed(alloc: Global, body: &Peg) -> Result<Box<Peg>, NoMemory>
+    ensures { IfOk result (λ b. core_of b.value ≡ core_of body.now) }
+{
+    let copy = body.copy(alloc)?;
+    Ok(Box::new(alloc, copy)?)
+}
+
+impl Peg {
+    /// A pattern of the same core.
+    #[cycle(copy)]
+    pub fn copy(&self, alloc: Global) -> Result<Peg, NoMemory>
+        ensures { IfOk result (λ p. core_of p ≡ core_of self.now) }
+    {
+        match self {
+            Peg::Set(set) => Ok(Peg::Set(set.copy(alloc)?)),
+            Peg::Seq(parts) => Ok(Peg::Seq(parts.copy(alloc)?)),
+            Peg::Choice(parts) => Ok(Peg::Choice(parts.copy(alloc)?)),
+            Peg::Many(body) => Ok(Peg::Many(boxed(alloc, body)?)),
+            Peg::Not(body) => Ok(Peg::Not(boxed(alloc, body)?)),
+            Peg::And(body) => Ok(Peg::And(boxed(alloc, body)?)),
+            Peg::Behind { least, most, body } => Ok(Peg::Behind {
+                least: *least,
+                most: *most,
+                body: boxed(alloc, body)?,
+            }),
+            Peg::Call(rule) => Ok(Peg::Call(*rule)),
+            Peg::Capture(label, body) => {
+                Ok(Peg::Capture(label.copy(alloc)?, boxed(alloc, body)?))
+            }
+            Peg::Note(text) => Ok(Peg::Note(text.copy(alloc)?)),
+            Peg::Start => Ok(Peg::Start),
+            Peg::End => Ok(Peg::End),
+            Peg::Halt => Ok(Peg::Halt),
+        }
+    }
+}
+
+impl Pegs {
+    /// Patterns of the same cores.
+    #[cycle(copy)]
+    pub fn copy(&self, alloc: Global) -> Result<Pegs, NoMemory>
+        ensures { IfOk result (λ ps. cores (listed ps) ≡ cores (listed self.now)) }
+    {
+        let mut copies = Pegs::new(alloc);
+        for part in &self.items {
+            copies.push(part.copy(alloc)?)?;
+        }
+        Ok(copies)
+    }
+}

@@ -1,0 +1,43 @@
+-- The machine's state as its definition has it.
+use Rattle.std.specs.Prelude.{ℕ, ◌+◌, List, [], map, reverse, slice_index_or}
+use Rattle.rpl_core.specs.Forest as F
+use Rattle.rpl_core.specs.Machine as M
+use Rattle.rpl_core.specs.Run as A
+use Rattle.rpl_plain.specs.declared.machine.Entry.{Entry}
+use Rattle.rpl_plain.specs.declared.machine.Entry.TheVariants as E
+use Rattle.rpl_plain.specs.declared.machine.Caught.{Caught}
+use Rattle.rpl_plain.specs.declared.machine.Caught.TheVariants as C
+use Rattle.rpl_plain.specs.declared.machine.Stage.{Stage}
+use Rattle.rpl_plain.specs.declared.machine.Stage.TheVariants as S
+use Rattle.rpl_plain.specs.declared.machine.Machine.{Machine}
+
+abbrev pub entry_of : Entry → M.Entry
+entry_of (E.ReturnTo a) = M.ReturnTo a
+entry_of (E.Retry a j n) = M.Retry a j n
+
+-- the capture with its text in place
+abbrev pub caught_of : List (List ℕ) → Caught → F.Caught
+caught_of texts (C.Begin c i) = F.Begin (slice_index_or texts c []) i
+caught_of texts (C.Finish i) = F.Finish i
+caught_of texts (C.Note x i) = F.Mark (slice_index_or texts x []) i
+
+abbrev pub state_at : Stage → List M.Entry → List F.Caught → M.State
+state_at (S.Going a i) st cs = M.Going a i st cs
+state_at S.Failing st cs = M.Failing st cs
+state_at (S.Ended i) st cs = M.Ended i cs
+
+-- the stack, with the last entry on top
+abbrev pub stack_of : Machine → List M.Entry
+stack_of m = reverse (map entry_of m.stack.items)
+
+abbrev pub captures_of : List (List ℕ) → Machine → List F.Caught
+captures_of texts m = map (caught_of texts) m.caught.items
+
+abbrev pub state_of : List (List ℕ) → Machine → M.State
+state_of texts m = state_at m.stage (stack_of m) (captures_of texts m)
+
+-- the answer after n steps more
+abbrev pub later : ℕ → A.Answer → A.Answer
+later n (A.Matched k i cs) = A.Matched (n + k) i cs
+later n (A.Failed k) = A.Failed (n + k)
+later n A.Unfinished = A.Unfinished
