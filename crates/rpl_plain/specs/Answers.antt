@@ -1,17 +1,27 @@
 -- What a run answers.
-use Rattle.std.specs.Prelude.{◌≡◌, ℕ, List, Result, Ok, Err}
-use Rattle.rpl_core.specs.Run as M
+use Rattle.std.specs.Prelude.{◌≡◌, ℕ, Result, Ok, Err, map}
+use Rattle.rpl_core.specs.Machine as M
+use Rattle.rpl_core.specs.Run as R
 use Rattle.rpl_plain.specs.declared.machine.Answer as A
 use Rattle.rpl_plain.specs.declared.machine.Answer.TheVariants as V
-use Rattle.rpl_plain.specs.declared.machine.RunFault as R
+use Rattle.rpl_plain.specs.declared.machine.RunFault.{RunFault}
 use Rattle.rpl_plain.specs.declared.machine.RunFault.TheVariants as W
-use Rattle.rpl_plain.specs.declared.machine.Machine.{Machine}
-use Rattle.rpl_plain.specs.Shown.{captures_of}
+use Rattle.rpl_plain.specs.Shown.{caught_of}
 
--- A match with its place, its steps and its captures, no match with its steps, or the budget, as the definition
--- says; of want of memory nothing is said.
-abbrev pub Answers : List (List ℕ) → Result A.Answer R.RunFault → Machine → M.Answer → Type 0
-Answers texts (Ok (V.At i n)) m a = a ≡ M.Matched n i (captures_of texts m)
-Answers texts (Ok (V.Fail n)) m a = a ≡ M.Failed n
-Answers texts (Err W.Budget) m a = a ≡ M.Unfinished
-Answers texts (Err W.NoMemory) m a = Unit {0}
+-- the answer as the definition has it
+abbrev pub answer_of : A.Answer → R.Answer
+answer_of (V.At i n cs) = R.Matched n i (map caught_of cs.items)
+answer_of (V.Fail n) = R.Failed n
+
+-- A run gives the answer of the definition, or the budget where that is unfinished. Of want of memory nothing is
+-- said.
+abbrev pub Answers : Result A.Answer RunFault → R.Answer → Type 0
+Answers (Ok a) x = x ≡ answer_of a
+Answers (Err W.Budget) x = x ≡ R.Unfinished
+Answers (Err W.NoMemory) x = Unit {0}
+
+-- how a run has ended that is over in this state, after n steps
+abbrev pub ended_as : ℕ → M.State → R.Answer
+ended_as n (M.Going a i st cs) = R.Unfinished
+ended_as n (M.Failing st cs) = R.Failed n
+ended_as n (M.Ended i cs) = R.Matched n i cs

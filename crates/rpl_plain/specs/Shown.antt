@@ -1,5 +1,5 @@
 -- The machine's state as its definition has it.
-use Rattle.std.specs.Prelude.{ℕ, ◌+◌, List, [], map, reverse, slice_index_or}
+use Rattle.std.specs.Prelude.{ℕ, ◌+◌, List, map, reverse}
 use Rattle.rpl_core.specs.Forest as F
 use Rattle.rpl_core.specs.Machine as M
 use Rattle.rpl_core.specs.Run as A
@@ -15,11 +15,10 @@ abbrev pub entry_of : Entry → M.Entry
 entry_of (E.ReturnTo a) = M.ReturnTo a
 entry_of (E.Retry a j n) = M.Retry a j n
 
--- the capture with its text in place
-abbrev pub caught_of : List (List ℕ) → Caught → F.Caught
-caught_of texts (C.Begin c i) = F.Begin (slice_index_or texts c []) i
-caught_of texts (C.Finish i) = F.Finish i
-caught_of texts (C.Note x i) = F.Mark (slice_index_or texts x []) i
+abbrev pub caught_of : Caught → F.Caught
+caught_of (C.Begin c i) = F.Begin c i
+caught_of (C.Finish i) = F.Finish i
+caught_of (C.Note x i) = F.Mark x i
 
 abbrev pub state_at : Stage → List M.Entry → List F.Caught → M.State
 state_at (S.Going a i) st cs = M.Going a i st cs
@@ -30,11 +29,11 @@ state_at (S.Ended i) st cs = M.Ended i cs
 abbrev pub stack_of : Machine → List M.Entry
 stack_of m = reverse (map entry_of m.stack.items)
 
-abbrev pub captures_of : List (List ℕ) → Machine → List F.Caught
-captures_of texts m = map (caught_of texts) m.caught.items
+abbrev pub captures_of : Machine → List F.Caught
+captures_of m = map caught_of m.caught.items
 
-abbrev pub state_of : List (List ℕ) → Machine → M.State
-state_of texts m = state_at m.stage (stack_of m) (captures_of texts m)
+abbrev pub state_of : Machine → M.State
+state_of m = state_at m.stage (stack_of m) (captures_of m)
 
 -- the answer after n steps more
 abbrev pub later : ℕ → A.Answer → A.Answer

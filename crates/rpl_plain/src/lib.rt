@@ -4,4 +4,4 @@
 
 mod machine;
 
-pub use machine::{Answer, Caught, Machine, RunFault, run};
+pub use machine::{Answer, Caught, RunFault, run};
