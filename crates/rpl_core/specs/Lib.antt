@@ -14,3 +14,4 @@ pub mod Table
 pub mod Numbers
 pub mod Program
 pub mod Listed
+pub mod Captures

@@ -2,12 +2,14 @@
 //! and the types that hold patterns, rules and code.
 #![tactic(auto)]
 
+mod caught;
 mod instr;
 mod laws;
 mod peg;
 mod program;
 mod rules;
 
+pub use caught::Caught;
 pub use instr::{Instr, Instrs};
 pub use laws::{depth_law, flat_law, run_law};
 pub use peg::{Peg, Pegs};

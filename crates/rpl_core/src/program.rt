@@ -81,6 +81,13 @@ impl Sets {
     {
         self.items.get(index)
     }
+
+    /// All of them.
+    pub fn as_slice(&self) -> &[Set]
+        ensures { result.now ≡ self.now }
+    {
+        &self.items
+    }
 }
 
 impl Labels {
@@ -130,11 +137,19 @@ impl Program {
         Program { code, sets, labels }
     }
 
-    /// The instructions, the first at address 0.
+    /// The instructions, the first at address 0. Each number in them is in range.
     pub fn code(&self) -> &[Instr]
-        ensures { result.now ≡ code_of self.now }
+        ensures same { result.now ≡ code_of self.now }
+        ensures in_range { AreInRange (code_of self.now) (sets_of self.now) (labels_of self.now) }
     {
         self.code.as_slice()
+    }
+
+    /// The sets, the first with the number 0.
+    pub fn sets(&self) -> &[Set]
+        ensures { result.now ≡ sets_of self.now }
+    {
+        self.sets.as_slice()
     }
 
     /// The set with this number.
