@@ -1,0 +1,5 @@
+mod Walks
+mod Acting
+mod Stepping
+mod Later
+mod Ranges
