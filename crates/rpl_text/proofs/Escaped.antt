@@ -5,7 +5,8 @@ use Rattle.std.specs.Char.{digit_value, len_utf8}
 use Rattle.std.proofs.lemmas.Bool.{cases_lt, cases_Bool, le-ltb, lt-ltb}
 use Rattle.std.proofs.lemmas.Bool.Decides.{nat_tests}
 use Rattle.std.proofs.lemmas.Str.{encode_ascii, inside_one, length-encode, len_utf8_bounds, len_utf8_ascii, encodes-chars, cons_from_encodes, IsCharBoundary-before_ascii}
-use Rattle.rpl_text.specs.Escapes.{is_char, hex, numbered, is_kept, escape, shifted, placed, escape_from}
+use Rattle.rpl_text.specs.Escapes.{hex, numbered, is_kept, escape, shifted, placed, escape_from}
+use Rattle.rpl_text.specs.Characters.{is_char}
 use Rattle.rpl_text.specs.Places.{at, index, IsPlace}
 use Rattle.rpl_text.proofs.Cuts.{at-drop}
 use Rattle.rpl_text.proofs.Hex.{hex-cons, hex-nil}

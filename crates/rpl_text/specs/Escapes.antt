@@ -1,11 +1,8 @@
 -- The escapes of quoted texts and brackets. All that decides is ASCII, so they are the same over bytes and over characters.
 use Rattle.std.specs.Prelude.{ℕ, zero, suc, ◌+◌, ◌*◌, Bool, ◌&&◌, ◌||◌, nat_lt, nat_le, nat_eq, if◌then◌else◌, List, [], ◌∷◌, Option, Some, None, drop}
 use Rattle.std.specs.Char.{digit_value}
+use Rattle.rpl_text.specs.Characters.{is_char}
 use Rattle.rpl_text.specs.Places.{at}
-
--- the number is that of a character: below the end of Unicode, and no surrogate
-abbrev pub is_char : ℕ → Bool
-is_char c = nat_le c 0xd7ff || (nat_le 0xe000 c && nat_le c 0x10_ffff)
 
 -- the number v with n hexadecimal digits behind it, which stand at the front; none where they don't
 unfoldable pub hex : ℕ → ℕ → List ℕ → Option ℕ
