@@ -57,7 +57,7 @@ at_suc (d ∷ cs) (suc i) c e =
     let k : suc i + 1 ≡ suc (suc i) = omega arith in
     ap (at (d ∷ cs)) k ∙ g
 
-get_some : (t : List ℕ) (i c : ℕ) (es : List ℕ) → drop i t ≡ c ∷ es → (slice_get t i ≡ Some c) × (i < length t)
+pub get_some : (t : List ℕ) (i c : ℕ) (es : List ℕ) → drop i t ≡ c ∷ es → (slice_get t i ≡ Some c) × (i < length t)
 get_some [] zero c es e = absurd (cc)
 get_some [] (suc i) c es e = absurd (cc)
 get_some (d ∷ cs) zero c es e = (cc, omega arith)
@@ -105,7 +105,7 @@ step_none bs p u h le =
     last_index (c ∷ cs) zero h le = let b = len_utf8_bounds c in absurd (omega arith)
     last_index (c ∷ cs) (suc p) h le = let k = last_index cs (suc p - len_utf8 c) (omega arith) (omega arith) in omega arith
 
-scalars_drop : (t : List ℕ) (i : ℕ) → all_scalars t ≡ true → all_scalars (drop i t) ≡ true
+pub scalars_drop : (t : List ℕ) (i : ℕ) → all_scalars t ≡ true → all_scalars (drop i t) ≡ true
 scalars_drop [] zero e = e
 scalars_drop [] (suc i) e = e
 scalars_drop (c ∷ cs) zero e = e

@@ -7,9 +7,11 @@
 #![tactic(auto)]
 
 mod chars;
+mod escapes;
 mod line;
 mod text;
 
 pub use chars::Chars;
+pub use escapes::{escape, read_escape};
 pub use std::alloc::AllocError as NoMemory;
 pub use text::Text;

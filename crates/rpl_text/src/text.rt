@@ -1,38 +1,46 @@
 // Places in a line of text.
-ghost use Rattle.std.specs.Prelude.{◌≡◌, ◌≤◌, ◌+◌, ◌↔◌, true, chars, length, slice_range, IsCharBoundary, IsTrue};
+ghost use Rattle.std.specs.Prelude.{◌≡◌, ◌≤◌, ◌↔◌, chars, length, slice_range, IsTrue};
 ghost use Rattle.rpl_text.specs.Places.{at, index, IsPlace, step_from, back_from, place_from};
 ghost use Rattle.rpl_text.specs.Seen.{text_of};
 
 use crate::line::{back_in, is_place_in, line_len, place_in, slice_in, step_in};
 
-/// A borrowed line.
+/// A borrowed line, walked over by byte places.
+///
+/// A place is a number of bytes behind which a character begins, or the line ends. Contracts see
+/// the line as the list of its characters, by `text_of`.
 #[derive(Clone, Copy)]
 pub struct Text<'a> {
     line: &'a str,
 }
 
 impl<'a> Text<'a> {
+    /// The text of a line, which it borrows.
+    #[inline]
     pub fn new(line: &'a str) -> Text<'a>
         ensures { text_of result ≡ chars line.now }
     {
         Text { line }
     }
 
-    /// The length in bytes.
+    /// The length in bytes, which is the last place.
+    #[inline]
     pub fn len(self) -> usize
         ensures { result ≡ at (text_of self.entry) (length (text_of self.entry)) }
     {
         line_len(self.line)
     }
 
-    /// A character begins at the place, or the line ends there.
+    /// Whether the number of bytes is a place.
+    #[inline]
     pub fn is_place(self, place: usize) -> bool
         ensures { IsTrue result ↔ IsPlace (text_of self.entry) place }
     {
         is_place_in(self.line, place)
     }
 
-    /// The character at a place, and the next place.
+    /// The character at a place, and the next place; None exactly at the end.
+    #[inline]
     pub fn step(self, place: usize) -> Option<(char, usize)>
         requires { IsPlace (text_of self) place }
         ensures { result ≡ step_from (text_of self.entry) (index (text_of self.entry) place) }
@@ -40,7 +48,8 @@ impl<'a> Text<'a> {
         step_in(self.line, place)
     }
 
-    /// The place `count` characters before a place.
+    /// The place `count` characters before a place; None exactly where fewer stand before it.
+    #[inline]
     pub fn back(self, place: usize, count: u32) -> Option<usize>
         requires { IsPlace (text_of self) place }
         ensures { result ≡ back_from (text_of self.entry) (index (text_of self.entry) place) count }
@@ -48,19 +57,21 @@ impl<'a> Text<'a> {
         back_in(self.line, place, count)
     }
 
-    /// The place of the character with this number.
+    /// The place of the character with a number, from 0, or the end behind the last one; None
+    /// exactly where the number is above that of the end.
     pub fn place_of(self, number: usize) -> Option<usize>
         ensures { result ≡ place_from (text_of self.entry) number }
     {
         place_in(self.line, number)
     }
 
-    /// The part between two places.
+    /// The characters between two places.
+    #[inline]
     pub fn slice(self, from: usize, to: usize) -> &'a str
         requires from { IsPlace (text_of self) from }
         requires to { IsPlace (text_of self) to }
         requires order { from ≤ to }
-        ensures { result.now ≡ slice_range self.entry.line.now from to }
+        ensures { chars result.now ≡ slice_range (text_of self.entry) (index (text_of self.entry) from) (index (text_of self.entry) to) }
     {
         slice_in(self.line, from, to)
     }
