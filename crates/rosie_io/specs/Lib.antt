@@ -1,0 +1,11 @@
+pub mod Reader
+pub mod Answering
+pub mod Held
+pub mod Filling
+pub mod Appending
+pub mod Counts
+pub mod Reading
+pub mod Writing
+pub mod Lines
+pub mod Gathering
+pub mod Opening
