@@ -55,6 +55,13 @@ impl Bytes {
         Bytes { items }
     }
 
+    /// Gives its bytes over as a `Vec`, with no copy.
+    pub fn into_vec(self) -> Vec<u8>
+        ensures { result.items ≡ self }
+    {
+        self.items
+    }
+
     /// Adds a byte at the end.
     pub fn push(&mut self, byte: u8) -> Result<(), NoMemory>
         ensures ok { OnOk result (self.new ≡ self.old ++ byte ∷ []) }

@@ -7,22 +7,27 @@ mod calls;
 mod chunk;
 mod faulty;
 mod gather;
+mod memory_files;
 mod memory_sink;
 mod memory_source;
 mod outside;
 mod reader;
 mod tree;
+mod tree_cursor;
+mod whole_files;
 mod write;
 
-pub use adapters::{StdSink, StdSource};
+pub use adapters::{StdFiles, StdSink, StdSource};
 pub use bytes::Bytes;
 pub use calls::Calls;
+pub use memory_files::{MemoryFiles, SureFiles};
 pub use memory_sink::{CountSink, MemorySink};
 pub use memory_source::{MemorySource, SureSource};
 pub use outside::{Files, FlushAnswer, PathAnswer, ReadAnswer, Sink, Source, WriteAnswer};
 pub use reader::{Line, LineFault, LineReader};
 pub use std::alloc::AllocError as NoMemory;
 pub use tree::{Tree, TreeFile};
+pub use whole_files::{FileFault, read_bytes, read_file};
 pub use write::{WriteFault, write_all};
 
 #[cfg(test)]
