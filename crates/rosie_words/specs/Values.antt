@@ -1,0 +1,47 @@
+-- The forms of values.
+use Rattle.std.specs.Prelude.{ℕ, ◌+◌, ◌-◌, ◌*◌, Bool, false, ◌&&◌, not, nat_le, List, [], ◌∷◌, Option, Some, None, is_some, codes, find, if◌then◌else◌}
+use Rattle.std.specs.Str.{bytes_eq}
+use Rattle.std.specs.List.{list_all}
+use Rattle.std.specs.Char.{is_ascii_digit}
+use Rattle.rosie_words.specs.declared.command.Style.{Style}
+use Rattle.rosie_words.specs.declared.command.Style.TheVariants as S
+use Rattle.rosie_words.specs.Table.{Word}
+
+pub record StyleName : Type 0 where
+  pub word : Word
+  pub style : Style
+
+abbrev pub style_name : Word → Style → StyleName
+style_name w s = record { word = w; style = s }
+
+-- the styles
+abbrev pub styles : List StyleName
+styles =
+  style_name (codes "json") S.Json ∷
+  style_name (codes "line") S.Line ∷
+  style_name (codes "matches") S.Matches ∷
+  style_name (codes "subs") S.Subs ∷
+  style_name (codes "data") S.Data ∷
+  style_name (codes "bool") S.Bool ∷ []
+
+abbrev pub style_of : Option StyleName → Option Style
+style_of None = None
+style_of (Some n) = Some n.style
+
+-- the style that a word names
+abbrev pub style_named : Word → Option Style
+style_named w = style_of (find (λ n. bytes_eq w n.word) styles)
+
+-- the value of digits behind those that make n
+abbrev pub value_from : ℕ → Word → ℕ
+value_from n [] = n
+value_from n (b ∷ bs) = value_from (n * 10 + (b - 48)) bs
+
+-- one or more decimal digits
+abbrev pub is_number : Word → Bool
+is_number [] = false
+is_number (b ∷ bs) = list_all is_ascii_digit (b ∷ bs)
+
+-- the number that a word spells, where it is in the range
+abbrev pub number_in : ℕ → ℕ → Word → Option ℕ
+number_in least most w = if is_number w && nat_le least (value_from 0 w) && nat_le (value_from 0 w) most then Some (value_from 0 w) else None

@@ -1,0 +1,17 @@
+//! The words of the command line: each list of words is one command with its options, or has one first fault.
+//!
+//! [`read_words`] is the reading, for the top call. It promises the whole of it: which command, and of the
+//! faults the first, exactly where it is due. [`usage`] and [`fault_text`] are what a fault prints, and
+//! [`not_yet`] names the first word that asks for what is not built.
+#![tactic(auto)]
+
+mod command;
+mod fault;
+mod lists;
+mod table;
+mod value;
+
+pub use command::{Command, Root, Style, What};
+pub use fault::UsageFault;
+pub use lists::{LibPath, Paths, Roots};
+pub use std::alloc::AllocError as NoMemory;
