@@ -1,2 +1,4 @@
+pub mod Roles
+pub mod Seen
 pub mod Table
 pub mod Values

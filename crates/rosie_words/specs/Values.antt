@@ -1,11 +1,11 @@
 -- The forms of values.
-use Rattle.std.specs.Prelude.{ℕ, ◌+◌, ◌-◌, ◌*◌, Bool, false, ◌&&◌, not, nat_le, List, [], ◌∷◌, Option, Some, None, is_some, codes, find, if◌then◌else◌}
+use Rattle.std.specs.Prelude.{ℕ, ◌+◌, ◌-◌, ◌*◌, ◌==◌, Bool, true, false, ◌&&◌, not, nat_le, List, [], ◌∷◌, Option, Some, None, is_some, codes, find, if◌then◌else◌}
 use Rattle.std.specs.Str.{bytes_eq}
-use Rattle.std.specs.List.{list_all}
+use Rattle.std.specs.List.{list_all, slice_split}
 use Rattle.std.specs.Char.{is_ascii_digit}
 use Rattle.rosie_words.specs.declared.command.Style.{Style}
 use Rattle.rosie_words.specs.declared.command.Style.TheVariants as S
-use Rattle.rosie_words.specs.Table.{Word}
+use Rattle.rosie_words.specs.Table.{Word, Form, Nothing, Anything, Folders, OneStyle, Number}
 
 pub record StyleName : Type 0 where
   pub word : Word
@@ -45,3 +45,30 @@ is_number (b ∷ bs) = list_all is_ascii_digit (b ∷ bs)
 -- the number that a word spells, where it is in the range
 abbrev pub number_in : ℕ → ℕ → Word → Option ℕ
 number_in least most w = if is_number w && nat_le least (value_from 0 w) && nat_le (value_from 0 w) most then Some (value_from 0 w) else None
+
+abbrev pub is_empty : Word → Bool
+is_empty [] = true
+is_empty (b ∷ bs) = false
+
+-- the folders of a library path: its parts between colons
+abbrev pub parts : Word → List Word
+parts w = slice_split (λ b. b == 58) w
+
+abbrev pub is_path : Word → Bool
+is_path w = list_all (λ p. not (is_empty p)) (parts w)
+
+-- the number of an option's value
+abbrev pub number_of : Form → Word → Option ℕ
+number_of Nothing w = None
+number_of Anything w = None
+number_of Folders w = None
+number_of OneStyle w = None
+number_of (Number least most) w = number_in least most w
+
+-- the word is a value of the form
+abbrev pub accepts : Form → Word → Bool
+accepts Nothing w = true
+accepts Anything w = true
+accepts Folders w = is_path w
+accepts OneStyle w = is_some (style_named w)
+accepts (Number least most) w = is_some (number_in least most w)

@@ -8,6 +8,7 @@
 mod command;
 mod fault;
 mod lists;
+mod role;
 mod table;
 mod value;
 

@@ -1,0 +1,28 @@
+-- The private types of the reading, as the definitions have them.
+use Rattle.std.specs.Prelude.{ℕ, List, Option, Some, None}
+use Rattle.std.specs.Borrow.{Bor}
+use Rattle.rosie_words.specs.Table.{Word}
+use Rattle.rosie_words.specs.declared.role.Front.{Front}
+use Rattle.rosie_words.specs.declared.role.Front.TheVariants as F
+use Rattle.rosie_words.specs.declared.role.Role.{Role}
+use Rattle.rosie_words.specs.declared.role.Role.TheVariants as R
+use Rattle.rosie_words.specs.Roles as roles
+
+abbrev pub front_of : Front → roles.Front
+front_of F.Free = roles.Free
+front_of (F.Owed o w) = roles.Owed o w.now
+front_of F.Ended = roles.Ended
+
+abbrev pub role_of : Role → roles.Role
+role_of R.EndOfOptions = roles.EndOfOptions
+role_of R.Argument = roles.Argument
+role_of R.Unknown = roles.Unknown
+role_of (R.Plain o) = roles.Plain o
+role_of R.Unexpected = roles.Unexpected
+role_of (R.Full o v) = roles.Full o v.now
+role_of (R.Waiting o) = roles.Waiting o
+role_of (R.Value o w) = roles.Value o w.now
+
+abbrev pub half_of : Option (Bor (List ℕ)) → Option Word
+half_of None = None
+half_of (Some v) = Some v.now
