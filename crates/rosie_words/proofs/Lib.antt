@@ -1,2 +1,3 @@
 pub mod Equals
+pub mod Folders
 pub mod Numbers

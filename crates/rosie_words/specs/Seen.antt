@@ -1,7 +1,7 @@
 -- The private types of the reading, as the definitions have them.
-use Rattle.std.specs.Prelude.{ℕ, List, Option, Some, None}
+use Rattle.std.specs.Prelude.{◌≡◌, ℕ, false, List, Option, Some, None}
 use Rattle.std.specs.Borrow.{Bor}
-use Rattle.rosie_words.specs.Table.{Word}
+use Rattle.rosie_words.specs.Table.{Word, has_value, row}
 use Rattle.rosie_words.specs.declared.role.Front.{Front}
 use Rattle.rosie_words.specs.declared.role.Front.TheVariants as F
 use Rattle.rosie_words.specs.declared.role.Role.{Role}
@@ -26,3 +26,14 @@ role_of (R.Value o w) = roles.Value o w.now
 abbrev pub half_of : Option (Bor (List ℕ)) → Option Word
 half_of None = None
 half_of (Some v) = Some v.now
+
+-- a role that says of an option that it stands without a value says so rightly
+abbrev pub IsFair : Role → Type 0
+IsFair (R.Plain o) = has_value (row o).value ≡ false
+IsFair R.EndOfOptions = Unit {0}
+IsFair R.Argument = Unit {0}
+IsFair R.Unknown = Unit {0}
+IsFair R.Unexpected = Unit {0}
+IsFair (R.Full o v) = Unit {0}
+IsFair (R.Waiting o) = Unit {0}
+IsFair (R.Value o w) = Unit {0}

@@ -1,5 +1,5 @@
 -- The forms of values.
-use Rattle.std.specs.Prelude.{ℕ, ◌+◌, ◌-◌, ◌*◌, ◌==◌, Bool, true, false, ◌&&◌, not, nat_le, List, [], ◌∷◌, Option, Some, None, is_some, codes, find, if◌then◌else◌}
+use Rattle.std.specs.Prelude.{ℕ, ◌+◌, ◌-◌, ◌*◌, ◌==◌, Bool, true, false, ◌&&◌, not, nat_le, List, [], ◌∷◌, Option, Some, None, is_some, chars, codes, find, map, if◌then◌else◌}
 use Rattle.std.specs.Str.{bytes_eq}
 use Rattle.std.specs.List.{list_all, slice_split}
 use Rattle.std.specs.Char.{is_ascii_digit}
@@ -50,12 +50,13 @@ abbrev pub is_empty : Word → Bool
 is_empty [] = true
 is_empty (b ∷ bs) = false
 
--- the folders of a library path: its parts between colons
+-- the parts of a word between colons
 abbrev pub parts : Word → List Word
 parts w = slice_split (λ b. b == 58) w
 
-abbrev pub is_path : Word → Bool
-is_path w = list_all (λ p. not (is_empty p)) (parts w)
+-- the folders of a library path, where none is empty
+abbrev pub path_of : Word → Option (List (List ℕ))
+path_of w = if list_all (λ p. not (is_empty p)) (parts w) then Some (map chars (parts w)) else None
 
 -- the number of an option's value
 abbrev pub number_of : Form → Word → Option ℕ
@@ -69,6 +70,6 @@ number_of (Number least most) w = number_in least most w
 abbrev pub accepts : Form → Word → Bool
 accepts Nothing w = true
 accepts Anything w = true
-accepts Folders w = is_path w
+accepts Folders w = is_some (path_of w)
 accepts OneStyle w = is_some (style_named w)
 accepts (Number least most) w = is_some (number_in least most w)

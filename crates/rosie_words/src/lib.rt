@@ -8,7 +8,9 @@
 mod command;
 mod fault;
 mod lists;
+mod reading;
 mod role;
+mod settings;
 mod table;
 mod value;
 

@@ -2,7 +2,7 @@
 
 ghost use Rattle.std.specs.Prelude.{◌≡◌};
 ghost use Rattle.rosie_words.specs.Roles.{is_option, is_long, name_of, value_of, option_role, role, next};
-ghost use Rattle.rosie_words.specs.Seen.{front_of, role_of, half_of};
+ghost use Rattle.rosie_words.specs.Seen.{front_of, role_of, half_of, IsFair};
 ghost use Rattle.rosie_words.specs.Table.{option_named};
 
 use crate::table::{OptionName, option_named};
@@ -69,7 +69,8 @@ fn halves(word: &str) -> (&str, Option<&str>)
 
 /// The role of an option's word.
 fn option_role(word: &str) -> Role<'_>
-    ensures { role_of result ≡ option_role (option_named (name_of word.now)) (value_of word.now) }
+    ensures value { role_of result ≡ option_role (option_named (name_of word.now)) (value_of word.now) }
+    ensures fair { IsFair result }
 {
     let (name, value) = halves(word);
     match (option_named(name), value) {
@@ -94,7 +95,8 @@ fn option_role(word: &str) -> Role<'_>
 impl<'a> Front<'a> {
     /// The role of the next word.
     pub(crate) fn role(self, word: &'a str) -> Role<'a>
-        ensures { role_of result ≡ role (front_of self.entry) word.now }
+        ensures value { role_of result ≡ role (front_of self.entry) word.now }
+        ensures fair { IsFair result }
     {
         match self {
             Front::Free if word == "--" => Role::EndOfOptions,
