@@ -78,7 +78,8 @@ command c what gs = record {
   steps = is_given O.Steps gs;
   code = is_given O.Code gs;
   limit = unwrap_or (number O.Limit gs) 10000;
-  code_file = option_map chars (last O.CodeFile gs) }
+  code_file = option_map chars (last O.CodeFile gs);
+}
 
 -- an option that a code file takes the place of
 abbrev pub makes_code : OptionName → Bool
@@ -88,43 +89,62 @@ makes_code o = list_any (same_option o) (O.File ∷ O.Rpl ∷ O.LibPath ∷ O.Fi
 abbrev pub is_for : CommandName → Bool → OptionName → Bool
 is_for c has_code o = takes c o && not (same_command c C.Match && has_code && makes_code o)
 
-abbrev pub stray : CommandName → List Given → Option Given
-stray c gs = find (λ g. not (is_for c (is_given O.CodeFile gs) g.option)) gs
+-- the first option that is not for the command, where a code file may be given
+abbrev pub stray : CommandName → Bool → List Given → Option Given
+stray c has_code gs = find (λ g. not (is_for c has_code g.option)) gs
 
-abbrev pub sample : Word → Word → Option ℕ → Option ℕ → Result What UsageFault
-sample x y None n = Err (BadValue (chars x))
-sample x y (Some s) None = Err (BadValue (chars y))
-sample x y (Some s) (Some n) = Ok (W.Sample s n)
+-- no argument
+abbrev pub none : List Word → Result (Unit {0}) UsageFault
+none [] = Ok tt
+none (x ∷ ws) = Err TooManyArguments
+
+-- one argument
+abbrev pub only : List Word → Result (List ℕ) UsageFault
+only [] = Err MissingArgument
+only (w ∷ []) = Ok (chars w)
+only (w ∷ x ∷ ws) = Err TooManyArguments
+
+-- a pattern, and the input files
+pub record Search : Type 0 where
+  pub pattern : List ℕ
+  pub inputs : List (List ℕ)
+
+abbrev pub search_of : List Word → Result Search UsageFault
+search_of [] = Err MissingArgument
+search_of (p ∷ fs) = Ok (record { pattern = chars p; inputs = map chars fs })
+
+-- the seed, and how many lines
+abbrev pub sampled : Word → Word → Option ℕ → Option ℕ → Result What UsageFault
+sampled x y None n = Err (BadValue (chars x))
+sampled x y (Some s) None = Err (BadValue (chars y))
+sampled x y (Some s) (Some n) = Ok (W.Sample s n)
+
+abbrev pub sample_of : Word → Word → Result What UsageFault
+sample_of x y = sampled x y (number_in 0 2147483647 x) (number_in 0 1000000 y)
+
+abbrev pub sample : List Word → Result What UsageFault
+sample [] = Err MissingArgument
+sample (x ∷ []) = Err MissingArgument
+sample (x ∷ y ∷ []) = sample_of x y
+sample (x ∷ y ∷ z ∷ ws) = Err TooManyArguments
+
+abbrev pub made : {A : Type 0} → (A → What) → Result A UsageFault → Result What UsageFault
+made f (Ok x) = Ok (f x)
+made f (Err e) = Err e
 
 -- the command with its arguments; with a code file `match` has no pattern
 abbrev pub what : CommandName → Bool → List Word → Result What UsageFault
-what C.Match true fs = Ok (W.Match [] (map chars fs))
-what C.Match false [] = Err MissingArgument
-what C.Match false (p ∷ fs) = Ok (W.Match (chars p) (map chars fs))
-what C.Grep code [] = Err MissingArgument
-what C.Grep code (p ∷ fs) = Ok (W.Grep (chars p) (map chars fs))
-what C.Trace code [] = Err MissingArgument
-what C.Trace code (p ∷ fs) = Ok (W.Trace (chars p) (map chars fs))
-what C.Test code [] = Err MissingArgument
-what C.Test code (f ∷ []) = Ok (W.Test (chars f))
-what C.Test code (f ∷ x ∷ xs) = Err TooManyArguments
-what C.List code [] = Ok W.List
-what C.List code (x ∷ xs) = Err TooManyArguments
-what C.Expand code [] = Err MissingArgument
-what C.Expand code (p ∷ []) = Ok (W.Expand (chars p))
-what C.Expand code (p ∷ x ∷ xs) = Err TooManyArguments
-what C.Sample code [] = Err MissingArgument
-what C.Sample code (s ∷ []) = Err MissingArgument
-what C.Sample code (s ∷ n ∷ []) = sample s n (number_in 0 2147483647 s) (number_in 0 1000000 n)
-what C.Sample code (s ∷ n ∷ x ∷ xs) = Err TooManyArguments
-what C.Repl code [] = Ok W.Repl
-what C.Repl code (x ∷ xs) = Err TooManyArguments
-what C.Compile code [] = Err MissingArgument
-what C.Compile code (p ∷ []) = Ok (W.Compile (chars p))
-what C.Compile code (p ∷ x ∷ xs) = Err TooManyArguments
-what C.Class code [] = Err MissingArgument
-what C.Class code (n ∷ []) = Ok (W.Class (chars n))
-what C.Class code (n ∷ x ∷ xs) = Err TooManyArguments
+what C.Match true ws = Ok (W.Match [] (map chars ws))
+what C.Match false ws = made (λ s. W.Match s.pattern s.inputs) (search_of ws)
+what C.Grep has_code ws = made (λ s. W.Grep s.pattern s.inputs) (search_of ws)
+what C.Trace has_code ws = made (λ s. W.Trace s.pattern s.inputs) (search_of ws)
+what C.Test has_code ws = made W.Test (only ws)
+what C.List has_code ws = made (λ _. W.List) (none ws)
+what C.Expand has_code ws = made W.Expand (only ws)
+what C.Sample has_code ws = sample ws
+what C.Repl has_code ws = made (λ _. W.Repl) (none ws)
+what C.Compile has_code ws = made W.Compile (only ws)
+what C.Class has_code ws = made W.Class (only ws)
 
 abbrev pub with_options : CommandName → List Given → Result What UsageFault → Result Command UsageFault
 with_options c gs (Ok w) = Ok (command c w gs)
@@ -136,7 +156,7 @@ by_stray c gs ws (Some g) = Err (NotForCommand (chars g.word))
 
 abbrev pub by_name : Option CommandName → Word → List Given → List Word → Result Command UsageFault
 by_name None w gs ws = Err (UnknownCommand (chars w))
-by_name (Some c) w gs ws = by_stray c gs ws (stray c gs)
+by_name (Some c) w gs ws = by_stray c gs ws (stray c (is_given O.CodeFile gs) gs)
 
 -- the command of the options and the arguments, or the first fault of the whole
 abbrev pub chosen : List Given → List Word → Result Command UsageFault

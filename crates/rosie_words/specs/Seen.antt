@@ -6,6 +6,8 @@ use Rattle.rosie_words.specs.declared.role.Front.{Front}
 use Rattle.rosie_words.specs.declared.role.Front.TheVariants as F
 use Rattle.rosie_words.specs.declared.role.Role.{Role}
 use Rattle.rosie_words.specs.declared.role.Role.TheVariants as R
+use Rattle.rosie_words.specs.declared.what.Search as rust
+use Rattle.rosie_words.specs.Reading.{Search}
 use Rattle.rosie_words.specs.Roles as roles
 
 abbrev pub front_of : Front → roles.Front
@@ -37,3 +39,9 @@ IsFair R.Unexpected = Unit {0}
 IsFair (R.Full o v) = Unit {0}
 IsFair (R.Waiting o) = Unit {0}
 IsFair (R.Value o w) = Unit {0}
+
+abbrev pub text : Bor (List ℕ) → Word
+text w = w.now
+
+abbrev pub search_seen : rust.Search → Search
+search_seen s = record { pattern = s.pattern; inputs = s.inputs }

@@ -22,7 +22,8 @@ settings_of gs = record {
   steps = is_given O.Steps gs;
   code = is_given O.Code gs;
   limit = unwrap_or (number O.Limit gs) 10000;
-  code_file = option_map chars (last O.CodeFile gs) }
+  code_file = option_map chars (last O.CodeFile gs);
+}
 
 -- the record with one more option
 abbrev pub put : OptionName → Word → Settings → Settings

@@ -8,7 +8,7 @@ use Rattle.rosie_words.specs.declared.table.OptionName.{OptionName}
 use Rattle.rosie_words.specs.Table.{Word}
 use Rattle.rosie_words.specs.Roles.{Front, Free, Given, role, next, fault, gives, argues}
 use Rattle.rosie_words.specs.Settings.{settings_of, put}
-use Rattle.rosie_words.specs.Seen.{front_of}
+use Rattle.rosie_words.specs.Seen.{front_of, text}
 
 -- an option and the word in which it was given
 pub record Named : Type 0 where
@@ -23,9 +23,6 @@ name_of g = named g.option g.word
 
 abbrev pub seen : rust.Given → Named
 seen g = named g.option g.word.now
-
-abbrev pub text : Bor (List ℕ) → Word
-text w = w.now
 
 -- the record with some more options
 abbrev pub put_all : List Given → Settings → Settings

@@ -17,12 +17,12 @@ style_name w s = record { word = w; style = s }
 -- the styles
 abbrev pub styles : List StyleName
 styles =
-  style_name (codes "json") S.Json ∷
-  style_name (codes "line") S.Line ∷
-  style_name (codes "matches") S.Matches ∷
-  style_name (codes "subs") S.Subs ∷
-  style_name (codes "data") S.Data ∷
-  style_name (codes "bool") S.Bool ∷ []
+    style_name (codes "json") S.Json ∷
+    style_name (codes "line") S.Line ∷
+    style_name (codes "matches") S.Matches ∷
+    style_name (codes "subs") S.Subs ∷
+    style_name (codes "data") S.Data ∷
+    style_name (codes "bool") S.Bool ∷ []
 
 abbrev pub style_of : Option StyleName → Option Style
 style_of None = None

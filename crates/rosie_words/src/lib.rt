@@ -13,6 +13,7 @@ mod role;
 mod settings;
 mod table;
 mod value;
+mod what;
 
 pub use command::{Command, Root, Style, What};
 pub use fault::UsageFault;

@@ -11,7 +11,7 @@ use crate::command::{Command, Root, Style, What};
 use crate::fault::UsageFault;
 use crate::lists::{LibPath, Roots};
 use crate::table::OptionName;
-use crate::value::{number_in, style_named};
+use crate::value::{bad_value, number_in, style_named};
 use rpl_text::Chars;
 use std::alloc::{AllocError, Global};
 
@@ -29,16 +29,6 @@ pub(crate) struct Settings {
     pub(crate) code: bool,
     pub(crate) limit: u32,
     pub(crate) code_file: Option<Chars>,
-}
-
-/// The fault of a value that has not its form.
-fn bad_value(alloc: Global, value: &str) -> UsageFault
-    ensures { result ≢ E.NoMemory → result ≡ E.BadValue (chars value.now) }
-{
-    match Chars::from_str(alloc, value) {
-        Ok(value) => UsageFault::BadValue(value),
-        Err(_) => UsageFault::NoMemory,
-    }
 }
 
 /// The folders of a library path; `None` where one is empty.
@@ -78,14 +68,21 @@ impl Settings {
     }
 
     /// One more option. Where the value has not its form, nothing changes.
-    pub(crate) fn set(&mut self, alloc: Global, option: OptionName, value: &str) -> Result<(), UsageFault>
+    pub(crate) fn set(
+        &mut self,
+        alloc: Global,
+        option: OptionName,
+        value: &str,
+    ) -> Result<(), UsageFault>
         ensures fits { OnOk result (value_fault option value.now ≡ None) }
         ensures set { OnOk result (self.new ≡ put option value.now self.old) }
         ensures fault { IfErr result (λ e. e ≢ E.NoMemory → value_fault option value.now ≡ Some e) }
     {
         match option {
             OptionName::File => self.roots.push(Root::File(Chars::from_str(alloc, value)?))?,
-            OptionName::Rpl => self.roots.push(Root::Given(Chars::from_str(alloc, value)?))?,
+            OptionName::Rpl => self
+                .roots
+                .push(Root::Given(Chars::from_str(alloc, value)?))?,
             OptionName::LibPath => match folders(alloc, value)? {
                 Some(path) => self.folders = path,
                 None => return Err(bad_value(alloc, value)),

@@ -98,7 +98,10 @@ impl OptionName {
                 matches!(command, Match | Grep | List | Expand | Trace | Compile)
             }
             OptionName::LibPath => {
-                matches!(command, Match | Grep | Test | List | Expand | Trace | Repl | Compile)
+                matches!(
+                    command,
+                    Match | Grep | Test | List | Expand | Trace | Repl | Compile
+                )
             }
             OptionName::Output | OptionName::All | OptionName::Steps => {
                 matches!(command, Match | Grep)

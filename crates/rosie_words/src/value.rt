@@ -1,9 +1,14 @@
 //! The values of options.
 
 ghost use Rattle.std.specs.Prelude.{◌≡◌, ◌<◌, ◌≤◌, ◌^◌, OnOk};
+ghost use Rattle.std.specs.Prelude.{◌≢◌, chars};
+ghost use Rattle.rosie_words.specs.declared.fault.UsageFault.TheVariants as E;
 ghost use Rattle.rosie_words.specs.Values.{style_named, number_in};
 
 use crate::command::Style;
+use crate::fault::UsageFault;
+use rpl_text::Chars;
+use std::alloc::Global;
 
 /// The style that a word names.
 pub(crate) fn style_named(word: &str) -> Option<Style>
@@ -39,4 +44,14 @@ pub(crate) fn number_in(word: &str, least: u64, most: u64) -> Option<u64>
         }
     }
     (least <= number).then_some(number)
+}
+
+/// The fault of a value that has not its form.
+pub(crate) fn bad_value(alloc: Global, value: &str) -> UsageFault
+    ensures { result ≢ E.NoMemory → result ≡ E.BadValue (chars value.now) }
+{
+    match Chars::from_str(alloc, value) {
+        Ok(value) => UsageFault::BadValue(value),
+        Err(_) => UsageFault::NoMemory,
+    }
 }
