@@ -1,5 +1,5 @@
 -- The reading of a command line: its command with the options, or its first fault.
-use Rattle.std.specs.Prelude.{ℕ, Bool, true, false, ◌&&◌, not, List, [], ◌∷◌, ◌++◌, map, Option, Some, None, is_some, unwrap_or, option_and_then, Result, Ok, Err, codes, chars, find, if◌then◌else◌}
+use Rattle.std.specs.Prelude.{ℕ, Bool, true, false, ◌&&◌, not, List, [], ◌∷◌, ◌++◌, map, Option, Some, None, is_some, unwrap_or, option_and_then, Result, Ok, Err, codes, chars, String, string_bytes, find, if◌then◌else◌}
 use Rattle.std.specs.List.{list_any}
 use Rattle.std.specs.Option.{option_or, option_map}
 use Rattle.rosie_words.specs.declared.table.CommandName.{CommandName}
@@ -18,6 +18,10 @@ use Rattle.rosie_words.specs.declared.command.What.TheVariants as W
 use Rattle.rosie_words.specs.Table.{Word, row, takes, same_command, same_option, command_named}
 use Rattle.rosie_words.specs.Values.{path_of, style_named, number_in, number_of}
 use Rattle.rosie_words.specs.Roles.{Front, Free, Given, role, next, fault, end_fault, gives, argues}
+
+-- the bytes of each word
+abbrev pub words_of : {Z : Type 0} → List (String Z) → List Word
+words_of ws = map string_bytes ws
 
 -- the first fault of a single word, behind what the words before leave
 abbrev pub first_fault : Front → List Word → Option UsageFault

@@ -1,13 +1,16 @@
 -- What the options set, as the code's record of it.
 use Rattle.std.specs.Prelude.{ℕ, true, List, [], ◌∷◌, ◌++◌, map, Some, unwrap_or, option_and_then, chars, codes}
 use Rattle.std.specs.Option.{option_map}
+use Rattle.rosie_words.specs.declared.command.Command.{Command}
+use Rattle.rosie_words.specs.declared.command.What.{What}
 use Rattle.rosie_words.specs.declared.settings.Settings.{Settings}
+use Rattle.rosie_words.specs.declared.table.CommandName.{CommandName}
 use Rattle.rosie_words.specs.declared.table.OptionName.{OptionName}
 use Rattle.rosie_words.specs.declared.table.OptionName.TheVariants as O
 use Rattle.rosie_words.specs.Table.{Word, row}
 use Rattle.rosie_words.specs.Values.{path_of, style_named, number_of}
 use Rattle.rosie_words.specs.Roles.{Given}
-use Rattle.rosie_words.specs.Reading.{is_given, last, root, roots, folders, number}
+use Rattle.rosie_words.specs.Reading.{is_given, last, root, roots, folders, number, usual_style}
 
 -- the record of some options
 abbrev pub settings_of : List Given → Settings
@@ -39,3 +42,19 @@ put O.Steps v s = record s { steps = true }
 put O.Code v s = record s { code = true }
 put O.Limit v s = record s { limit = unwrap_or (number_of (row O.Limit).value v) 10000 }
 put O.CodeFile v s = record s { code_file = Some (chars v) }
+
+-- the command that the record makes
+abbrev pub command_from : Settings → CommandName → What → Command
+command_from s c what = record {
+  what = what;
+  roots = s.roots;
+  folders = s.folders;
+  style = unwrap_or s.style (usual_style c);
+  whole = s.whole;
+  all = s.all;
+  fixed = s.fixed;
+  budget = s.budget;
+  steps = s.steps;
+  code = s.code;
+  limit = s.limit;
+  code_file = s.code_file }

@@ -1,13 +1,19 @@
 -- What the code's reader has taken in.
-use Rattle.std.specs.Prelude.{◌≡◌, ℕ, List, [], ◌∷◌, ◌++◌, map, None}
+use Rattle.std.specs.Prelude.{◌≡◌, ℕ, List, [], ◌∷◌, ◌++◌, map, Option, Some, None, Bool, not, find, is_some, chars, Result, Ok, Err}
 use Rattle.std.specs.Borrow.{Bor}
+use Rattle.rosie_words.specs.declared.command.Command.{Command}
+use Rattle.rosie_words.specs.declared.command.What.{What}
+use Rattle.rosie_words.specs.declared.fault.UsageFault.{UsageFault}
+use Rattle.rosie_words.specs.declared.fault.UsageFault.TheVariants.{NoCommand, UnknownCommand, NotForCommand}
 use Rattle.rosie_words.specs.declared.reading.Reader.{Reader}
 use Rattle.rosie_words.specs.declared.reading.Given as rust
 use Rattle.rosie_words.specs.declared.settings.Settings.{Settings}
+use Rattle.rosie_words.specs.declared.table.CommandName.{CommandName}
 use Rattle.rosie_words.specs.declared.table.OptionName.{OptionName}
-use Rattle.rosie_words.specs.Table.{Word}
-use Rattle.rosie_words.specs.Roles.{Front, Free, Given, role, next, fault, gives, argues}
-use Rattle.rosie_words.specs.Settings.{settings_of, put}
+use Rattle.rosie_words.specs.Table.{Word, command_named}
+use Rattle.rosie_words.specs.Roles.{Front, Free, Given, role, next, fault, end_fault, gives, argues}
+use Rattle.rosie_words.specs.Reading.{is_for, what, unless}
+use Rattle.rosie_words.specs.Settings.{settings_of, put, command_from}
 use Rattle.rosie_words.specs.Seen.{front_of, text}
 
 -- an option and the word in which it was given
@@ -23,6 +29,35 @@ name_of g = named g.option g.word
 
 abbrev pub seen : rust.Given → Named
 seen g = named g.option g.word.now
+
+abbrev pub word_of : Option Named → Option Word
+word_of None = None
+word_of (Some n) = Some n.word
+
+-- the word of the first option that is not for the command
+abbrev pub stray_word : CommandName → Bool → List Named → Option Word
+stray_word c has_code ns = word_of (find (λ n. not (is_for c has_code n.option)) ns)
+
+abbrev pub from_what : Settings → CommandName → Result What UsageFault → Result Command UsageFault
+from_what s c (Ok w) = Ok (command_from s c w)
+from_what s c (Err e) = Err e
+
+abbrev pub from_stray : Settings → CommandName → List Word → Option Word → Result Command UsageFault
+from_stray s c ws None = from_what s c (what c (is_some s.code_file) ws)
+from_stray s c ws (Some w) = Err (NotForCommand (chars w))
+
+abbrev pub from_name : Settings → List Named → Word → List Word → Option CommandName → Result Command UsageFault
+from_name s ns w ws None = Err (UnknownCommand (chars w))
+from_name s ns w ws (Some c) = from_stray s c ws (stray_word c (is_some s.code_file) ns)
+
+-- the command of the record, the options and the arguments
+abbrev pub chosen_from : Settings → List Named → List Word → Result Command UsageFault
+chosen_from s ns [] = Err NoCommand
+chosen_from s ns (w ∷ ws) = from_name s ns w ws (command_named w)
+
+-- the command of what was taken in
+abbrev pub finished : Reader → Result Command UsageFault
+finished r = unless (end_fault (front_of r.front)) (chosen_from r.settings (map seen r.options.items) (map text r.arguments.items))
 
 -- the record with some more options
 abbrev pub put_all : List Given → Settings → Settings

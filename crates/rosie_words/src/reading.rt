@@ -1,20 +1,18 @@
 //! The reading of the command line.
 
-ghost use Rattle.std.specs.Prelude.{◌≡◌, ◌≢◌, ◌++◌, [], ◌∷◌, map, OnOk, IfOk, IfErr, Some, None, Ok, Err, string_bytes};
-ghost use Rattle.rosie_words.specs.Table.{command_named};
+ghost use Rattle.std.specs.Prelude.{◌≡◌, ◌≢◌, ◌++◌, [], ◌∷◌, List, map, OnOk, IfOk, IfErr, Some, None, Ok, Err};
 ghost use Rattle.rosie_words.specs.Roles.{role, fault, value_fault, given, gives, argues};
-ghost use Rattle.rosie_words.specs.Reading.{reading, chosen, what, stray, command, is_given, usual_style};
-ghost use Rattle.rosie_words.specs.Seen.{front_of, role_of, IsFair};
-ghost use Rattle.rosie_words.specs.Taken.{Adds, Takes, Starts};
+ghost use Rattle.rosie_words.specs.Reading.{words_of, reading};
+ghost use Rattle.rosie_words.specs.Seen.{front_of, role_of, IsFair, half_of, text};
+ghost use Rattle.rosie_words.specs.Taken.{Adds, Takes, Starts, seen, stray_word, chosen_from, finished};
 ghost use Rattle.rosie_words.specs.declared.fault.UsageFault.TheVariants as E;
 
-use crate::command::{Command, Style, What};
+use crate::command::Command;
 use crate::fault::UsageFault;
-use crate::lists::Paths;
 use crate::role::{Front, Role};
 use crate::settings::Settings;
 use crate::table::{CommandName, OptionName, command_named};
-use crate::value::number_in;
+use crate::what::what;
 use rpl_text::Chars;
 use std::alloc::{AllocError, Global};
 
@@ -23,6 +21,42 @@ use std::alloc::{AllocError, Global};
 struct Given<'a> {
     option: OptionName,
     word: &'a str,
+}
+
+/// The word of the first option that is not for the command, where a code file may be given.
+fn stray<'a>(options: &[Given<'a>], command: CommandName, has_code: bool) -> Option<&'a str>
+    ensures { half_of result ≡ stray_word command has_code (map seen options.now) }
+{
+    for given in options {
+        if !given.option.is_for(command, has_code) {
+            return Some(given.word);
+        }
+    }
+    None
+}
+
+/// The command of the options and the arguments.
+fn choose(
+    alloc: Global,
+    settings: Settings,
+    options: &[Given<'_>],
+    arguments: &[&str],
+) -> Result<Command, UsageFault>
+    ensures ok { IfOk result (λ c. chosen_from settings (map seen options.now) (map text arguments.now) ≡ Ok c) }
+    ensures fault { IfErr result (λ e. e ≢ E.NoMemory → chosen_from settings (map seen options.now) (map text arguments.now) ≡ Err e) }
+{
+    let [name, arguments @ ..] = arguments else {
+        return Err(UsageFault::NoCommand);
+    };
+    let Some(command) = command_named(name) else {
+        return Err(UsageFault::UnknownCommand(Chars::from_str(alloc, name)?));
+    };
+    let has_code = settings.code_file.is_some();
+    if let Some(word) = stray(options, command, has_code) {
+        return Err(UsageFault::NotForCommand(Chars::from_str(alloc, word)?));
+    }
+    let what = what(alloc, command, has_code, arguments)?;
+    Ok(settings.into_command(command, what))
 }
 
 /// What the words so far say.
@@ -95,4 +129,29 @@ impl<'a> Reader<'a> {
         self.front = self.front.next(role, word);
         Ok(())
     }
+
+    /// No word follows.
+    fn finish(self, alloc: Global) -> Result<Command, UsageFault>
+        ensures ok { IfOk result (λ c. finished self.entry ≡ Ok c) }
+        ensures fault { IfErr result (λ e. e ≢ E.NoMemory → finished self.entry ≡ Err e) }
+    {
+        if let Front::Owed(_, word) = self.front {
+            return Err(UsageFault::MissingValue(Chars::from_str(alloc, word)?));
+        }
+        choose(alloc, self.settings, &self.options, &self.arguments)
+    }
+}
+
+/// The command that the words ask for, its options and defaults filled in.
+///
+/// `words` are those after the program's name. A fault is the first of the words, or `NoMemory`.
+pub fn read_words(alloc: Global, words: &[String]) -> Result<Command, UsageFault>
+    ensures ok { IfOk result (λ command. reading (words_of words.now) ≡ Ok command) }
+    ensures fault { IfErr result (λ fault. fault ≢ E.NoMemory → reading (words_of words.now) ≡ Err fault) }
+{
+    let mut reader = Reader::new(alloc)?;
+    for word in words {
+        reader.take(alloc, word.as_str())?;
+    }
+    reader.finish(alloc)
 }

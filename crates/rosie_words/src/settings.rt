@@ -4,13 +4,13 @@ ghost use Rattle.std.specs.Prelude.{◌≡◌, ◌≢◌, [], true, OnOk, IfOk, 
 ghost use Rattle.rosie_words.specs.Table.{row};
 ghost use Rattle.rosie_words.specs.Values.{path_of};
 ghost use Rattle.rosie_words.specs.Roles.{value_fault};
-ghost use Rattle.rosie_words.specs.Settings.{settings_of, put};
+ghost use Rattle.rosie_words.specs.Settings.{settings_of, put, command_from};
 ghost use Rattle.rosie_words.specs.declared.fault.UsageFault.TheVariants as E;
 
 use crate::command::{Command, Root, Style, What};
 use crate::fault::UsageFault;
 use crate::lists::{LibPath, Roots};
-use crate::table::OptionName;
+use crate::table::{CommandName, OptionName};
 use crate::value::{bad_value, number_in, style_named};
 use rpl_text::Chars;
 use std::alloc::{AllocError, Global};
@@ -107,5 +107,29 @@ impl Settings {
             OptionName::CodeFile => self.code_file = Some(Chars::from_str(alloc, value)?),
         }
         Ok(())
+    }
+
+    /// The command with these settings.
+    pub(crate) fn into_command(self, command: CommandName, what: What) -> Command
+        ensures { result ≡ command_from self command what }
+    {
+        let usual = match command {
+            CommandName::Grep => Style::Line,
+            _ => Style::Json,
+        };
+        Command {
+            what,
+            roots: self.roots,
+            folders: self.folders,
+            style: self.style.unwrap_or(usual),
+            whole: self.whole,
+            all: self.all,
+            fixed: self.fixed,
+            budget: self.budget,
+            steps: self.steps,
+            code: self.code,
+            limit: self.limit,
+            code_file: self.code_file,
+        }
     }
 }

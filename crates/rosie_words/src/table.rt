@@ -1,6 +1,7 @@
 // The commands, and the options that each takes.
 ghost use Rattle.std.specs.Prelude.{◌≡◌};
 ghost use Rattle.rosie_words.specs.Table.{option_named, command_named, has_value, row, takes};
+ghost use Rattle.rosie_words.specs.Reading.{makes_code, is_for};
 
 /// A command of the command line.
 #[derive(Clone, Copy, Debug, PartialEq, Eq)]
@@ -87,8 +88,28 @@ impl OptionName {
         )
     }
 
-    /// The option is for the command.
-    pub(crate) fn is_for(self, command: CommandName) -> bool
+    /// A code file takes the place of the option.
+    fn makes_code(self) -> bool
+        ensures { result ≡ makes_code self }
+    {
+        matches!(
+            self,
+            OptionName::File | OptionName::Rpl | OptionName::LibPath | OptionName::FixedStrings
+        )
+    }
+
+    /// The option is for the command, where a code file may be given.
+    pub(crate) fn is_for(self, command: CommandName, has_code: bool) -> bool
+        ensures { result ≡ is_for command has_code self }
+    {
+        if has_code && matches!(command, CommandName::Match) && self.makes_code() {
+            return false;
+        }
+        self.is_of(command)
+    }
+
+    /// The table has the option for the command.
+    fn is_of(self, command: CommandName) -> bool
         ensures { result ≡ takes command self }
     {
         use CommandName::{Match, Grep, Test, List, Expand, Trace, Sample, Repl, Compile};
