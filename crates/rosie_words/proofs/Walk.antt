@@ -32,7 +32,8 @@ starts all r s = record {
   sound = rw s.front refl;
   settings = rw (s.front, s.settings) refl;
   options = rw (s.front, s.options) refl;
-  arguments = rw (s.front, s.arguments) refl }
+  arguments = rw (s.front, s.arguments) refl;
+}
 
 put_all-append : (gs hs : List Given) (s : Settings) → put_all (gs ++ hs) s ≡ put_all hs (put_all gs s)
 put_all-append [] hs s = refl
@@ -44,14 +45,15 @@ map-append (g ∷ gs) hs = ap (λ ns. name_of g ∷ ns) (map-append gs hs)
 
 pub takes : (all rest : List Word) (w : Word) (old new : Reader) → Takes old new w → Stands all (w ∷ rest) old → Stands all rest new
 takes all rest w old new t s =
-  let f = front_of old.front in
-  let n = next f (role f w) w in
-  let g = gives (role f w) w in
-  record {
-    sound = rw t.front ((sym (ap (λ o. option_or o (first_fault n rest)) t.sound)) ∙ s.sound);
-    settings = rw (t.front, t.settings) (sym (put_all-append g (options n rest) old.settings) ∙ s.settings);
-    options = rw (t.front, t.options) (append_assoc (map seen old.options.items) (map name_of g) (map name_of (options n rest)) ∙ ap (λ ns. map seen old.options.items ++ ns) (sym (map-append g (options n rest))) ∙ s.options);
-    arguments = rw (t.front, t.arguments) (append_assoc (map text old.arguments.items) (argues (role f w) w) (arguments n rest) ∙ s.arguments) }
+    let f = front_of old.front in
+    let n = next f (role f w) w in
+    let g = gives (role f w) w in
+    record {
+      sound = rw t.front ((sym (ap (λ o. option_or o (first_fault n rest)) t.sound)) ∙ s.sound);
+      settings = rw (t.front, t.settings) (sym (put_all-append g (options n rest) old.settings) ∙ s.settings);
+      options = rw (t.front, t.options) (append_assoc (map seen old.options.items) (map name_of g) (map name_of (options n rest)) ∙ ap (λ ns. map seen old.options.items ++ ns) (sym (map-append g (options n rest))) ∙ s.options);
+      arguments = rw (t.front, t.arguments) (append_assoc (map text old.arguments.items) (argues (role f w) w) (arguments n rest) ∙ s.arguments);
+    }
 
 fails : (all rest : List Word) (w : Word) (r : Reader) (e : UsageFault) → fault (role (front_of r.front) w) w ≡ Some e → Stands all (w ∷ rest) r → first_fault Free all ≡ Some e
 fails all rest w r e h s = sym s.sound ∙ ap (λ o. option_or o (first_fault (next (front_of r.front) (role (front_of r.front) w) w) rest)) h
@@ -101,10 +103,10 @@ chosen_is gs (w ∷ ws) = named_is gs w ws (command_named w)
 pub ends : (all : List Word) (r : Reader) → Stands all [] r → finished r ≡ reading all
 unfolding reading
 ends all r s =
-  let e : r.settings ≡ settings_of (options Free all) = s.settings ∙ put_all_is [] (options Free all) in
-  let o : map seen r.options.items ≡ map name_of (options Free all) = sym (append-nil _) ∙ s.options in
-  let a : map text r.arguments.items ≡ arguments Free all = sym (append-nil _) ∙ s.arguments in
-  rw (s.sound, e, o, a) (ap (unless (first_fault Free all)) (chosen_is (options Free all) (arguments Free all)))
+    let e : r.settings ≡ settings_of (options Free all) = s.settings ∙ put_all_is [] (options Free all) in
+    let o : map seen r.options.items ≡ map name_of (options Free all) = sym (append-nil _) ∙ s.options in
+    let a : map text r.arguments.items ≡ arguments Free all = sym (append-nil _) ∙ s.arguments in
+    rw (s.sound, e, o, a) (ap (unless (first_fault Free all)) (chosen_is (options Free all) (arguments Free all)))
 
 pub at_end : {Z : Type 0} (ws : List (String Z)) (i : ℕ) (r : Reader) → length ws ≤ i → Stands (words_of ws) (words_of (drop i ws)) r → finished r ≡ reading (words_of ws)
 at_end ws i r le s = ends (words_of ws) r (subst (λ vs. Stands (words_of ws) (words_of vs) r) (drop_of_length-le ws le) s)

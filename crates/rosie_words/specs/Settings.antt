@@ -57,4 +57,5 @@ command_from s c what = record {
   steps = s.steps;
   code = s.code;
   limit = s.limit;
-  code_file = s.code_file }
+  code_file = s.code_file;
+}

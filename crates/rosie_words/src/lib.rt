@@ -16,7 +16,7 @@ mod value;
 mod what;
 
 pub use command::{Command, Root, Style, What};
-pub use reading::read_words;
 pub use fault::UsageFault;
 pub use lists::{LibPath, Paths, Roots};
+pub use reading::read_words;
 pub use std::alloc::AllocError as NoMemory;

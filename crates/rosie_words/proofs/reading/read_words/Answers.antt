@@ -10,7 +10,7 @@ returns-in_err-take-clause-fault c =
     let e = c.in_err-take.field-0.0 in
     let w = c.word-item.result in
     let k : e ≢ E.NoMemory → reading (words_of ws) ≡ Err e = λ h.
-        at_fault ws c.loop-word.word-index w c.loop-word.reader e c.loop-word-test.true c.word-item.is (rw c.as_str.ensures.value at (c.in_err-take.ensures.fault h)) c.loop-word.invariant in
+    at_fault ws c.loop-word.word-index w c.loop-word.reader e c.loop-word-test.true c.word-item.is (rw c.as_str.ensures.value at (c.in_err-take.ensures.fault h)) c.loop-word.invariant in
     grind arith
 
 pub returns-clause-ok : goal.returns-clause-ok
