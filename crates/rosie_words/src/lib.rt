@@ -8,6 +8,7 @@
 mod command;
 mod fault;
 mod lists;
+mod printed;
 mod reading;
 mod role;
 mod settings;
@@ -18,5 +19,6 @@ mod what;
 pub use command::{Command, Root, Style, What};
 pub use fault::UsageFault;
 pub use lists::{LibPath, Paths, Roots};
+pub use printed::{fault_line, usage};
 pub use reading::read_words;
 pub use std::alloc::AllocError as NoMemory;
