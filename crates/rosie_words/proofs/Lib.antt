@@ -1,0 +1,5 @@
+pub mod Equals
+pub mod Folders
+pub mod Lookups
+pub mod Numbers
+pub mod Walk

@@ -1,0 +1,125 @@
+-- The role of each word, given by the words before it.
+use Rattle.std.specs.Prelude.{ℕ, Bool, true, false, ◌==◌, ◌&&◌, not, List, [], ◌∷◌, Option, Some, None, codes, chars, if◌then◌else◌}
+use Rattle.std.specs.List.{list_any, before_first, after_first}
+use Rattle.std.specs.Str.{bytes_eq}
+use Rattle.rosie_words.specs.declared.table.OptionName.{OptionName}
+use Rattle.rosie_words.specs.declared.fault.UsageFault.{UsageFault}
+use Rattle.rosie_words.specs.declared.fault.UsageFault.TheVariants.{UnknownOption, UnexpectedValue, MissingValue, BadValue}
+use Rattle.rosie_words.specs.Table.{Word, has_value, row, option_named}
+use Rattle.rosie_words.specs.Values.{accepts}
+
+-- what the words before leave: room for options, an option whose value is due, or arguments alone
+pub data Front : Type 0 where
+  Free : Front
+  Owed : (option : OptionName) (word : Word) → Front
+  Ended : Front
+
+-- what a word is: the end of the options, an argument, an option that is unknown, one without a value, one with a
+-- value that it doesn't take, one with its value, one whose value is the next word, or that value
+pub data Role : Type 0 where
+  EndOfOptions : Role
+  Argument : Role
+  Unknown : Role
+  Plain : (option : OptionName) → Role
+  Unexpected : Role
+  Full : (option : OptionName) (value : Word) → Role
+  Waiting : (option : OptionName) → Role
+  Value : (option : OptionName) (word : Word) → Role
+
+-- a dash, and more
+abbrev pub is_option : Word → Bool
+is_option [] = false
+is_option (b ∷ []) = false
+is_option (b ∷ c ∷ bs) = b == 45
+
+-- two dashes, and maybe more
+abbrev pub is_long : Word → Bool
+is_long [] = false
+is_long (b ∷ []) = false
+is_long (b ∷ c ∷ bs) = (b == 45) && (c == 45)
+
+abbrev pub is_equals : ℕ → Bool
+is_equals b = b == 61
+
+-- the option's name: of a long one what stands before the first `=`
+abbrev pub name_of : Word → Word
+name_of w = if is_long w then before_first is_equals w else w
+
+-- the value that stands in the same word: of a long one what stands behind the first `=`
+abbrev pub value_of : Word → Option Word
+value_of w = if is_long w && list_any is_equals w then Some (after_first is_equals w) else None
+
+abbrev pub role_by : OptionName → Bool → Option Word → Role
+role_by o true (Some v) = Full o v
+role_by o true None = Waiting o
+role_by o false (Some v) = Unexpected
+role_by o false None = Plain o
+
+abbrev pub option_role : Option OptionName → Option Word → Role
+option_role None v = Unknown
+option_role (Some o) v = role_by o (has_value (row o).value) v
+
+-- the role of a word
+abbrev pub role : Front → Word → Role
+role Free w = if bytes_eq w (codes "--") then EndOfOptions else (if is_option w then option_role (option_named (name_of w)) (value_of w) else Argument)
+role (Owed o n) w = Value o n
+role Ended w = Argument
+
+-- what the word leaves for the next
+abbrev pub next : Front → Role → Word → Front
+next Ended r w = Ended
+next Free EndOfOptions w = Ended
+next Free (Waiting o) w = Owed o w
+next Free r w = Free
+next (Owed o n) r w = Free
+
+abbrev pub value_fault : OptionName → Word → Option UsageFault
+value_fault o v = if accepts (row o).value v then None else Some (BadValue (chars v))
+
+-- the fault of a word
+abbrev pub fault : Role → Word → Option UsageFault
+fault Unknown w = Some (UnknownOption (chars w))
+fault Unexpected w = Some (UnexpectedValue (chars w))
+fault (Full o v) w = value_fault o v
+fault (Value o n) w = value_fault o w
+fault EndOfOptions w = None
+fault Argument w = None
+fault (Plain o) w = None
+fault (Waiting o) w = None
+
+-- the fault behind the last word
+abbrev pub end_fault : Front → Option UsageFault
+end_fault Free = None
+end_fault (Owed o n) = Some (MissingValue (chars n))
+end_fault Ended = None
+
+-- an option as it was given: in which word, with which value
+pub record Given : Type 0 where
+  pub option : OptionName
+  pub word : Word
+  pub value : Word
+
+abbrev pub given : OptionName → Word → Word → Given
+given o w v = record { option = o; word = w; value = v }
+
+-- the option that a word completes
+abbrev pub gives : Role → Word → List Given
+gives (Plain o) w = given o w [] ∷ []
+gives (Full o v) w = given o w v ∷ []
+gives (Value o n) w = given o n w ∷ []
+gives EndOfOptions w = []
+gives Argument w = []
+gives Unknown w = []
+gives Unexpected w = []
+gives (Waiting o) w = []
+
+-- the argument that a word is
+abbrev pub argues : Role → Word → List Word
+argues Argument w = w ∷ []
+argues EndOfOptions w = []
+argues Unknown w = []
+argues (Plain o) w = []
+argues Unexpected w = []
+argues (Full o v) w = []
+argues (Waiting o) w = []
+argues (Value o n) w = []

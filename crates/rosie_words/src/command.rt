@@ -1,0 +1,84 @@
+//! What the words ask for.
+
+use crate::lists::{LibPath, Paths, Roots};
+use rpl_text::Chars;
+
+/// Where RPL text comes from.
+#[derive(Debug, Drop)]
+pub enum Root {
+    /// The file at this path, of `-f`.
+    File(Chars),
+    /// The text itself, of `--rpl`.
+    Given(Chars),
+}
+
+/// How a match is printed.
+#[derive(Clone, Copy, Debug, PartialEq, Eq)]
+pub enum Style {
+    /// The tree of the match, as one object.
+    Json,
+    /// The whole line.
+    Line,
+    /// The text of each hit.
+    Matches,
+    /// The text of each node directly under the root.
+    Subs,
+    /// The text of the match.
+    Data,
+    /// `true` or `false`.
+    Bool,
+}
+
+/// A command, with its arguments.
+#[derive(Debug, Drop)]
+pub enum What {
+    /// Matches each line from its start. With a code file there is no pattern, and `pattern` is empty.
+    Match { pattern: Chars, inputs: Paths },
+    /// Searches each line.
+    Grep { pattern: Chars, inputs: Paths },
+    /// Runs the tests that a file holds.
+    Test { file: Chars },
+    /// Lists the names that a pattern may use.
+    List,
+    /// Prints what a pattern stands for.
+    Expand { pattern: Chars },
+    /// Prints how each line was matched.
+    Trace { pattern: Chars, inputs: Paths },
+    /// Makes a sample input and matches it.
+    Sample { seed: u32, lines: u32 },
+    /// Reads the edits of a session.
+    Repl,
+    /// Writes the code of a pattern.
+    Compile { pattern: Chars },
+    /// Prints the ranges of a named set of characters.
+    Class { name: Chars },
+}
+
+/// A command line as it was read, its defaults filled in.
+#[derive(Debug, Drop)]
+pub struct Command {
+    /// The command and its arguments.
+    pub what: What,
+    /// The files of `-f` and the texts of `--rpl`, in the order of the words.
+    pub roots: Roots,
+    /// The folders of `--libpath`; by default the one folder `.`.
+    pub folders: LibPath,
+    /// The style of `-o`; by default `Line` for `grep` and `Json` otherwise.
+    pub style: Style,
+    /// `-w`: an input is one line.
+    pub whole: bool,
+    /// `-a`: lines that did not match are told too.
+    pub all: bool,
+    /// `-F`: the pattern is the text itself.
+    pub fixed: bool,
+    /// The machine steps of `--budget` that a line may take.
+    pub budget: Option<u64>,
+    /// `--steps`: the steps of each line are told.
+    pub steps: bool,
+    /// `--code`: the program is printed too.
+    pub code: bool,
+    /// The work of `--limit` that a line's trace may take; by default 10,000.
+    pub limit: u32,
+    /// The file of `--code-file` that holds the program.
+    pub code_file: Option<Chars>,
+}

@@ -1,0 +1,24 @@
+//! The words of the command line: each list of words is one command with its options, or has one first fault.
+//!
+//! [`read_words`] is the reading, for the top call. It promises the whole of it: which command, and of the
+//! faults the first, exactly where it is due. [`usage`] and [`fault_text`] are what a fault prints, and
+//! [`not_yet`] names the first word that asks for what is not built.
+#![tactic(auto)]
+
+mod command;
+mod fault;
+mod lists;
+mod printed;
+mod reading;
+mod role;
+mod settings;
+mod table;
+mod value;
+mod what;
+
+pub use command::{Command, Root, Style, What};
+pub use fault::UsageFault;
+pub use lists::{LibPath, Paths, Roots};
+pub use printed::{fault_line, usage};
+pub use reading::read_words;
+pub use std::alloc::AllocError as NoMemory;

@@ -1,0 +1,157 @@
+//! The reading of the command line.
+
+ghost use Rattle.std.specs.Prelude.{◌≡◌, ◌≢◌, ◌++◌, [], ◌∷◌, List, map, OnOk, IfOk, IfErr, Some, None, Ok, Err};
+ghost use Rattle.rosie_words.specs.Roles.{role, fault, value_fault, given, gives, argues};
+ghost use Rattle.rosie_words.specs.Reading.{words_of, reading};
+ghost use Rattle.rosie_words.specs.Seen.{front_of, role_of, IsFair, half_of, text};
+ghost use Rattle.rosie_words.specs.Taken.{Adds, Takes, Starts, seen, stray_word, chosen_from, finished};
+ghost use Rattle.rosie_words.specs.declared.fault.UsageFault.TheVariants as E;
+
+use crate::command::Command;
+use crate::fault::UsageFault;
+use crate::role::{Front, Role};
+use crate::settings::Settings;
+use crate::table::{CommandName, OptionName, command_named};
+use crate::what::what;
+use rpl_text::Chars;
+use std::alloc::{AllocError, Global};
+
+/// An option, and the word in which it was given.
+#[derive(Clone, Copy)]
+struct Given<'a> {
+    option: OptionName,
+    word: &'a str,
+}
+
+/// The word of the first option that is not for the command, where a code file may be given.
+fn stray<'a>(options: &[Given<'a>], command: CommandName, has_code: bool) -> Option<&'a str>
+    ensures { half_of result ≡ stray_word command has_code (map seen options.now) }
+{
+    for given in options {
+        if !given.option.is_for(command, has_code) {
+            return Some(given.word);
+        }
+    }
+    None
+}
+
+/// The command of the options and the arguments.
+fn choose(
+    alloc: Global,
+    settings: Settings,
+    options: &[Given<'_>],
+    arguments: &[&str],
+) -> Result<Command, UsageFault>
+    ensures ok { IfOk result (λ c. chosen_from settings (map seen options.now) (map text arguments.now) ≡ Ok c) }
+    ensures fault { IfErr result (λ e. e ≢ E.NoMemory → chosen_from settings (map seen options.now) (map text arguments.now) ≡ Err e) }
+{
+    let [name, arguments @ ..] = arguments else {
+        return Err(UsageFault::NoCommand);
+    };
+    let Some(command) = command_named(name) else {
+        return Err(UsageFault::UnknownCommand(Chars::from_str(alloc, name)?));
+    };
+    let has_code = settings.code_file.is_some();
+    if let Some(word) = stray(options, command, has_code) {
+        return Err(UsageFault::NotForCommand(Chars::from_str(alloc, word)?));
+    }
+    let what = what(alloc, command, has_code, arguments)?;
+    Ok(settings.into_command(command, what))
+}
+
+/// What the words so far say.
+#[derive(Drop)]
+struct Reader<'a> {
+    front: Front<'a>,
+    settings: Settings,
+    options: Vec<Given<'a>>,
+    arguments: Vec<&'a str>,
+}
+
+impl<'a> Reader<'a> {
+    /// Before the first word.
+    fn new(alloc: Global) -> Result<Reader<'a>, AllocError>
+        ensures { IfOk result Starts }
+    {
+        Ok(Reader {
+            front: Front::Free,
+            settings: Settings::new(alloc)?,
+            options: Vec::new(alloc),
+            arguments: Vec::new(alloc),
+        })
+    }
+
+    /// One more option.
+    fn set(
+        &mut self,
+        alloc: Global,
+        option: OptionName,
+        word: &'a str,
+        value: &str,
+    ) -> Result<(), UsageFault>
+        ensures sound { OnOk result (value_fault option value.now ≡ None) }
+        ensures ok { OnOk result (Adds self.old self.new (given option word.now value.now ∷ []) []) }
+        ensures fault { IfErr result (λ e. e ≢ E.NoMemory → value_fault option value.now ≡ Some e) }
+    {
+        self.settings.set(alloc, option, value)?;
+        self.options.push(Given { option, word })?;
+        Ok(())
+    }
+
+    /// One more word, in its role.
+    fn apply(&mut self, alloc: Global, role: Role<'a>, word: &'a str) -> Result<(), UsageFault>
+        requires { IsFair role }
+        ensures sound { OnOk result (fault (role_of role.entry) word.now ≡ None) }
+        ensures ok { OnOk result (Adds self.old self.new (gives (role_of role.entry) word.now) (argues (role_of role.entry) word.now)) }
+        ensures fault { IfErr result (λ e. e ≢ E.NoMemory → fault (role_of role.entry) word.now ≡ Some e) }
+    {
+        match role {
+            Role::EndOfOptions | Role::Waiting(_) => Ok(()),
+            Role::Argument => {
+                self.arguments.push(word)?;
+                Ok(())
+            }
+            Role::Unknown => Err(UsageFault::UnknownOption(Chars::from_str(alloc, word)?)),
+            Role::Unexpected => Err(UsageFault::UnexpectedValue(Chars::from_str(alloc, word)?)),
+            Role::Plain(option) => self.set(alloc, option, word, ""),
+            Role::Full(option, value) => self.set(alloc, option, word, value),
+            Role::Value(option, name) => self.set(alloc, option, name, word),
+        }
+    }
+
+    /// One more word.
+    fn take(&mut self, alloc: Global, word: &'a str) -> Result<(), UsageFault>
+        ensures ok { OnOk result (Takes self.old self.new word.now) }
+        ensures fault { IfErr result (λ e. e ≢ E.NoMemory → fault (role (front_of self.old.front) word.now) word.now ≡ Some e) }
+    {
+        let role = self.front.role(word);
+        self.apply(alloc, role, word)?;
+        self.front = self.front.next(role, word);
+        Ok(())
+    }
+
+    /// No word follows.
+    fn finish(self, alloc: Global) -> Result<Command, UsageFault>
+        ensures ok { IfOk result (λ c. finished self.entry ≡ Ok c) }
+        ensures fault { IfErr result (λ e. e ≢ E.NoMemory → finished self.entry ≡ Err e) }
+    {
+        if let Front::Owed(_, word) = self.front {
+            return Err(UsageFault::MissingValue(Chars::from_str(alloc, word)?));
+        }
+        choose(alloc, self.settings, &self.options, &self.arguments)
+    }
+}
+
+/// The command that the words ask for, its options and defaults filled in.
+///
+/// `words` are those after the program's name. A fault is the first of the words, or `NoMemory`.
+pub fn read_words(alloc: Global, words: &[String]) -> Result<Command, UsageFault>
+    ensures ok { IfOk result (λ command. reading (words_of words.now) ≡ Ok command) }
+    ensures fault { IfErr result (λ fault. fault ≢ E.NoMemory → reading (words_of words.now) ≡ Err fault) }
+{
+    let mut reader = Reader::new(alloc)?;
+    for word in words {
+        reader.take(alloc, word.as_str())?;
+    }
+    reader.finish(alloc)
+}

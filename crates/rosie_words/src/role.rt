@@ -1,0 +1,119 @@
+//! The role of each word, given by the words before it.
+
+ghost use Rattle.std.specs.Prelude.{◌≡◌};
+ghost use Rattle.rosie_words.specs.Roles.{is_option, is_long, name_of, value_of, option_role, role, next};
+ghost use Rattle.rosie_words.specs.Seen.{front_of, role_of, half_of, IsFair};
+ghost use Rattle.rosie_words.specs.Table.{option_named};
+
+use crate::table::{OptionName, option_named};
+
+/// What the words before leave.
+#[derive(Clone, Copy)]
+pub(crate) enum Front<'a> {
+    /// An option may stand.
+    Free,
+    /// The value of the option in this word is due.
+    Owed(OptionName, &'a str),
+    /// All words are arguments.
+    Ended,
+}
+
+/// What a word is.
+#[derive(Clone, Copy)]
+pub(crate) enum Role<'a> {
+    /// The `--` that ends the options.
+    EndOfOptions,
+    /// An argument.
+    Argument,
+    /// An option that is not in the table.
+    Unknown,
+    /// An option that takes no value.
+    Plain(OptionName),
+    /// The same, with a value behind `=`.
+    Unexpected,
+    /// An option with its value behind `=`.
+    Full(OptionName, &'a str),
+    /// An option whose value is the next word.
+    Waiting(OptionName),
+    /// The value of the option in the word before.
+    Value(OptionName, &'a str),
+}
+
+/// A dash and more.
+fn is_option(word: &str) -> bool
+    ensures { result ≡ is_option word.now }
+{
+    matches!(word.as_bytes(), [b'-', _, ..])
+}
+
+/// Two dashes, and maybe more.
+fn is_long(word: &str) -> bool
+    ensures { result ≡ is_long word.now }
+{
+    matches!(word.as_bytes(), [b'-', b'-', ..])
+}
+
+/// An option's name, and the value in the same word.
+fn halves(word: &str) -> (&str, Option<&str>)
+    ensures name { result.0.now ≡ name_of word.now }
+    ensures value { half_of result.1 ≡ value_of word.now }
+{
+    if !is_long(word) {
+        return (word, None);
+    }
+    match word.split_once('=') {
+        Some((name, value)) => (name, Some(value)),
+        None => (word, None),
+    }
+}
+
+/// The role of an option's word.
+fn option_role(word: &str) -> Role<'_>
+    ensures value { role_of result ≡ option_role (option_named (name_of word.now)) (value_of word.now) }
+    ensures fair { IsFair result }
+{
+    let (name, value) = halves(word);
+    match (option_named(name), value) {
+        (None, _) => Role::Unknown,
+        (Some(option), Some(value)) => {
+            if option.takes_value() {
+                Role::Full(option, value)
+            } else {
+                Role::Unexpected
+            }
+        }
+        (Some(option), None) => {
+            if option.takes_value() {
+                Role::Waiting(option)
+            } else {
+                Role::Plain(option)
+            }
+        }
+    }
+}
+
+impl<'a> Front<'a> {
+    /// The role of the next word.
+    pub(crate) fn role(self, word: &'a str) -> Role<'a>
+        ensures value { role_of result ≡ role (front_of self.entry) word.now }
+        ensures fair { IsFair result }
+    {
+        match self {
+            Front::Free if word == "--" => Role::EndOfOptions,
+            Front::Free if is_option(word) => option_role(word),
+            Front::Free | Front::Ended => Role::Argument,
+            Front::Owed(option, name) => Role::Value(option, name),
+        }
+    }
+
+    /// What that word leaves.
+    pub(crate) fn next(self, role: Role<'a>, word: &'a str) -> Front<'a>
+        ensures { front_of result ≡ next (front_of self.entry) (role_of role.entry) word.now }
+    {
+        match (self, role) {
+            (Front::Ended, _) | (Front::Free, Role::EndOfOptions) => Front::Ended,
+            (Front::Free, Role::Waiting(option)) => Front::Owed(option, word),
+            (Front::Free | Front::Owed(..), _) => Front::Free,
+        }
+    }
+}

@@ -1,0 +1,157 @@
+//! The command and its arguments.
+
+ghost use Rattle.std.specs.Prelude.{◌≡◌, ◌≢◌, map, Some, None, IfOk, IfErr, Ok, Err, chars};
+ghost use Rattle.rosie_words.specs.Reading.{none, only, search_of, sample_of, sample, what};
+ghost use Rattle.rosie_words.specs.Values.{number_in};
+ghost use Rattle.rosie_words.specs.Seen.{text, search_seen};
+ghost use Rattle.rosie_words.specs.declared.fault.UsageFault.TheVariants as E;
+
+use crate::command::What;
+use crate::fault::UsageFault;
+use crate::lists::Paths;
+use crate::table::CommandName;
+use crate::value::{bad_value, number_in};
+use rpl_text::Chars;
+use std::alloc::{AllocError, Global};
+
+/// The paths of some words.
+fn paths(alloc: Global, words: &[&str]) -> Result<Paths, AllocError>
+    ensures { IfOk result (λ p. p ≡ map chars (map text words.now)) }
+{
+    let mut paths = Paths::new(alloc);
+    for word in words {
+        paths.push(Chars::from_str(alloc, word)?)?;
+    }
+    Ok(paths)
+}
+
+/// There is no argument.
+fn none(arguments: &[&str]) -> Result<(), UsageFault>
+    ensures ok { IfOk result (λ _. none (map text arguments.now) ≡ Ok tt) }
+    ensures fault { IfErr result (λ e. none (map text arguments.now) ≡ Err e) }
+{
+    if arguments.is_empty() {
+        Ok(())
+    } else {
+        Err(UsageFault::TooManyArguments)
+    }
+}
+
+/// The one argument.
+fn only(alloc: Global, arguments: &[&str]) -> Result<Chars, UsageFault>
+    ensures ok { IfOk result (λ word. only (map text arguments.now) ≡ Ok word) }
+    ensures fault { IfErr result (λ e. e ≢ E.NoMemory → only (map text arguments.now) ≡ Err e) }
+{
+    match arguments {
+        [] => Err(UsageFault::MissingArgument),
+        [word] => Ok(Chars::from_str(alloc, word)?),
+        [_, _, ..] => Err(UsageFault::TooManyArguments),
+    }
+}
+
+/// A pattern, and the input files.
+#[derive(Drop)]
+struct Search {
+    pattern: Chars,
+    inputs: Paths,
+}
+
+/// The pattern and the input files.
+fn search_of(alloc: Global, arguments: &[&str]) -> Result<Search, UsageFault>
+    ensures ok { IfOk result (λ s. search_of (map text arguments.now) ≡ Ok (search_seen s)) }
+    ensures fault { IfErr result (λ e. e ≢ E.NoMemory → search_of (map text arguments.now) ≡ Err e) }
+{
+    match arguments {
+        [] => Err(UsageFault::MissingArgument),
+        [pattern, inputs @ ..] => Ok(Search {
+            pattern: Chars::from_str(alloc, pattern)?,
+            inputs: paths(alloc, inputs)?,
+        }),
+    }
+}
+
+/// The number that an argument spells, up to `most`.
+fn argument_in(alloc: Global, word: &str, most: u32) -> Result<u32, UsageFault>
+    ensures ok { IfOk result (λ n. number_in 0 most word.now ≡ Some n) }
+    ensures fault { IfErr result (λ e. e ≢ E.NoMemory → (number_in 0 most word.now ≡ None) × (e ≡ E.BadValue (chars word.now))) }
+{
+    match number_in(word, 0, u64::from(most)) {
+        Some(number) => Ok(number as u32),
+        None => Err(bad_value(alloc, word)),
+    }
+}
+
+/// A sample with this seed and number of lines.
+fn sample_of(alloc: Global, seed: &str, lines: &str) -> Result<What, UsageFault>
+    ensures ok { IfOk result (λ w. sample_of seed.now lines.now ≡ Ok w) }
+    ensures fault { IfErr result (λ e. e ≢ E.NoMemory → sample_of seed.now lines.now ≡ Err e) }
+{
+    Ok(What::Sample {
+        seed: argument_in(alloc, seed, 2_147_483_647)?,
+        lines: argument_in(alloc, lines, 1_000_000)?,
+    })
+}
+
+/// The sample of two arguments.
+fn sample(alloc: Global, arguments: &[&str]) -> Result<What, UsageFault>
+    ensures ok { IfOk result (λ w. sample (map text arguments.now) ≡ Ok w) }
+    ensures fault { IfErr result (λ e. e ≢ E.NoMemory → sample (map text arguments.now) ≡ Err e) }
+{
+    match arguments {
+        [] | [_] => Err(UsageFault::MissingArgument),
+        [seed, lines] => sample_of(alloc, seed, lines),
+        [_, _, _, ..] => Err(UsageFault::TooManyArguments),
+    }
+}
+
+/// The command with its arguments, where a code file may be given.
+pub(crate) fn what(
+    alloc: Global,
+    command: CommandName,
+    has_code: bool,
+    arguments: &[&str],
+) -> Result<What, UsageFault>
+    ensures ok { IfOk result (λ w. what command has_code (map text arguments.now) ≡ Ok w) }
+    ensures fault { IfErr result (λ e. e ≢ E.NoMemory → what command has_code (map text arguments.now) ≡ Err e) }
+{
+    match command {
+        CommandName::Match => {
+            if has_code {
+                let pattern = Chars::from_str(alloc, "")?;
+                let inputs = paths(alloc, arguments)?;
+                return Ok(What::Match { pattern, inputs });
+            }
+            let Search { pattern, inputs } = search_of(alloc, arguments)?;
+            Ok(What::Match { pattern, inputs })
+        }
+        CommandName::Grep => {
+            let Search { pattern, inputs } = search_of(alloc, arguments)?;
+            Ok(What::Grep { pattern, inputs })
+        }
+        CommandName::Trace => {
+            let Search { pattern, inputs } = search_of(alloc, arguments)?;
+            Ok(What::Trace { pattern, inputs })
+        }
+        CommandName::Test => Ok(What::Test {
+            file: only(alloc, arguments)?,
+        }),
+        CommandName::List => {
+            none(arguments)?;
+            Ok(What::List)
+        }
+        CommandName::Expand => Ok(What::Expand {
+            pattern: only(alloc, arguments)?,
+        }),
+        CommandName::Sample => sample(alloc, arguments),
+        CommandName::Repl => {
+            none(arguments)?;
+            Ok(What::Repl)
+        }
+        CommandName::Compile => Ok(What::Compile {
+            pattern: only(alloc, arguments)?,
+        }),
+        CommandName::Class => Ok(What::Class {
+            name: only(alloc, arguments)?,
+        }),
+    }
+}
