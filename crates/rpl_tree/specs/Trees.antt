@@ -1,0 +1,27 @@
+-- The trees that a flat list of nodes stands for, where a number stands for the text that it names.
+use Rattle.std.specs.Prelude.{◌≡◌, ℕ, zero, suc, List, [], ◌∷◌, take, drop, length, Option, None, Some}
+use Rattle.rpl_core.specs.Forest.{Forest, NoTree, Tree, Noted, flat}
+use Rattle.rpl_core.specs.Captures.{all_named}
+use Rattle.rpl_core.specs.declared.caught.Caught.{Caught}
+use Rattle.rpl_tree.specs.declared.node.Node.{Node}
+
+-- one node over the trees below it, and the trees behind it; a note has nothing below
+abbrev pub node_as : (ℕ → List ℕ) → Node → Option ℕ → Forest → Forest → Forest
+node_as name n None below behind = Tree (name n.label) n.start n.end below behind
+node_as name n (Some text) below behind = Noted (name text) n.start behind
+
+-- the trees of the nodes, of which there are at most so many
+abbrev pub trees_of : ℕ → (ℕ → List ℕ) → List Node → Forest
+trees_of zero name nodes = NoTree
+trees_of (suc most) name [] = NoTree
+trees_of (suc most) name (n ∷ nodes) =
+    node_as name n n.note (trees_of most name (take n.below nodes)) (trees_of most name (drop n.below nodes))
+
+-- the first node's tree has the next `below` nodes under it, and the trees of the others come behind it
+abbrev pub forest_of : (ℕ → List ℕ) → List Node → Forest
+forest_of name nodes = trees_of (length nodes) name nodes
+
+-- Where the captures are the list of some trees, under any names of the numbers, the nodes stand for these trees.
+abbrev pub BuildsEach : List Caught → List Node → Type 0
+BuildsEach caught nodes =
+    (name : ℕ → List ℕ) (f : Forest) → all_named name caught ≡ flat f → forest_of name nodes ≡ f

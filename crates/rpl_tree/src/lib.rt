@@ -1,0 +1,13 @@
+//! Match trees, made of the captures of a run, for whoever prints an answer.
+//!
+//! [`build`] of the capture list of some trees gives these very trees: a flat list of nodes, each before those below it. [`Forest::fill`] is
+//! the same in memory that is kept from line to line.
+#![tactic(auto)]
+
+mod building;
+mod forest;
+mod node;
+
+pub use forest::{Forest, build};
+pub use node::Node;
+pub use rpl_core::{Caught, NoMemory};
