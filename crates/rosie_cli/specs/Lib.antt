@@ -1,0 +1,4 @@
+pub mod Statuses
+pub mod Ending
+pub mod Literals
+pub mod Causes
