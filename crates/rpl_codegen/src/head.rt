@@ -1,0 +1,87 @@
+// The head of a pattern: a set outside which it fails.
+ghost use Rattle.std.specs.Prelude.{◌≡◌, IfOk};
+
+use regex_class::ClassRange;
+use rpl_classes::Set;
+use rpl_core::{NoMemory, Peg};
+use std::alloc::Global;
+
+/// The set, where the pattern is nothing but one.
+pub(crate) fn lone_set(peg: &Peg) -> Option<&Set> {
+    match peg {
+        Peg::Set(set) => Some(set),
+        Peg::Seq(_) | Peg::Choice(_) | Peg::Many(_) | Peg::Not(_) | Peg::And(_) => None,
+        Peg::Behind { .. } | Peg::Call(_) | Peg::Capture(_, _) | Peg::Note(_) => None,
+        Peg::Start | Peg::End | Peg::Halt => None,
+    }
+}
+
+/// Whether the pattern has a head.
+#[cycle(has_head)]
+pub(crate) fn has_head(peg: &Peg) -> bool {
+    match peg {
+        Peg::Set(_) => true,
+        Peg::Seq(parts) => first_has_head(parts.as_slice()),
+        Peg::Choice(parts) => each_has_head(parts.as_slice()),
+        Peg::Capture(_, body) => has_head(body),
+        Peg::Many(_) | Peg::Not(_) | Peg::And(_) | Peg::Behind { .. } => false,
+        Peg::Call(_) | Peg::Note(_) | Peg::Start | Peg::End | Peg::Halt => false,
+    }
+}
+
+/// Whether the first part has a head.
+#[cycle(has_head)]
+fn first_has_head(parts: &[Peg]) -> bool {
+    if parts.is_empty() {
+        false
+    } else {
+        has_head(&parts[0])
+    }
+}
+
+/// Whether each part has a head.
+#[cycle(has_head)]
+fn each_has_head(parts: &[Peg]) -> bool {
+    for part in parts {
+        if !has_head(part) {
+            return false;
+        }
+    }
+    true
+}
+
+/// The head of the pattern, if it has one.
+#[cycle(head_of)]
+pub(crate) fn head_of(alloc: Global, peg: &Peg) -> Result<Option<Set>, NoMemory> {
+    match peg {
+        Peg::Set(set) => Ok(Some(set.copy(alloc)?)),
+        Peg::Seq(parts) => first_head(alloc, parts.as_slice()),
+        Peg::Choice(parts) => joint_head(alloc, parts.as_slice()),
+        Peg::Capture(_, body) => head_of(alloc, body),
+        Peg::Many(_) | Peg::Not(_) | Peg::And(_) | Peg::Behind { .. } => Ok(None),
+        Peg::Call(_) | Peg::Note(_) | Peg::Start | Peg::End | Peg::Halt => Ok(None),
+    }
+}
+
+/// The head of the first part.
+#[cycle(head_of)]
+fn first_head(alloc: Global, parts: &[Peg]) -> Result<Option<Set>, NoMemory> {
+    if parts.is_empty() {
+        Ok(None)
+    } else {
+        head_of(alloc, &parts[0])
+    }
+}
+
+/// The union of the heads, if each part has one.
+#[cycle(head_of)]
+fn joint_head(alloc: Global, parts: &[Peg]) -> Result<Option<Set>, NoMemory> {
+    let mut ranges: Vec<ClassRange> = Vec::new(alloc);
+    for part in parts {
+        match head_of(alloc, part)? {
+            Some(head) => ranges.extend_from_slice(head.ranges())?,
+            None => return Ok(None),
+        }
+    }
+    Ok(Some(Set::from_ranges(alloc, &ranges)?))
+}
