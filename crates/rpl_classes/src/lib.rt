@@ -7,7 +7,10 @@
 #![tactic(auto)]
 
 mod bits;
+mod classes;
+mod fault;
 mod set;
 
+pub use fault::SetFault;
 pub use rpl_text::NoMemory;
 pub use set::Set;

@@ -1,5 +1,5 @@
 -- Escapes over bytes and over characters: all that they are spelled with is ASCII.
-use Rattle.std.proofs.Common.{◌≡◌, ℕ, zero, suc, ◌+◌, ◌-◌, ◌*◌, ◌<◌, ◌≤◌, List, [], ◌∷◌, ◌++◌, length, drop, get_or, Option, Some, None, refl, sym, zero-add, add_assoc, ap, ap₂, subst, ◌⊎◌, ◌∙◌, arith, length-append, inl, inr, drop-cons}
+use Rattle.std.proofs.Common.{◌≡◌, ℕ, zero, suc, ◌+◌, ◌*◌, ◌<◌, ◌≤◌, List, [], ◌∷◌, ◌++◌, length, drop, get_or, Option, Some, None, refl, sym, ap, ap₂, subst, ◌⊎◌, ◌∙◌, arith, length-append, inl, inr, drop-cons}
 use Rattle.std.specs.Prelude.{Bool, true, false, nat_lt, nat_le, nat_eq, ◌&&◌, if◌then◌else◌, encode_utf8, encode_utf8_all, chars, IsUtf8, slice_get}
 use Rattle.std.specs.Char.{digit_value, len_utf8}
 use Rattle.std.proofs.lemmas.Bool.{cases_lt, cases_Bool, le-ltb, lt-ltb}
@@ -58,14 +58,14 @@ hex-encode (suc n) v (c ∷ cs) = elim (cases_lt c 128) [
 -- what an escape is by its letter and the numbers behind it
 abbrev by_letter : ℕ → Option ℕ → Option ℕ → Option ℕ → Option (ℕ × ℕ)
 by_letter c two four eight =
-  if is_kept c then Some (c, 1)
-  else (if nat_eq c 110 then Some (10, 1)
-  else (if nat_eq c 114 then Some (13, 1)
-  else (if nat_eq c 116 then Some (9, 1)
-  else (if nat_eq c 120 then numbered 2 0x7f two
-  else (if nat_eq c 117 then numbered 4 0x10_ffff four
-  else (if nat_eq c 85 then numbered 8 0x10_ffff eight
-  else None))))))
+    if is_kept c then Some (c, 1)
+    else (if nat_eq c 110 then Some (10, 1)
+    else (if nat_eq c 114 then Some (13, 1)
+    else (if nat_eq c 116 then Some (9, 1)
+    else (if nat_eq c 120 then numbered 2 0x7f two
+    else (if nat_eq c 117 then numbered 4 0x10_ffff four
+    else (if nat_eq c 85 then numbered 8 0x10_ffff eight
+    else None))))))
 
 escape-cons : (c : ℕ) (cs : List ℕ) → escape (c ∷ cs) ≡ by_letter c (hex 2 0 cs) (hex 4 0 cs) (hex 8 0 cs)
 unfolding escape
