@@ -10,6 +10,7 @@ mod bits;
 mod classes;
 mod fault;
 mod set;
+mod symbols;
 
 pub use fault::SetFault;
 pub use rpl_text::NoMemory;

@@ -216,3 +216,19 @@ escape_same bs p u g =
     let i = index t p in
     ap (λ l. shifted (p + 1) (escape l)) s.behind ∙ ap (shifted (p + 1)) (escape-encode (drop (i + 1) t))
     ∙ moved t (i + 1) (p + 1) (escape (drop (i + 1) t)) s.next refl
+
+-- the front of a list from a number on
+pub drop_front : (t : List ℕ) (i c : ℕ) → slice_get t i ≡ Some c → drop i t ≡ c ∷ drop (i + 1) t
+drop_front [] i c e = absurd (cc)
+drop_front (d ∷ cs) zero c e = let same : d ≡ c = cc in let n : suc zero ≡ zero + 1 = omega arith in ap (λ x. x ∷ cs) same ∙ ap (λ k. c ∷ drop k (d ∷ cs)) n
+drop_front (d ∷ cs) (suc i) c e = let n : suc (i + 1) ≡ suc i + 1 = omega arith in drop_front cs i c e ∙ ap (λ k. c ∷ drop k (d ∷ cs)) n
+
+-- an ASCII character is one byte of the text
+pub byte_stood : (bs : List ℕ) (p c : ℕ) → IsUtf8 bs → IsPlace (chars bs) p → slice_get (chars bs) (index (chars bs) p) ≡ Some c → c < 128 → slice_get bs p ≡ Some c
+byte_stood bs p c u h g lt =
+    let t = chars bs in
+    let i = index t p in
+    let e : drop p bs ≡ c ∷ encode_utf8_all (drop (i + 1) t) =
+    ap (λ x. drop x bs) (sym h) ∙ ap (drop (at t i)) (sym (encodes-chars bs u)) ∙ drop_at_char t i ∙ ap encode_utf8_all (drop_front t i c g)
+    ∙ ap (λ x. x ++ encode_utf8_all (drop (i + 1) t)) (encode_ascii c lt) in
+    (get_some bs p c (encode_utf8_all (drop (i + 1) t)) e).0
