@@ -15,11 +15,11 @@ use Rattle.rpl_classes.specs.Scanned.{behind, Scanned}
 use Rattle.rpl_classes.specs.declared.symbols.Symbol.{Symbol}
 use Rattle.rpl_classes.specs.declared.symbols.Symbol.TheVariants.{Plain, Escaped, End}
 
-symbols-nil : (p : ℕ) → symbols 0 p [] ≡ (p, End) ∷ []
+pub symbols-nil : (p : ℕ) → symbols 0 p [] ≡ (p, End) ∷ []
 unfolding symbols
 symbols-nil p = refl
 
-symbols-cons : (p c : ℕ) (cs : List ℕ) → symbols 0 p (c ∷ cs) ≡ (if nat_eq c 92 then escaped p (escape cs) (λ k. symbols k (p + 1) cs) else (p, Plain c) ∷ symbols 0 (p + len_utf8 c) cs)
+pub symbols-cons : (p c : ℕ) (cs : List ℕ) → symbols 0 p (c ∷ cs) ≡ (if nat_eq c 92 then escaped p (escape cs) (λ k. symbols k (p + 1) cs) else (p, Plain c) ∷ symbols 0 (p + len_utf8 c) cs)
 unfolding symbols
 symbols-cons p c cs = refl
 

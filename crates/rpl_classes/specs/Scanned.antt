@@ -1,9 +1,9 @@
 -- What the scanner's steps say of the symbols of a text.
-use Rattle.std.specs.Prelude.{◌≡◌, ℕ, ◌+◌, ◌<◌, ◌≤◌, Bool, true, false, List, [], ◌∷◌, Option, Some, None, Result, Ok, Err, slice_get, slice_range}
+use Rattle.std.specs.Prelude.{◌≡◌, ◌≢◌, ℕ, ◌+◌, ◌<◌, ◌≤◌, Bool, true, false, List, [], ◌∷◌, Option, Some, None, Result, Ok, Err, slice_get, slice_range}
 use Rattle.regex_class.specs.Ranges.{Range}
 use Rattle.rpl_text.specs.Places.{index, IsPlace}
-use Rattle.rpl_classes.specs.Symbols.{Placed, symbols_from, rest, begins, past_blanks}
-use Rattle.rpl_classes.specs.Lists.{Reading, char_of, is_range, each, changed}
+use Rattle.rpl_classes.specs.Symbols.{Placed, symbols_from, first, place, rest, begins}
+use Rattle.rpl_classes.specs.Lists.{Reading, is_member, char_of, is_range, each, changed}
 use Rattle.rpl_classes.specs.Brackets.{word, past_word, is_name}
 use Rattle.rpl_classes.specs.declared.symbols.Symbol.{Symbol}
 use Rattle.rpl_classes.specs.declared.symbols.Symbol.TheVariants.{Plain, Escaped, End}
@@ -48,3 +48,33 @@ pub record Skipped (t : List ℕ) (p : ℕ) (s : List Placed) (q : ℕ) : Type 0
 pub record Worded (t : List ℕ) (p q : ℕ) : Type 0 where
   pub word : word (symbols_from t p) ≡ slice_range t (index t p) (index t q)
   pub past : Skipped t p (past_word (symbols_from t p)) q
+
+-- a character of a list at the place p, and the place behind it
+abbrev pub TakesMember : List ℕ → ℕ → Option (ℕ × ℕ) → Type 0
+TakesMember t p None = is_member (first (symbols_from t p)) ≡ false
+TakesMember t p (Some (c, q)) = (is_member (first (symbols_from t p)) ≡ true) × (char_of (first (symbols_from t p)) ≡ c) × Passed t p (rest (symbols_from t p)) q
+
+-- a list of three with its ends, the place of its `-`, and the place behind its `]`
+pub record RangeFound (t : List ℕ) (p low dash high q : ℕ) : Type 0 where
+  pub is : is_range (symbols_from t p) ≡ true
+  pub low_end : char_of (first (symbols_from t p)) ≡ low
+  pub high_end : char_of (first (rest (rest (symbols_from t p)))) ≡ high
+  pub dash_place : place (rest (symbols_from t p)) ≡ dash
+  pub behind : Passed t p (rest (rest (rest (rest (symbols_from t p))))) q
+
+-- one step of any other list: its end, one more character, or its fault
+abbrev pub StepsList : List ℕ → ℕ → Bool → Result (Option ℕ × ℕ) SetFault → Type 0
+StepsList t p is_first (Err e) = each is_first (symbols_from t p) ≡ Err e
+StepsList t p is_first (Ok (None, q)) = (each is_first (symbols_from t p) ≡ Ok ([], symbols_from t q)) × IsPlace t q × (p < q)
+StepsList t p is_first (Ok (Some c, q)) =
+  (each is_first (symbols_from t p) ≡ changed (λ a. (c, c) ∷ a) (each false (symbols_from t q))) × IsPlace t q × (p < q)
+
+-- what was read is the reading: the set and the place behind it, or the fault; or memory ran out
+abbrev pub Gives : List ℕ → Result (List Range × ℕ) SetFault → Reading → Type 0
+Gives t (Ok (a, q)) r = r ≡ Ok (a, symbols_from t q)
+Gives t (Err e) r = e ≢ NoMemory → r ≡ Err e
+
+-- it ends at a place behind p
+abbrev pub Ends : List ℕ → ℕ → Result (List Range × ℕ) SetFault → Type 0
+Ends t p (Ok (a, q)) = IsPlace t q × (p < q)
+Ends t p (Err e) = Unit {0}

@@ -3,6 +3,7 @@ ghost use Rattle.std.specs.Prelude.{◌≡◌};
 ghost use Rattle.rpl_classes.specs.declared.fault.SetFault.TheVariants.{NoMemory as OutOfMemory};
 
 use crate::NoMemory;
+use std::alloc::AllocFailed;
 use thiserror::Error;
 
 /// Why a bracket or a name has no set. `at` is a byte place of the text, 0 for a name.
@@ -35,6 +36,14 @@ impl From<NoMemory> for SetFault {
     ghost from_gives = { λ _ fault. fault ≡ OutOfMemory };
 
     fn from(_cause: NoMemory) -> SetFault {
+        SetFault::NoMemory
+    }
+}
+
+impl<T: Drop> From<AllocFailed<T>> for SetFault {
+    ghost from_gives = { λ _ fault. fault ≡ OutOfMemory };
+
+    fn from(_cause: AllocFailed<T>) -> SetFault {
         SetFault::NoMemory
     }
 }

@@ -9,6 +9,7 @@
 mod bits;
 mod classes;
 mod fault;
+mod lists;
 mod set;
 mod symbols;
 
