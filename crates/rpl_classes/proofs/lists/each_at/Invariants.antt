@@ -5,12 +5,12 @@ use Rattle.rpl_classes.specs.Symbols.{symbols_from}
 use Rattle.rpl_classes.specs.Lists.{changed, each}
 use Rattle.rpl_classes.proofs.lists.each_at.Given as goal
 
-abbrev pub invariant-loop-at : goal.invariant-loop-at
-invariant-loop-at l = record {
+abbrev pub invariant-loop-ranges : goal.invariant-loop-ranges
+invariant-loop-ranges l = record {
   here : IsPlace (chars l.text) l.at;
   forward : l.place ≤ l.at;
   read : each true (symbols_from (chars l.text) l.place) ≡ changed (λ a. l.ranges.items ++ a) (each (nat_eq l.at l.place) (symbols_from (chars l.text) l.at));
 }
 
-abbrev pub decreases-loop-at : goal.decreases-loop-at
-decreases-loop-at l = length l.text - l.at
+abbrev pub decreases-loop-ranges : goal.decreases-loop-ranges
+decreases-loop-ranges l = length l.text - l.at
