@@ -1,6 +1,6 @@
 -- The members of what is done with sets, and that a class with these members is it.
 use Rattle.std.proofs.Common.{length, take, ◌≡◌, ℕ, zero, suc, ◌+◌, ◌<◌, ◌≤◌, List, [], ◌∷◌, ◌++◌, min, max, refl, sym, ap, ap₂, ◌∙◌, arith, subst}
-use Rattle.std.specs.Prelude.{Result, Ok, Err, IfOk, Bool, true, false, nat_le, ◌||◌, ◌&&◌, not}
+use Rattle.std.specs.Prelude.{Result, Ok, Err, IfOk, Bool, true, false, nat_eq, nat_le, ◌||◌, ◌&&◌, not}
 use Rattle.std.proofs.lemmas.Bool.Decides.{nat_tests}
 use Rattle.regex_class.specs.Ranges.{Range, in_range, in_ranges, range_at, IsCanonical, HasExactly}
 use Rattle.regex_class.proofs.RangesLemmas.{or_assoc, in_ranges-push, in_ranges-more, in_range_tells, in_ranges-nil, in_ranges-cons, in_ranges-append, or-false, same_members-same}
@@ -202,3 +202,16 @@ complement_made all a (Err _) e q = tt
 pub others_made : {E : Type 0} (a : List Range) (r : Result (List Range) E) → IfOk r (λ s. s ≡ others a) → IfOk r (λ s. HasJust s (λ c. not (in_ranges a c)))
 others_made a (Ok s) q = others_just a s q
 others_made a (Err _) q = tt
+
+-- a class with the members that a normal list and another share
+pub both_from_class : (a b u : List Range) → IsNormal a → IsCanonical u → HasExactly u (λ c. in_ranges a c && in_ranges b c) → u ≡ both a b
+both_from_class a b u n k h = same_members-same u (both a b) k (both_normal a b).rises (λ c le. h c le
+    ∙ ap (λ x. x && in_ranges b c) (only_chars a c n) ∙ and_assoc (is_char c) (in_ranges a c) (in_ranges b c) ∙ sym (both_members a b c))
+
+one_number : (n c : ℕ) → in_range (n, n) c ≡ nat_eq c n
+one_number n c = grind (arith, nat_tests, in_range_tells (n, n) c)
+
+pub push_one : (old new : List Range) (n c : ℕ) (b : Bool) → b ≡ true → new ≡ old ++ (n, n) ∷ [] → in_ranges new c ≡ (in_ranges old c || (b && nat_eq c n))
+push_one old new n c b t e =
+    ap (λ l. in_ranges l c) e ∙ in_ranges-push old (n, n) c ∙ ap (λ x. in_ranges old c || x) (one_number n c)
+    ∙ ap (λ x. in_ranges old c || (x && nat_eq c n)) (sym t)

@@ -1,6 +1,6 @@
 -- What is done with sets, on any lists of ranges. Each answer is a normal form.
-use Rattle.std.specs.Prelude.{zero, suc, ◌+◌, List, [], ◌∷◌, ◌++◌, min, max}
-use Rattle.regex_class.specs.Ranges.{Range}
+use Rattle.std.specs.Prelude.{ℕ, zero, suc, ◌+◌, ◌-◌, Bool, ◌&&◌, nat_le, if◌then◌else◌, List, [], ◌∷◌, ◌++◌, min, max}
+use Rattle.regex_class.specs.Ranges.{Range, in_ranges}
 use Rattle.rpl_classes.specs.Norm.{norm}
 
 -- what a range shares with each of the ranges
@@ -30,3 +30,16 @@ others (r ∷ rs) = both (outside r) (others rs)
 -- the characters that are in the first and not in the second
 unfoldable pub without : List Range → List Range → List Range
 without rs ss = both rs (others ss)
+
+-- the numbers below n that pass a test, each a range of its own
+unfoldable pub singles : (ℕ → Bool) → ℕ → List Range
+singles p zero = []
+singles p (suc n) = if p n then (n, n) ∷ singles p n else singles p n
+
+-- the other case of an ASCII letter, and any other character itself
+abbrev pub other_case : ℕ → ℕ
+other_case c = if nat_le 0x41 c && nat_le c 0x5a then c + 32 else (if nat_le 0x61 c && nat_le c 0x7a then c - 32 else c)
+
+-- the characters of a set, and the other case of each ASCII letter in it
+unfoldable pub widened : List Range → List Range
+widened rs = norm (rs ++ singles (λ c. in_ranges rs (other_case c)) 128)

@@ -7,7 +7,12 @@
 #![tactic(auto)]
 
 mod bits;
+mod classes;
+mod fault;
+mod lists;
 mod set;
+mod symbols;
 
+pub use fault::SetFault;
 pub use rpl_text::NoMemory;
 pub use set::Set;

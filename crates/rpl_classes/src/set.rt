@@ -1,12 +1,17 @@
 // A set of characters: its ranges, and two masks for the test of an ASCII character.
-ghost use Rattle.std.specs.Prelude.{◌≡◌, ℕ, ◌≤◌, ◌||◌, ◌&&◌, ◌↔◌, [], ◌∷◌, ◌++◌, not, nat_le, IfOk, IsTrue, length};
+ghost use Rattle.std.specs.Prelude.{◌≡◌, ℕ, ◌≤◌, ◌||◌, ◌&&◌, ◌↔◌, [], ◌∷◌, ◌++◌, not, nat_eq, nat_le, IfOk, OnOk, IsTrue, length};
 ghost use Rattle.regex_class.specs.Ranges.{in_ranges, HasExactly};
 ghost use Rattle.rpl_classes.specs.Sets.{is_char, IsNormal, HasJust};
 ghost use Rattle.rpl_classes.specs.Norm.{norm};
-ghost use Rattle.rpl_classes.specs.Algebra.{others, without};
+ghost use Rattle.rpl_classes.specs.Algebra.{both, others, without, other_case, widened};
+ghost use Rattle.rpl_classes.specs.Classes.{in_class, name_of, set_named};
+ghost use Rattle.rpl_classes.specs.Faults.{IsNamed};
+ghost use Rattle.rpl_classes.specs.declared.classes.NamedClass.{NamedClass};
 
 use crate::NoMemory;
 use crate::bits::bitmap;
+use crate::classes::NamedClass;
+use crate::fault::SetFault;
 use regex_class::{Class, ClassRange};
 use std::alloc::Global;
 use std::marker::Model;
@@ -55,6 +60,29 @@ fn cut(alloc: Global, ranges: &[ClassRange]) -> Result<Vec<ClassRange>, NoMemory
     Ok(parts)
 }
 
+/// Adds one number, where the test says so.
+fn push_where(ranges: &mut Vec<ClassRange>, number: u32, test: bool) -> Result<(), NoMemory>
+    ensures { OnOk result ((c : ℕ) → in_ranges ranges.new.items c ≡ (in_ranges ranges.old.items c || (test && nat_eq c number))) }
+{
+    if test {
+        ranges.push((number, number))?;
+    }
+    Ok(())
+}
+
+/// The ranges of a class, and the other case of each ASCII letter in it.
+fn with_cases(alloc: Global, class: &Class) -> Result<Vec<ClassRange>, NoMemory>
+    ensures { IfOk result (λ v. (c : ℕ) → in_ranges v.items c ≡ (in_ranges class.now.ranges.items c || in_ranges class.now.ranges.items (other_case c))) }
+{
+    let mut ranges = Vec::from_slice(alloc, &class.ranges)?;
+    for k in 0..26 {
+        let (upper, lower) = ('A' as u32 + k, 'a' as u32 + k);
+        push_where(&mut ranges, upper, class.contains(lower))?;
+        push_where(&mut ranges, lower, class.contains(upper))?;
+    }
+    Ok(ranges)
+}
+
 impl Set {
     /// The set with no member.
     pub fn empty(alloc: Global) -> Result<Set, NoMemory>
@@ -91,6 +119,19 @@ impl Set {
         Set::from_ranges(alloc, &[(low as u32, high as u32)])
     }
 
+    /// The class of the POSIX C locale with this name. UnknownClass, with the place 0, exactly where
+    /// there is none.
+    pub fn named(alloc: Global, name: &str) -> Result<Set, SetFault>
+        ensures value { IsNamed (set_named name.now) result }
+        ensures normal { IfOk result IsNormal }
+        ensures members { IfOk result (λ s. (k : NamedClass) × (name_of k ≡ name.now) × HasJust s (in_class k)) }
+    {
+        match NamedClass::from_name(name) {
+            Some(class) => Ok(Set::from_ranges(alloc, class.ranges())?),
+            None => Err(SetFault::UnknownClass { at: 0 }),
+        }
+    }
+
     /// The characters that are in at least one of the two.
     pub fn union(&self, alloc: Global, other: &Set) -> Result<Set, NoMemory>
         ensures ranges { IfOk result (λ s. s ≡ norm (self.now ++ other.now)) }
@@ -120,6 +161,26 @@ impl Set {
     {
         let own = self.copy(alloc)?;
         Ok(sealed(own.class.difference(&other.class)?))
+    }
+
+    /// The characters that are in both.
+    pub fn both(&self, alloc: Global, other: &Set) -> Result<Set, NoMemory>
+        ensures ranges { IfOk result (λ s. s ≡ both self.now other.now) }
+        ensures normal { IfOk result IsNormal }
+        ensures members { IfOk result (λ s. HasJust s (λ c. in_ranges self.now c && in_ranges other.now c)) }
+    {
+        let own = self.copy(alloc)?;
+        Ok(sealed(own.class.intersection(&other.class)?))
+    }
+
+    /// The set with the other case of each ASCII letter in it.
+    pub fn widen_ci(&self, alloc: Global) -> Result<Set, NoMemory>
+        ensures ranges { IfOk result (λ s. s ≡ widened self.now) }
+        ensures normal { IfOk result IsNormal }
+        ensures members { IfOk result (λ s. HasJust s (λ c. in_ranges self.now c || in_ranges self.now (other_case c))) }
+    {
+        let ranges = with_cases(alloc, &self.class)?;
+        Ok(sealed(Class::new(ranges)?))
     }
 
     /// The same set once more.

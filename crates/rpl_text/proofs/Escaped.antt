@@ -1,5 +1,5 @@
 -- Escapes over bytes and over characters: all that they are spelled with is ASCII.
-use Rattle.std.proofs.Common.{◌≡◌, ℕ, zero, suc, ◌+◌, ◌-◌, ◌*◌, ◌<◌, ◌≤◌, List, [], ◌∷◌, ◌++◌, length, drop, get_or, Option, Some, None, refl, sym, zero-add, add_assoc, ap, ap₂, subst, ◌⊎◌, ◌∙◌, arith, length-append, inl, inr, drop-cons}
+use Rattle.std.proofs.Common.{◌≡◌, ℕ, zero, suc, ◌+◌, ◌*◌, ◌<◌, ◌≤◌, List, [], ◌∷◌, ◌++◌, length, drop, get_or, Option, Some, None, refl, sym, ap, ap₂, subst, ◌⊎◌, ◌∙◌, arith, length-append, inl, inr, drop-cons}
 use Rattle.std.specs.Prelude.{Bool, true, false, nat_lt, nat_le, nat_eq, ◌&&◌, if◌then◌else◌, encode_utf8, encode_utf8_all, chars, IsUtf8, slice_get}
 use Rattle.std.specs.Char.{digit_value, len_utf8}
 use Rattle.std.proofs.lemmas.Bool.{cases_lt, cases_Bool, le-ltb, lt-ltb}
@@ -58,14 +58,14 @@ hex-encode (suc n) v (c ∷ cs) = elim (cases_lt c 128) [
 -- what an escape is by its letter and the numbers behind it
 abbrev by_letter : ℕ → Option ℕ → Option ℕ → Option ℕ → Option (ℕ × ℕ)
 by_letter c two four eight =
-  if is_kept c then Some (c, 1)
-  else (if nat_eq c 110 then Some (10, 1)
-  else (if nat_eq c 114 then Some (13, 1)
-  else (if nat_eq c 116 then Some (9, 1)
-  else (if nat_eq c 120 then numbered 2 0x7f two
-  else (if nat_eq c 117 then numbered 4 0x10_ffff four
-  else (if nat_eq c 85 then numbered 8 0x10_ffff eight
-  else None))))))
+    if is_kept c then Some (c, 1)
+    else (if nat_eq c 110 then Some (10, 1)
+    else (if nat_eq c 114 then Some (13, 1)
+    else (if nat_eq c 116 then Some (9, 1)
+    else (if nat_eq c 120 then numbered 2 0x7f two
+    else (if nat_eq c 117 then numbered 4 0x10_ffff four
+    else (if nat_eq c 85 then numbered 8 0x10_ffff eight
+    else None))))))
 
 escape-cons : (c : ℕ) (cs : List ℕ) → escape (c ∷ cs) ≡ by_letter c (hex 2 0 cs) (hex 4 0 cs) (hex 8 0 cs)
 unfolding escape
@@ -216,3 +216,19 @@ escape_same bs p u g =
     let i = index t p in
     ap (λ l. shifted (p + 1) (escape l)) s.behind ∙ ap (shifted (p + 1)) (escape-encode (drop (i + 1) t))
     ∙ moved t (i + 1) (p + 1) (escape (drop (i + 1) t)) s.next refl
+
+-- the front of a list from a number on
+pub drop_front : (t : List ℕ) (i c : ℕ) → slice_get t i ≡ Some c → drop i t ≡ c ∷ drop (i + 1) t
+drop_front [] i c e = absurd (cc)
+drop_front (d ∷ cs) zero c e = let same : d ≡ c = cc in let n : suc zero ≡ zero + 1 = omega arith in ap (λ x. x ∷ cs) same ∙ ap (λ k. c ∷ drop k (d ∷ cs)) n
+drop_front (d ∷ cs) (suc i) c e = let n : suc (i + 1) ≡ suc i + 1 = omega arith in drop_front cs i c e ∙ ap (λ k. c ∷ drop k (d ∷ cs)) n
+
+-- an ASCII character is one byte of the text
+pub byte_stood : (bs : List ℕ) (p c : ℕ) → IsUtf8 bs → IsPlace (chars bs) p → slice_get (chars bs) (index (chars bs) p) ≡ Some c → c < 128 → slice_get bs p ≡ Some c
+byte_stood bs p c u h g lt =
+    let t = chars bs in
+    let i = index t p in
+    let e : drop p bs ≡ c ∷ encode_utf8_all (drop (i + 1) t) =
+    ap (λ x. drop x bs) (sym h) ∙ ap (drop (at t i)) (sym (encodes-chars bs u)) ∙ drop_at_char t i ∙ ap encode_utf8_all (drop_front t i c g)
+    ∙ ap (λ x. x ++ encode_utf8_all (drop (i + 1) t)) (encode_ascii c lt) in
+    (get_some bs p c (encode_utf8_all (drop (i + 1) t)) e).0

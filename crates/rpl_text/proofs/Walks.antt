@@ -111,7 +111,7 @@ scalars_drop [] (suc i) e = e
 scalars_drop (c ∷ cs) zero e = e
 scalars_drop (c ∷ cs) (suc i) e = scalars_drop cs i (grind arith)
 
-at_le : (t : List ℕ) (i : ℕ) → at t i ≤ at t (length t)
+pub at_le : (t : List ℕ) (i : ℕ) → at t i ≤ at t (length t)
 at_le [] i = omega arith
 at_le (c ∷ cs) zero = omega arith
 at_le (c ∷ cs) (suc i) = let h = at_le cs i in omega arith

@@ -23,14 +23,14 @@ is_kept c = nat_eq c 92 || (nat_eq c 34 || (nat_eq c 91 || (nat_eq c 93 || (nat_
 unfoldable pub escape : List ℕ → Option (ℕ × ℕ)
 escape [] = None
 escape (c ∷ cs) =
-  if is_kept c then Some (c, 1)
-  else (if nat_eq c 110 then Some (10, 1) -- \n
-  else (if nat_eq c 114 then Some (13, 1) -- \r
-  else (if nat_eq c 116 then Some (9, 1) -- \t
-  else (if nat_eq c 120 then numbered 2 0x7f (hex 2 0 cs) -- \xHH
-  else (if nat_eq c 117 then numbered 4 0x10_ffff (hex 4 0 cs) -- \uHHHH
-  else (if nat_eq c 85 then numbered 8 0x10_ffff (hex 8 0 cs) -- \UHHHHHHHH
-  else None))))))
+    if is_kept c then Some (c, 1)
+    else (if nat_eq c 110 then Some (10, 1)  -- \n
+    else (if nat_eq c 114 then Some (13, 1)  -- \r
+    else (if nat_eq c 116 then Some (9, 1)  -- \t
+    else (if nat_eq c 120 then numbered 2 0x7f (hex 2 0 cs)  -- \xHH
+    else (if nat_eq c 117 then numbered 4 0x10_ffff (hex 4 0 cs)  -- \uHHHH
+    else (if nat_eq c 85 then numbered 8 0x10_ffff (hex 8 0 cs)  -- \UHHHHHHHH
+    else None))))))
 
 -- an escape n bytes behind a place, as the place behind it
 abbrev pub shifted : ℕ → Option (ℕ × ℕ) → Option (ℕ × ℕ)

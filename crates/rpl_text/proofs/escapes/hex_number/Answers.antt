@@ -1,6 +1,6 @@
-use Rattle.std.proofs.Common.{◌≡◌, ◌∙◌, ◌-◌, ◌+◌, ◌*◌, ◌≤◌, ◌<◌, suc, drop, sym, ap, arith}
+use Rattle.std.proofs.Common.{◌≡◌, ◌∙◌, ◌-◌, ◌+◌, ◌*◌, ◌≤◌, suc, drop, sym, ap, arith}
 use Rattle.std.specs.Char.{digit_value}
-use Rattle.std.proofs.lemmas.Bool.{cases_lt, ltb-true, ltb-false}
+use Rattle.std.proofs.lemmas.Bool.{ltb-false}
 use Rattle.rpl_text.specs.Escapes.{hex}
 use Rattle.rpl_text.proofs.Hex.{hex_digit, hex_other, hex_end, hex_done, sixteen, below_word}
 use Rattle.rpl_text.proofs.escapes.hex_number.Goals as goal

@@ -1,0 +1,77 @@
+-- The named classes: those of the POSIX C locale (IEEE Std 1003.1, LC_CTYPE), each by the standard's own words.
+use Rattle.std.specs.Prelude.{ℕ, Bool, not, ◌&&◌, ◌||◌, nat_eq, nat_le, List, [], ◌∷◌, Option, Some, None, if◌then◌else◌, codes}
+use Rattle.std.specs.Str.{bytes_eq}
+use Rattle.std.specs.Option.{option_map}
+use Rattle.regex_class.specs.Ranges.{Range}
+use Rattle.rpl_classes.specs.Norm.{norm}
+use Rattle.rpl_classes.specs.Algebra.{singles}
+use Rattle.rpl_classes.specs.declared.classes.NamedClass.{NamedClass}
+use Rattle.rpl_classes.specs.declared.classes.NamedClass.TheVariants.{Alpha, Digit, Alnum, Upper, Lower, Space, Blank, Punct, Xdigit, Cntrl, Graph, Print}
+
+-- A to Z, a to z, 0 to 9
+abbrev pub is_upper : ℕ → Bool
+is_upper c = nat_le 0x41 c && nat_le c 0x5a
+
+abbrev pub is_lower : ℕ → Bool
+is_lower c = nat_le 0x61 c && nat_le c 0x7a
+
+abbrev pub is_digit : ℕ → Bool
+is_digit c = nat_le 0x30 c && nat_le c 0x39
+
+-- letters, and letters and digits
+abbrev pub is_alpha : ℕ → Bool
+is_alpha c = is_upper c || is_lower c
+
+abbrev pub is_alnum : ℕ → Bool
+is_alnum c = is_alpha c || is_digit c
+
+-- the visible characters of ASCII
+abbrev pub is_graph : ℕ → Bool
+is_graph c = nat_le 0x21 c && nat_le c 0x7e
+
+-- the characters of a class
+abbrev pub in_class : NamedClass → ℕ → Bool
+in_class Upper c = is_upper c
+in_class Lower c = is_lower c
+in_class Digit c = is_digit c
+in_class Alpha c = is_alpha c
+in_class Alnum c = is_alnum c
+in_class Xdigit c = is_digit c || ((nat_le 0x41 c && nat_le c 0x46) || (nat_le 0x61 c && nat_le c 0x66))  -- digits, A to F, a to f
+in_class Graph c = is_graph c
+in_class Punct c = is_graph c && not (is_alnum c)  -- visible, and neither letter nor digit
+in_class Print c = is_graph c || nat_eq c 0x20  -- visible, and the space
+in_class Blank c = nat_eq c 0x20 || nat_eq c 0x9  -- space and tab
+in_class Space c = nat_eq c 0x20 || (nat_le 0x9 c && nat_le c 0xd)  -- space, tab, line feed, vertical tab, form feed, carriage return
+in_class Cntrl c = nat_le c 0x1f || nat_eq c 0x7f  -- what ASCII has that isn't printed
+
+-- a class's name between the colons of a bracket
+abbrev pub name_of : NamedClass → List ℕ
+name_of Alpha = codes "alpha"
+name_of Digit = codes "digit"
+name_of Alnum = codes "alnum"
+name_of Upper = codes "upper"
+name_of Lower = codes "lower"
+name_of Space = codes "space"
+name_of Blank = codes "blank"
+name_of Punct = codes "punct"
+name_of Xdigit = codes "xdigit"
+name_of Cntrl = codes "cntrl"
+name_of Graph = codes "graph"
+name_of Print = codes "print"
+
+-- the first of some classes with a name
+abbrev pub first_named : List NamedClass → List ℕ → Option NamedClass
+first_named [] name = None
+first_named (k ∷ ks) name = if bytes_eq (name_of k) name then Some k else first_named ks name
+
+-- the class with a name, where there is one
+unfoldable pub class_named : List ℕ → Option NamedClass
+class_named = first_named (Alpha ∷ Digit ∷ Alnum ∷ Upper ∷ Lower ∷ Space ∷ Blank ∷ Punct ∷ Xdigit ∷ Cntrl ∷ Graph ∷ Print ∷ [])
+
+-- a class as a set, all of whose characters are ASCII
+unfoldable pub class_set : NamedClass → List Range
+class_set k = norm (singles (in_class k) 128)
+
+-- the set with a name, where there is one
+abbrev pub set_named : List ℕ → Option (List Range)
+set_named name = option_map class_set (class_named name)
