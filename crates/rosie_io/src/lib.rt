@@ -1,4 +1,9 @@
-//! The outside world of a command: what is read, what is written, and the faults of both.
+//! The outside world of a command: what it reads, what it writes, the files that it opens, and the faults of all three.
+//!
+//! `Source`, `Sink` and `Files` are that world as traits. Over them the crate reads lines and whole files and writes
+//! texts, and says of each fault where it came from: a read, write or open fails only where the count of such faults
+//! rose. The versions in memory tell what they hold, so what a command makes of its input can be proved; the versions
+//! over std tell nothing and are what a program runs on.
 #![tactic(auto)]
 
 mod adapters;
@@ -31,20 +36,4 @@ pub use whole_files::{FileFault, read_bytes, read_file};
 pub use write::{WriteFault, write_all};
 
 #[cfg(test)]
-mod tests {
-    use super::*;
-    use std::test::Fail;
-
-    #[test]
-    fn lines_come_one_by_one(rt: HostRuntime) -> Result<(), Fail> {
-        let alloc = rt.alloc();
-        let text = b"a\n\nccc\n\xff\nbb";
-        let mut source = MemorySource::new(Bytes::from_slice(alloc, text)?, 2, Calls::new(alloc));
-        let mut reader = LineReader::new(alloc, false, 2)?;
-        assert!(rt; reader.next(&mut source) == Ok(Line::Text));
-        assert_eq!(rt; reader.line(), "a");
-        assert!(rt; reader.next(&mut source) == Ok(Line::Text));
-        assert_eq!(rt; reader.line(), "");
-        Ok(())
-    }
-}
+mod tests;
