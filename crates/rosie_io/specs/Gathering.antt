@@ -21,8 +21,8 @@ abbrev pub IsKept : Bool → ℕ → List ℕ → List ℕ → Type 0
 IsKept true most line seen = (length line ≤ most) × (most < length seen)
 IsKept false most line seen = (line ≡ seen) × (length seen ≤ most)
 
--- With got, what the reads gave so far, and seen, the line so far: what was held, and then got, is seen, and then what
--- is held now.
+-- where a gathering stands: got is what the reads gave so far, and seen is the line so far; what was held and then got
+-- is seen and then what is held now
 pub record Gathered (whole : Bool) (most : ℕ) (tells : Type 0) (old : Held) (rest0 : List ℕ) (long : Bool) (line : List ℕ) (now : Held) (rest seen got : List ℕ) : Type 0 where
   pub kept : IsKept long most line seen
   pub one : whole ≡ false → feeds seen ≡ 0
@@ -31,12 +31,13 @@ pub record Gathered (whole : Bool) (most : ℕ) (tells : Type 0) (old : Held) (r
   pub bound : length got + 65536 * old.reads ≤ 65536 * now.reads
   pub ended : old.ended ≡ true → now.ended ≡ true
 
--- the lines of the bytes that were left are this one, and then the lines of those that are left now
+-- the lines of the bytes that were left are this line, and then the lines of those that are left now; unless the input
+-- is at its end, the line took one line feed
 pub record Splits (whole ended : Bool) (line left0 left1 : List ℕ) : Type 0 where
   pub lines : lines whole left0 ≡ line ∷ lines whole left1
   pub feeds : whole ≡ false → ended ≡ false → feeds left0 ≡ 1 + feeds left1
 
--- the bytes that are left before and after, where they are told
+-- the bytes that were left and are left, where they are told: a line within most bytes, a longer one, or none
 abbrev pub Finds : Result Found Trouble → Bool → ℕ → Bool → List ℕ → List ℕ → List ℕ → Type 0
 Finds (Ok Line) whole most ended line left0 left1 = Splits whole ended line left0 left1 × (length line ≤ most)
 Finds (Ok Long) whole most ended line left0 left1 = (seen : List ℕ) × Splits whole ended seen left0 left1 × (most < length seen)
@@ -54,7 +55,7 @@ last_kind true line = Long
 last_kind false [] = End
 last_kind false (b ∷ line) = Line
 
--- what was held and what this call took has no line feed
+-- what this call took, got, and what was held before have no line feed
 pub record NoFeed (whole : Bool) (tells : Type 0) (held0 rest0 rest1 got : List ℕ) : Type 0 where
   pub took : tells → rest0 ≡ got ++ rest1
   pub none : whole ≡ false → feeds (held0 ++ got) ≡ 0
@@ -73,11 +74,11 @@ HasCause (Err NoMemory) before now = now ≡ before
 HasCause (Err ReadFault) before now = (before ≤ now) × Rose before now
 HasCause (Err Spent) before now = now ≡ before
 
--- nothing is read where a line feed is held, or after the end
+-- the next line needs no read: the input is at its end, or a line feed is held
 abbrev pub IsReady : Bool → Held → Type 0
-IsReady whole old = (old.ended ≡ true) ⊎ ((whole ≡ false) × (0 < feeds old.bytes))
+IsReady whole held = (held.ended ≡ true) ⊎ ((whole ≡ false) × (0 < feeds held.bytes))
 
--- a line takes a byte at least
+-- with 65,536 bytes for each read, no more is held than was held and read, and a line took one byte at least
 abbrev pub Uses : Result Found Trouble → Held → Held → Type 0
 Uses (Ok Line) old now = 1 + length now.bytes + 65536 * old.reads ≤ length old.bytes + 65536 * now.reads
 Uses (Ok Long) old now = 1 + length now.bytes + 65536 * old.reads ≤ length old.bytes + 65536 * now.reads
@@ -88,7 +89,7 @@ Uses (Err _) old now = length now.bytes + 65536 * old.reads ≤ length old.bytes
 abbrev pub IsEndOf : List ℕ → List ℕ → Type 0
 IsEndOf new old = (got : List ℕ) × (old ≡ got ++ new)
 
--- the reads that took something, against the bytes that were taken, and the told rest
+-- the reads that took a byte, against the bytes that were taken and those that are left; the end stays the end
 pub record Reads (tells : Type 0) (old now : Held) (rest0 rest1 : List ℕ) (taken0 taken1 : ℕ) : Type 0 where
   pub later : old.reads ≤ now.reads
   pub taken : taken1 < 2 ^ 64 - 1 → now.reads + taken0 ≤ old.reads + taken1

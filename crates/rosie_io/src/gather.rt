@@ -2,24 +2,28 @@
 ghost use Rattle.std.specs.Prelude.{◌≡◌, ◌≤◌, ◌++◌, ◌^◌, List, ℕ, [], true, false, IfOk, OnOk, length, take, drop};
 ghost use Rattle.rosie_io.specs.Gathering.{IsKept, Finds, kind_of, last_kind, left, Stops, HasCause, IsReady, Uses, Reads};
 
-use crate::Source;
 use crate::chunk::{Chunk, Fill};
-use std::alloc::{AllocError, Global};
+use crate::{NoMemory, Source};
 
+/// What was found.
 pub enum Found {
+    /// A line of `most` bytes at most.
     Line,
+    /// A longer line.
     Long,
+    /// No further line.
     End,
 }
 
+/// Why the line's end wasn't reached.
 pub enum Trouble {
     NoMemory,
     ReadFault,
     Spent,
 }
 
-/// Adds a piece to the line, unless the line is too long.
-fn add(line: &mut Vec<u8>, piece: &[u8], most: usize, long: bool) -> Result<bool, AllocError>
+/// Adds a piece to the line, and says whether the line is too long. A line that is keeps nothing.
+fn add(line: &mut Vec<u8>, piece: &[u8], most: usize, long: bool) -> Result<bool, NoMemory>
     ensures { IfOk result (λ now. (seen : List ℕ) → IsKept long most line.old.items seen → IsKept now most line.new.items (seen ++ piece.now)) }
 {
     if long {
@@ -40,7 +44,7 @@ fn add_held(
     line: &mut Vec<u8>,
     most: usize,
     long: bool,
-) -> Result<bool, AllocError>
+) -> Result<bool, NoMemory>
     requires { count ≤ length chunk.old.bytes }
     ensures kept { IfOk result (λ now. (seen : List ℕ) → IsKept long most line.old.items seen → IsKept now most line.new.items (seen ++ take count chunk.old.bytes)) }
     ensures bytes { chunk.new.bytes ≡ drop count chunk.old.bytes }
@@ -70,6 +74,7 @@ fn kind_of_last(long: bool, line: &[u8]) -> Found
     }
 }
 
+/// Gathers the next line in `line`, which is empty, and passes it. A line that is too long is passed too.
 pub fn gather<S: Source>(
     chunk: &mut Chunk,
     source: &mut S,
