@@ -1,3 +1,4 @@
+pub mod NotYet
 pub mod Printed
 pub mod Reading
 pub mod Roles

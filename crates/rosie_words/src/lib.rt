@@ -13,6 +13,7 @@ mod reading;
 mod role;
 mod settings;
 mod table;
+mod unbuilt;
 mod value;
 mod what;
 
@@ -22,3 +23,4 @@ pub use lists::{LibPath, Paths, Roots};
 pub use printed::{fault_line, usage};
 pub use reading::read_words;
 pub use std::alloc::AllocError as NoMemory;
+pub use unbuilt::not_yet;
