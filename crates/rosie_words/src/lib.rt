@@ -24,3 +24,6 @@ pub use printed::{fault_line, usage};
 pub use reading::read_words;
 pub use std::alloc::AllocError as NoMemory;
 pub use unbuilt::not_yet;
+
+#[cfg(test)]
+mod tests;
