@@ -1,6 +1,7 @@
 //! The reading of the command line.
 
 ghost use Rattle.std.specs.Prelude.{◌≡◌, ◌≢◌, ◌++◌, [], ◌∷◌, List, map, OnOk, IfOk, IfErr, Some, None, Ok, Err};
+ghost use Rattle.rosie_words.specs.Table.{Word};
 ghost use Rattle.rosie_words.specs.Roles.{role, fault, value_fault, given, option_in, argument_in};
 ghost use Rattle.rosie_words.specs.Reading.{words_of, reading};
 ghost use Rattle.rosie_words.specs.Seen.{front_of, role_of, IsFair, half_of, text};
@@ -155,4 +156,10 @@ pub fn read_words(alloc: Global, words: &[String]) -> Result<Command, UsageFault
         reader.take(alloc, word.as_str())?;
     }
     reader.finish(alloc)
+}
+
+/// Want of memory is no reading of any words: `NoMemory` is the machine's own answer.
+pub fn no_reading_is_want_of_memory()
+    ensures { (words : List Word) → reading words ≢ Err E.NoMemory }
+{
 }
