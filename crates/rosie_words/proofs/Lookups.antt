@@ -9,7 +9,7 @@ use Rattle.rosie_words.specs.declared.table.OptionName.TheVariants as O
 use Rattle.rosie_words.specs.declared.settings.Settings.{Settings}
 use Rattle.rosie_words.specs.Table.{Word, same_option}
 use Rattle.rosie_words.specs.Roles.{Given, given}
-use Rattle.rosie_words.specs.Reading.{is_given, last, root, roots}
+use Rattle.rosie_words.specs.Options.{is_given, last, root, roots}
 use Rattle.rosie_words.specs.Settings.{settings_of, put}
 use Rattle.rosie_words.specs.Taken.{put_all}
 

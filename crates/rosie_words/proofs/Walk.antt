@@ -14,8 +14,10 @@ use Rattle.rosie_words.specs.declared.settings.Settings.{Settings}
 use Rattle.rosie_words.specs.declared.table.CommandName.{CommandName}
 use Rattle.rosie_words.specs.declared.table.OptionName.TheVariants as O
 use Rattle.rosie_words.specs.Table.{Word, same_option, command_named}
-use Rattle.rosie_words.specs.Roles.{Front, Free, Given, role, next, fault, end_fault, gives, argues}
-use Rattle.rosie_words.specs.Reading.{words_of, first_fault, options, arguments, is_given, last, is_for, stray, what, with_options, by_stray, by_name, chosen, unless, reading, command}
+use Rattle.rosie_words.specs.Roles.{Front, Free, Given, role, next, fault, end_fault, option_in, argument_in}
+use Rattle.rosie_words.specs.Reading.{words_of, first_fault, options, arguments, with_options, by_stray, by_name, chosen, unless, reading}
+use Rattle.rosie_words.specs.Options.{is_given, last, is_for, stray, command}
+use Rattle.rosie_words.specs.Arguments.{what}
 use Rattle.rosie_words.specs.Settings.{settings_of, put, command_from}
 use Rattle.rosie_words.specs.Seen.{front_of, text}
 use Rattle.rosie_words.specs.Taken.{Named, seen, name_of, word_of, stray_word, from_what, from_stray, from_name, chosen_from, finished, put_all, Starts, Takes}
@@ -47,12 +49,12 @@ pub takes : (all rest : List Word) (w : Word) (old new : Reader) → Takes old n
 takes all rest w old new t s =
     let f = front_of old.front in
     let n = next f (role f w) w in
-    let g = gives (role f w) w in
+    let g = option_in (role f w) w in
     record {
       sound = rw t.front ((sym (ap (λ o. option_or o (first_fault n rest)) t.sound)) ∙ s.sound);
       settings = rw (t.front, t.settings) (sym (put_all-append g (options n rest) old.settings) ∙ s.settings);
       options = rw (t.front, t.options) (append_assoc (map seen old.options.items) (map name_of g) (map name_of (options n rest)) ∙ ap (λ ns. map seen old.options.items ++ ns) (sym (map-append g (options n rest))) ∙ s.options);
-      arguments = rw (t.front, t.arguments) (append_assoc (map text old.arguments.items) (argues (role f w) w) (arguments n rest) ∙ s.arguments);
+      arguments = rw (t.front, t.arguments) (append_assoc (map text old.arguments.items) (argument_in (role f w) w) (arguments n rest) ∙ s.arguments);
     }
 
 fails : (all rest : List Word) (w : Word) (r : Reader) (e : UsageFault) → fault (role (front_of r.front) w) w ≡ Some e → Stands all (w ∷ rest) r → first_fault Free all ≡ Some e

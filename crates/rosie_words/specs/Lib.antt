@@ -1,3 +1,6 @@
+pub mod Arguments
+pub mod NotYet
+pub mod Options
 pub mod Printed
 pub mod Reading
 pub mod Roles

@@ -103,23 +103,23 @@ abbrev pub given : OptionName → Word → Word → Given
 given o w v = record { option = o; word = w; value = v }
 
 -- the option that a word completes
-abbrev pub gives : Role → Word → List Given
-gives (Plain o) w = given o w [] ∷ []
-gives (Full o v) w = given o w v ∷ []
-gives (Value o n) w = given o n w ∷ []
-gives EndOfOptions w = []
-gives Argument w = []
-gives Unknown w = []
-gives Unexpected w = []
-gives (Waiting o) w = []
+abbrev pub option_in : Role → Word → List Given
+option_in (Plain o) w = given o w [] ∷ []
+option_in (Full o v) w = given o w v ∷ []
+option_in (Value o n) w = given o n w ∷ []
+option_in EndOfOptions w = []
+option_in Argument w = []
+option_in Unknown w = []
+option_in Unexpected w = []
+option_in (Waiting o) w = []
 
 -- the argument that a word is
-abbrev pub argues : Role → Word → List Word
-argues Argument w = w ∷ []
-argues EndOfOptions w = []
-argues Unknown w = []
-argues (Plain o) w = []
-argues Unexpected w = []
-argues (Full o v) w = []
-argues (Waiting o) w = []
-argues (Value o n) w = []
+abbrev pub argument_in : Role → Word → List Word
+argument_in Argument w = w ∷ []
+argument_in EndOfOptions w = []
+argument_in Unknown w = []
+argument_in (Plain o) w = []
+argument_in Unexpected w = []
+argument_in (Full o v) w = []
+argument_in (Waiting o) w = []
+argument_in (Value o n) w = []

@@ -7,7 +7,7 @@ use Rattle.rosie_words.specs.declared.role.Front.TheVariants as F
 use Rattle.rosie_words.specs.declared.role.Role.{Role}
 use Rattle.rosie_words.specs.declared.role.Role.TheVariants as R
 use Rattle.rosie_words.specs.declared.what.Search as rust
-use Rattle.rosie_words.specs.Reading.{Search}
+use Rattle.rosie_words.specs.Arguments.{Search}
 use Rattle.rosie_words.specs.Roles as roles
 
 abbrev pub front_of : Front → roles.Front

@@ -10,7 +10,7 @@ use Rattle.rosie_words.specs.declared.table.OptionName.TheVariants as O
 use Rattle.rosie_words.specs.Table.{Word, row}
 use Rattle.rosie_words.specs.Values.{path_of, style_named, number_of}
 use Rattle.rosie_words.specs.Roles.{Given}
-use Rattle.rosie_words.specs.Reading.{is_given, last, root, roots, folders, number, usual_style}
+use Rattle.rosie_words.specs.Options.{is_given, last, root, roots, folders, number, usual_style}
 
 -- the record of some options
 abbrev pub settings_of : List Given → Settings

@@ -11,8 +11,10 @@ use Rattle.rosie_words.specs.declared.settings.Settings.{Settings}
 use Rattle.rosie_words.specs.declared.table.CommandName.{CommandName}
 use Rattle.rosie_words.specs.declared.table.OptionName.{OptionName}
 use Rattle.rosie_words.specs.Table.{Word, command_named}
-use Rattle.rosie_words.specs.Roles.{Front, Free, Given, role, next, fault, end_fault, gives, argues}
-use Rattle.rosie_words.specs.Reading.{is_for, what, unless}
+use Rattle.rosie_words.specs.Roles.{Front, Free, Given, role, next, fault, end_fault, option_in, argument_in}
+use Rattle.rosie_words.specs.Reading.{unless}
+use Rattle.rosie_words.specs.Options.{is_for}
+use Rattle.rosie_words.specs.Arguments.{what}
 use Rattle.rosie_words.specs.Settings.{settings_of, put, command_from}
 use Rattle.rosie_words.specs.Seen.{front_of, text}
 
@@ -82,6 +84,6 @@ pub record Adds (old new : Reader) (gs : List Given) (ws : List Word) : Type 0 w
 pub record Takes (old new : Reader) (w : Word) : Type 0 where
   pub sound : fault (role (front_of old.front) w) w ≡ None
   pub front : front_of new.front ≡ next (front_of old.front) (role (front_of old.front) w) w
-  pub settings : new.settings ≡ put_all (gives (role (front_of old.front) w) w) old.settings
-  pub options : map seen new.options.items ≡ map seen old.options.items ++ map name_of (gives (role (front_of old.front) w) w)
-  pub arguments : map text new.arguments.items ≡ map text old.arguments.items ++ argues (role (front_of old.front) w) w
+  pub settings : new.settings ≡ put_all (option_in (role (front_of old.front) w) w) old.settings
+  pub options : map seen new.options.items ≡ map seen old.options.items ++ map name_of (option_in (role (front_of old.front) w) w)
+  pub arguments : map text new.arguments.items ≡ map text old.arguments.items ++ argument_in (role (front_of old.front) w) w

@@ -13,6 +13,7 @@ mod reading;
 mod role;
 mod settings;
 mod table;
+mod unbuilt;
 mod value;
 mod what;
 
@@ -20,5 +21,9 @@ pub use command::{Command, Root, Style, What};
 pub use fault::UsageFault;
 pub use lists::{LibPath, Paths, Roots};
 pub use printed::{fault_line, usage};
-pub use reading::read_words;
+pub use reading::{no_reading_is_want_of_memory, read_words};
 pub use std::alloc::AllocError as NoMemory;
+pub use unbuilt::not_yet;
+
+#[cfg(test)]
+mod tests;

@@ -3,9 +3,10 @@
 ghost use Rattle.std.specs.Prelude.{◌≡◌, [], ◌∷◌, ◌++◌, length, slice_get, OnOk, OnErr};
 ghost use Rattle.std.specs.Option.{option_copied};
 
+use crate::NoMemory;
 use crate::command::Root;
 use rpl_text::Chars;
-use std::alloc::{AllocError, Global};
+use std::alloc::Global;
 use std::marker::Model;
 
 /// The roots of a command, in order.
@@ -34,7 +35,7 @@ impl Roots {
     }
 
     /// One more root at the end.
-    pub fn push(&mut self, root: Root) -> Result<(), AllocError>
+    pub fn push(&mut self, root: Root) -> Result<(), NoMemory>
         ensures ok { OnOk result (self.new ≡ self.old ++ root ∷ []) }
         ensures err { OnErr result (self.new ≡ self.old) }
     {
@@ -82,7 +83,7 @@ impl LibPath {
     }
 
     /// One more folder at the end.
-    pub fn push(&mut self, folder: Chars) -> Result<(), AllocError>
+    pub fn push(&mut self, folder: Chars) -> Result<(), NoMemory>
         ensures ok { OnOk result (self.new ≡ self.old ++ folder ∷ []) }
         ensures err { OnErr result (self.new ≡ self.old) }
     {
@@ -130,7 +131,7 @@ impl Paths {
     }
 
     /// One more path at the end.
-    pub fn push(&mut self, path: Chars) -> Result<(), AllocError>
+    pub fn push(&mut self, path: Chars) -> Result<(), NoMemory>
         ensures ok { OnOk result (self.new ≡ self.old ++ path ∷ []) }
         ensures err { OnErr result (self.new ≡ self.old) }
     {

@@ -3,8 +3,9 @@
 ghost use Rattle.std.specs.Prelude.{◌≡◌, IfOk, string_bytes};
 ghost use Rattle.rosie_words.specs.Printed.{usage, fault_line};
 
+use crate::NoMemory;
 use crate::fault::UsageFault;
-use std::alloc::{AllocError, Global};
+use std::alloc::Global;
 
 const USAGE: &str = "\
 usage: rosie [options] match PATTERN [FILE ...]
@@ -28,7 +29,7 @@ pub fn usage() -> &'static str
 }
 
 /// The line of a fault, with its line feed: `rosie: usage: ` and the fault's text.
-pub fn fault_line(alloc: Global, fault: &UsageFault) -> Result<String, AllocError>
+pub fn fault_line(alloc: Global, fault: &UsageFault) -> Result<String, NoMemory>
     ensures { IfOk result (λ line. string_bytes line ≡ fault_line fault.now) }
 {
     format!(in alloc; "rosie: usage: {fault}\n")

@@ -1,12 +1,14 @@
 //! The reading of the command line.
 
 ghost use Rattle.std.specs.Prelude.{◌≡◌, ◌≢◌, ◌++◌, [], ◌∷◌, List, map, OnOk, IfOk, IfErr, Some, None, Ok, Err};
-ghost use Rattle.rosie_words.specs.Roles.{role, fault, value_fault, given, gives, argues};
+ghost use Rattle.rosie_words.specs.Table.{Word};
+ghost use Rattle.rosie_words.specs.Roles.{role, fault, value_fault, given, option_in, argument_in};
 ghost use Rattle.rosie_words.specs.Reading.{words_of, reading};
 ghost use Rattle.rosie_words.specs.Seen.{front_of, role_of, IsFair, half_of, text};
 ghost use Rattle.rosie_words.specs.Taken.{Adds, Takes, Starts, seen, stray_word, chosen_from, finished};
 ghost use Rattle.rosie_words.specs.declared.fault.UsageFault.TheVariants as E;
 
+use crate::NoMemory;
 use crate::command::Command;
 use crate::fault::UsageFault;
 use crate::role::{Front, Role};
@@ -14,7 +16,7 @@ use crate::settings::Settings;
 use crate::table::{CommandName, OptionName, command_named};
 use crate::what::what;
 use rpl_text::Chars;
-use std::alloc::{AllocError, Global};
+use std::alloc::Global;
 
 /// An option, and the word in which it was given.
 #[derive(Clone, Copy)]
@@ -70,7 +72,7 @@ struct Reader<'a> {
 
 impl<'a> Reader<'a> {
     /// Before the first word.
-    fn new(alloc: Global) -> Result<Reader<'a>, AllocError>
+    fn new(alloc: Global) -> Result<Reader<'a>, NoMemory>
         ensures { IfOk result Starts }
     {
         Ok(Reader {
@@ -102,7 +104,7 @@ impl<'a> Reader<'a> {
     fn apply(&mut self, alloc: Global, role: Role<'a>, word: &'a str) -> Result<(), UsageFault>
         requires { IsFair role }
         ensures sound { OnOk result (fault (role_of role.entry) word.now ≡ None) }
-        ensures ok { OnOk result (Adds self.old self.new (gives (role_of role.entry) word.now) (argues (role_of role.entry) word.now)) }
+        ensures ok { OnOk result (Adds self.old self.new (option_in (role_of role.entry) word.now) (argument_in (role_of role.entry) word.now)) }
         ensures fault { IfErr result (λ e. e ≢ E.NoMemory → fault (role_of role.entry) word.now ≡ Some e) }
     {
         match role {
@@ -154,4 +156,10 @@ pub fn read_words(alloc: Global, words: &[String]) -> Result<Command, UsageFault
         reader.take(alloc, word.as_str())?;
     }
     reader.finish(alloc)
+}
+
+/// Want of memory is no reading of any words: `NoMemory` is the machine's own answer.
+pub fn no_reading_is_want_of_memory()
+    ensures { (words : List Word) → reading words ≢ Err E.NoMemory }
+{
 }

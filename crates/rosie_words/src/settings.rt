@@ -7,13 +7,14 @@ ghost use Rattle.rosie_words.specs.Roles.{value_fault};
 ghost use Rattle.rosie_words.specs.Settings.{settings_of, put, command_from};
 ghost use Rattle.rosie_words.specs.declared.fault.UsageFault.TheVariants as E;
 
+use crate::NoMemory;
 use crate::command::{Command, Root, Style, What};
 use crate::fault::UsageFault;
 use crate::lists::{LibPath, Roots};
 use crate::table::{CommandName, OptionName};
 use crate::value::{bad_value, number_in, style_named};
 use rpl_text::Chars;
-use std::alloc::{AllocError, Global};
+use std::alloc::Global;
 
 /// What the options so far set.
 #[derive(Drop)]
@@ -32,7 +33,7 @@ pub(crate) struct Settings {
 }
 
 /// The folders of a library path; `None` where one is empty.
-fn folders(alloc: Global, value: &str) -> Result<Option<LibPath>, AllocError>
+fn folders(alloc: Global, value: &str) -> Result<Option<LibPath>, NoMemory>
     ensures { IfOk result (λ o. o ≡ path_of value.now) }
 {
     let mut folders = LibPath::new(alloc);
@@ -47,7 +48,7 @@ fn folders(alloc: Global, value: &str) -> Result<Option<LibPath>, AllocError>
 
 impl Settings {
     /// What no option sets.
-    pub(crate) fn new(alloc: Global) -> Result<Settings, AllocError>
+    pub(crate) fn new(alloc: Global) -> Result<Settings, NoMemory>
         ensures { IfOk result (λ s. s ≡ settings_of []) }
     {
         let mut folders = LibPath::new(alloc);

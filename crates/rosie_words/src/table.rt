@@ -1,7 +1,7 @@
 // The commands, and the options that each takes.
 ghost use Rattle.std.specs.Prelude.{◌≡◌};
 ghost use Rattle.rosie_words.specs.Table.{option_named, command_named, has_value, row, takes};
-ghost use Rattle.rosie_words.specs.Reading.{makes_code, is_for};
+ghost use Rattle.rosie_words.specs.Options.{makes_code, is_for};
 
 /// A command of the command line.
 #[derive(Clone, Copy, Debug, PartialEq, Eq)]

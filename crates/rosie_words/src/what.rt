@@ -1,21 +1,22 @@
 //! The command and its arguments.
 
 ghost use Rattle.std.specs.Prelude.{◌≡◌, ◌≢◌, map, Some, None, IfOk, IfErr, Ok, Err, chars};
-ghost use Rattle.rosie_words.specs.Reading.{none, only, search_of, sample_of, sample, what};
+ghost use Rattle.rosie_words.specs.Arguments.{none, only, search_of, sample_of, sample, what};
 ghost use Rattle.rosie_words.specs.Values.{number_in};
 ghost use Rattle.rosie_words.specs.Seen.{text, search_seen};
 ghost use Rattle.rosie_words.specs.declared.fault.UsageFault.TheVariants as E;
 
+use crate::NoMemory;
 use crate::command::What;
 use crate::fault::UsageFault;
 use crate::lists::Paths;
 use crate::table::CommandName;
 use crate::value::{bad_value, number_in};
 use rpl_text::Chars;
-use std::alloc::{AllocError, Global};
+use std::alloc::Global;
 
 /// The paths of some words.
-fn paths(alloc: Global, words: &[&str]) -> Result<Paths, AllocError>
+fn paths(alloc: Global, words: &[&str]) -> Result<Paths, NoMemory>
     ensures { IfOk result (λ p. p ≡ map chars (map text words.now)) }
 {
     let mut paths = Paths::new(alloc);
@@ -71,7 +72,7 @@ fn search_of(alloc: Global, arguments: &[&str]) -> Result<Search, UsageFault>
 }
 
 /// The number that an argument spells, up to `most`.
-fn argument_in(alloc: Global, word: &str, most: u32) -> Result<u32, UsageFault>
+fn number_argument(alloc: Global, word: &str, most: u32) -> Result<u32, UsageFault>
     ensures ok { IfOk result (λ n. number_in 0 most word.now ≡ Some n) }
     ensures fault { IfErr result (λ e. e ≢ E.NoMemory → (number_in 0 most word.now ≡ None) × (e ≡ E.BadValue (chars word.now))) }
 {
@@ -87,8 +88,8 @@ fn sample_of(alloc: Global, seed: &str, lines: &str) -> Result<What, UsageFault>
     ensures fault { IfErr result (λ e. e ≢ E.NoMemory → sample_of seed.now lines.now ≡ Err e) }
 {
     Ok(What::Sample {
-        seed: argument_in(alloc, seed, 2_147_483_647)?,
-        lines: argument_in(alloc, lines, 1_000_000)?,
+        seed: number_argument(alloc, seed, 2_147_483_647)?,
+        lines: number_argument(alloc, lines, 1_000_000)?,
     })
 }
 
