@@ -1,0 +1,146 @@
+use crate::command::{Device, SURE, outcome};
+use rosie_cli::Status;
+use std::test::Fail;
+
+/// Words, input, and what is wanted of it.
+#[derive(Clone, Copy)]
+struct Case {
+    shows: &'static str,
+    words: &'static [&'static str],
+    input: &'static [u8],
+    out: &'static str,
+    err: &'static str,
+    status: Status,
+}
+
+const LITERAL: &[&str] = &["match", "\"ab\""];
+
+const A: &[&str] = &["match", "\"a\""];
+
+const A_LINE: &str = "{\"type\":\"*\",\"s\":1,\"e\":2,\"data\":\"a\"}\n";
+
+#[test]
+fn answers(rt: HostRuntime) -> Result<(), Fail> {
+    let cases = [
+        Case {
+            shows: "one literal",
+            words: LITERAL,
+            input: b"abc\n",
+            out: "{\"type\":\"*\",\"s\":1,\"e\":3,\"data\":\"ab\"}\n",
+            err: "",
+            status: Status::Matched,
+        },
+        Case {
+            shows: "an empty input",
+            words: LITERAL,
+            input: b"",
+            out: "",
+            err: "",
+            status: Status::NoMatch,
+        },
+        Case {
+            shows: "a line that doesn't match, and a last one without a line feed that does",
+            words: A,
+            input: b"ba\na",
+            out: A_LINE,
+            err: "",
+            status: Status::Matched,
+        },
+        Case {
+            shows: "places count bytes, and what stands for JSON is escaped",
+            words: &["match", " \"\u{e9}\t\" "],
+            input: b"\xc3\xa9\tx\n",
+            out: "{\"type\":\"*\",\"s\":1,\"e\":4,\"data\":\"\u{e9}\\t\"}\n",
+            err: "",
+            status: Status::Matched,
+        },
+        Case {
+            shows: "a line that is no text is reported, and the run goes on",
+            words: LITERAL,
+            input: b"ab\n\xff\nab\n",
+            out: "{\"type\":\"*\",\"s\":1,\"e\":3,\"data\":\"ab\"}\n{\"type\":\"*\",\"s\":1,\"e\":3,\"data\":\"ab\"}\n",
+            err: "rosie: -:2: not UTF-8\n",
+            status: Status::LineFault,
+        },
+        Case {
+            shows: "a group isn't built",
+            words: &["match", "{\"a\""],
+            input: b"a\n",
+            out: "",
+            err: "rosie: (pattern):0: not yet\n",
+            status: Status::Refused,
+        },
+        Case {
+            shows: "two literals aren't built",
+            words: &["match", "\"a\" \"b\""],
+            input: b"ab\n",
+            out: "",
+            err: "rosie: (pattern):0: not yet\n",
+            status: Status::Refused,
+        },
+        Case {
+            shows: "another command isn't built",
+            words: &["grep", "\"a\""],
+            input: b"a\n",
+            out: "",
+            err: "rosie: not yet\n",
+            status: Status::Refused,
+        },
+    ];
+    for case in cases {
+        let got = outcome(rt.alloc(), case.words, case.input, SURE, SURE, SURE)?;
+        assert_eq!(rt;
+            got.out.as_slice(),
+            case.out.as_bytes(),
+            "out: {}",
+            case.shows
+        );
+        assert_eq!(rt;
+            got.err.as_slice(),
+            case.err.as_bytes(),
+            "err: {}",
+            case.shows
+        );
+        assert_eq!(rt; got.status, case.status, "status: {}", case.shows);
+    }
+    Ok(())
+}
+
+#[test]
+fn a_sink_that_fails_keeps_what_it_took(rt: HostRuntime) -> Result<(), Fail> {
+    let out = Device {
+        most: 10,
+        fails: &[6],
+    };
+    let got = outcome(rt.alloc(), A, b"a\na\na\n", SURE, out, SURE)?;
+    assert_eq!(rt; got.status, Status::WriteFault);
+    assert_eq!(rt; got.out.len(), 46);
+    assert_eq!(rt; &got.out[..36], A_LINE.as_bytes());
+    assert_eq!(rt; &got.out[36..46], b"{\"type\":\"*".as_slice());
+    Ok(())
+}
+
+#[test]
+fn the_lines_before_a_failed_read_are_answered(rt: HostRuntime) -> Result<(), Fail> {
+    let input = Device {
+        most: 3,
+        fails: &[2],
+    };
+    let got = outcome(rt.alloc(), A, b"a\na", input, SURE, SURE)?;
+    assert_eq!(rt; got.status, Status::ReadFault);
+    assert_eq!(rt; got.out.as_slice(), A_LINE.as_bytes());
+    assert_eq!(rt; got.err.as_slice(), b"rosie: -: read failed\n".as_slice());
+    Ok(())
+}
+
+#[test]
+fn a_flush_that_fails_is_told(rt: HostRuntime) -> Result<(), Fail> {
+    let out = Device {
+        most: 1_000,
+        fails: &[2],
+    };
+    let got = outcome(rt.alloc(), A, b"a\n", SURE, out, SURE)?;
+    assert_eq!(rt; got.status, Status::WriteFault);
+    assert_eq!(rt; got.out.as_slice(), A_LINE.as_bytes());
+    Ok(())
+}
