@@ -1,12 +1,11 @@
 -- What some options set is what they set one after the other.
-use Rattle.std.proofs.Common.{◌≡◌, ℕ, Bool, true, false, List, [], ◌∷◌, ◌++◌, Option, Some, None, refl, sym, ap, ◌∙◌, append_assoc, arith}
+use Rattle.std.proofs.Common.{◌≡◌, List, [], ◌∷◌, ◌++◌, Option, Some, None, refl, sym, ap, ◌∙◌, append_assoc, arith}
 use Rattle.std.specs.Prelude.{◌||◌, if◌then◌else◌}
 use Rattle.std.specs.Option.{option_or}
 use Rattle.std.proofs.lemmas.Bool.Decides.{nat_tests}
 use Rattle.std.proofs.lemmas.List.{append-nil}
 use Rattle.rosie_words.specs.declared.table.OptionName.{OptionName}
 use Rattle.rosie_words.specs.declared.table.OptionName.TheVariants as O
-use Rattle.rosie_words.specs.declared.settings.Settings.{Settings}
 use Rattle.rosie_words.specs.Table.{Word, same_option}
 use Rattle.rosie_words.specs.Roles.{Given, given}
 use Rattle.rosie_words.specs.Options.{is_given, last, root, roots}

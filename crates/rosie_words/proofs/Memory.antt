@@ -1,5 +1,5 @@
 -- No reading is want of memory.
-use Rattle.std.proofs.Common.{◌≡◌, ◌≢◌, ℕ, Bool, true, false, List, [], ◌∷◌, map, Option, Some, None, Result, Ok, Err}
+use Rattle.std.proofs.Common.{◌≢◌, ℕ, Bool, true, false, List, [], ◌∷◌, Option, Some, None, Result, Ok, Err}
 use Rattle.std.specs.Prelude.{if◌then◌else◌, chars}
 use Rattle.std.specs.Option.{option_or}
 use Rattle.rosie_words.specs.declared.command.What.{What}
@@ -8,7 +8,6 @@ use Rattle.rosie_words.specs.declared.fault.UsageFault.{UsageFault}
 use Rattle.rosie_words.specs.declared.fault.UsageFault.TheVariants as E
 use Rattle.rosie_words.specs.declared.table.CommandName.{CommandName}
 use Rattle.rosie_words.specs.declared.table.CommandName.TheVariants as C
-use Rattle.rosie_words.specs.declared.table.OptionName.{OptionName}
 use Rattle.rosie_words.specs.declared.table.OptionName.TheVariants as O
 use Rattle.rosie_words.specs.Table.{Word, row, command_named}
 use Rattle.rosie_words.specs.Values.{accepts, number_in}

@@ -1,9 +1,8 @@
 -- A number that is once too large stays so.
-use Rattle.std.proofs.Common.{◌≡◌, ℕ, ◌+◌, ◌-◌, ◌*◌, ◌<◌, ◌≤◌, List, [], ◌∷◌, length, get_or, drop, Option, None, Bool, false, ◌&&◌, refl, arith, add-one}
-use Rattle.std.specs.Prelude.{nat_le}
+use Rattle.std.proofs.Common.{◌≡◌, ℕ, ◌+◌, ◌-◌, ◌*◌, ◌<◌, ◌≤◌, List, [], ◌∷◌, length, get_or, drop, None, refl, arith, add-one}
 use Rattle.std.proofs.Math.Seq.{drop-cons}
 use Rattle.std.proofs.lemmas.Bool.Decides.{nat_tests}
-use Rattle.rosie_words.specs.Values.{value_from, number_in, is_number}
+use Rattle.rosie_words.specs.Values.{value_from, number_in}
 
 grows : (n : ℕ) (bs : List ℕ) → n ≤ value_from n bs
 grows n [] = omega arith

@@ -25,25 +25,29 @@ pub record Search : Type 0 where
   pub pattern : List ℕ
   pub inputs : List (List ℕ)
 
+-- these of some words
 abbrev pub search_of : List Word → Result Search UsageFault
 search_of [] = Err MissingArgument
 search_of (p ∷ fs) = Ok (record { pattern = chars p; inputs = map chars fs })
 
--- the seed, and how many lines
+-- the seed, and how many lines: the first that is not in its range is at fault
 abbrev pub sampled : Word → Word → Option ℕ → Option ℕ → Result What UsageFault
 sampled x y None n = Err (BadValue (chars x))
 sampled x y (Some s) None = Err (BadValue (chars y))
 sampled x y (Some s) (Some n) = Ok (W.Sample s n)
 
+-- a sample of two words
 abbrev pub sample_of : Word → Word → Result What UsageFault
 sample_of x y = sampled x y (number_in 0 2147483647 x) (number_in 0 1000000 y)
 
+-- a sample of some words
 abbrev pub sample : List Word → Result What UsageFault
 sample [] = Err MissingArgument
 sample (x ∷ []) = Err MissingArgument
 sample (x ∷ y ∷ []) = sample_of x y
 sample (x ∷ y ∷ z ∷ ws) = Err TooManyArguments
 
+-- the command of what was read, or the fault
 abbrev pub made : {A : Type 0} → (A → What) → Result A UsageFault → Result What UsageFault
 made f (Ok x) = Ok (f x)
 made f (Err e) = Err e

@@ -7,7 +7,7 @@ use Rattle.rosie_words.specs.declared.table.CommandName.{CommandName}
 use Rattle.rosie_words.specs.declared.table.CommandName.TheVariants as C
 use Rattle.rosie_words.specs.declared.table.OptionName.{OptionName}
 use Rattle.rosie_words.specs.Table.{Word, same_command, same_option, command_named}
-use Rattle.rosie_words.specs.Roles.{Front, Role, Argument, EndOfOptions, Unknown, Plain, Unexpected, Full, Waiting, Value, role, next}
+use Rattle.rosie_words.specs.Roles.{Front, Role, Argument, Plain, Full, Waiting, role, next}
 
 -- what is built
 abbrev pub built_commands : List CommandName
@@ -19,6 +19,7 @@ built_options = []
 abbrev pub files_are_built : Bool
 files_are_built = false
 
+-- an option, a command is built
 abbrev pub is_built : OptionName → Bool
 is_built o = list_any (same_option o) built_options
 
@@ -33,6 +34,7 @@ later false P.Command = P.Pattern
 later has_code P.Pattern = P.File
 later has_code P.File = P.File
 
+-- an argument asks for what is not built
 abbrev pub argument_asks : Place → Word → Bool
 argument_asks P.Command w = not (command_is_built (command_named w))
 argument_asks P.Pattern w = false
@@ -44,21 +46,12 @@ asks p Argument w = argument_asks p w
 asks p (Plain o) w = not (is_built o)
 asks p (Full o v) w = not (is_built o)
 asks p (Waiting o) w = not (is_built o)
-asks p EndOfOptions w = false
-asks p Unknown w = false
-asks p Unexpected w = false
-asks p (Value o n) w = false
+asks p r w = false
 
 -- what the next argument is
 abbrev pub place : Bool → Place → Role → Place
 place has_code p Argument = later has_code p
-place has_code p (Plain o) = p
-place has_code p (Full o v) = p
-place has_code p (Waiting o) = p
-place has_code p EndOfOptions = p
-place has_code p Unknown = p
-place has_code p Unexpected = p
-place has_code p (Value o n) = p
+place has_code p r = p
 
 -- the first word that asks for what is not built
 abbrev pub unbuilt : Bool → Front → Place → List Word → Option Word

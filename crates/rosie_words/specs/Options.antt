@@ -31,13 +31,16 @@ root O.File v = R.File (chars v) ∷ []
 root O.Rpl v = R.Given (chars v) ∷ []
 root o v = []
 
+-- the roots, in order
 abbrev pub roots : List Given → List Root
 roots [] = []
 roots (g ∷ gs) = root g.option g.value ++ roots gs
 
+-- the folders of the library path; `.` where none is given
 abbrev pub folders : List Given → List (List ℕ)
 folders gs = unwrap_or (option_and_then path_of (last O.LibPath gs)) (chars (codes ".") ∷ [])
 
+-- the number of the last of these options
 abbrev pub number : OptionName → List Given → Option ℕ
 number o gs = option_and_then (number_of (row o).value) (last o gs)
 
@@ -46,7 +49,7 @@ abbrev pub usual_style : CommandName → Style
 usual_style C.Grep = S.Line
 usual_style c = S.Json
 
--- the command c with the options
+-- the command c with what the options say, and the defaults
 abbrev pub command : CommandName → What → List Given → Command
 command c what gs = record {
   what = what;

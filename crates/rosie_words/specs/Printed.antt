@@ -21,6 +21,7 @@ synopses =
     (command_word C.Match ++ codes " --code-file FILE [INPUT ...]") ∷
     (command_word C.Class ++ codes " NAME") ∷ []
 
+-- such a line, but for its first word
 abbrev pub usage_line : Word → List ℕ
 usage_line s = codes " rosie [options] " ++ s ++ 10 ∷ []
 
@@ -29,6 +30,7 @@ abbrev pub usage_text : List Word → List ℕ
 usage_text [] = []
 usage_text (s ∷ ss) = codes "usage:" ++ usage_line s ++ flat_map (λ t. codes "      " ++ usage_line t) ss
 
+-- the usage text
 abbrev pub usage : List ℕ
 usage = usage_text synopses
 

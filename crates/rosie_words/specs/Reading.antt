@@ -31,14 +31,17 @@ abbrev pub arguments : Front → List Word → List Word
 arguments front [] = []
 arguments front (w ∷ ws) = argument_in (role front w) w ++ arguments (next front (role front w) w) ws
 
+-- the command with its options, or the fault of its arguments
 abbrev pub with_options : CommandName → List Given → Result What UsageFault → Result Command UsageFault
 with_options c gs (Ok w) = Ok (command c w gs)
 with_options c gs (Err e) = Err e
 
+-- an option that is not for the command comes first
 abbrev pub by_stray : CommandName → List Given → List Word → Option Given → Result Command UsageFault
 by_stray c gs ws None = with_options c gs (what c (is_given O.CodeFile gs) ws)
 by_stray c gs ws (Some g) = Err (NotForCommand (chars g.word))
 
+-- before it comes a word that is no command
 abbrev pub by_name : Option CommandName → Word → List Given → List Word → Result Command UsageFault
 by_name None w gs ws = Err (UnknownCommand (chars w))
 by_name (Some c) w gs ws = by_stray c gs ws (stray c (is_given O.CodeFile gs) gs)
@@ -48,6 +51,7 @@ abbrev pub chosen : List Given → List Word → Result Command UsageFault
 chosen gs [] = Err NoCommand
 chosen gs (w ∷ ws) = by_name (command_named w) w gs ws
 
+-- the one fault, or else the other reading
 abbrev pub unless : Option UsageFault → Result Command UsageFault → Result Command UsageFault
 unless None r = r
 unless (Some e) r = Err e

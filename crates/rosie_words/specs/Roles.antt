@@ -1,5 +1,5 @@
 -- The role of each word, given by the words before it.
-use Rattle.std.specs.Prelude.{ℕ, Bool, true, false, ◌==◌, ◌&&◌, not, List, [], ◌∷◌, Option, Some, None, codes, chars, if◌then◌else◌}
+use Rattle.std.specs.Prelude.{ℕ, Bool, true, false, ◌==◌, ◌&&◌, List, [], ◌∷◌, Option, Some, None, codes, chars, if◌then◌else◌}
 use Rattle.std.specs.List.{list_any, before_first, after_first}
 use Rattle.std.specs.Str.{bytes_eq}
 use Rattle.rosie_words.specs.declared.table.OptionName.{OptionName}
@@ -38,6 +38,7 @@ is_long [] = false
 is_long (b ∷ []) = false
 is_long (b ∷ c ∷ bs) = (b == 45) && (c == 45)
 
+-- a `=`
 abbrev pub is_equals : ℕ → Bool
 is_equals b = b == 61
 
@@ -49,6 +50,7 @@ name_of w = if is_long w then before_first is_equals w else w
 abbrev pub value_of : Word → Option Word
 value_of w = if is_long w && list_any is_equals w then Some (after_first is_equals w) else None
 
+-- the role of an option's word, by whether the option takes a value and whether one stands there
 abbrev pub role_by : OptionName → Bool → Option Word → Role
 role_by o true (Some v) = Full o v
 role_by o true None = Waiting o
@@ -73,6 +75,7 @@ next Free (Waiting o) w = Owed o w
 next Free r w = Free
 next (Owed o n) r w = Free
 
+-- the fault of an option's value
 abbrev pub value_fault : OptionName → Word → Option UsageFault
 value_fault o v = if accepts (row o).value v then None else Some (BadValue (chars v))
 
@@ -82,16 +85,12 @@ fault Unknown w = Some (UnknownOption (chars w))
 fault Unexpected w = Some (UnexpectedValue (chars w))
 fault (Full o v) w = value_fault o v
 fault (Value o n) w = value_fault o w
-fault EndOfOptions w = None
-fault Argument w = None
-fault (Plain o) w = None
-fault (Waiting o) w = None
+fault r w = None
 
 -- the fault behind the last word
 abbrev pub end_fault : Front → Option UsageFault
-end_fault Free = None
 end_fault (Owed o n) = Some (MissingValue (chars n))
-end_fault Ended = None
+end_fault front = None
 
 -- an option as it was given: in which word, with which value
 pub record Given : Type 0 where
@@ -99,27 +98,18 @@ pub record Given : Type 0 where
   pub word : Word
   pub value : Word
 
+-- such an option
 abbrev pub given : OptionName → Word → Word → Given
 given o w v = record { option = o; word = w; value = v }
 
--- the option that a word completes
+-- the option that is whole with a word: one at most
 abbrev pub option_in : Role → Word → List Given
 option_in (Plain o) w = given o w [] ∷ []
 option_in (Full o v) w = given o w v ∷ []
 option_in (Value o n) w = given o n w ∷ []
-option_in EndOfOptions w = []
-option_in Argument w = []
-option_in Unknown w = []
-option_in Unexpected w = []
-option_in (Waiting o) w = []
+option_in r w = []
 
--- the argument that a word is
+-- the argument that a word is: one at most
 abbrev pub argument_in : Role → Word → List Word
 argument_in Argument w = w ∷ []
-argument_in EndOfOptions w = []
-argument_in Unknown w = []
-argument_in (Plain o) w = []
-argument_in Unexpected w = []
-argument_in (Full o v) w = []
-argument_in (Waiting o) w = []
-argument_in (Value o n) w = []
+argument_in r w = []

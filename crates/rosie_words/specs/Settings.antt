@@ -1,5 +1,5 @@
--- What the options set, as the code's record of it.
-use Rattle.std.specs.Prelude.{ℕ, true, List, [], ◌∷◌, ◌++◌, map, Some, unwrap_or, option_and_then, chars, codes}
+-- What the options set, as the record that the code fills: for the contracts of private functions.
+use Rattle.std.specs.Prelude.{true, List, [], ◌∷◌, ◌++◌, Some, unwrap_or, option_and_then, chars, codes}
 use Rattle.std.specs.Option.{option_map}
 use Rattle.rosie_words.specs.declared.command.Command.{Command}
 use Rattle.rosie_words.specs.declared.command.What.{What}

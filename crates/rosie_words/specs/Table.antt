@@ -50,6 +50,7 @@ pub record Row : Type 0 where
   pub value : Form
   pub commands : List CommandName
 
+-- an option with a long spelling, with a short and a long one
 abbrev pub one : Word → Form → List CommandName → Row
 one long v cs = record { spellings = long ∷ []; value = v; commands = cs }
 

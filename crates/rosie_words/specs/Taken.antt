@@ -1,6 +1,5 @@
--- What the code's reader has taken in.
-use Rattle.std.specs.Prelude.{◌≡◌, ℕ, List, [], ◌∷◌, ◌++◌, map, Option, Some, None, Bool, not, find, is_some, chars, Result, Ok, Err}
-use Rattle.std.specs.Borrow.{Bor}
+-- What the code's reader has taken in: for the contracts of private functions.
+use Rattle.std.specs.Prelude.{◌≡◌, List, [], ◌∷◌, ◌++◌, map, Option, Some, None, Bool, not, find, is_some, chars, Result, Ok, Err}
 use Rattle.rosie_words.specs.declared.command.Command.{Command}
 use Rattle.rosie_words.specs.declared.command.What.{What}
 use Rattle.rosie_words.specs.declared.fault.UsageFault.{UsageFault}
@@ -11,7 +10,7 @@ use Rattle.rosie_words.specs.declared.settings.Settings.{Settings}
 use Rattle.rosie_words.specs.declared.table.CommandName.{CommandName}
 use Rattle.rosie_words.specs.declared.table.OptionName.{OptionName}
 use Rattle.rosie_words.specs.Table.{Word, command_named}
-use Rattle.rosie_words.specs.Roles.{Front, Free, Given, role, next, fault, end_fault, option_in, argument_in}
+use Rattle.rosie_words.specs.Roles.{Free, Given, role, next, fault, end_fault, option_in, argument_in}
 use Rattle.rosie_words.specs.Reading.{unless}
 use Rattle.rosie_words.specs.Options.{is_for}
 use Rattle.rosie_words.specs.Arguments.{what}
@@ -26,9 +25,11 @@ pub record Named : Type 0 where
 abbrev pub named : OptionName → Word → Named
 named o w = record { option = o; word = w }
 
+-- an option, without its value
 abbrev pub name_of : Given → Named
 name_of g = named g.option g.word
 
+-- the same as the code has it
 abbrev pub seen : rust.Given → Named
 seen g = named g.option g.word.now
 
@@ -40,6 +41,7 @@ word_of (Some n) = Some n.word
 abbrev pub stray_word : CommandName → Bool → List Named → Option Word
 stray_word c has_code ns = word_of (find (λ n. not (is_for c has_code n.option)) ns)
 
+-- the reading on from the command's arguments, from its options and from its name
 abbrev pub from_what : Settings → CommandName → Result What UsageFault → Result Command UsageFault
 from_what s c (Ok w) = Ok (command_from s c w)
 from_what s c (Err e) = Err e

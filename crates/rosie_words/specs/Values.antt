@@ -7,6 +7,7 @@ use Rattle.rosie_words.specs.declared.command.Style.{Style}
 use Rattle.rosie_words.specs.declared.command.Style.TheVariants as S
 use Rattle.rosie_words.specs.Table.{Word, Form, Nothing, Anything, Folders, OneStyle, Number}
 
+-- a style and its name
 pub record StyleName : Type 0 where
   pub word : Word
   pub style : Style
@@ -24,6 +25,7 @@ styles =
     style_name (codes "data") S.Data ∷
     style_name (codes "bool") S.Bool ∷ []
 
+-- the style of the row found
 abbrev pub style_of : Option StyleName → Option Style
 style_of None = None
 style_of (Some n) = Some n.style
@@ -46,6 +48,7 @@ is_number (b ∷ bs) = list_all is_ascii_digit (b ∷ bs)
 abbrev pub number_in : ℕ → ℕ → Word → Option ℕ
 number_in least most w = if is_number w && nat_le least (value_from 0 w) && nat_le (value_from 0 w) most then Some (value_from 0 w) else None
 
+-- no byte
 abbrev pub is_empty : Word → Bool
 is_empty [] = true
 is_empty (b ∷ bs) = false
@@ -60,11 +63,8 @@ path_of w = if list_all (λ p. not (is_empty p)) (parts w) then Some (map chars 
 
 -- the number of an option's value
 abbrev pub number_of : Form → Word → Option ℕ
-number_of Nothing w = None
-number_of Anything w = None
-number_of Folders w = None
-number_of OneStyle w = None
 number_of (Number least most) w = number_in least most w
+number_of form w = None
 
 -- the word is a value of the form
 abbrev pub accepts : Form → Word → Bool

@@ -161,5 +161,4 @@ pub fn read_words(alloc: Global, words: &[String]) -> Result<Command, UsageFault
 /// Want of memory is no reading of any words: `NoMemory` is the machine's own answer.
 pub fn no_reading_is_want_of_memory()
     ensures { (words : List Word) → reading words ≢ Err E.NoMemory }
-{
-}
+{}

@@ -1,4 +1,4 @@
-use Rattle.std.proofs.Common.{◌≡◌, true, List, map, chars}
+use Rattle.std.proofs.Common.{◌≡◌, true, map, chars}
 use Rattle.std.specs.Prelude.{not}
 use Rattle.std.specs.List.{list_all}
 use Rattle.rosie_words.specs.Values.{is_empty}

@@ -1,4 +1,3 @@
-use Rattle.std.proofs.Common.{arith}
 use Rattle.rosie_words.proofs.Numbers.{too_large}
 use Rattle.rosie_words.proofs.value.number_in.Goals as goal
 
