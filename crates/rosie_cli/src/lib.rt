@@ -7,6 +7,7 @@
 mod answer;
 mod lines;
 mod pattern;
+mod refusal;
 mod status;
 mod top;
 mod workshop;

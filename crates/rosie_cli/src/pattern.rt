@@ -1,10 +1,11 @@
 // The pattern: today one literal.
-ghost use Rattle.std.specs.Prelude.{◌≡◌, true, IfSome};
-ghost use Rattle.rosie_cli.specs.Literals.{is_plain};
+ghost use Rattle.std.specs.Prelude.{◌≡◌, true, IfSome, IfOk, chars};
+ghost use Rattle.rpl_core.specs.View.{core_of, cores, listed};
+ghost use Rattle.rosie_cli.specs.Literals.{is_plain, char_core, char_cores, literal_core, literal_goal};
 
 use rpl_classes::Set;
 use rpl_core::{NoMemory, Peg, Pegs};
-use rpl_text::Chars;
+use rpl_text::{Chars, Text};
 use std::alloc::Global;
 
 /// The longest pattern that is read, in bytes.
@@ -31,28 +32,41 @@ fn is_plain(text: &str) -> bool
 }
 
 /// One character.
-fn one_char(alloc: Global, c: char) -> Result<Peg, NoMemory> {
+fn one_char(alloc: Global, c: char) -> Result<Peg, NoMemory>
+    ensures { IfOk result (λ p. core_of p ≡ char_core c) }
+{
     Ok(Peg::Set(Set::range(alloc, c, c)?))
 }
 
-/// The characters of the text in turn, under the capture `*` of a whole pattern.
-pub(crate) fn goal_of(alloc: Global, text: &str) -> Result<Peg, NoMemory> {
-    let star = Chars::from_str(alloc, "*")?;
-    let body = literal_peg(alloc, text)?;
-    Ok(Peg::Capture(star, Box::new(alloc, body)?))
-}
-
-fn literal_peg(alloc: Global, text: &str) -> Result<Peg, NoMemory> {
-    match text.chars().next() {
-        Some(c) if c.len_utf8() == text.len() => one_char(alloc, c),
-        _ => sequence(alloc, text),
-    }
-}
-
-fn sequence(alloc: Global, text: &str) -> Result<Peg, NoMemory> {
+/// The characters in turn.
+fn parts_of(alloc: Global, text: &str) -> Result<Pegs, NoMemory>
+    ensures { IfOk result (λ parts. cores (listed parts) ≡ char_cores (chars text.now)) }
+{
     let mut parts = Pegs::new(alloc);
     for c in text.chars() {
         parts.push(one_char(alloc, c)?)?;
     }
+    Ok(parts)
+}
+
+/// The literal alone.
+fn body_of(alloc: Global, text: &str) -> Result<Peg, NoMemory>
+    ensures { IfOk result (λ p. core_of p ≡ literal_core (chars text.now)) }
+{
+    let parts = parts_of(alloc, text)?;
+    if parts.len() == 1 {
+        if let Some((c, _)) = Text::new(text).step(0) {
+            return one_char(alloc, c);
+        }
+    }
     Ok(Peg::Seq(parts))
+}
+
+/// The pattern of a literal, which has the type `*`.
+pub(crate) fn goal_of(alloc: Global, text: &str) -> Result<Peg, NoMemory>
+    ensures { IfOk result (λ p. core_of p ≡ literal_goal (chars text.now)) }
+{
+    let star = Chars::from_str(alloc, "*")?;
+    let body = body_of(alloc, text)?;
+    Ok(Peg::Capture(star, Box::new(alloc, body)?))
 }

@@ -33,7 +33,7 @@ pub(crate) struct Outcome {
 }
 
 /// Runs the command with these words on this input.
-pub(crate) fn outcome(
+pub(crate) fn run_on(
     alloc: Global,
     words: &[&str],
     bytes: &[u8],
@@ -41,10 +41,10 @@ pub(crate) fn outcome(
     out: Device<'_>,
     err: Device<'_>,
 ) -> Result<Outcome, NoMemory> {
-    outcome_on::<Brand>(alloc, words, bytes, input, out, err, Blank::new(1))
+    run_counted::<Brand>(alloc, words, bytes, input, out, err, Blank::new(1))
 }
 
-fn outcome_on<L: Ledger>(
+fn run_counted<L: Ledger>(
     alloc: Global,
     words: &[&str],
     bytes: &[u8],

@@ -1,4 +1,4 @@
-use crate::command::{Device, SURE, outcome};
+use crate::command::{Device, SURE, run_on};
 use rosie_cli::Status;
 use std::test::Fail;
 
@@ -18,6 +18,21 @@ const LITERAL: &[&str] = &["match", "\"ab\""];
 const A: &[&str] = &["match", "\"a\""];
 
 const A_LINE: &str = "{\"type\":\"*\",\"s\":1,\"e\":2,\"data\":\"a\"}\n";
+
+const MISSING_ARGUMENT: &str = "\
+rosie: usage: missing argument
+usage: rosie [options] match PATTERN [FILE ...]
+       rosie [options] grep PATTERN [FILE ...]
+       rosie [options] test FILE
+       rosie [options] list
+       rosie [options] expand PATTERN
+       rosie [options] trace PATTERN [FILE ...]
+       rosie [options] sample SEED LINES
+       rosie [options] repl
+       rosie [options] compile PATTERN
+       rosie [options] match --code-file FILE [INPUT ...]
+       rosie [options] class NAME
+";
 
 #[test]
 fn answers(rt: HostRuntime) -> Result<(), Fail> {
@@ -83,12 +98,28 @@ fn answers(rt: HostRuntime) -> Result<(), Fail> {
             words: &["grep", "\"a\""],
             input: b"a\n",
             out: "",
-            err: "rosie: not yet\n",
+            err: "rosie: not yet: grep\n",
+            status: Status::Refused,
+        },
+        Case {
+            shows: "an option isn't built",
+            words: &["match", "-w", "\"a\""],
+            input: b"a\n",
+            out: "",
+            err: "rosie: not yet: -w\n",
+            status: Status::Refused,
+        },
+        Case {
+            shows: "a usage fault has its line and the usage text",
+            words: &["match"],
+            input: b"a\n",
+            out: "",
+            err: MISSING_ARGUMENT,
             status: Status::Refused,
         },
     ];
     for case in cases {
-        let got = outcome(rt.alloc(), case.words, case.input, SURE, SURE, SURE)?;
+        let got = run_on(rt.alloc(), case.words, case.input, SURE, SURE, SURE)?;
         assert_eq!(rt;
             got.out.as_slice(),
             case.out.as_bytes(),
@@ -112,7 +143,7 @@ fn a_sink_that_fails_keeps_what_it_took(rt: HostRuntime) -> Result<(), Fail> {
         most: 10,
         fails: &[6],
     };
-    let got = outcome(rt.alloc(), A, b"a\na\na\n", SURE, out, SURE)?;
+    let got = run_on(rt.alloc(), A, b"a\na\na\n", SURE, out, SURE)?;
     assert_eq!(rt; got.status, Status::WriteFault);
     assert_eq!(rt; got.out.len(), 46);
     assert_eq!(rt; &got.out[..36], A_LINE.as_bytes());
@@ -126,7 +157,7 @@ fn the_lines_before_a_failed_read_are_answered(rt: HostRuntime) -> Result<(), Fa
         most: 3,
         fails: &[2],
     };
-    let got = outcome(rt.alloc(), A, b"a\na", input, SURE, SURE)?;
+    let got = run_on(rt.alloc(), A, b"a\na", input, SURE, SURE)?;
     assert_eq!(rt; got.status, Status::ReadFault);
     assert_eq!(rt; got.out.as_slice(), A_LINE.as_bytes());
     assert_eq!(rt; got.err.as_slice(), b"rosie: -: read failed\n".as_slice());
@@ -139,7 +170,7 @@ fn a_flush_that_fails_is_told(rt: HostRuntime) -> Result<(), Fail> {
         most: 1_000,
         fails: &[2],
     };
-    let got = outcome(rt.alloc(), A, b"a\n", SURE, out, SURE)?;
+    let got = run_on(rt.alloc(), A, b"a\n", SURE, out, SURE)?;
     assert_eq!(rt; got.status, Status::WriteFault);
     assert_eq!(rt; got.out.as_slice(), A_LINE.as_bytes());
     Ok(())
