@@ -1,2 +1,6 @@
+mod Capped
 mod Captures
 mod Later
+mod Levels
+mod Parts
+mod Weights

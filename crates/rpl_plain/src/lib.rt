@@ -2,6 +2,12 @@
 //! They are slow and obvious. Tests compare the real programs with them; no command calls them.
 #![tactic(auto)]
 
+mod evaluation;
+mod forest;
 mod machine;
+mod outcome;
 
+pub use evaluation::evaluate;
+pub use forest::Forest;
 pub use machine::{Answer, Caught, RunFault, run};
+pub use outcome::Outcome;
