@@ -90,6 +90,18 @@ impl Pegs {
     {
         &self.items
     }
+
+    /// Patterns of the same cores.
+    #[cycle(copy)]
+    pub fn copy(&self, alloc: Global) -> Result<Pegs, NoMemory>
+        ensures { IfOk result (λ ps. cores (listed ps) ≡ cores (listed self.now)) }
+    {
+        let mut copies = Pegs::new(alloc);
+        for part in &self.items {
+            copies.push(part.copy(alloc)?)?;
+        }
+        Ok(copies)
+    }
 }
 
 /// A box with a copy of the pattern.
@@ -128,19 +140,5 @@ impl Peg {
             Peg::End => Ok(Peg::End),
             Peg::Halt => Ok(Peg::Halt),
         }
-    }
-}
-
-impl Pegs {
-    /// Patterns of the same cores.
-    #[cycle(copy)]
-    pub fn copy(&self, alloc: Global) -> Result<Pegs, NoMemory>
-        ensures { IfOk result (λ ps. cores (listed ps) ≡ cores (listed self.now)) }
-    {
-        let mut copies = Pegs::new(alloc);
-        for part in &self.items {
-            copies.push(part.copy(alloc)?)?;
-        }
-        Ok(copies)
     }
 }

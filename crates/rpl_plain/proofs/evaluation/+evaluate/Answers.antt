@@ -58,7 +58,7 @@ evaluate_core-returns-in_ok-o-in-Seq t c =
     let at = core_at c.args.depth (bodies_of (rules_of c.args.rules.now)) c.args.text.now in
     let all = all_at c.args.depth (bodies_of (rules_of c.args.rules.now)) c.args.text.now in
     let parts = cores c.in-Seq.parts.items.items in
-    let each : outcome_of c.in_ok-o-in-Seq.o ≡ capped (all parts c.args.place) = c.in_ok-o-in-Seq.ensures ∙ ap (λ ps. capped (all (cores ps) c.args.place)) c.as_slice.ensures in
+    let each : outcome_of c.in_ok-o-in-Seq.o ≡ capped (all parts c.args.place) = subst (λ ps. outcome_of c.in_ok-o-in-Seq.o ≡ capped (all (cores ps) c.args.place)) c.as_slice.ensures c.in_ok-o-in-Seq.ensures in
     let whole : core_of c.args.e.now ≡ C.Seq parts = ap core_of c.in-Seq.is ∙ seq_view c.in-Seq.parts in
     let inside : capped (M.more 1 (outcome_of c.in_ok-o-in-Seq.o)) ≡ capped (at (C.Seq parts) c.args.place) = ap (λ x. capped (M.more 1 x)) each ∙ capped_more 1 1 (all parts c.args.place) refl in
     c.more.ensures ∙ inside ∙ sym (ap (λ p. capped (at p c.args.place)) whole)
