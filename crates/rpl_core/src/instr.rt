@@ -1,5 +1,7 @@
 // The machine's instructions, with numbers in place of sets and texts.
 ghost use Rattle.std.specs.Option.{option_copied};
+ghost use Rattle.std.specs.List.{list_all};
+ghost use Rattle.rpl_core.specs.Numbers.{in_range};
 ghost use Rattle.std.specs.Prelude.{◌≡◌, List, [], ◌∷◌, ◌++◌, length, slice_get, OnOk, OnErr};
 
 use crate::NoMemory;
@@ -105,5 +107,38 @@ impl Instrs {
         ensures { result.now ≡ self.now }
     {
         &self.items
+    }
+}
+
+impl Instr {
+    /// The numbers of the instruction are in range, among so many instructions, sets and texts.
+    pub fn is_in_range(self, code: usize, sets: usize, labels: usize) -> bool
+        ensures { result ≡ in_range code sets labels self }
+    {
+        match self {
+            Instr::Set(set) | Instr::Span(set) => (set as usize) < sets,
+            Instr::TestSet(to, set) => (to as usize) < code && (set as usize) < sets,
+            Instr::Choice(to)
+            | Instr::Commit(to)
+            | Instr::BackCommit(to)
+            | Instr::Meet(to)
+            | Instr::Call(to)
+            | Instr::PartialCommit(to) => (to as usize) < code,
+            Instr::Open(text) | Instr::Note(text) => (text as usize) < labels,
+            Instr::Start | Instr::End | Instr::FailTwice | Instr::Fail | Instr::Back(_) => true,
+            Instr::Return | Instr::Close | Instr::Finish | Instr::Halt => true,
+        }
+    }
+}
+
+impl Instrs {
+    /// The numbers of all instructions are in range, among so many sets and texts.
+    pub fn are_in_range(&self, sets: usize, labels: usize) -> bool
+        ensures { result ≡ list_all (in_range (length self.now) sets labels) self.now }
+    {
+        let code = self.items.len();
+        self.items
+            .iter()
+            .all(|instr| instr.is_in_range(code, sets, labels))
     }
 }

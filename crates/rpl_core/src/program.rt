@@ -1,6 +1,6 @@
 // Code with its sets and texts.
 ghost use Rattle.std.specs.Option.{option_copied};
-ghost use Rattle.std.specs.Prelude.{◌≡◌, List, [], ◌∷◌, ◌++◌, length, slice_get, OnOk, OnErr, chars, option_map};
+ghost use Rattle.std.specs.Prelude.{◌≡◌, List, [], ◌∷◌, ◌++◌, length, slice_get, OnOk, OnErr, chars, option_map, IsTrue, ◌↔◌};
 ghost use Rattle.rpl_core.specs.Numbers.{AreInRange};
 
 use crate::NoMemory;
@@ -135,6 +135,13 @@ impl Program {
         ensures labels { labels_of result ≡ labels }
     {
         Program { code, sets, labels }
+    }
+
+    /// The parts make a program: each number is in range, and each address that of an instruction.
+    pub fn are_in_range(code: &Instrs, sets: &Sets, labels: &Labels) -> bool
+        ensures { IsTrue result ↔ AreInRange code.now sets.now labels.now }
+    {
+        code.are_in_range(sets.len(), labels.len())
     }
 
     /// The instructions, the first at address 0. Each number in them is in range.
