@@ -11,3 +11,6 @@ pub use evaluation::evaluate;
 pub use forest::Forest;
 pub use machine::{Answer, Caught, RunFault, run};
 pub use outcome::Outcome;
+
+#[cfg(test)]
+mod tests;

@@ -135,10 +135,7 @@ pub fn if_fails(o: Outcome, place: usize) -> Outcome
     match o {
         Outcome::Open => Outcome::Open,
         Outcome::Fail { work } => stays(work, place),
-        Outcome::At { work, .. } => Outcome::Fail {
-            work: plus(1, work),
-        },
-        Outcome::HaltAt { work, .. } => Outcome::Fail {
+        Outcome::At { work, .. } | Outcome::HaltAt { work, .. } => Outcome::Fail {
             work: plus(1, work),
         },
     }
@@ -151,10 +148,7 @@ pub fn if_matches(o: Outcome, place: usize) -> Outcome
     match o {
         Outcome::Open => Outcome::Open,
         Outcome::At { work, .. } => stays(work, place),
-        Outcome::Fail { work } => Outcome::Fail {
-            work: plus(1, work),
-        },
-        Outcome::HaltAt { work, .. } => Outcome::Fail {
+        Outcome::Fail { work } | Outcome::HaltAt { work, .. } => Outcome::Fail {
             work: plus(1, work),
         },
     }
