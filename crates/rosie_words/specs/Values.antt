@@ -22,7 +22,7 @@ styles =
     style_name (codes "line") S.Line ∷
     style_name (codes "matches") S.Matches ∷
     style_name (codes "subs") S.Subs ∷
-    style_name (codes "data") S.Data ∷
+    style_name (codes "data") S.Plain ∷
     style_name (codes "bool") S.Bool ∷ []
 
 -- the style of the row found

@@ -24,7 +24,7 @@ pub enum Style {
     /// The text of each node directly under the root.
     Subs,
     /// The text of the match.
-    Data,
+    Plain,
     /// `true` or `false`.
     Bool,
 }

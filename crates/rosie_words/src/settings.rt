@@ -16,6 +16,12 @@ use crate::value::{bad_value, number_in, style_named};
 use rpl_text::Chars;
 use std::alloc::Global;
 
+/// The most machine steps that `--budget` may give.
+const MAX_BUDGET: u64 = 1_000_000_000_000;
+
+/// The most work that `--limit` may give, and what counts without it.
+const MAX_LIMIT: u32 = 10_000;
+
 /// What the options so far set.
 #[derive(Drop)]
 pub(crate) struct Settings {
@@ -63,7 +69,7 @@ impl Settings {
             budget: None,
             steps: false,
             code: false,
-            limit: 10_000,
+            limit: MAX_LIMIT,
             code_file: None,
         })
     }
@@ -95,13 +101,13 @@ impl Settings {
             OptionName::WholeFile => self.whole = true,
             OptionName::All => self.all = true,
             OptionName::FixedStrings => self.fixed = true,
-            OptionName::Budget => match number_in(value, 1, 1_000_000_000_000) {
+            OptionName::Budget => match number_in(value, 1, MAX_BUDGET) {
                 Some(budget) => self.budget = Some(budget),
                 None => return Err(bad_value(alloc, value)),
             },
             OptionName::Steps => self.steps = true,
             OptionName::Code => self.code = true,
-            OptionName::Limit => match number_in(value, 1, 10_000) {
+            OptionName::Limit => match number_in(value, 1, u64::from(MAX_LIMIT)) {
                 Some(limit) => self.limit = limit as u32,
                 None => return Err(bad_value(alloc, value)),
             },

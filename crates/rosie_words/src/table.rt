@@ -1,10 +1,11 @@
-// The commands, and the options that each takes.
+//! The commands, and the options that each takes.
+
 ghost use Rattle.std.specs.Prelude.{◌≡◌};
 ghost use Rattle.rosie_words.specs.Table.{option_named, command_named, has_value, row, takes};
 ghost use Rattle.rosie_words.specs.Options.{makes_code, is_for};
 
 /// A command of the command line.
-#[derive(Clone, Copy, Debug, PartialEq, Eq)]
+#[derive(Clone, Copy)]
 pub(crate) enum CommandName {
     Match,
     Grep,
@@ -18,8 +19,8 @@ pub(crate) enum CommandName {
     Class,
 }
 
-/// An option, by whichever of its spellings.
-#[derive(Clone, Copy, Debug, PartialEq, Eq)]
+/// An option, whichever of its spellings was used.
+#[derive(Clone, Copy)]
 pub(crate) enum OptionName {
     File,
     Rpl,
@@ -35,6 +36,7 @@ pub(crate) enum OptionName {
     CodeFile,
 }
 
+/// The option that a word names.
 pub(crate) fn option_named(name: &str) -> Option<OptionName>
     ensures { result ≡ option_named name.now }
 {
@@ -55,6 +57,7 @@ pub(crate) fn option_named(name: &str) -> Option<OptionName>
     }
 }
 
+/// The command that a word names.
 pub(crate) fn command_named(name: &str) -> Option<CommandName>
     ensures { result ≡ command_named name.now }
 {

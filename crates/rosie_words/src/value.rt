@@ -19,7 +19,7 @@ pub(crate) fn style_named(word: &str) -> Option<Style>
         "line" => Some(Style::Line),
         "matches" => Some(Style::Matches),
         "subs" => Some(Style::Subs),
-        "data" => Some(Style::Data),
+        "data" => Some(Style::Plain),
         "bool" => Some(Style::Bool),
         _ => None,
     }

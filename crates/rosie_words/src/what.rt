@@ -15,6 +15,12 @@ use crate::value::{bad_value, number_in};
 use rpl_text::Chars;
 use std::alloc::Global;
 
+/// The greatest seed of a sample.
+const MAX_SEED: u32 = 2_147_483_647;
+
+/// The most lines of a sample.
+const MAX_LINES: u32 = 1_000_000;
+
 /// The paths of some words.
 fn paths(alloc: Global, words: &[&str]) -> Result<Paths, NoMemory>
     ensures { IfOk result (λ p. p ≡ map chars (map text words.now)) }
@@ -88,8 +94,8 @@ fn sample_of(alloc: Global, seed: &str, lines: &str) -> Result<What, UsageFault>
     ensures fault { IfErr result (λ e. e ≢ E.NoMemory → sample_of seed.now lines.now ≡ Err e) }
 {
     Ok(What::Sample {
-        seed: number_argument(alloc, seed, 2_147_483_647)?,
-        lines: number_argument(alloc, lines, 1_000_000)?,
+        seed: number_argument(alloc, seed, MAX_SEED)?,
+        lines: number_argument(alloc, lines, MAX_LINES)?,
     })
 }
 

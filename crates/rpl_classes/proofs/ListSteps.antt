@@ -1,16 +1,14 @@
 -- A list of characters, symbol by symbol.
-use Rattle.std.proofs.Common.{◌≡◌, ℕ, zero, suc, ◌+◌, ◌<◌, ◌≤◌, List, [], ◌∷◌, ◌++◌, drop, Option, Some, None, refl, sym, ap, ap₂, subst, ◌∙◌, arith}
-use Rattle.std.specs.Prelude.{Bool, true, false, not, ◌&&◌, ◌||◌, nat_eq, nat_le, if◌then◌else◌, Result, Ok, Err}
+use Rattle.std.proofs.Common.{◌≡◌, ℕ, List, [], ◌∷◌, drop, Option, Some, None, refl, sym, ap, subst, ◌∙◌, arith}
+use Rattle.std.specs.Prelude.{Bool, true, false, not, ◌&&◌, nat_eq, if◌then◌else◌, Ok, Err}
 use Rattle.std.proofs.lemmas.Bool.{cond-true, cond-false, and_from}
-use Rattle.regex_class.specs.Ranges.{Range}
-use Rattle.rpl_text.specs.Places.{index, IsPlace}
+use Rattle.rpl_text.specs.Places.{index}
 use Rattle.rpl_text.specs.Escapes.{escape}
 use Rattle.rpl_classes.specs.Symbols.{Placed, escaped, symbols, symbols_from, first, place, rest, is_plain, begins}
-use Rattle.rpl_classes.specs.Lists.{Reading, changed, is_member, char_of, is_range, range_list, each, list}
+use Rattle.rpl_classes.specs.Lists.{Reading, changed, is_member, char_of, each}
 use Rattle.rpl_classes.specs.Scanned.{Passed, RangeFound}
 use Rattle.rpl_classes.specs.declared.symbols.Symbol.{Symbol}
 use Rattle.rpl_classes.specs.declared.symbols.Symbol.TheVariants.{Plain, Escaped, End}
-use Rattle.rpl_classes.specs.declared.fault.SetFault.{SetFault}
 use Rattle.rpl_classes.specs.declared.fault.SetFault.TheVariants.{BadRange, BadSet}
 use Rattle.rpl_classes.proofs.Scans.{symbols-nil, symbols-cons}
 
@@ -36,10 +34,10 @@ pub place_from : (t : List ℕ) (p : ℕ) → place (symbols_from t p) ≡ p
 place_from t p = let s = shape t p in ap place s.is
 
 each-cons : (b : Bool) (x : Placed) (s : List Placed) → each b (x ∷ s) ≡ (
-  if is_plain 93 x.1 then (if b then Err (BadSet x.0) else Ok ([], s))
-  else (if not (is_member x.1) then Err (BadSet x.0)
-  else (if is_plain 45 x.1 && (not b && not (begins 93 s)) then Err (BadRange x.0)
-  else changed (λ a. (char_of x.1, char_of x.1) ∷ a) (each false s))))
+    if is_plain 93 x.1 then (if b then Err (BadSet x.0) else Ok ([], s))
+    else (if not (is_member x.1) then Err (BadSet x.0)
+    else (if is_plain 45 x.1 && (not b && not (begins 93 s)) then Err (BadRange x.0)
+    else changed (λ a. (char_of x.1, char_of x.1) ∷ a) (each false s))))
 unfolding each
 each-cons b x s = refl
 

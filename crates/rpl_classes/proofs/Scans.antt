@@ -1,8 +1,8 @@
 -- The steps of a scanner over byte places, and the symbols of the text.
-use Rattle.std.proofs.Common.{◌≡◌, ℕ, zero, suc, ◌+◌, ◌-◌, ◌<◌, ◌≤◌, List, [], ◌∷◌, length, drop, Option, Some, None, refl, sym, ap, subst, ◌∙◌, arith, drop-drop, length-drop, add_assoc, zero-add, add-zero}
-use Rattle.std.specs.Prelude.{Bool, true, false, nat_eq, if◌then◌else◌, slice_get}
+use Rattle.std.proofs.Common.{◌≡◌, ℕ, zero, suc, ◌+◌, ◌≤◌, List, [], ◌∷◌, length, drop, Option, Some, None, refl, sym, ap, subst, ◌∙◌, arith, drop-drop, length-drop, add_assoc}
+use Rattle.std.specs.Prelude.{nat_eq, if◌then◌else◌, slice_get}
 use Rattle.std.specs.Char.{len_utf8}
-use Rattle.std.proofs.lemmas.Bool.{ne_eqb, eq-eqb}
+use Rattle.std.proofs.lemmas.Bool.{ne_eqb}
 use Rattle.std.proofs.lemmas.Str.{len_utf8_bounds, len_utf8_ascii}
 use Rattle.std.proofs.lemmas.List.{drop_all}
 use Rattle.rpl_text.specs.Places.{at, index, IsPlace, step_from}
@@ -10,9 +10,8 @@ use Rattle.rpl_text.specs.Escapes.{escape, placed, escape_from}
 use Rattle.rpl_text.proofs.Walks.{some_step, none_step, index_at, place_at, at_suc, get_below, at_zero}
 use Rattle.rpl_text.proofs.Cuts.{at-drop}
 use Rattle.rpl_text.proofs.Escaped.{escape_plain, drop_front}
-use Rattle.rpl_classes.specs.Symbols.{Placed, escaped, symbols, symbols_from}
-use Rattle.rpl_classes.specs.Scanned.{behind, Scanned}
-use Rattle.rpl_classes.specs.declared.symbols.Symbol.{Symbol}
+use Rattle.rpl_classes.specs.Symbols.{escaped, symbols, symbols_from}
+use Rattle.rpl_classes.specs.Scanned.{Scanned}
 use Rattle.rpl_classes.specs.declared.symbols.Symbol.TheVariants.{Plain, Escaped, End}
 
 pub symbols-nil : (p : ℕ) → symbols 0 p [] ≡ (p, End) ∷ []
@@ -124,9 +123,9 @@ scan_escape t p q v r h e g =
     record {
       symbols = backslash t p q h e ∙ ap (λ o. escaped p o (λ k. symbols k (p + 1) cs)) f.is
           ∙ ap (λ x. (p, Escaped v) ∷ x) (skipped k (p + 1) cs plain.inside
-            ∙ ap (λ x. symbols 0 x (drop k cs)) (sym (f.next ∙ place))
-            ∙ ap (symbols 0 r) (drop-drop k (i + 1) t)
-            ∙ ap (λ n. symbols 0 r (drop n t)) (sym (ap (index t) f.next ∙ index_at t (i + 1 + k) inside)));
+          ∙ ap (λ x. symbols 0 x (drop k cs)) (sym (f.next ∙ place))
+          ∙ ap (symbols 0 r) (drop-drop k (i + 1) t)
+          ∙ ap (λ n. symbols 0 r (drop n t)) (sym (ap (index t) f.next ∙ index_at t (i + 1 + k) inside)));
       next = subst (IsPlace t) (sym f.next) (place_at t (i + 1 + k) inside);
       forward = omega (arith, f.next);
     }

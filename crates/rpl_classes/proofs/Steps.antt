@@ -1,13 +1,13 @@
 -- Walks over blanks and over names.
-use Rattle.std.proofs.Common.{◌≡◌, ℕ, zero, suc, ◌+◌, ◌-◌, ◌<◌, ◌≤◌, List, [], ◌∷◌, ◌++◌, length, take, drop, get_or, Option, Some, None, refl, sym, ap, subst, ◌∙◌, arith, append_assoc, append-nil, length-drop}
+use Rattle.std.proofs.Common.{◌≡◌, ℕ, zero, suc, ◌+◌, ◌-◌, ◌<◌, ◌≤◌, List, [], ◌∷◌, ◌++◌, length, take, drop, get_or, Some, refl, sym, ap, ◌∙◌, arith, append_assoc, append-nil, length-drop}
 use Rattle.std.specs.Prelude.{Bool, true, false, if◌then◌else◌, slice_get, slice_range, chars, IsUtf8}
 use Rattle.std.proofs.lemmas.List.{take_more, get_or-drop}
-use Rattle.rpl_text.specs.Places.{at, index, IsPlace}
+use Rattle.rpl_text.specs.Places.{index, IsPlace}
 use Rattle.rpl_text.proofs.Walks.{at_le, at_end, get_below}
 use Rattle.rpl_classes.specs.Symbols.{Placed, symbols_from, is_blank, past_blanks}
 use Rattle.rpl_classes.specs.Lists.{char_of}
 use Rattle.rpl_classes.specs.Brackets.{is_word, word, past_word}
-use Rattle.rpl_classes.specs.Scanned.{behind, GoesOn, Scanned, Skipped, Worded}
+use Rattle.rpl_classes.specs.Scanned.{behind, GoesOn, Scanned}
 use Rattle.rpl_classes.specs.declared.symbols.Symbol.{Symbol}
 use Rattle.rpl_classes.specs.declared.symbols.Symbol.TheVariants.{Plain, Escaped, End}
 
@@ -26,7 +26,7 @@ taken t p q End f e h s = absurd (let g = sym e ∙ h in cc)
 pub place_le : (bs : List ℕ) (p : ℕ) → IsUtf8 bs → IsPlace (chars bs) p → p ≤ length bs
 place_le bs p u h = omega (arith, at_le (chars bs) (index (chars bs) p), at_end bs u)
 
-past_blanks-cons : (x : Placed) (s : List Placed) → past_blanks (x ∷ s) ≡ (if is_blank x.1 then past_blanks s else x ∷ s)
+pub past_blanks-cons : (x : Placed) (s : List Placed) → past_blanks (x ∷ s) ≡ (if is_blank x.1 then past_blanks s else x ∷ s)
 unfolding past_blanks
 past_blanks-cons x s = refl
 
@@ -38,11 +38,15 @@ pub blanks_stop : (t : List ℕ) (p q : ℕ) (x : Symbol) → is_blank x ≡ fal
 blanks_stop t p q x b s =
     ap past_blanks s.symbols ∙ past_blanks-cons (p, x) (behind t x q) ∙ ap (λ c. if c then past_blanks (behind t x q) else (p, x) ∷ behind t x q) b ∙ sym s.symbols
 
-word-cons : (x : Placed) (s : List Placed) → word (x ∷ s) ≡ (if is_word x.1 then char_of x.1 ∷ word s else [])
+pub word-nil : word [] ≡ []
+unfolding word
+word-nil = refl
+
+pub word-cons : (x : Placed) (s : List Placed) → word (x ∷ s) ≡ (if is_word x.1 then char_of x.1 ∷ word s else [])
 unfolding word
 word-cons x s = refl
 
-past_word-cons : (x : Placed) (s : List Placed) → past_word (x ∷ s) ≡ (if is_word x.1 then past_word s else x ∷ s)
+pub past_word-cons : (x : Placed) (s : List Placed) → past_word (x ∷ s) ≡ (if is_word x.1 then past_word s else x ∷ s)
 unfolding past_word
 past_word-cons x s = refl
 
@@ -79,7 +83,7 @@ pub word_taken : (t : List ℕ) (o p q : ℕ) (x : Symbol) → is_word x ≡ tru
 word_taken t o p q x h le s k e =
     let w = word_char t p q x h s.forward in
     e ∙ ap (λ y. slice_range t (index t o) (index t p) ++ y)
-        (ap word k.symbols ∙ word-cons (p, x) (symbols_from t q) ∙ ap (λ b. if b then char_of x ∷ word (symbols_from t q) else []) h)
+    (ap word k.symbols ∙ word-cons (p, x) (symbols_from t q) ∙ ap (λ b. if b then char_of x ∷ word (symbols_from t q) else []) h)
     ∙ sym (append_assoc (slice_range t (index t o) (index t p)) (char_of x ∷ []) (word (symbols_from t q)))
     ∙ ap (λ y. y ++ word (symbols_from t q)) (sym (ap (slice_range t (index t o)) w.1 ∙ slice_more t (index t o) (index t p) (char_of x) le w.0))
 
@@ -88,7 +92,7 @@ pub word_stop : (t : List ℕ) (o p q : ℕ) (x : Symbol) → is_word x ≡ fals
     → word (symbols_from t o) ≡ slice_range t (index t o) (index t p)
 word_stop t o p q x h s e =
     e ∙ ap (λ y. slice_range t (index t o) (index t p) ++ y)
-        (ap word s.symbols ∙ word-cons (p, x) (behind t x q) ∙ ap (λ b. if b then char_of x ∷ word (behind t x q) else []) h)
+    (ap word s.symbols ∙ word-cons (p, x) (behind t x q) ∙ ap (λ b. if b then char_of x ∷ word (behind t x q) else []) h)
     ∙ append-nil (slice_range t (index t o) (index t p))
 
 slice_none : (t : List ℕ) (a : ℕ) → slice_range t a a ≡ []

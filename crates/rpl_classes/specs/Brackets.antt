@@ -1,11 +1,10 @@
 -- The set of a bracket: a class, a compound of brackets, or a list. `[` is 91, `]` 93, `^` 94, `:` 58, `-` 45, `&` 38.
-use Rattle.std.specs.Prelude.{ℕ, zero, suc, Bool, true, false, not, ◌&&◌, ◌||◌, nat_eq, if◌then◌else◌, List, [], ◌∷◌, ◌++◌, length, Option, Some, None, Result, Ok, Err}
+use Rattle.std.specs.Prelude.{ℕ, zero, suc, Bool, true, false, ◌&&◌, ◌||◌, nat_eq, if◌then◌else◌, List, [], ◌∷◌, ◌++◌, Option, Some, None, Result, Ok, Err}
 use Rattle.regex_class.specs.Ranges.{Range}
-use Rattle.rpl_text.specs.Places.{at}
 use Rattle.rpl_classes.specs.Norm.{norm}
 use Rattle.rpl_classes.specs.Algebra.{both, others, without}
 use Rattle.rpl_classes.specs.Classes.{is_alnum, set_named}
-use Rattle.rpl_classes.specs.Symbols.{Placed, symbols_from, first, place, rest, begins, past_blanks}
+use Rattle.rpl_classes.specs.Symbols.{Placed, symbols_from, size, first, place, rest, begins, past_blanks}
 use Rattle.rpl_classes.specs.Lists.{Reading, and_then, changed, char_of, list}
 use Rattle.rpl_classes.specs.declared.fault.SetFault.{SetFault}
 use Rattle.rpl_classes.specs.declared.fault.SetFault.TheVariants.{UnknownClass, BadSet}
@@ -63,23 +62,26 @@ union b n s = and_then (b (past_blanks s)) (more b n)
 unfoldable pub joined : (List Placed → Reading) → ℕ → List Range → List Placed → Reading
 joined b zero a s = Err (BadSet (place (past_blanks s)))
 joined b (suc n) a s =
-  let r = past_blanks s in
-  if begins 93 r then Ok (a, rest r)
-  else (if begins 38 r && begins 38 (rest r) then and_then (union b n (rest (rest r))) (λ c q. joined b n (both a c) q)
-  else (if begins 45 r && begins 45 (rest r) then and_then (union b n (rest (rest r))) (λ c q. joined b n (without a c) q)
-  else Err (BadSet (place r))))
+    let r = past_blanks s in
+    if begins 93 r then Ok (a, rest r)
+    else (if begins 38 r && begins 38 (rest r) then and_then (union b n (rest (rest r))) (λ c q. joined b n (both a c) q)
+    else (if begins 45 r && begins 45 (rest r) then and_then (union b n (rest (rest r))) (λ c q. joined b n (without a c) q)
+    else Err (BadSet (place r))))
+
+abbrev pub compound : (List Placed → Reading) → ℕ → List Placed → Reading
+compound b n s = and_then (union b n s) (joined b n)
 
 -- ---- brackets
 
 -- what stands behind a bracket's `[` and `^`: a compound where the first symbol but blanks is `[`, else a list
 abbrev pub body : (List Placed → Reading) → ℕ → List Placed → Reading
-body b n s = if begins 91 (past_blanks s) then and_then (union b n s) (joined b n) else list s
+body b n s = if begins 91 (past_blanks s) then compound b n s else list s
 
 -- what stands behind the `[` of the place p, as a set
 abbrev pub inside : (List Placed → Reading) → ℕ → ℕ → List Placed → Reading
 inside b n p s =
-  if is_class s then class p s
-  else (if begins 94 s then changed others (body b n (rest s)) else body b n s)
+    if is_class s then class p s
+    else (if begins 94 s then changed others (body b n (rest s)) else body b n s)
 
 -- a bracket at the front, with at most n brackets in one another
 unfoldable pub bracket : ℕ → List Placed → Reading
@@ -96,11 +98,11 @@ marked negated (Err e) = Err e
 -- as `inside`, with the mark for the `^` of the outermost bracket
 abbrev pub outermost : ℕ → ℕ → List Placed → Result (List Range × Bool) SetFault
 outermost n p s =
-  if is_class s then marked false (class p s)
-  else (if begins 94 s then marked true (body (bracket n) n (rest s)) else marked false (body (bracket n) n s))
+    if is_class s then marked false (class p s)
+    else (if begins 94 s then marked true (body (bracket n) n (rest s)) else marked false (body (bracket n) n s))
 
 -- the set and the mark of a text that is a bracket, or its first fault
 abbrev pub bracket_of : List ℕ → Result (List Range × Bool) SetFault
 bracket_of t =
-  let s = symbols_from t 0 in
-  if begins 91 s then outermost (suc (at t (length t))) (place s) (rest s) else Err (BadSet (place s))
+    let s = symbols_from t 0 in
+    if begins 91 s then outermost (suc (size t)) (place s) (rest s) else Err (BadSet (place s))

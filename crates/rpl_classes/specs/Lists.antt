@@ -40,18 +40,18 @@ is_range s = is_member (first s) && (begins 45 (rest s) && (is_member (first (re
 -- the range of such a list, whose ends may not fall
 abbrev pub range_list : List Placed → Reading
 range_list s =
-  let low = char_of (first s) in
-  let high = char_of (first (rest (rest s))) in
-  if nat_le low high then Ok ((low, high) ∷ [], rest (rest (rest (rest s)))) else Err (BadRange (place (rest s)))
+    let low = char_of (first s) in
+    let high = char_of (first (rest (rest s))) in
+    if nat_le low high then Ok ((low, high) ∷ [], rest (rest (rest (rest s)))) else Err (BadRange (place (rest s)))
 
 -- any other list, from a symbol on: each character is itself, and `-` too where it is first or last
 unfoldable pub each : Bool → List Placed → Reading
 each is_first [] = Err (BadSet 0)
 each is_first (x ∷ s) =
-  if is_plain 93 x.1 then (if is_first then Err (BadSet x.0) else Ok ([], s))
-  else (if not (is_member x.1) then Err (BadSet x.0)
-  else (if is_plain 45 x.1 && (not is_first && not (begins 93 s)) then Err (BadRange x.0)
-  else changed (λ a. (char_of x.1, char_of x.1) ∷ a) (each false s)))
+    if is_plain 93 x.1 then (if is_first then Err (BadSet x.0) else Ok ([], s))
+    else (if not (is_member x.1) then Err (BadSet x.0)
+    else (if is_plain 45 x.1 && (not is_first && not (begins 93 s)) then Err (BadRange x.0)
+    else changed (λ a. (char_of x.1, char_of x.1) ∷ a) (each false s)))
 
 abbrev pub list : List Placed → Reading
 list s = changed norm (if is_range s then range_list s else each true s)

@@ -1,10 +1,10 @@
 -- What the scanner's steps say of the symbols of a text.
-use Rattle.std.specs.Prelude.{◌≡◌, ◌≢◌, ℕ, ◌+◌, ◌<◌, ◌≤◌, Bool, true, false, List, [], ◌∷◌, Option, Some, None, Result, Ok, Err, slice_get, slice_range}
+use Rattle.std.specs.Prelude.{◌≡◌, ◌≢◌, ℕ, ◌+◌, ◌<◌, ◌≤◌, Bool, true, false, ◌&&◌, List, [], ◌∷◌, Option, Some, None, Result, Ok, Err, if◌then◌else◌, slice_get, slice_range}
 use Rattle.regex_class.specs.Ranges.{Range}
 use Rattle.rpl_text.specs.Places.{index, IsPlace}
 use Rattle.rpl_classes.specs.Symbols.{Placed, symbols_from, first, place, rest, begins}
 use Rattle.rpl_classes.specs.Lists.{Reading, is_member, char_of, is_range, each, changed}
-use Rattle.rpl_classes.specs.Brackets.{word, past_word, is_name}
+use Rattle.rpl_classes.specs.Brackets.{word, past_word, is_name, is_class}
 use Rattle.rpl_classes.specs.declared.symbols.Symbol.{Symbol}
 use Rattle.rpl_classes.specs.declared.symbols.Symbol.TheVariants.{Plain, Escaped, End}
 use Rattle.rpl_classes.specs.declared.fault.SetFault.{SetFault}
@@ -67,7 +67,7 @@ abbrev pub StepsList : List ℕ → ℕ → Bool → Result (Option ℕ × ℕ) 
 StepsList t p is_first (Err e) = each is_first (symbols_from t p) ≡ Err e
 StepsList t p is_first (Ok (None, q)) = (each is_first (symbols_from t p) ≡ Ok ([], symbols_from t q)) × IsPlace t q × (p < q)
 StepsList t p is_first (Ok (Some c, q)) =
-  (each is_first (symbols_from t p) ≡ changed (λ a. (c, c) ∷ a) (each false (symbols_from t q))) × IsPlace t q × (p < q)
+    (each is_first (symbols_from t p) ≡ changed (λ a. (c, c) ∷ a) (each false (symbols_from t q))) × IsPlace t q × (p < q)
 
 -- what was read is the reading: the set and the place behind it, or the fault; or memory ran out
 abbrev pub Gives : List ℕ → Result (List Range × ℕ) SetFault → Reading → Type 0
@@ -78,3 +78,31 @@ Gives t (Err e) r = e ≢ NoMemory → r ≡ Err e
 abbrev pub Ends : List ℕ → ℕ → Result (List Range × ℕ) SetFault → Type 0
 Ends t p (Ok (a, q)) = IsPlace t q × (p < q)
 Ends t p (Err e) = Unit {0}
+
+-- a class's name from the place o to the place e, and the place behind the class
+pub record NameFound (t : List ℕ) (o e q : ℕ) : Type 0 where
+  pub is : is_name (symbols_from t o) ≡ true
+  pub text : word (symbols_from t o) ≡ slice_range t (index t o) (index t e)
+  pub start : IsPlace t o
+  pub end : IsPlace t e
+  pub order : o ≤ e
+  pub behind : Passed t o (rest (rest (past_word (symbols_from t o)))) q
+
+-- a class behind its `[`, which stands at the place p
+pub record ClassFound (t : List ℕ) (p : ℕ) (negated : Bool) (o e q : ℕ) : Type 0 where
+  pub is : is_class (symbols_from t p) ≡ true
+  pub mark : begins 94 (rest (symbols_from t p)) ≡ negated
+  pub start : (if negated then rest (rest (symbols_from t p)) else rest (symbols_from t p)) ≡ symbols_from t o
+  pub behind : p < o
+  pub name : NameFound t o e q
+
+-- a set that was read up to a place
+abbrev pub with_place : Result (List Range) SetFault → ℕ → Result (List Range × ℕ) SetFault
+with_place (Ok a) q = Ok (a, q)
+with_place (Err e) q = Err e
+
+-- the place behind a plain character that stands twice at the place p
+abbrev pub AcceptsTwice : List ℕ → ℕ → ℕ → Option ℕ → Type 0
+AcceptsTwice t p c None = (begins c (symbols_from t p) && begins c (rest (symbols_from t p))) ≡ false
+AcceptsTwice t p c (Some q) =
+    ((begins c (symbols_from t p) && begins c (rest (symbols_from t p))) ≡ true) × Passed t p (rest (rest (symbols_from t p))) q

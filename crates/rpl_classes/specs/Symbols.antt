@@ -1,7 +1,7 @@
 -- A bracket's text as symbols: each a character as it stands or one that an escape gives, with its byte place.
-use Rattle.std.specs.Prelude.{ℕ, zero, suc, ◌+◌, Bool, true, false, not, ◌&&◌, ◌||◌, nat_eq, if◌then◌else◌, List, [], ◌∷◌, Option, Some, None, drop}
+use Rattle.std.specs.Prelude.{ℕ, zero, suc, ◌+◌, Bool, false, ◌||◌, nat_eq, if◌then◌else◌, List, [], ◌∷◌, length, Option, Some, None, drop}
 use Rattle.std.specs.Char.{len_utf8}
-use Rattle.rpl_text.specs.Places.{index}
+use Rattle.rpl_text.specs.Places.{at, index}
 use Rattle.rpl_text.specs.Escapes.{escape}
 use Rattle.rpl_classes.specs.declared.symbols.Symbol.{Symbol}
 use Rattle.rpl_classes.specs.declared.symbols.Symbol.TheVariants.{Plain, Escaped, End}
@@ -19,12 +19,16 @@ unfoldable pub symbols : ℕ → ℕ → List ℕ → List Placed
 symbols k p [] = (p, End) ∷ []
 symbols (suc k) p (c ∷ cs) = symbols k (p + len_utf8 c) cs
 symbols zero p (c ∷ cs) =
-  if nat_eq c 92 then escaped p (escape cs) (λ k. symbols k (p + 1) cs)
-  else (p, Plain c) ∷ symbols 0 (p + len_utf8 c) cs
+    if nat_eq c 92 then escaped p (escape cs) (λ k. symbols k (p + 1) cs)
+    else (p, Plain c) ∷ symbols 0 (p + len_utf8 c) cs
 
 -- the symbols of a text from one of its places on
 abbrev pub symbols_from : List ℕ → ℕ → List Placed
 symbols_from t p = symbols 0 p (drop (index t p) t)
+
+-- how many bytes a text has
+abbrev pub size : List ℕ → ℕ
+size t = at t (length t)
 
 -- the symbol at the front, its place, and what stands behind it
 abbrev pub first : List Placed → Symbol

@@ -7,12 +7,16 @@
 #![tactic(auto)]
 
 mod bits;
+mod brackets;
 mod classes;
 mod fault;
 mod lists;
 mod set;
 mod symbols;
+#[cfg(test)]
+mod tests;
 
+pub use brackets::{Bracket, read_bracket};
 pub use fault::SetFault;
 pub use rpl_text::NoMemory;
 pub use set::Set;

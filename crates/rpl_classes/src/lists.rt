@@ -19,7 +19,11 @@ fn member_at(text: &str, place: usize) -> Option<(char, usize)>
 {
     let (symbol, next) = symbol_at(text, place);
     match symbol {
-        Symbol::Plain(c) => if c == '[' || c == ']' { None } else { Some((c, next)) },
+        Symbol::Plain(c) => if c == '[' || c == ']' {
+            None
+        } else {
+            Some((c, next))
+        },
         Symbol::Escaped(c) => Some((c, next)),
         Symbol::End => None,
     }
@@ -70,7 +74,11 @@ fn list_step(text: &str, at: usize, is_first: bool) -> Result<(Option<char>, usi
     ensures { StepsList (chars text.now) at is_first result }
 {
     if let Some(next) = accept(text, at, ']') {
-        return if is_first { Err(SetFault::BadSet { at }) } else { Ok((None, next)) };
+        return if is_first {
+            Err(SetFault::BadSet { at })
+        } else {
+            Ok((None, next))
+        };
     }
     let Some((c, next)) = member_at(text, at) else {
         return Err(SetFault::BadSet { at });

@@ -11,9 +11,6 @@ pub use evaluation::evaluate;
 pub use forest::Forest;
 pub use machine::{Answer, Caught, RunFault, run};
 pub use outcome::Outcome;
-<<<<<<< HEAD
-=======
 
 #[cfg(test)]
 mod tests;
->>>>>>> 0ffebc457b6843967e6055060c142cddecfd1020

@@ -135,14 +135,7 @@ pub fn if_fails(o: Outcome, place: usize) -> Outcome
     match o {
         Outcome::Open => Outcome::Open,
         Outcome::Fail { work } => stays(work, place),
-<<<<<<< HEAD
-        Outcome::At { work, .. } => Outcome::Fail {
-            work: plus(1, work),
-        },
-        Outcome::HaltAt { work, .. } => Outcome::Fail {
-=======
         Outcome::At { work, .. } | Outcome::HaltAt { work, .. } => Outcome::Fail {
->>>>>>> 0ffebc457b6843967e6055060c142cddecfd1020
             work: plus(1, work),
         },
     }
@@ -155,14 +148,7 @@ pub fn if_matches(o: Outcome, place: usize) -> Outcome
     match o {
         Outcome::Open => Outcome::Open,
         Outcome::At { work, .. } => stays(work, place),
-<<<<<<< HEAD
-        Outcome::Fail { work } => Outcome::Fail {
-            work: plus(1, work),
-        },
-        Outcome::HaltAt { work, .. } => Outcome::Fail {
-=======
         Outcome::Fail { work } | Outcome::HaltAt { work, .. } => Outcome::Fail {
->>>>>>> 0ffebc457b6843967e6055060c142cddecfd1020
             work: plus(1, work),
         },
     }

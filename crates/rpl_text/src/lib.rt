@@ -9,6 +9,8 @@
 mod chars;
 mod escapes;
 mod line;
+#[cfg(test)]
+mod tests;
 mod text;
 
 pub use chars::Chars;

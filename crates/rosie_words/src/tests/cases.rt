@@ -53,7 +53,7 @@ pub(super) const SPELLINGS: &[&str] = &[
     "match|p|-o|line => match [p] path:. Line",
     "match|p|--output|matches => match [p] path:. Matches",
     "match|p|--output=subs => match [p] path:. Subs",
-    "match|p|-o|data => match [p] path:. Data",
+    "match|p|-o|data => match [p] path:. Plain",
     "grep|p|-o|json => grep [p] path:. Json",
     "grep|p|-o|bool => grep [p] path:. Bool",
     "match|p|-o=json => unknown option: -o=json",

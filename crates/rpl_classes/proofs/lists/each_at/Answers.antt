@@ -1,4 +1,4 @@
-use Rattle.std.proofs.Common.{◌≡◌, ◌∙◌, ◌≤◌, ◌<◌, ℕ, Ok, subst, length, sym, arith}
+use Rattle.std.proofs.Common.{Ok, subst, arith}
 use Rattle.std.specs.Prelude.{chars, nat_eq}
 use Rattle.rpl_classes.specs.Scanned.{StepsList}
 use Rattle.rpl_classes.proofs.Steps.{place_le}

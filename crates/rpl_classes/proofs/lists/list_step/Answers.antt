@@ -1,4 +1,4 @@
-use Rattle.std.proofs.Common.{◌≡◌, ◌∙◌, sym, ap}
+use Rattle.std.proofs.Common.{sym}
 use Rattle.std.specs.Prelude.{chars}
 use Rattle.rpl_classes.proofs.ListSteps.{each_close, each_empty, each_other, each_dash, each_member}
 use Rattle.rpl_classes.proofs.lists.list_step.Goals as goal

@@ -1,4 +1,4 @@
-use Rattle.std.proofs.Common.{◌≡◌, ◌∙◌, ◌≤◌, length, refl, sym, arith}
+use Rattle.std.proofs.Common.{◌∙◌, refl, sym, arith}
 use Rattle.std.specs.Prelude.{chars}
 use Rattle.rpl_classes.specs.Symbols.{is_blank}
 use Rattle.rpl_classes.proofs.Steps.{taken, place_le, blanks_taken, blanks_stop}

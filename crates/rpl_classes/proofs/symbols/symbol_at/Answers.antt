@@ -1,5 +1,4 @@
-use Rattle.std.proofs.Common.{◌≡◌, ◌∙◌, Some, sym, ap, arith}
-use Rattle.rpl_text.specs.Places.{step_from, index}
+use Rattle.std.proofs.Common.{◌∙◌, Some, sym, ap, arith}
 use Rattle.std.specs.Prelude.{chars}
 use Rattle.rpl_classes.proofs.Scans.{stepped, scan_plain, scan_end, scan_bad, scan_escape}
 use Rattle.rpl_text.proofs.Escaped.{byte_stood}

@@ -1,0 +1,122 @@
+-- Names of classes, found piece by piece.
+use Rattle.std.proofs.Common.{Option, Some, None, ◌++◌, ap₂, inl, inr, ◌≡◌, ℕ, ◌-◌, ◌<◌, List, [], ◌∷◌, take, drop, refl, sym, ap, ◌∙◌, arith}
+use Rattle.std.specs.Prelude.{Bool, true, false, ◌&&◌, if◌then◌else◌, slice_range, Ok, Err, chars, encode_utf8_all, IsUtf8}
+use Rattle.std.proofs.lemmas.Str.{encode_ascii, encodes-chars}
+use Rattle.std.proofs.lemmas.Bool.Decides.{nat_tests}
+use Rattle.regex_class.specs.Ranges.{Range}
+use Rattle.rpl_classes.specs.Algebra.{others}
+use Rattle.rpl_classes.specs.Classes.{set_named}
+use Rattle.rpl_classes.specs.Faults.{IsNamed}
+use Rattle.rpl_classes.specs.declared.fault.SetFault.{SetFault}
+use Rattle.rpl_classes.specs.declared.fault.SetFault.TheVariants.{UnknownClass}
+use Rattle.rpl_classes.specs.declared.symbols.Symbol.{Symbol}
+use Rattle.rpl_classes.specs.declared.symbols.Symbol.TheVariants.{Plain, Escaped, End}
+use Rattle.std.proofs.lemmas.Bool.{and_from, cond-true, cond-false, true_from_ne_false, cases_Bool, false_from_ne_true}
+use Rattle.rpl_text.specs.Places.{index, IsPlace}
+use Rattle.rpl_classes.specs.Symbols.{Placed, symbols_from, first, place, rest, begins}
+use Rattle.rpl_classes.specs.Lists.{Reading, changed, char_of}
+use Rattle.rpl_classes.specs.Brackets.{is_word, word, past_word, is_name, named, name, class}
+use Rattle.rpl_classes.specs.Scanned.{Passed, Worded, NameFound, ClassFound}
+use Rattle.rpl_classes.proofs.Steps.{word-nil, word-cons, past_word-cons}
+use Rattle.rpl_classes.proofs.ListSteps.{shape, place_from}
+
+past_none : (t : List ℕ) (p : ℕ) → is_word (first (symbols_from t p)) ≡ false → past_word (symbols_from t p) ≡ symbols_from t p
+past_none t p f =
+    let s = shape t p in
+    ap past_word s.is ∙ past_word-cons (p, s.symbol) s.others
+    ∙ cond-false (is_word s.symbol) (past_word s.others) ((p, s.symbol) ∷ s.others) (sym (ap (λ l. is_word (first l)) s.is) ∙ f) ∙ sym s.is
+
+word_some : (t : List ℕ) (p : ℕ) → is_word (first (symbols_from t p)) ≡ true → word (symbols_from t p) ≡ [] → ⊥
+word_some t p f e =
+    let s = shape t p in
+    let g : char_of s.symbol ∷ word s.others ≡ [] =
+    sym (ap word s.is ∙ word-cons (p, s.symbol) s.others ∙ cond-true (is_word s.symbol) (char_of s.symbol ∷ word s.others) [] (sym (ap (λ l. is_word (first l)) s.is) ∙ f)) ∙ e in
+    absurd (cc)
+
+slice_empty : (t : List ℕ) (a : ℕ) → slice_range t a a ≡ []
+slice_empty t a = let n : a - a ≡ 0 = omega arith in ap (λ k. take k (drop a t)) n
+
+-- where nothing was passed no name stands
+pub no_name : (t : List ℕ) (p e : ℕ) → Worded t p e → e ≡ p → is_name (symbols_from t p) ≡ false
+no_name t p e w h =
+    let f : is_word (first (symbols_from t p)) ≡ false = false_from_ne_true _ (λ b. word_some t p b (w.word ∙ ap (λ k. slice_range t (index t p) (index t k)) h ∙ slice_empty t (index t p))) in
+    ap (λ b. b && (begins 58 (past_word (symbols_from t p)) && begins 93 (rest (past_word (symbols_from t p))))) f
+
+pub some_name : (t : List ℕ) (p e : ℕ) → Worded t p e → (e ≡ p → ⊥) → is_word (first (symbols_from t p)) ≡ true
+some_name t p e w n = true_from_ne_false _ (λ f. n (sym (place_from t e) ∙ ap place (sym w.past.left ∙ past_none t p f) ∙ place_from t p))
+
+pub name_found : (t : List ℕ) (p e c q : ℕ) → IsPlace t p → Worded t p e → (e ≡ p → ⊥)
+    → begins 58 (symbols_from t e) ≡ true → Passed t e (rest (symbols_from t e)) c
+    → begins 93 (symbols_from t c) ≡ true → Passed t c (rest (symbols_from t c)) q → NameFound t p e q
+name_found t p e c q h w n a p1 b p2 =
+    let after : rest (past_word (symbols_from t p)) ≡ symbols_from t c = ap rest w.past.left ∙ p1.left in
+    record {
+      is = and_from _ _ (some_name t p e w n) (and_from _ _ (ap (begins 58) w.past.left ∙ a) (ap (begins 93) after ∙ b));
+      text = w.word;
+      start = h;
+      end = w.past.next;
+      order = w.past.forward;
+      behind = record { left = ap rest after ∙ p2.left; next = p2.next; forward = omega (arith, w.past.forward, p1.forward, p2.forward) };
+    }
+
+-- a name is ASCII: its bytes are its characters
+word_ascii : (x : Symbol) → is_word x ≡ true → char_of x < 128
+word_ascii (Plain c) h = grind (arith, nat_tests)
+word_ascii (Escaped c) h = absurd (cc)
+word_ascii End h = absurd (cc)
+
+word_bytes : (s : List Placed) → encode_utf8_all (word s) ≡ word s
+word_bytes [] = ap encode_utf8_all word-nil ∙ sym word-nil
+word_bytes (x ∷ s) = elim (cases_Bool (is_word x.1)) [
+  | inl h ↦ let e = word-cons x s ∙ cond-true (is_word x.1) (char_of x.1 ∷ word s) [] h in
+      ap encode_utf8_all e ∙ ap₂ ◌++◌ (encode_ascii (char_of x.1) (word_ascii x.1 h)) (word_bytes s) ∙ sym e
+  | inr h ↦ let e = word-cons x s ∙ cond-false (is_word x.1) (char_of x.1 ∷ word s) [] h in ap encode_utf8_all e ∙ sym e
+]
+
+pub name_bytes : (bs w : List ℕ) (s : List Placed) → IsUtf8 bs → chars bs ≡ w → word s ≡ w → bs ≡ word s
+name_bytes bs w s u a b = sym (encodes-chars bs u) ∙ ap encode_utf8_all (a ∙ sym b) ∙ word_bytes s
+
+-- what a found class reads as
+pub class_reads : (t : List ℕ) (p at : ℕ) (negated : Bool) (o e q : ℕ) → ClassFound t p negated o e q
+    → class at (symbols_from t p) ≡ (if negated then changed others (named at (set_named (word (symbols_from t o))) (symbols_from t q)) else named at (set_named (word (symbols_from t o))) (symbols_from t q))
+class_reads t p at true o e q f =
+    cond-true (begins 94 (rest (symbols_from t p))) (changed others (name at (rest (rest (symbols_from t p))))) (name at (rest (symbols_from t p))) f.mark
+    ∙ ap (λ s. changed others (name at s)) f.start ∙ ap (λ s. changed others (named at (set_named (word (symbols_from t o))) s)) f.name.behind.left
+class_reads t p at false o e q f =
+    cond-false (begins 94 (rest (symbols_from t p))) (changed others (name at (rest (rest (symbols_from t p))))) (name at (rest (symbols_from t p))) f.mark
+    ∙ ap (name at) f.start ∙ ap (named at (set_named (word (symbols_from t o)))) f.name.behind.left
+
+named_some : (o : Option (List Range)) (s : List Range) → IsNamed o (Ok s) → o ≡ Some s
+named_some None s h = absurd h
+named_some (Some a) s h = ap Some (sym h)
+
+named_none : (o : Option (List Range)) (k : ℕ) → IsNamed o (Err (UnknownClass k)) → o ≡ None
+named_none None k h = refl
+named_none (Some a) k h = absurd (cc)
+
+both_err : (b : Bool) (e : SetFault) → ◌≡◌ {A = Reading} (if b then Err e else Err e) (Err e)
+both_err true e = refl
+both_err false e = refl
+
+-- a class that has a set, plain or as its complement, and one that has none
+pub class_set_plain : (t : List ℕ) (p at : ℕ) (negated : Bool) (o e q : ℕ) (bs : List ℕ) (a : List Range) → negated ≡ false → ClassFound t p negated o e q → bs ≡ word (symbols_from t o)
+    → IsNamed (set_named bs) (Ok a) → class at (symbols_from t p) ≡ Ok (a, symbols_from t q)
+class_set_plain t p at negated o e q bs a n f b h =
+    class_reads t p at negated o e q f
+    ∙ ap (λ c. if c then changed others (named at (set_named (word (symbols_from t o))) (symbols_from t q)) else named at (set_named (word (symbols_from t o))) (symbols_from t q)) n
+    ∙ ap (λ x. named at x (symbols_from t q)) (ap set_named (sym b) ∙ named_some (set_named bs) a h)
+
+pub class_set_negated : (t : List ℕ) (p at : ℕ) (negated : Bool) (o e q : ℕ) (bs : List ℕ) (a z : List Range) → negated ≡ true → ClassFound t p negated o e q → bs ≡ word (symbols_from t o)
+    → IsNamed (set_named bs) (Ok a) → z ≡ others a → class at (symbols_from t p) ≡ Ok (z, symbols_from t q)
+class_set_negated t p at negated o e q bs a z n f b h g =
+    class_reads t p at negated o e q f
+    ∙ ap (λ c. if c then changed others (named at (set_named (word (symbols_from t o))) (symbols_from t q)) else named at (set_named (word (symbols_from t o))) (symbols_from t q)) n
+    ∙ ap (λ x. changed others (named at x (symbols_from t q))) (ap set_named (sym b) ∙ named_some (set_named bs) a h)
+    ∙ ap (λ x. Ok (x, symbols_from t q)) (sym g)
+
+pub class_unknown : (t : List ℕ) (p at : ℕ) (negated : Bool) (o e q k : ℕ) (bs : List ℕ) → ClassFound t p negated o e q → bs ≡ word (symbols_from t o)
+    → IsNamed (set_named bs) (Err (UnknownClass k)) → class at (symbols_from t p) ≡ Err (UnknownClass at)
+class_unknown t p at negated o e q k bs f b h =
+    class_reads t p at negated o e q f
+    ∙ ap (λ x. if negated then changed others (named at x (symbols_from t q)) else named at x (symbols_from t q)) (ap set_named (sym b) ∙ named_none (set_named bs) k h)
+    ∙ both_err negated (UnknownClass at)
