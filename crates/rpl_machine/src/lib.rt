@@ -18,3 +18,6 @@ pub use answer::{Answer, RunFault};
 pub use rpl_core::NoMemory;
 pub use scratch::{Scratch, run};
 pub use steps::Steps;
+
+#[cfg(test)]
+mod tests;

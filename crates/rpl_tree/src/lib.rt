@@ -11,3 +11,6 @@ mod node;
 pub use forest::{Forest, build};
 pub use node::Node;
 pub use rpl_core::{Caught, NoMemory};
+
+#[cfg(test)]
+mod tests;
