@@ -8,11 +8,12 @@ PROGRAM = crates/rosie/out/rosie
 build:
 	./rosie --build
 
-# The proofs, the must-fail edits, the unit tests and the stored run, then the built program as a real process.
+# The proofs, the must-fail edits, the unit tests and the stored run, then the built program as a real process, and the manual.
 test:
 	rt ci
 	./rosie --build
 	tests/run
+	tests/manual
 
 install: build
 	install -d $(DESTDIR)$(PREFIX)/bin

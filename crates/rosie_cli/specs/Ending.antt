@@ -15,3 +15,8 @@ HasCause (Err WriteFault) before now = (before ≤ now) × Rose before now
 abbrev pub ended_status : Ended → Status
 ended_status NoMemory = MemoryStatus
 ended_status WriteFault = WriteStatus
+
+-- the status of a run that may have ended so
+abbrev pub status_in : Result Status Ended → Status
+status_in (Ok status) = status
+status_in (Err ended) = ended_status ended

@@ -6,13 +6,33 @@ ghost use Rattle.rosie_cli.specs.Ending.{HasCause, ended_status};
 
 use crate::Status;
 use rosie_io::{FlushAnswer, Sink, WriteFault, write_all};
-use std::alloc::Global;
+use std::alloc::{AllocError, Global};
 
 /// Why a run ended before its input did.
 #[derive(Clone, Copy, Debug, PartialEq, Eq)]
 pub(crate) enum Ended {
     NoMemory,
     WriteFault,
+}
+
+impl From<AllocError> for Ended {
+    ghost use Rattle.rosie_cli.specs.declared.write.Ended.TheVariants.{NoMemory};
+
+    ghost from_gives = { λ _ ended. ended ≡ NoMemory };
+
+    fn from(_error: AllocError) -> Ended {
+        Ended::NoMemory
+    }
+}
+
+impl From<WriteFault> for Ended {
+    ghost use Rattle.rosie_cli.specs.declared.write.Ended.TheVariants.{WriteFault};
+
+    ghost from_gives = { λ _ ended. ended ≡ WriteFault };
+
+    fn from(_fault: WriteFault) -> Ended {
+        Ended::WriteFault
+    }
 }
 
 /// The status of a run that ended so.

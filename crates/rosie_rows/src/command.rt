@@ -41,12 +41,16 @@ pub(crate) fn run_on(
     out: Device<'_>,
     err: Device<'_>,
 ) -> Result<Outcome, NoMemory> {
-    run_counted::<Brand>(alloc, words, bytes, input, out, err, Blank::new(1))
+    let mut owned = Vec::new(alloc);
+    for word in words {
+        owned.push(String::from_str(alloc, word)?)?;
+    }
+    run_counted::<Brand>(alloc, &owned, bytes, input, out, err, Blank::new(1))
 }
 
 fn run_counted<L: Ledger>(
     alloc: Global,
-    words: &[&str],
+    words: &[String],
     bytes: &[u8],
     input: Device<'_>,
     out: Device<'_>,
@@ -57,10 +61,6 @@ fn run_counted<L: Ledger>(
     requires parts { blank.parts ≡ L.parts }
     requires some { 0 < blank.parts }
 {
-    let mut owned = Vec::new(alloc);
-    for word in words {
-        owned.push(String::from_str(alloc, word)?)?;
-    }
     let mut source = MemorySource::new(
         Bytes::from_slice(alloc, bytes)?,
         input.most.max(1),
@@ -81,7 +81,7 @@ fn run_counted<L: Ledger>(
     let mut steps = Steps::<L>::new(blank);
     let status = rosie(
         alloc,
-        &owned,
+        words,
         &mut source,
         &mut sink,
         &mut fault_sink,

@@ -1,3 +1,4 @@
+pub mod Built
 pub mod Equals
 pub mod Folders
 pub mod Lookups

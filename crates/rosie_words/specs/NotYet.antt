@@ -1,11 +1,14 @@
 -- Which words ask for what is not built. The lists grow with the program, and this file goes when all is built.
-use Rattle.std.specs.Prelude.{Bool, true, false, not, List, [], ◌∷◌, Option, Some, None, if◌then◌else◌}
+use Rattle.std.specs.Prelude.{◌≡◌, ℕ, Bool, true, false, not, List, [], ◌∷◌, Option, Some, None, if◌then◌else◌}
 use Rattle.std.specs.List.{list_any}
+use Rattle.rosie_words.specs.declared.command.Command.{Command}
+use Rattle.rosie_words.specs.declared.command.What.TheVariants as W
 use Rattle.rosie_words.specs.declared.unbuilt.Place.{Place}
 use Rattle.rosie_words.specs.declared.unbuilt.Place.TheVariants as P
 use Rattle.rosie_words.specs.declared.table.CommandName.{CommandName}
 use Rattle.rosie_words.specs.declared.table.CommandName.TheVariants as C
 use Rattle.rosie_words.specs.declared.table.OptionName.{OptionName}
+use Rattle.rosie_words.specs.Options.{command}
 use Rattle.rosie_words.specs.Table.{Word, same_command, same_option, command_named}
 use Rattle.rosie_words.specs.Roles.{Front, Role, Argument, Plain, Full, Waiting, role, next}
 
@@ -57,3 +60,7 @@ place has_code p r = p
 abbrev pub unbuilt : Bool → Front → Place → List Word → Option Word
 unbuilt has_code front p [] = None
 unbuilt has_code front p (w ∷ ws) = if asks p (role front w) w then Some w else unbuilt has_code (next front (role front w) w) (place has_code p (role front w)) ws
+
+-- `match` with a pattern, and all else by default
+abbrev pub IsPlainMatch : Command → Type 0
+IsPlainMatch c = (p : List ℕ) × (c ≡ command C.Match (W.Match p []) [])

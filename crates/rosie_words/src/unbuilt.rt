@@ -1,8 +1,8 @@
 //! Which words ask for what is not built. This goes when all is built.
 
-ghost use Rattle.std.specs.Prelude.{◌≡◌, is_some};
-ghost use Rattle.rosie_words.specs.NotYet.{is_built, command_is_built, later, asks, place, unbuilt};
-ghost use Rattle.rosie_words.specs.Reading.{words_of};
+ghost use Rattle.std.specs.Prelude.{◌≡◌, is_some, Ok, IfNone};
+ghost use Rattle.rosie_words.specs.NotYet.{is_built, command_is_built, later, asks, place, unbuilt, IsPlainMatch};
+ghost use Rattle.rosie_words.specs.Reading.{words_of, reading};
 ghost use Rattle.rosie_words.specs.Roles as roles;
 ghost use Rattle.rosie_words.specs.Seen.{front_of, role_of, half_of};
 ghost use Rattle.rosie_words.specs.Table as table;
@@ -70,7 +70,9 @@ impl Place {
 /// The first word of a command line without fault that asks for what is not built: an option, a command
 /// or an input file.
 pub fn not_yet<'a>(words: &'a [String], command: &Command) -> Option<&'a str>
-    ensures { half_of result ≡ unbuilt (is_some command.now.code_file) roles.Free P.Command (words_of words.now) }
+    ensures word { half_of result ≡ unbuilt (is_some command.now.code_file) roles.Free P.Command (words_of words.now) }
+    // Where no word asks for more, these words' command is `match` with a pattern, and all else by default.
+    ensures left { reading (words_of words.now) ≡ Ok command.now → IfNone result (IsPlainMatch command.now) }
 {
     let has_code = command.code_file.is_some();
     let mut front = Front::Free;

@@ -1,13 +1,11 @@
 // Brackets: classes, compounds and lists.
-ghost use Rattle.std.specs.Prelude.{◌≡◌, ℕ, ◌+◌, ◌<◌, ◌≤◌, slice_range, false, true, chars, MatchOption, IfOk};
+ghost use Rattle.std.specs.Prelude.{◌≡◌, ℕ, ◌+◌, ◌<◌, ◌≤◌, slice_range, false, chars, MatchOption, IfOk};
 ghost use Rattle.rpl_text.specs.Places.{index, IsPlace};
-ghost use Rattle.rpl_classes.specs.Sets.{IsNormal};
 ghost use Rattle.rpl_classes.specs.Symbols.{symbols_from, size};
 ghost use Rattle.rpl_classes.specs.Brackets.{is_name, is_class, class, union, compound, body, bracket, bracket_of};
 ghost use Rattle.rpl_classes.specs.Scanned.{NameFound, ClassFound, Gives, Ends, with_place, AcceptsTwice};
 ghost use Rattle.rpl_classes.specs.Faults.{IsRead};
 ghost use Rattle.rpl_classes.specs.Operators.{applied, OperatorAt};
-ghost use Rattle.rpl_classes.specs.declared.fault.SetFault.{SetFault};
 
 use crate::NoMemory;
 use crate::fault::SetFault;

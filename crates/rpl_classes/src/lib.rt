@@ -1,9 +1,10 @@
-//! Sets of characters.
+//! Sets of characters, and the brackets that spell them.
 //!
-//! For every layer that speaks of characters: the readers of brackets, the code, and the machine,
-//! which asks `Set::has` once a character. A set is seen as its list of ranges, which rise, don't
-//! touch and hold no surrogates, so sets with the same members are the same list. Each call
-//! promises exactly its members; only memory can run out.
+//! For the parser, which reads brackets, and for all that carry sets down to the machine, which
+//! asks `Set::has` once a character. A set is seen as its list of ranges, which rise, don't touch
+//! and hold no surrogates, so sets with the same members are the same list. Each call promises
+//! exactly its members, and `read_bracket` the set or the first fault with its place; besides,
+//! only memory can run out.
 #![tactic(auto)]
 
 mod bits;

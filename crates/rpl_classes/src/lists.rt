@@ -5,7 +5,6 @@ ghost use Rattle.rpl_classes.specs.Norm.{norm};
 ghost use Rattle.rpl_classes.specs.Symbols.{symbols_from, begins, rest};
 ghost use Rattle.rpl_classes.specs.Lists.{is_range, changed, each, list};
 ghost use Rattle.rpl_classes.specs.Scanned.{TakesMember, RangeFound, StepsList, Gives, Ends};
-ghost use Rattle.rpl_classes.specs.declared.fault.SetFault.{SetFault};
 
 use crate::fault::SetFault;
 use crate::set::Set;

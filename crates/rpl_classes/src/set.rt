@@ -1,5 +1,5 @@
 // A set of characters: its ranges, and two masks for the test of an ASCII character.
-ghost use Rattle.std.specs.Prelude.{◌≡◌, ℕ, ◌≤◌, ◌||◌, ◌&&◌, ◌↔◌, [], ◌∷◌, ◌++◌, not, nat_eq, nat_le, IfOk, OnOk, IsTrue, length};
+ghost use Rattle.std.specs.Prelude.{◌≡◌, ℕ, ◌≤◌, ◌||◌, ◌&&◌, ◌↔◌, [], ◌∷◌, ◌++◌, not, nat_eq, nat_le, IfOk, OnOk, IsTrue};
 ghost use Rattle.regex_class.specs.Ranges.{in_ranges, HasExactly};
 ghost use Rattle.rpl_classes.specs.Sets.{is_char, IsNormal, HasJust};
 ghost use Rattle.rpl_classes.specs.Norm.{norm};
@@ -22,6 +22,7 @@ use std::marker::Model;
 #[derive(Debug, Drop)]
 pub struct Set {
     class: Class,
+    /// The members from 0 to 63, and those from 64 to 127, as bits.
     low: u64,
     high: u64,
 }

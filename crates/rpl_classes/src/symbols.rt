@@ -44,7 +44,7 @@ pub(crate) fn symbol_at(text: &str, place: usize) -> (Symbol, usize)
 }
 
 /// Whether the symbol is this character as it stands.
-fn is(symbol: Symbol, c: char) -> bool
+fn is_plain(symbol: Symbol, c: char) -> bool
     ensures { result ≡ is_plain c symbol }
 {
     match symbol {
@@ -59,13 +59,17 @@ pub(crate) fn accept(text: &str, place: usize, c: char) -> Option<usize>
     ensures { Accepts (chars text.now) place c result }
 {
     let (symbol, next) = symbol_at(text, place);
-    if is(symbol, c) { Some(next) } else { None }
+    if is_plain(symbol, c) {
+        Some(next)
+    } else {
+        None
+    }
 }
 
 fn is_blank(symbol: Symbol) -> bool
     ensures { result ≡ is_blank symbol }
 {
-    is(symbol, ' ') || is(symbol, '\t')
+    is_plain(symbol, ' ') || is_plain(symbol, '\t')
 }
 
 /// The place behind the spaces and tabs from a place on.

@@ -1,3 +1,11 @@
 pub mod Marking
 pub mod Parts
 pub mod Search
+pub mod Lengths
+pub mod Adding
+pub mod Pieces
+pub mod Weights
+pub mod Layouts
+pub mod Jumps
+pub mod Finish
+pub mod Within

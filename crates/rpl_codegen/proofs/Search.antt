@@ -1,5 +1,5 @@
 -- The search for the rules that a goal reaches, from its first marks to its end.
-use Rattle.std.proofs.Common.{◌≡◌, ℕ, zero, suc, ◌<◌, List, [], ◌∷◌, ◌++◌, length, replicate, Option, Some, None, refl, sym, ap, ◌∙◌, ⊎_elim, inl, inr, eq-eqb, arith}
+use Rattle.std.proofs.Common.{◌≡◌, ℕ, zero, suc, ◌<◌, List, [], ◌∷◌, ◌++◌, length, replicate, Some, None, refl, sym, ap, ◌∙◌, ⊎_elim, inl, inr, eq-eqb, arith}
 use Rattle.std.proofs.lemmas.Bool.{eqb-true, lt-ltb}
 use Rattle.std.proofs.lemmas.Option.{slice_get-map}
 use Rattle.std.specs.Prelude.{Bool, true, false, ◌||◌, ◌&&◌, not, nat_eq, nat_lt, ◌⊎◌, slice_get, option_map}
@@ -12,7 +12,7 @@ use Rattle.rpl_codegen.specs.Calls.{CallsAreRules}
 use Rattle.rpl_codegen.specs.Marked.{marked, MarksReached}
 use Rattle.rpl_codegen.specs.Searching.{waits, Marks, Reached}
 use Rattle.rpl_codegen.specs.declared.reach.Search.{Search}
-use Rattle.rpl_codegen.proofs.Marking.{marks_none, waits_more}
+use Rattle.rpl_codegen.proofs.Marking.{waits_more}
 
 -- where a mark comes from, and where it goes
 whence : (x m b f : Bool) → x ≡ (m || (b && f)) → x ≡ true → (m ≡ true) ⊎ (f ≡ true)
@@ -110,3 +110,6 @@ pub no_body : (rs : List Rule) (k : ℕ) (p : Core) → None ≡ slice_get rs k 
 no_body rs k p is e =
     let a : None ≡ Some p = ap (option_map (λ (r : Rule). core_of r.body)) is ∙ sym (slice_get-map (λ (r : Rule). core_of r.body) rs k) ∙ e in
     cc
+
+pub none_there : (rs : List Rule) (k : ℕ) → None ≡ slice_get rs k → slice_get (bodies_of rs) k ≡ None
+none_there rs k is = slice_get-map (λ (r : Rule). core_of r.body) rs k ∙ sym (ap (option_map (λ (r : Rule). core_of r.body)) is)

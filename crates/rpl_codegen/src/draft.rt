@@ -1,7 +1,8 @@
 // Code while it is written.
-ghost use Rattle.std.specs.Prelude.{◌≡◌, ◌≤◌, length};
+ghost use Rattle.std.specs.Prelude.{◌≡◌, ◌<◌, ◌≤◌, [], ◌∷◌, IfSome, OnOk, length};
 
 use crate::NoMemory;
+use crate::tables::{keep_label, keep_set};
 use rpl_classes::Set;
 use rpl_core::{Instr, Instrs, Labels, Sets};
 use rpl_text::Chars;
@@ -17,8 +18,15 @@ pub(crate) struct Draft {
 }
 
 impl Draft {
+    ghost use Rattle.rpl_core.specs.Instr as I;
+    ghost use Rattle.rpl_codegen.specs.Written.{Adds, plain};
+
     /// Nothing yet.
-    pub(crate) fn new(alloc: Global) -> Draft {
+    pub(crate) fn new(alloc: Global) -> Draft
+        ensures code { result.code ≡ [] }
+        ensures sets { result.sets ≡ [] }
+        ensures labels { result.labels ≡ [] }
+    {
         Draft {
             code: Instrs::new(alloc),
             sets: Sets::new(alloc),
@@ -33,81 +41,62 @@ impl Draft {
         self.code.len() as u32
     }
 
-    /// Writes an instruction.
-    pub(crate) fn put(&mut self, instr: Instr) -> Result<(), NoMemory> {
-        if self.code.len() >= 1_048_576 {
-            return Err(NoMemory);
-        }
+    /// Writes an instruction that names no set and no text.
+    pub(crate) fn put(&mut self, instr: Instr) -> Result<(), NoMemory>
+        requires { length self.old.code < 1048576 }
+        ensures { OnOk result (IfSome (plain instr) (λ i. Adds self.old self.new (i ∷ []))) }
+    {
         self.code.push(instr)?;
         Ok(())
     }
 
-    /// The number of the set, which is added where it isn't there.
-    fn set_number(&mut self, alloc: Global, set: &Set) -> Result<u32, NoMemory> {
-        let count = self.sets.len();
-        if count > u32::MAX as usize {
-            return Err(NoMemory);
-        }
-        for number in 0..count {
-            if let Some(known) = self.sets.get(number) {
-                if known.same(set) {
-                    return Ok(number as u32);
-                }
-            }
-        }
-        self.sets.push(set.copy(alloc)?)?;
-        Ok(count as u32)
-    }
-
-    /// The number of the text, which is added where it isn't there.
-    fn label_number(&mut self, alloc: Global, label: &Chars) -> Result<u32, NoMemory> {
-        let count = self.labels.len();
-        if count > u32::MAX as usize {
-            return Err(NoMemory);
-        }
-        for number in 0..count {
-            if let Some(known) = self.labels.get(number) {
-                if known.as_str() == label.as_str() {
-                    return Ok(number as u32);
-                }
-            }
-        }
-        self.labels.push(label.copy(alloc)?)?;
-        Ok(count as u32)
-    }
-
     /// Writes `set`.
-    pub(crate) fn put_set(&mut self, alloc: Global, set: &Set) -> Result<(), NoMemory> {
-        let number = self.set_number(alloc, set)?;
-        self.put(Instr::Set(number))
+    pub(crate) fn put_set(&mut self, alloc: Global, set: &Set) -> Result<(), NoMemory>
+        requires { length self.old.code < 1048576 }
+        ensures { OnOk result (Adds self.old self.new (I.Set set.now ∷ [])) }
+    {
+        let number = keep_set(alloc, &mut self.sets, set)?;
+        self.code.push(Instr::Set(number))?;
+        Ok(())
     }
 
     /// Writes `span`.
-    pub(crate) fn put_span(&mut self, alloc: Global, set: &Set) -> Result<(), NoMemory> {
-        let number = self.set_number(alloc, set)?;
-        self.put(Instr::Span(number))
+    pub(crate) fn put_span(&mut self, alloc: Global, set: &Set) -> Result<(), NoMemory>
+        requires { length self.old.code < 1048576 }
+        ensures { OnOk result (Adds self.old self.new (I.Span set.now ∷ [])) }
+    {
+        let number = keep_set(alloc, &mut self.sets, set)?;
+        self.code.push(Instr::Span(number))?;
+        Ok(())
     }
 
-    /// Writes `testset`.
-    pub(crate) fn put_test(
-        &mut self,
-        alloc: Global,
-        other: u32,
-        set: &Set,
-    ) -> Result<(), NoMemory> {
-        let number = self.set_number(alloc, set)?;
-        self.put(Instr::TestSet(other, number))
+    /// Writes `testset`, which goes to `other` where no character of the set follows.
+    pub(crate) fn put_test(&mut self, alloc: Global, other: u32, set: &Set) -> Result<(), NoMemory>
+        requires { length self.old.code < 1048576 }
+        ensures { OnOk result (Adds self.old self.new (I.TestSet other set.now ∷ [])) }
+    {
+        let number = keep_set(alloc, &mut self.sets, set)?;
+        self.code.push(Instr::TestSet(other, number))?;
+        Ok(())
     }
 
     /// Writes `open`.
-    pub(crate) fn put_open(&mut self, alloc: Global, label: &Chars) -> Result<(), NoMemory> {
-        let number = self.label_number(alloc, label)?;
-        self.put(Instr::Open(number))
+    pub(crate) fn put_open(&mut self, alloc: Global, label: &Chars) -> Result<(), NoMemory>
+        requires { length self.old.code < 1048576 }
+        ensures { OnOk result (Adds self.old self.new (I.Open label.now ∷ [])) }
+    {
+        let number = keep_label(alloc, &mut self.labels, label)?;
+        self.code.push(Instr::Open(number))?;
+        Ok(())
     }
 
     /// Writes `note`.
-    pub(crate) fn put_note(&mut self, alloc: Global, text: &Chars) -> Result<(), NoMemory> {
-        let number = self.label_number(alloc, text)?;
-        self.put(Instr::Note(number))
+    pub(crate) fn put_note(&mut self, alloc: Global, text: &Chars) -> Result<(), NoMemory>
+        requires { length self.old.code < 1048576 }
+        ensures { OnOk result (Adds self.old self.new (I.Note text.now ∷ [])) }
+    {
+        let number = keep_label(alloc, &mut self.labels, text)?;
+        self.code.push(Instr::Note(number))?;
+        Ok(())
     }
 }

@@ -1,5 +1,9 @@
 // The head of a pattern: a set outside which it fails.
-ghost use Rattle.std.specs.Prelude.{◌≡◌, IfOk};
+ghost use Rattle.std.specs.Option.{option_copied};
+ghost use Rattle.std.specs.Prelude.{◌≡◌, IfOk, is_some, option_map};
+ghost use Rattle.rpl_classes.specs.Norm.{norm};
+ghost use Rattle.rpl_core.specs.Head as H;
+ghost use Rattle.rpl_core.specs.View.{core_of, cores};
 
 use regex_class::ClassRange;
 use rpl_classes::Set;
@@ -7,7 +11,9 @@ use rpl_core::{NoMemory, Peg};
 use std::alloc::Global;
 
 /// The set, where the pattern is nothing but one.
-pub(crate) fn lone_set(peg: &Peg) -> Option<&Set> {
+pub(crate) fn lone_set(peg: &Peg) -> Option<&Set>
+    ensures { option_copied result ≡ H.lone_set (core_of peg.now) }
+{
     match peg {
         Peg::Set(set) => Some(set),
         Peg::Seq(_) | Peg::Choice(_) | Peg::Many(_) | Peg::Not(_) | Peg::And(_) => None,
@@ -18,7 +24,9 @@ pub(crate) fn lone_set(peg: &Peg) -> Option<&Set> {
 
 /// Whether the pattern has a head.
 #[cycle(has_head)]
-pub(crate) fn has_head(peg: &Peg) -> bool {
+pub(crate) fn has_head(peg: &Peg) -> bool
+    ensures { result ≡ is_some (H.head (core_of peg.now)) }
+{
     match peg {
         Peg::Set(_) => true,
         Peg::Seq(parts) => first_has_head(parts.as_slice()),
@@ -31,7 +39,9 @@ pub(crate) fn has_head(peg: &Peg) -> bool {
 
 /// Whether the first part has a head.
 #[cycle(has_head)]
-fn first_has_head(parts: &[Peg]) -> bool {
+fn first_has_head(parts: &[Peg]) -> bool
+    ensures { result ≡ is_some (H.first_head (cores parts.now)) }
+{
     if parts.is_empty() {
         false
     } else {
@@ -41,7 +51,9 @@ fn first_has_head(parts: &[Peg]) -> bool {
 
 /// Whether each part has a head.
 #[cycle(has_head)]
-fn each_has_head(parts: &[Peg]) -> bool {
+fn each_has_head(parts: &[Peg]) -> bool
+    ensures { result ≡ is_some (H.all_heads (cores parts.now)) }
+{
     for part in parts {
         if !has_head(part) {
             return false;
@@ -52,7 +64,9 @@ fn each_has_head(parts: &[Peg]) -> bool {
 
 /// The head of the pattern, if it has one.
 #[cycle(head_of)]
-pub(crate) fn head_of(alloc: Global, peg: &Peg) -> Result<Option<Set>, NoMemory> {
+pub(crate) fn head_of(alloc: Global, peg: &Peg) -> Result<Option<Set>, NoMemory>
+    ensures { IfOk result (λ h. h ≡ H.head (core_of peg.now)) }
+{
     match peg {
         Peg::Set(set) => Ok(Some(set.copy(alloc)?)),
         Peg::Seq(parts) => first_head(alloc, parts.as_slice()),
@@ -65,7 +79,9 @@ pub(crate) fn head_of(alloc: Global, peg: &Peg) -> Result<Option<Set>, NoMemory>
 
 /// The head of the first part.
 #[cycle(head_of)]
-fn first_head(alloc: Global, parts: &[Peg]) -> Result<Option<Set>, NoMemory> {
+fn first_head(alloc: Global, parts: &[Peg]) -> Result<Option<Set>, NoMemory>
+    ensures { IfOk result (λ h. h ≡ H.first_head (cores parts.now)) }
+{
     if parts.is_empty() {
         Ok(None)
     } else {
@@ -75,7 +91,9 @@ fn first_head(alloc: Global, parts: &[Peg]) -> Result<Option<Set>, NoMemory> {
 
 /// The union of the heads, if each part has one.
 #[cycle(head_of)]
-fn joint_head(alloc: Global, parts: &[Peg]) -> Result<Option<Set>, NoMemory> {
+fn joint_head(alloc: Global, parts: &[Peg]) -> Result<Option<Set>, NoMemory>
+    ensures { IfOk result (λ h. h ≡ option_map norm (H.all_heads (cores parts.now))) }
+{
     let mut ranges: Vec<ClassRange> = Vec::new(alloc);
     for part in parts {
         match head_of(alloc, part)? {

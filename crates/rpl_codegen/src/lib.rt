@@ -1,18 +1,23 @@
 //! The compiler: it turns a goal and the rules that it reaches into the code that the machine runs.
 //!
-//! `compile` writes the code that `rpl_core` defines, with each set and each text kept once. The size of every part is known before
-//! anything is written, so each jump is written with its address, and a code that is too long is refused before any of it is built.
-//! Proved so far: it is safe, each number of the program is in range, and just the reached rules are marked; that the code is the
-//! defined one isn't stated yet.
+//! `compile` gives exactly the code that `rpl_core` defines, with each set and each text kept once, or says that this code is too long; and its
+//! contract says that this code does on every text what the goal means.
+//! The size of every part is known before anything is written, so each jump is written with its address and nothing is patched, and a
+//! code that is too long is refused before any of it is built.
 #![tactic(auto)]
 
+mod calls;
 mod draft;
 mod head;
 mod layout;
 mod reach;
 mod size;
+mod tables;
+#[cfg(test)]
+mod tests;
 mod whole;
 mod writing;
 
+pub use calls::calls_are_rules;
 pub use rpl_core::NoMemory;
 pub use whole::{CompileFault, compile};

@@ -1,5 +1,8 @@
 // How many instructions a pattern has, before any of them is written.
-ghost use Rattle.std.specs.Prelude.{◌≡◌, ◌+◌, ◌≤◌, min};
+ghost use Rattle.std.specs.Prelude.{◌≡◌, ◌+◌, ◌-◌, ◌*◌, ◌≤◌, min};
+ghost use Rattle.rpl_core.specs.Head.{head};
+ghost use Rattle.rpl_core.specs.View.{core_of, cores};
+ghost use Rattle.rpl_codegen.specs.Sizes.{len, len_all, len_first, tried_len};
 
 use crate::head::{has_head, lone_set};
 use rpl_core::Peg;
@@ -19,7 +22,7 @@ pub(crate) fn capped(a: u32, b: u32) -> u32
 /// The number of instructions of a look-behind whose body has `size`, or the first number past the limit.
 pub(crate) fn behind_size(size: u32, least: u32, most: u32) -> u32
     requires { size ≤ 1048577 }
-    ensures { result ≤ 1048577 }
+    ensures { result ≡ min 1048577 ((most + 1 - least) * (size + 3) + 1) }
 {
     let lengths = (most as u64 + 1).saturating_sub(least as u64);
     (lengths * (size as u64 + 3) + 1).min(MAX_CODE as u64 + 1) as u32
@@ -28,7 +31,7 @@ pub(crate) fn behind_size(size: u32, least: u32, most: u32) -> u32
 /// The number of instructions of a pattern, or the first number past the limit.
 #[cycle(size_of)]
 pub(crate) fn size_of(peg: &Peg) -> u32
-    ensures { result ≤ 1048577 }
+    ensures { result ≡ min 1048577 (len (core_of peg.now)) }
 {
     match peg {
         Peg::Set(_) | Peg::Call(_) | Peg::Note(_) | Peg::Start | Peg::End | Peg::Halt => 1,
@@ -53,7 +56,7 @@ pub(crate) fn size_of(peg: &Peg) -> u32
 /// The number of instructions of all parts in turn, or the first number past the limit.
 #[cycle(size_of)]
 fn seq_size(parts: &[Peg]) -> u32
-    ensures { result ≤ 1048577 }
+    ensures { result ≡ min 1048577 (len_all (cores parts.now)) }
 {
     let mut total = 0;
     for part in parts {
@@ -65,7 +68,7 @@ fn seq_size(parts: &[Peg]) -> u32
 /// The number of instructions of a choice of these parts, or the first number past the limit.
 #[cycle(size_of)]
 pub(crate) fn choice_size(parts: &[Peg]) -> u32
-    ensures { result ≤ 1048577 }
+    ensures { result ≡ min 1048577 (len_first (cores parts.now)) }
 {
     if parts.is_empty() {
         return 1;
@@ -81,7 +84,7 @@ pub(crate) fn choice_size(parts: &[Peg]) -> u32
 /// The number of instructions of a part of a choice that others follow, or the first number past the limit.
 #[cycle(size_of)]
 fn tried_size(part: &Peg) -> u32
-    ensures { result ≤ 1048577 }
+    ensures { result ≡ min 1048577 (tried_len (head (core_of part.now)) (len (core_of part.now))) }
 {
     let around = if has_head(part) { 3 } else { 2 };
     capped(size_of(part), around)

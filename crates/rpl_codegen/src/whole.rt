@@ -1,11 +1,16 @@
 // The code of a goal.
-ghost use Rattle.std.specs.Prelude.{◌≡◌, length};
-ghost use Rattle.std.specs.List.{list_all};
-ghost use Rattle.rpl_core.specs.Numbers.{in_range};
+ghost use Rattle.std.specs.Prelude.{◌≡◌, ◌<◌, ◌≤◌, ◌+◌, if◌then◌else◌, IfErr, IfOk, OnOk, length, slice_get};
+ghost use Rattle.rpl_core.specs.Listed.{rules_of};
+ghost use Rattle.rpl_core.specs.Program.{code_of, instructions, labels_of, sets_of};
+ghost use Rattle.rpl_core.specs.Programs.{IsCode, bodies};
 ghost use Rattle.rpl_core.specs.Table.{bodies_of};
 ghost use Rattle.rpl_core.specs.View.{core_of};
 ghost use Rattle.rpl_codegen.specs.Calls.{CallsAreRules};
-ghost use Rattle.rpl_core.specs.Listed.{rules_of};
+ghost use Rattle.rpl_codegen.specs.Compiled.{DoesAsMeant, HasLongCode};
+ghost use Rattle.rpl_codegen.specs.Laid.{bodies_len, body_len, rule_code};
+ghost use Rattle.rpl_codegen.specs.Marked.{marked};
+ghost use Rattle.rpl_codegen.specs.Uses.{KeepsOnce, labels_in, sets_in};
+ghost use Rattle.rpl_codegen.specs.Written.{Adds, address_of};
 ghost use Rattle.rpl_codegen.specs.declared.whole.CompileFault.TheVariants.{NoMemory};
 
 use crate::NoMemory;
@@ -37,9 +42,16 @@ impl From<NoMemory> for CompileFault {
     }
 }
 
-/// The code of the goal over the table of rules.
+/// The code of the goal over the table of rules: the goal's own code, `finish`, and each rule that it reaches in the order of the
+/// table. Equal sets, and equal texts, are kept once, in the order of their first uses.
 pub fn compile(alloc: Global, rules: &Rules, goal: &Peg) -> Result<Program, CompileFault>
     requires { CallsAreRules (bodies_of (rules_of rules.now)) (core_of goal.now) }
+    ensures code { IfOk result (λ p. IsCode (bodies_of (rules_of rules.now)) (core_of goal.now) (instructions p)) }
+    ensures meant { IfOk result (λ p. DoesAsMeant (bodies_of (rules_of rules.now)) (core_of goal.now) (instructions p)) }
+    ensures fits { IfOk result (λ p. length (code_of p) ≤ 1048576) }
+    ensures sets { IfOk result (λ p. KeepsOnce (sets_in (instructions p)) (sets_of p)) }
+    ensures labels { IfOk result (λ p. KeepsOnce (labels_in (instructions p)) (labels_of p)) }
+    ensures too_long { IfErr result (λ e. e ≡ CompileFault.CodeTooLong → HasLongCode (bodies_of (rules_of rules.now)) (core_of goal.now)) }
 {
     let marks = reached(alloc, rules, goal)?;
     let layout = Layout::new(alloc, rules, goal, &marks)?;
@@ -51,11 +63,7 @@ pub fn compile(alloc: Global, rules: &Rules, goal: &Peg) -> Result<Program, Comp
     draft.put(Instr::Finish)?;
     emit_rules(alloc, &mut draft, &layout, rules, &marks)?;
     let Draft { code, sets, labels } = draft;
-    if are_in_range(code.as_slice(), sets.len(), labels.len()) {
-        Ok(Program::new(code, sets, labels))
-    } else {
-        Err(CompileFault::NoMemory)
-    }
+    Ok(Program::new(code, sets, labels))
 }
 
 /// Writes the marked rules in the order of the table, each with its return.
@@ -66,60 +74,35 @@ fn emit_rules(
     rules: &Rules,
     marks: &[bool],
 ) -> Result<(), NoMemory>
-    requires { length marks.now ≡ length (rules_of rules.now) }
+    requires long { length marks.now ≡ length (rules_of rules.now) }
+    requires room { length draft.old.code + bodies_len (marked marks.now) (bodies_of (rules_of rules.now)) 0 ≤ 1048576 }
+    ensures { OnOk result (Adds draft.old draft.new (bodies (marked marks.now) (address_of layout.now) (bodies_of (rules_of rules.now)) 0 (length draft.old.code))) }
 {
     for number in 0..rules.len() {
-        if marks[number] {
-            emit_rule(alloc, draft, layout, rules, number as u32)?;
-        }
+        emit_rule(alloc, draft, layout, rules, marks, number as u32)?;
     }
     Ok(())
 }
 
-/// Writes the rule with this number, and its return.
+/// Writes the rule with this number and its return, if it is marked.
 fn emit_rule(
     alloc: Global,
     draft: &mut Draft,
     layout: &Layout,
     rules: &Rules,
+    marks: &[bool],
     number: u32,
-) -> Result<(), NoMemory> {
+) -> Result<(), NoMemory>
+    requires inside { number < length marks.now }
+    requires room { length draft.old.code + (if marked marks.now number then body_len (slice_get (bodies_of (rules_of rules.now)) number) else 0) ≤ 1048576 }
+    ensures { OnOk result (Adds draft.old draft.new (rule_code (marked marks.now number) (address_of layout.now) (slice_get (bodies_of (rules_of rules.now)) number) (length draft.old.code))) }
+{
+    if !marks[number as usize] {
+        return Ok(());
+    }
     if let Some(rule) = rules.get(number) {
         emit(alloc, draft, layout, &rule.body)?;
         draft.put(Instr::Return)?;
     }
     Ok(())
-}
-
-/// Whether the numbers of the instruction are in range.
-fn is_in_range(instr: Instr, code: usize, sets: usize, labels: usize) -> bool
-    ensures { result ≡ in_range code sets labels instr }
-{
-    match instr {
-        Instr::Set(set) => (set as usize) < sets,
-        Instr::Span(set) => (set as usize) < sets,
-        Instr::TestSet(to, set) => (to as usize) < code && (set as usize) < sets,
-        Instr::Open(label) => (label as usize) < labels,
-        Instr::Note(text) => (text as usize) < labels,
-        Instr::Choice(to) => (to as usize) < code,
-        Instr::Commit(to) => (to as usize) < code,
-        Instr::BackCommit(to) => (to as usize) < code,
-        Instr::Meet(to) => (to as usize) < code,
-        Instr::Call(to) => (to as usize) < code,
-        Instr::PartialCommit(to) => (to as usize) < code,
-        Instr::Start | Instr::End | Instr::FailTwice | Instr::Fail | Instr::Back(_) => true,
-        Instr::Return | Instr::Close | Instr::Finish | Instr::Halt => true,
-    }
-}
-
-/// Whether all numbers of the code are in range.
-fn are_in_range(code: &[Instr], sets: usize, labels: usize) -> bool
-    ensures { result ≡ list_all (in_range (length code.now) sets labels) code.now }
-{
-    for instr in code {
-        if !is_in_range(*instr, code.len(), sets, labels) {
-            return false;
-        }
-    }
-    true
 }

@@ -1,12 +1,19 @@
 // The code of each kind of pattern. Sizes are known before, so that each jump is written with its address.
-ghost use Rattle.std.specs.Prelude.{◌≤◌};
+ghost use Rattle.std.specs.Prelude.{◌≡◌, ℕ, suc, ◌<◌, ◌+◌, ◌-◌, ◌*◌, ◌≤◌, List, [], ◌∷◌, ◌++◌, OnOk, length};
+ghost use Rattle.rpl_core.specs.Code as C;
+ghost use Rattle.rpl_core.specs.Head as H;
+ghost use Rattle.rpl_core.specs.Instr as I;
+ghost use Rattle.rpl_core.specs.View.{core_of};
+ghost use Rattle.rpl_codegen.specs.declared.draft.Draft as D;
+ghost use Rattle.rpl_codegen.specs.Sizes.{len, many_len, not_len, tried_len};
+ghost use Rattle.rpl_codegen.specs.Written.{Adds, address_of, test_code};
 
 use crate::NoMemory;
 use crate::draft::Draft;
 use crate::head::{head_of, lone_set};
 use crate::layout::Layout;
 use crate::size::{behind_size, choice_size, size_of};
-use rpl_core::{Instr, Peg};
+use rpl_core::{Instr, Peg, Pegs};
 use rpl_text::Chars;
 use std::alloc::Global;
 
@@ -17,11 +24,14 @@ pub(crate) fn emit(
     draft: &mut Draft,
     layout: &Layout,
     peg: &Peg,
-) -> Result<(), NoMemory> {
+) -> Result<(), NoMemory>
+    requires { length draft.old.code + len (core_of peg.now) ≤ 1048576 }
+    ensures { OnOk result (Adds draft.old draft.new (C.code (address_of layout.now) (core_of peg.now) (length draft.old.code))) }
+{
     match peg {
         Peg::Set(set) => draft.put_set(alloc, set),
-        Peg::Seq(parts) => emit_all(alloc, draft, layout, parts.as_slice()),
-        Peg::Choice(parts) => emit_first(alloc, draft, layout, parts.as_slice()),
+        Peg::Seq(parts) => emit_all(alloc, draft, layout, parts),
+        Peg::Choice(parts) => emit_first(alloc, draft, layout, parts),
         Peg::Many(body) => emit_many(alloc, draft, layout, body),
         Peg::Not(body) => emit_not(alloc, draft, layout, body),
         Peg::And(body) => emit_and(alloc, draft, layout, body),
@@ -39,13 +49,11 @@ pub(crate) fn emit(
 
 /// Writes the parts in turn.
 #[cycle(emit)]
-fn emit_all(
-    alloc: Global,
-    draft: &mut Draft,
-    layout: &Layout,
-    parts: &[Peg],
-) -> Result<(), NoMemory> {
-    for part in parts {
+fn emit_all(alloc: Global, draft: &mut Draft, layout: &Layout, parts: &Pegs) -> Result<(), NoMemory>
+    requires { length draft.old.code + len (core_of (Peg.Seq parts.now)) ≤ 1048576 }
+    ensures { OnOk result (Adds draft.old draft.new (C.code (address_of layout.now) (core_of (Peg.Seq parts.now)) (length draft.old.code))) }
+{
+    for part in parts.as_slice() {
         emit(alloc, draft, layout, part)?;
     }
     Ok(())
@@ -57,8 +65,12 @@ fn emit_first(
     alloc: Global,
     draft: &mut Draft,
     layout: &Layout,
-    parts: &[Peg],
-) -> Result<(), NoMemory> {
+    parts: &Pegs,
+) -> Result<(), NoMemory>
+    requires { length draft.old.code + len (core_of (Peg.Choice parts.now)) ≤ 1048576 }
+    ensures { OnOk result (Adds draft.old draft.new (C.code (address_of layout.now) (core_of (Peg.Choice parts.now)) (length draft.old.code))) }
+{
+    let parts = parts.as_slice();
     if parts.is_empty() {
         return draft.put(Instr::Fail);
     }
@@ -78,26 +90,37 @@ fn emit_tried(
     layout: &Layout,
     part: &Peg,
     end: u32,
-) -> Result<(), NoMemory> {
+) -> Result<(), NoMemory>
+    requires { length draft.old.code + tried_len (H.head (core_of part.now)) (len (core_of part.now)) ≤ 1048576 }
+    ensures goes_on { OnOk result ((q : C.Placed) (x : D.Draft) → end ≡ length draft.new.code + length (q (length draft.new.code)) → Adds draft.new x (q (length draft.new.code)) → Adds draft.old x (C.tested_choice (H.head (core_of part.now)) (C.code (address_of layout.now) (core_of part.now)) q (length draft.old.code))) }
+    ensures long { OnOk result (length draft.new.code ≡ length draft.old.code + tried_len (H.head (core_of part.now)) (len (core_of part.now))) }
+{
     let size = size_of(part);
-    if let Some(head) = head_of(alloc, part)? {
-        let other = draft.next() + 2 + size + 1;
-        draft.put_test(alloc, other, &head)?;
-    }
+    let tested = draft.next() + 2 + size + 1;
+    emit_test(alloc, draft, part, tested)?;
     let other = draft.next() + 1 + size + 1;
     draft.put(Instr::Choice(other))?;
     emit(alloc, draft, layout, part)?;
     draft.put(Instr::Commit(end))
 }
 
+/// Writes the test of the part's head, if it has one.
+fn emit_test(alloc: Global, draft: &mut Draft, part: &Peg, other: u32) -> Result<(), NoMemory>
+    requires { length draft.old.code < 1048576 }
+    ensures { OnOk result (Adds draft.old draft.new (test_code (H.head (core_of part.now)) other)) }
+{
+    if let Some(head) = head_of(alloc, part)? {
+        draft.put_test(alloc, other, &head)?;
+    }
+    Ok(())
+}
+
 /// Writes a loop.
 #[cycle(emit)]
-fn emit_many(
-    alloc: Global,
-    draft: &mut Draft,
-    layout: &Layout,
-    body: &Peg,
-) -> Result<(), NoMemory> {
+fn emit_many(alloc: Global, draft: &mut Draft, layout: &Layout, body: &Peg) -> Result<(), NoMemory>
+    requires { length draft.old.code + many_len (H.lone_set (core_of body.now)) (len (core_of body.now)) ≤ 1048576 }
+    ensures { OnOk result (Adds draft.old draft.new (C.many_code (H.lone_set (core_of body.now)) (C.code (address_of layout.now) (core_of body.now)) (length draft.old.code))) }
+{
     if let Some(set) = lone_set(body) {
         return draft.put_span(alloc, set);
     }
@@ -109,7 +132,10 @@ fn emit_many(
 
 /// Writes a test that the body fails.
 #[cycle(emit)]
-fn emit_not(alloc: Global, draft: &mut Draft, layout: &Layout, body: &Peg) -> Result<(), NoMemory> {
+fn emit_not(alloc: Global, draft: &mut Draft, layout: &Layout, body: &Peg) -> Result<(), NoMemory>
+    requires { length draft.old.code + not_len (H.lone_set (core_of body.now)) (len (core_of body.now)) ≤ 1048576 }
+    ensures { OnOk result (Adds draft.old draft.new (C.not_code (H.lone_set (core_of body.now)) (C.code (address_of layout.now) (core_of body.now)) (length draft.old.code))) }
+{
     let start = draft.next();
     if let Some(set) = lone_set(body) {
         draft.put_test(alloc, start + 2, set)?;
@@ -122,7 +148,10 @@ fn emit_not(alloc: Global, draft: &mut Draft, layout: &Layout, body: &Peg) -> Re
 
 /// Writes a test that the body succeeds.
 #[cycle(emit)]
-fn emit_and(alloc: Global, draft: &mut Draft, layout: &Layout, body: &Peg) -> Result<(), NoMemory> {
+fn emit_and(alloc: Global, draft: &mut Draft, layout: &Layout, body: &Peg) -> Result<(), NoMemory>
+    requires { length draft.old.code + (len (core_of body.now) + 3) ≤ 1048576 }
+    ensures { OnOk result (Adds draft.old draft.new (C.and_code (C.code (address_of layout.now) (core_of body.now)) (length draft.old.code))) }
+{
     let fail = draft.next() + 1 + size_of(body) + 1;
     draft.put(Instr::Choice(fail))?;
     emit(alloc, draft, layout, body)?;
@@ -139,7 +168,10 @@ fn emit_behind(
     least: u32,
     most: u32,
     body: &Peg,
-) -> Result<(), NoMemory> {
+) -> Result<(), NoMemory>
+    requires { length draft.old.code + ((most + 1 - least) * (len (core_of body.now) + 3) + 1) ≤ 1048576 }
+    ensures { OnOk result (Adds draft.old draft.new (C.behind_code (C.code (address_of layout.now) (core_of body.now)) (most + 1 - least) least (length draft.old.code))) }
+{
     let end = draft.next() + behind_size(size_of(body), least, most);
     for back in least as u64..most as u64 + 1 {
         emit_length(alloc, draft, layout, back as u32, body, end)?;
@@ -156,7 +188,11 @@ fn emit_length(
     back: u32,
     body: &Peg,
     end: u32,
-) -> Result<(), NoMemory> {
+) -> Result<(), NoMemory>
+    requires { length draft.old.code + (len (core_of body.now) + 3) ≤ 1048576 }
+    ensures goes_on { OnOk result ((left : ℕ) (x : D.Draft) → Adds draft.new x (C.lengths_code (C.code (address_of layout.now) (core_of body.now)) end left (back + 1) (length draft.new.code)) → Adds draft.old x (C.lengths_code (C.code (address_of layout.now) (core_of body.now)) end (suc left) back (length draft.old.code))) }
+    ensures long { OnOk result (length draft.new.code ≡ length draft.old.code + (len (core_of body.now) + 3)) }
+{
     let next = draft.next() + 2 + size_of(body) + 1;
     draft.put(Instr::Choice(next))?;
     draft.put(Instr::Back(back))?;
@@ -172,7 +208,10 @@ fn emit_capture(
     layout: &Layout,
     label: &Chars,
     body: &Peg,
-) -> Result<(), NoMemory> {
+) -> Result<(), NoMemory>
+    requires { length draft.old.code + (len (core_of body.now) + 2) ≤ 1048576 }
+    ensures { OnOk result (Adds draft.old draft.new (I.Open label.now ∷ (C.code (address_of layout.now) (core_of body.now) (length draft.old.code + 1) ++ I.Close ∷ []))) }
+{
     draft.put_open(alloc, label)?;
     emit(alloc, draft, layout, body)?;
     draft.put(Instr::Close)

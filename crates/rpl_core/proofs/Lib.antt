@@ -1,4 +1,5 @@
 pub mod Bounds
+pub mod Codes
 pub mod Depth
 mod Examples
 pub mod Flat

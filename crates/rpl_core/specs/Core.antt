@@ -8,11 +8,11 @@ abbrev pub fits : Option ℕ → List Range → Bool
 fits None s = false
 fits (Some c) s = in_ranges s c
 
--- A set takes one character of its ranges; a sequence all its parts in turn; a choice the first part that
--- succeeds, and a list of parts has two or more there. `Many` goes on as long as its body succeeds. `Not` and
--- `And` try their body and stay; `Behind` tries it from `least` to `most` characters back. A call is the body of
--- a rule, by its number in the table; a capture gives a tree, a note a tree of its text. `Start` and `End` hold at
--- the ends of the text, and `Halt` ends the whole match where it stands.
+-- A set takes one character of its ranges. A sequence is all its parts in turn, a choice the first of two or more
+-- parts that succeeds. `Many` goes on as long as its body succeeds. `Not` and `And` try their body and take
+-- nothing; `Behind` tries it from `least` to `most` characters back. A call is the body of the rule with this
+-- number; a capture makes one tree of its body's trees, a note a tree of its text. `Start` and `End` hold at the
+-- ends of the text. `Halt` ends the whole match where it stands.
 mutual
   pub data Core : Type 0 where
     Set : (s : List Range) → Core

@@ -4,6 +4,7 @@ use Rattle.rpl_core.specs.Core.{Core}
 use Rattle.rpl_core.specs.Forest.{Forest, flat}
 use Rattle.rpl_core.specs.Meaning.{Open, peg}
 use Rattle.rpl_core.specs.Instr.{Instr}
+use Rattle.rpl_core.specs.Programs.{IsCode}
 use Rattle.rpl_core.specs.Run.{Unfinished, run, EndsAs}
 
 -- an outcome that isn't open is the same, with the same work, at every greater depth
@@ -18,3 +19,7 @@ RunLaw = (code : List Instr) (t : List ℕ) (b : ℕ) → run code t b ≢ Unfin
 -- a capture list is that of at most one list of trees
 abbrev pub FlatLaw : Type 0
 FlatLaw = (f g : Forest) → flat f ≡ flat g → f ≡ g
+
+-- a goal has at most one code over a table
+abbrev pub CodeLaw : Type 0
+CodeLaw = (R : List Core) (g : Core) (c d : List Instr) → IsCode R g c → IsCode R g d → c ≡ d

@@ -5,10 +5,10 @@ pub mod Outcome
 pub mod Instr
 pub mod Machine
 pub mod Run
-pub mod Laws
 pub mod Head
 pub mod Code
 pub mod Programs
+pub mod Laws
 pub mod View
 pub mod Table
 pub mod Numbers

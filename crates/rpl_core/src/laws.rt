@@ -1,5 +1,5 @@
 // What holds of the definitions alone.
-ghost use Rattle.rpl_core.specs.Laws.{DepthLaw, RunLaw, FlatLaw};
+ghost use Rattle.rpl_core.specs.Laws.{CodeLaw, DepthLaw, FlatLaw, RunLaw};
 
 /// An outcome that isn't open is the same, with the same work, at every greater depth.
 pub fn depth_law()
@@ -14,4 +14,9 @@ pub fn run_law()
 /// A capture list is that of at most one list of trees.
 pub fn flat_law()
     ensures { FlatLaw }
+{}
+
+/// A goal has at most one code over a table of rules.
+pub fn code_law()
+    ensures { CodeLaw }
 {}

@@ -1,5 +1,8 @@
-//! What a pattern means, what the machine does, and the code that joins them, as definitions (`specs/`);
-//! and the types that hold patterns, rules and code.
+//! What a pattern means, what the machine does, and the code that joins them, as definitions (`specs/`), and the
+//! types that hold patterns, rules and code. Every other crate of patterns stands on these: expansion makes a `Peg`,
+//! the compiler a `Program`, and the machine runs it. The types promise that rules have distinct names and that
+//! every number in a program is in range; the laws say what holds of the definitions alone. docs/MEANING.md tells
+//! the definitions in plain words.
 #![tactic(auto)]
 
 mod caught;
@@ -11,8 +14,9 @@ mod rules;
 
 pub use caught::Caught;
 pub use instr::{Instr, Instrs};
-pub use laws::{depth_law, flat_law, run_law};
+pub use laws::{code_law, depth_law, flat_law, run_law};
 pub use peg::{Peg, Pegs};
 pub use program::{Labels, Program, Sets};
 pub use rules::{Rule, Rules};
+/// Want of memory, which every call that takes memory may answer.
 pub use std::alloc::AllocError as NoMemory;

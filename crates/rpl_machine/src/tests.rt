@@ -38,7 +38,7 @@ fn parts(alloc: Global) -> Result<(Instrs, Sets, Labels), NoMemory> {
 
 fn answer_on<L: Ledger>(
     program: &Program,
-    line: &str,
+    line: Text<'_>,
     budget: u64,
     scratch: &mut Scratch,
     blank: Blank,
@@ -48,7 +48,7 @@ fn answer_on<L: Ledger>(
     requires some { 0 < blank.parts }
 {
     let mut steps = Steps::<L>::new(blank);
-    run(program, Text::new(line), budget, scratch, &mut steps)
+    run(program, line, budget, scratch, &mut steps)
 }
 
 fn answer(
@@ -57,7 +57,7 @@ fn answer(
     budget: u64,
     scratch: &mut Scratch,
 ) -> Result<Answer, RunFault> {
-    answer_on::<Brand>(program, line, budget, scratch, Blank::new(1))
+    answer_on::<Brand>(program, Text::new(line), budget, scratch, Blank::new(1))
 }
 
 #[test]

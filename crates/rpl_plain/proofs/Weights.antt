@@ -10,7 +10,7 @@ abbrev mutual
   weight (Set s) = 1
   weight (Seq ps) = weight_all ps + 2
   weight (Choice ps) = weight_all ps + 2
-  weight (Many p) = weight p + 1
+  weight (Many p) = weight p + 2
   weight (Not p) = weight p + 1
   weight (And p) = weight p + 1
   weight (Behind l m p) = weight p + (m + 1 - l) + 2

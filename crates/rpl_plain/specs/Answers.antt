@@ -1,11 +1,9 @@
 -- What a run answers.
-use Rattle.std.specs.Prelude.{◌≡◌, ℕ, Result, Ok, Err, map}
+use Rattle.std.specs.Prelude.{◌≡◌, ℕ, Option, Some, None, map}
 use Rattle.rpl_core.specs.Machine as M
 use Rattle.rpl_core.specs.Run as R
 use Rattle.rpl_plain.specs.declared.machine.Answer as A
 use Rattle.rpl_plain.specs.declared.machine.Answer.TheVariants as V
-use Rattle.rpl_plain.specs.declared.machine.RunFault.{RunFault}
-use Rattle.rpl_plain.specs.declared.machine.RunFault.TheVariants as W
 use Rattle.rpl_plain.specs.Shown.{caught_of}
 
 -- the answer as the definition has it
@@ -13,12 +11,10 @@ abbrev pub answer_of : A.Answer → R.Answer
 answer_of (V.At i n cs) = R.Matched n i (map caught_of cs.items)
 answer_of (V.Fail n) = R.Failed n
 
--- A run gives the answer of the definition, or the budget where that is unfinished. Of want of memory nothing is
--- said.
-abbrev pub Answers : Result A.Answer RunFault → R.Answer → Type 0
-Answers (Ok a) x = x ≡ answer_of a
-Answers (Err W.Budget) x = x ≡ R.Unfinished
-Answers (Err W.NoMemory) x = Unit {0}
+-- the answer is the definition's, and there is none where that is unfinished
+abbrev pub Answers : R.Answer → Option A.Answer → Type 0
+Answers x (Some a) = x ≡ answer_of a
+Answers x None = x ≡ R.Unfinished
 
 -- how a run has ended that is over in this state, after n steps
 abbrev pub ended_as : ℕ → M.State → R.Answer

@@ -63,28 +63,7 @@ fn evaluate_core(
         Peg::Choice(parts) => {
             evaluate_first(alloc, depth, rules, text, parts.as_slice(), 0, place)
         }
-        Peg::Many(body) => {
-            match evaluate_core(alloc, depth, rules, text, body, place)? {
-                Outcome::Open => Ok(Outcome::Open),
-                Outcome::Fail { work } => Ok(stays(work, place)),
-                Outcome::At {
-                    work,
-                    place: next,
-                    trees,
-                } => {
-                    if depth == 0 {
-                        return Ok(Outcome::Open);
-                    }
-                    let rest = evaluate_core(alloc, depth - 1, rules, text, e, next)?;
-                    prefixed(alloc, plus(1, work), trees, rest)
-                }
-                Outcome::HaltAt { work, place, trees } => Ok(Outcome::HaltAt {
-                    work: plus(1, work),
-                    place,
-                    trees,
-                }),
-            }
-        }
+        Peg::Many(body) => evaluate_turns(alloc, depth, rules, text, body, place),
         Peg::Not(body) => {
             let o = evaluate_core(alloc, depth, rules, text, body, place)?;
             Ok(if_fails(o, place))
@@ -123,6 +102,40 @@ fn evaluate_core(
             work: 1,
             place,
             trees: Forest::NoTree,
+        }),
+    }
+}
+
+/// Turns of a repeated body, each further turn one level deeper.
+#[cycle(evaluate)]
+fn evaluate_turns(
+    alloc: Global,
+    depth: u32,
+    rules: &Rules,
+    text: &[char],
+    body: &Peg,
+    place: usize,
+) -> Result<Outcome, AllocError>
+    ensures { IfOk result (λ o. outcome_of o ≡ capped (core_at depth (bodies_of (rules_of rules.now)) text.now (C.Many (core_of body.now)) place)) }
+{
+    match evaluate_core(alloc, depth, rules, text, body, place)? {
+        Outcome::Open => Ok(Outcome::Open),
+        Outcome::Fail { work } => Ok(stays(work, place)),
+        Outcome::At {
+            work,
+            place: next,
+            trees,
+        } => {
+            if depth == 0 {
+                return Ok(Outcome::Open);
+            }
+            let rest = evaluate_turns(alloc, depth - 1, rules, text, body, next)?;
+            prefixed(alloc, plus(1, work), trees, rest)
+        }
+        Outcome::HaltAt { work, place, trees } => Ok(Outcome::HaltAt {
+            work: plus(1, work),
+            place,
+            trees,
         }),
     }
 }

@@ -9,7 +9,7 @@ mod outcome;
 
 pub use evaluation::evaluate;
 pub use forest::Forest;
-pub use machine::{Answer, Caught, RunFault, run};
+pub use machine::{Answer, Caught, run};
 pub use outcome::Outcome;
 
 #[cfg(test)]

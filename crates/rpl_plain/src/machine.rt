@@ -8,7 +8,6 @@ ghost use Rattle.rpl_core.specs.Numbers.{instr_of};
 ghost use Rattle.rpl_core.specs.Program.{instructions, sets_of, labels_of};
 ghost use Rattle.rpl_plain.specs.Shown.{state_of, stack_of, captures_of, caught_of, entry_of};
 ghost use Rattle.rpl_plain.specs.Answers.{Answers, answer_of, ended_as};
-ghost use Rattle.rpl_plain.specs.declared.machine.RunFault.TheVariants.{NoMemory};
 
 use rpl_core::{Instr, Program};
 use rpl_text::Chars;
@@ -23,7 +22,7 @@ pub enum Entry {
     Retry(usize, usize, usize),
 }
 
-/// A capture. Places count characters from 0.
+/// A capture, with its text in place. Places count characters from 0.
 #[derive(Drop)]
 pub enum Caught {
     /// A tree of this type begins.
@@ -61,21 +60,6 @@ pub enum Answer {
     Fail {
         steps: u64,
     },
-}
-
-/// Why a run has no answer.
-#[derive(Debug, Drop)]
-pub enum RunFault {
-    NoMemory,
-    Budget,
-}
-
-impl From<AllocError> for RunFault {
-    ghost from_gives = { λ _ e. e ≡ NoMemory };
-
-    fn from(_error: AllocError) -> RunFault {
-        RunFault::NoMemory
-    }
 }
 
 /// The set with this number holds the character.
@@ -446,18 +430,23 @@ impl Machine {
     }
 }
 
-/// Runs the program on the text, in at most `budget` steps. Budget comes exactly where it needs more.
-pub fn run(alloc: Global, program: &Program, text: &[char], budget: u64) -> Result<Answer, RunFault>
-    ensures { Answers result (Run.run (instructions program.now) text.now budget) }
+/// Runs the program on the text, in at most `budget` steps; None exactly where it needs more.
+pub fn run(
+    alloc: Global,
+    program: &Program,
+    text: &[char],
+    budget: u64,
+) -> Result<Option<Answer>, AllocError>
+    ensures { IfOk result (Answers (Run.run (instructions program.now) text.now budget)) }
 {
     let mut machine = Machine::new(alloc);
     let mut steps = 0;
     'steps: while !machine.is_over() {
         if steps == budget {
-            return Err(RunFault::Budget);
+            return Ok(None);
         }
         machine.step(alloc, program, text)?;
         steps += 1;
     }
-    Ok(machine.answer(steps))
+    Ok(Some(machine.answer(steps)))
 }

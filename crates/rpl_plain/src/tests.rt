@@ -628,12 +628,12 @@ fn read_text(alloc: Global, text: &str) -> Result<Vec<char>, AllocError> {
     Ok(chars)
 }
 
-/// The outcome of a pattern, and its work. The depth is enough for one rule and six characters, the longest text here.
+/// The outcome of a copy of a pattern, and its work. The depth is enough for one rule and six characters, the longest text here.
 fn evaluated(alloc: Global, pattern: &str, rule: &str, text: &str) -> Result<(String, u64), Fail> {
     let chars = read_text(alloc, text)?;
     let rules = read_rules(alloc, rule)?;
     let peg = read_pattern(alloc, pattern)?.ok_or("a pattern")?;
-    let o = evaluate(alloc, 14, &rules, &chars, &peg, 0)?;
+    let o = evaluate(alloc, 14, &rules, &chars, &peg.copy(alloc)?, 0)?;
     Ok((show_outcome(alloc, &o)?, work_of(&o)))
 }
 
@@ -641,10 +641,9 @@ fn evaluated(alloc: Global, pattern: &str, rule: &str, text: &str) -> Result<(St
 fn ran(alloc: Global, code: &str, text: &str) -> Result<(String, u64), Fail> {
     let chars = read_text(alloc, text)?;
     let program = read_code(alloc, code)?;
-    match run(alloc, &program, &chars, 1000) {
-        Ok(answer) => Ok((show_answer(alloc, &answer)?, steps_of(&answer))),
-        Err(RunFault::Budget) => Ok((String::from_str(alloc, "open")?, 0)),
-        Err(RunFault::NoMemory) => Err("memory")?,
+    match run(alloc, &program, &chars, 1000)? {
+        Some(answer) => Ok((show_answer(alloc, &answer)?, steps_of(&answer))),
+        None => Ok((String::from_str(alloc, "open")?, 0)),
     }
 }
 

@@ -24,5 +24,6 @@ returns c =
     let t = chars c.args.text.now in
     seq_view c.in_ok-parts.parts ∙ ap Seq c.in_ok-parts.ensures ∙ literal_long t
     (λ one. elim c.if-len-eq1.branch [
-      then-len-eq1+in_default w ↦ none_first t one (subst (λ x. None ≡ step_from x (index x 0)) w.new.ensures (sym w.in_default.is ∙ w.step.ensures))
-      | else-len-eq1 w ↦ w.if-len-eq1.false (c.len.ensures ∙ lengths_are _ _ c.in_ok-parts.ensures ∙ one) ])
+      | then-len-eq1+in_default w ↦ none_first t one (subst (λ x. None ≡ step_from x (index x 0)) w.new.ensures (sym w.in_default.is ∙ w.step.ensures))
+      | else-len-eq1 w ↦ w.if-len-eq1.false (c.len.ensures ∙ lengths_are _ _ c.in_ok-parts.ensures ∙ one)
+    ])

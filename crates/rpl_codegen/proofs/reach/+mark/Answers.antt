@@ -1,7 +1,6 @@
-use Rattle.std.proofs.Common.{◌≡◌, ◌+◌, ◌∙◌, sym, ap, subst, drop, length}
+use Rattle.std.proofs.Common.{◌+◌, sym, subst, drop}
 use Rattle.std.proofs.lemmas.List.{drop_all}
 use Rattle.std.specs.Prelude.{OnOk}
-use Rattle.rpl_core.specs.Core as C
 use Rattle.rpl_core.specs.Programs.{calls, calls_any}
 use Rattle.rpl_core.specs.View.{core_of, cores}
 use Rattle.rpl_codegen.specs.Searching.{Marks}

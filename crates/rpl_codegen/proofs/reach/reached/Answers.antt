@@ -1,4 +1,4 @@
-use Rattle.std.proofs.Common.{◌≡◌, ◌∙◌, sym, ap, refl, ℕ, length, Some, arith}
+use Rattle.std.proofs.Common.{◌∙◌, sym, ap, refl, length, arith}
 use Rattle.std.proofs.lemmas.List.{nil_from_length, length-map, length-replicate}
 use Rattle.std.specs.Prelude.{false}
 use Rattle.rpl_core.specs.Listed.{rules_of}

@@ -70,21 +70,20 @@ evaluate_core-returns-in-Choice t c =
     let same = ap (λ ps. capped (first (cores ps) c.args.place)) c.as_slice-in-Choice.ensures ∙ sym (ap (λ p. capped (at p c.args.place)) (ap core_of c.in-Choice.is ∙ choice_view c.in-Choice.parts)) in
     subst (λ x. IfOk c.evaluate_first.result (λ o. outcome_of o ≡ x)) same c.evaluate_first.ensures
 
-pub evaluate_core-returns-in_ok-rest-in-At : goal.evaluate_core-returns-in_ok-rest-in-At
-evaluate_core-returns-in_ok-rest-in-At t c =
+pub evaluate_turns-returns-in_ok-rest-in-At : goal.evaluate_turns-returns-in_ok-rest-in-At
+evaluate_turns-returns-in_ok-rest-in-At t c =
     let R = bodies_of (rules_of c.args.rules.now) in
     let text = c.args.text.now in
     let n = c.args.depth in
     let i = c.args.place in
-    let p = core_of c.in-Many.body.value in
+    let p = core_of c.args.body.now in
     let trees = forest_of c.in-At.trees in
     let work = c.in-At.work in
     let top = 2 ^ 64 - 1 in
-    let whole = ap core_of c.in-Many.is in
     let some : 0 < n = let ne = c.if-depth-eq0.false in omega arith in
-    let turn : M.At work c.in-At.next trees ≡ capped (core_at n R text p i) = sym (ap outcome_of c.in-At.is) ∙ c.in_ok-evaluate_core-in-Many.ensures ∙ ap (λ q. capped (core_at n R text (core_of q) i)) c.deref.ensures in
-    let again = c.in_ok-rest-in-At.ensures ∙ ap (λ q. capped (core_at (n - 1) R text q c.in-At.next)) whole ∙ ap capped (sym (below_is n R text (C.Many p) c.in-At.next some)) in
-    let same = ap (λ w. capped (M.prefixed w trees (outcome_of c.in_ok-rest-in-At.rest))) c.plus.ensures ∙ ap (λ x. capped (M.prefixed (min (1 + work) top) trees x)) again ∙ turn_matches (core_at n R text p i) i (below n R text (C.Many p)) work c.in-At.next trees turn ∙ sym (ap (λ q. capped (core_at n R text q i)) whole) in
+    let turn : M.At work c.in-At.next trees ≡ capped (core_at n R text p i) = sym (ap outcome_of c.in-At.is) ∙ c.in_ok-evaluate_core.ensures in
+    let again = c.in_ok-rest-in-At.ensures ∙ ap capped (sym (below_is n R text (C.Many p) c.in-At.next some)) in
+    let same = ap (λ w. capped (M.prefixed w trees (outcome_of c.in_ok-rest-in-At.rest))) c.plus.ensures ∙ ap (λ x. capped (M.prefixed (min (1 + work) top) trees x)) again ∙ turn_matches (core_at n R text p i) i (below n R text (C.Many p)) work c.in-At.next trees turn in
     subst (λ x. IfOk c.prefixed.result (λ o. outcome_of o ≡ x)) same c.prefixed.ensures
 
 pub evaluate_first-returns-in_ok-rest-in-Fail : goal.evaluate_first-returns-in_ok-rest-in-Fail

@@ -1,5 +1,13 @@
-use Rattle.std.proofs.Common.{◌≤◌}
+use Rattle.std.proofs.Common.{◌≡◌, ℕ, ◌+◌, ◌<◌, length, get_or, min}
+use Rattle.rpl_core.specs.Listed.{rules_of}
+use Rattle.rpl_core.specs.Programs.{place_of}
+use Rattle.rpl_core.specs.Table.{bodies_of}
+use Rattle.rpl_core.specs.View.{core_of}
+use Rattle.rpl_codegen.specs.Marked.{marked}
+use Rattle.rpl_codegen.specs.Sizes.{len}
 use Rattle.rpl_codegen.proofs.layout.Layout.new.Given as goal
 
 abbrev pub invariant-loop-number : goal.invariant-loop-number
-invariant-loop-number l = l.next ≤ 1048577
+invariant-loop-number l =
+    let place : ℕ → ℕ = place_of (marked l.marks) (bodies_of (rules_of l.rules)) 0 (len (core_of l.goal) + 1) in
+    (l.next ≡ min 1048577 (place l.number)) × (length l.addresses.items ≡ l.number) × ((r : ℕ) → r < l.number → get_or l.addresses.items r 0 ≡ min 1048577 (place r))

@@ -1,5 +1,5 @@
 use Rattle.std.proofs.Common.{ℕ, ◌≡◌, ◌+◌, ◌-◌, ◌^◌, ◌≤◌, ◌<◌, false}
-use Rattle.rosie_cli.proofs.lines.run_lines.Given as goal
+use Rattle.rosie_cli.proofs.lines.try_lines.Given as goal
 
 abbrev pub invariant-lines : goal.invariant-lines
 invariant-lines g l = record {

@@ -1,0 +1,10 @@
+use Rattle.std.proofs.Common.{refl, ap}
+use Rattle.std.specs.Prelude.{option_map}
+use Rattle.rpl_core.specs.Instr as I
+use Rattle.rpl_core.specs.declared.instr.Instr.TheVariants as V
+use Rattle.rpl_codegen.proofs.Adding.{adds_one}
+use Rattle.rpl_codegen.proofs.draft.Draft.put_test.Goals as goal
+
+pub returns : goal.returns
+returns c =
+    adds_one c.args.self.now _ (V.TestSet c.args.other c.in_ok-number.number) (I.TestSet c.args.other c.args.set.now) c.in_ok-push.ensures.ok c.in_ok-number.ensures.kept refl (ap (option_map (I.TestSet c.args.other)) c.in_ok-number.ensures.number)

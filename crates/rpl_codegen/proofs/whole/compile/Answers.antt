@@ -1,0 +1,103 @@
+use Rattle.std.proofs.Common.{◌∙◌, sym, ap, subst, arith, length, refl}
+use Rattle.rpl_core.specs.Listed.{rules_of}
+use Rattle.rpl_core.specs.Programs.{program}
+use Rattle.rpl_core.specs.Table.{bodies_of}
+use Rattle.rpl_core.specs.View.{core_of}
+use Rattle.rpl_codegen.specs.Laid.{LaysOut}
+use Rattle.rpl_codegen.specs.Marked.{marked}
+use Rattle.rpl_codegen.specs.Uses.{sets_in, labels_in}
+use Rattle.rpl_codegen.specs.Written.{address_of}
+use Rattle.rpl_codegen.proofs.Finish.{compiled, finished, is_code, program_means, kept}
+use Rattle.rpl_codegen.proofs.Jumps.{program_length}
+use Rattle.rpl_codegen.proofs.Lengths.{code_length}
+use Rattle.rpl_simulation.proofs.Whole.{simulation_holds}
+use Rattle.rpl_codegen.proofs.whole.compile.Goals as goal
+
+pub returns-then-size-gt-MAX_CODE-clause-too_long : goal.returns-then-size-gt-MAX_CODE-clause-too_long
+returns-then-size-gt-MAX_CODE-clause-too_long c =
+    let R = bodies_of (rules_of c.args.rules.now) in
+    let g = core_of c.args.goal.now in
+    let bs = c.in_ok-marks.marks.items in
+    let m = marked bs in
+    let out = subst (λ b. LaysOut (marked b) R g c.in_ok-layout.layout) c.deref.ensures.value c.in_ok-layout.ensures in
+    λ e. (program m R g, is_code bs R g (program m R g) c.in_ok-marks.ensures refl, omega (arith, out.whole, program_length m R g, c.size.ensures, c.if-size-gt-MAX_CODE.true))
+
+pub put-requires : goal.put-requires
+put-requires c =
+    let R = bodies_of (rules_of c.args.rules.now) in
+    let g = core_of c.args.goal.now in
+    let out = c.in_ok-layout.ensures in
+    let e = c.in_ok-emit.ensures in
+    let none = ap length c.new-draft.ensures.code in
+    omega (arith, out.whole, c.size.ensures, c.if-size-gt-MAX_CODE.false, e.long, none, code_length (address_of c.in_ok-layout.layout) g (length c.new-draft.result.code))
+
+pub emit_rules-requires-clause-room : goal.emit_rules-requires-clause-room
+emit_rules-requires-clause-room c =
+    let R = bodies_of (rules_of c.args.rules.now) in
+    let g = core_of c.args.goal.now in
+    let same = c.deref.ensures.value ∙ sym c.deref-2.ensures.value in
+    let out = subst (λ b. LaysOut (marked b) R g c.in_ok-layout.layout) same c.in_ok-layout.ensures in
+    let e = c.in_ok-emit.ensures in
+    let f = c.in_ok-put.ensures in
+    let none = ap length c.new-draft.ensures.code in
+    omega (arith, out.whole, c.size.ensures, c.if-size-gt-MAX_CODE.false, e.long, f.long, none, code_length (address_of c.in_ok-layout.layout) g (length c.new-draft.result.code))
+
+pub new-requires-2 : goal.new-requires-2
+new-requires-2 c =
+    let R = bodies_of (rules_of c.args.rules.now) in
+    let g = core_of c.args.goal.now in
+    let bs = c.in_ok-marks.marks.items in
+    let d = c.new-draft.result in
+    let all = compiled d c.emit.new.draft c.put.new.self c.emit_rules.new.draft c.in_ok-layout.layout bs c.deref.result.now c.deref-2.result.now R g c.deref.ensures.value c.deref-2.ensures.value c.in_ok-layout.ensures (omega (arith, c.size.ensures, c.if-size-gt-MAX_CODE.false)) c.new-draft.ensures.code c.in_ok-emit.ensures c.in_ok-put.ensures c.in_ok-emit_rules.ensures in
+    (finished d c.emit_rules.new.draft bs R g c.requires c.in_ok-marks.ensures c.new-draft.ensures.code all).1
+
+pub returns-clause-code : goal.returns-clause-code
+returns-clause-code c =
+    let R = bodies_of (rules_of c.args.rules.now) in
+    let g = core_of c.args.goal.now in
+    let bs = c.in_ok-marks.marks.items in
+    let d = c.new-draft.result in
+    let d3 = c.emit_rules.new.draft in
+    let p = c.new-2.result in
+    let all = compiled d c.emit.new.draft c.put.new.self d3 c.in_ok-layout.layout bs c.deref.result.now c.deref-2.result.now R g c.deref.ensures.value c.deref-2.ensures.value c.in_ok-layout.ensures (omega (arith, c.size.ensures, c.if-size-gt-MAX_CODE.false)) c.new-draft.ensures.code c.in_ok-emit.ensures c.in_ok-put.ensures c.in_ok-emit_rules.ensures in
+    let is = finished d d3 bs R g c.requires c.in_ok-marks.ensures c.new-draft.ensures.code all in
+    is_code bs R g _ c.in_ok-marks.ensures (program_means p d3.code d3.sets d3.labels (program (marked bs) R g) c.new-2.ensures.code c.new-2.ensures.sets c.new-2.ensures.labels is.0)
+
+pub returns-clause-meant : goal.returns-clause-meant
+returns-clause-meant c =
+    let R = bodies_of (rules_of c.args.rules.now) in
+    let g = core_of c.args.goal.now in
+    let bs = c.in_ok-marks.marks.items in
+    let d = c.new-draft.result in
+    let d3 = c.emit_rules.new.draft in
+    let p = c.new-2.result in
+    let all = compiled d c.emit.new.draft c.put.new.self d3 c.in_ok-layout.layout bs c.deref.result.now c.deref-2.result.now R g c.deref.ensures.value c.deref-2.ensures.value c.in_ok-layout.ensures (omega (arith, c.size.ensures, c.if-size-gt-MAX_CODE.false)) c.new-draft.ensures.code c.in_ok-emit.ensures c.in_ok-put.ensures c.in_ok-emit_rules.ensures in
+    let is = finished d d3 bs R g c.requires c.in_ok-marks.ensures c.new-draft.ensures.code all in
+    let code = is_code bs R g _ c.in_ok-marks.ensures (program_means p d3.code d3.sets d3.labels (program (marked bs) R g) c.new-2.ensures.code c.new-2.ensures.sets c.new-2.ensures.labels is.0) in
+    λ h still. simulation_holds h R g _ still code
+
+pub returns-clause-sets : goal.returns-clause-sets
+returns-clause-sets c =
+    let R = bodies_of (rules_of c.args.rules.now) in
+    let g = core_of c.args.goal.now in
+    let bs = c.in_ok-marks.marks.items in
+    let d = c.new-draft.result in
+    let d3 = c.emit_rules.new.draft in
+    let p = c.new-2.result in
+    let all = compiled d c.emit.new.draft c.put.new.self d3 c.in_ok-layout.layout bs c.deref.result.now c.deref-2.result.now R g c.deref.ensures.value c.deref-2.ensures.value c.in_ok-layout.ensures (omega (arith, c.size.ensures, c.if-size-gt-MAX_CODE.false)) c.new-draft.ensures.code c.in_ok-emit.ensures c.in_ok-put.ensures c.in_ok-emit_rules.ensures in
+    let is = finished d d3 bs R g c.requires c.in_ok-marks.ensures c.new-draft.ensures.code all in
+    let same = program_means p d3.code d3.sets d3.labels (program (marked bs) R g) c.new-2.ensures.code c.new-2.ensures.sets c.new-2.ensures.labels is.0 in
+    kept (sets_in (program (marked bs) R g)) _ d.sets d3.sets p.sets (ap sets_in (sym same)) c.new-draft.ensures.sets (sym c.new-2.ensures.sets) all.sets
+
+pub returns-clause-labels : goal.returns-clause-labels
+returns-clause-labels c =
+    let R = bodies_of (rules_of c.args.rules.now) in
+    let g = core_of c.args.goal.now in
+    let bs = c.in_ok-marks.marks.items in
+    let d = c.new-draft.result in
+    let d3 = c.emit_rules.new.draft in
+    let p = c.new-2.result in
+    let all = compiled d c.emit.new.draft c.put.new.self d3 c.in_ok-layout.layout bs c.deref.result.now c.deref-2.result.now R g c.deref.ensures.value c.deref-2.ensures.value c.in_ok-layout.ensures (omega (arith, c.size.ensures, c.if-size-gt-MAX_CODE.false)) c.new-draft.ensures.code c.in_ok-emit.ensures c.in_ok-put.ensures c.in_ok-emit_rules.ensures in
+    let is = finished d d3 bs R g c.requires c.in_ok-marks.ensures c.new-draft.ensures.code all in
+    let same = program_means p d3.code d3.sets d3.labels (program (marked bs) R g) c.new-2.ensures.code c.new-2.ensures.sets c.new-2.ensures.labels is.0 in
+    kept (labels_in (program (marked bs) R g)) _ d.labels d3.labels p.labels (ap labels_in (sym same)) c.new-draft.ensures.labels (sym c.new-2.ensures.labels) all.labels

@@ -1,0 +1,278 @@
+use Rattle.std.proofs.Common.{◌≡◌, ◌<◌, ◌≤◌, ◌+◌, ◌-◌, ◌*◌, ◌∙◌, suc, length, drop, get_or, refl, sym, ap, subst, arith, [], ◌∷◌}
+use Rattle.std.proofs.lemmas.Bool.{eqb-true, eqb-false}
+use Rattle.std.specs.Prelude.{OnOk}
+use Rattle.rpl_core.specs.Code as C
+use Rattle.rpl_core.specs.Head as H
+use Rattle.rpl_core.specs.Instr as I
+use Rattle.rpl_core.specs.View.{core_of, cores, listed}
+use Rattle.rpl_core.proofs.Rows.{seq_view, choice_view}
+use Rattle.rpl_codegen.specs.Sizes.{len, len_all, len_first, many_len, not_len}
+use Rattle.rpl_codegen.specs.Written.{Adds, address_of}
+use Rattle.rpl_codegen.proofs.Adding.{adds_then}
+use Rattle.rpl_codegen.proofs.Lengths.{code_length, first_length}
+use Rattle.rpl_codegen.proofs.Parts.{drop_here, len_first_here, code_first_here, drop_last, no_parts, part_of}
+use Rattle.rpl_codegen.proofs.Pieces.{on_ok, piece_loop, piece_refuse, piece_and, piece_capture, piece_choice, piece_length, piece_tried, test_length, behind_end, sized, room_turn}
+use Rattle.rpl_codegen.proofs.Weights.{seq_part, choice_part}
+use Rattle.rpl_codegen.proofs.writing.+emit.Goals as goal
+
+pub emit_all-loop-part-init : goal.emit_all-loop-part-init
+emit_all-loop-part-init t c =
+    let ps = c.args.parts.now in
+    let n = length c.args.draft.now.code in
+    (omega (arith, ap len (seq_view ps), c.requires), λ x a. subst (λ e. Adds c.args.draft.now x (C.code (address_of c.args.layout.now) e n)) (sym (seq_view ps)) a)
+
+pub emit_all-emit-requires : goal.emit_all-emit-requires
+emit_all-emit-requires t c =
+    let ps = c.args.parts.now in
+    let k = c.loop-part.part-index in
+    let p = c.part-item.result in
+    let lt : k < length (listed ps) = omega (arith, ap length c.as_slice-part-items.ensures, c.loop-part-test.true) in
+    let is = part_of c.as_slice-part-items.result.now (listed ps) k p c.as_slice-part-items.ensures c.part-item.is in
+    let here = ap (λ l. len_all (cores l)) (drop_here (listed ps) k p lt is) in
+    (omega (arith, c.decreases, seq_part ps k p lt is), (omega (arith, here, c.loop-part.invariant.0)))
+
+pub emit_all-loop-part-preserved : goal.emit_all-loop-part-preserved
+emit_all-loop-part-preserved t c =
+    let at = address_of c.args.layout.now in
+    let ps = listed c.args.parts.now in
+    let k = c.loop-part.part-index in
+    let p = c.part-item.result in
+    let d = c.loop-part.draft in
+    let d1 = c.emit.new.draft in
+    let n = length d.code in
+    let lt : k < length ps = omega (arith, ap length c.as_slice-part-items.ensures, c.loop-part-test.true) in
+    let is = part_of c.as_slice-part-items.result.now ps k p c.as_slice-part-items.ensures c.part-item.is in
+    let here = drop_here ps k p lt is in
+    let rest = cores (drop (k + 1) ps) in
+    let x = C.code at (core_of p) n in
+    let e = c.in_ok-emit.ensures in (
+      omega (arith, ap (λ l. len_all (cores l)) here, c.loop-part.invariant.0, e.long, code_length at (core_of p) n),
+      λ y more.
+          c.loop-part.invariant.1 y (subst (λ l. Adds d y (C.code_all at (cores l) n)) (sym here) (adds_then d d1 y x (C.code_all at rest (n + length x)) e (subst (λ m. Adds d1 y (C.code_all at rest m)) e.long more))),
+    )
+
+pub emit_and-put-requires-2 : goal.emit_and-put-requires-2
+emit_and-put-requires-2 t c =
+    let at = address_of c.args.layout.now in
+    let a = c.in_ok-put.ensures in
+    let b = c.in_ok-emit.ensures in
+    omega (arith, a.long, b.long, code_length at (core_of c.args.body.now) (length c.put.new.self.code))
+
+pub emit_and-put-requires-3 : goal.emit_and-put-requires-3
+emit_and-put-requires-3 t c =
+    let at = address_of c.args.layout.now in
+    let a = c.in_ok-put.ensures in
+    let b = c.in_ok-emit.ensures in
+    let d = c.in_ok-put-2.ensures in
+    omega (arith, a.long, b.long, d.long, code_length at (core_of c.args.body.now) (length c.put.new.self.code))
+
+pub emit_and-returns : goal.emit_and-returns
+emit_and-returns t c =
+    let at = address_of c.args.layout.now in
+    let p = core_of c.args.body.now in
+    let l = c.next.result + 1 + c.size_of.result + 1 in
+    let is : l ≡ length c.args.draft.now.code + 1 + len p + 1 = omega (arith, c.next.ensures, c.size_of.ensures, c.requires) in
+    on_ok c.put-3.result _ _ (piece_and c.args.draft.now c.put.new.self c.emit.new.draft c.put-2.new.self c.put-3.new.self (C.code at p) (len p) l (l + 1) (code_length at p) is refl c.in_ok-put.ensures c.in_ok-emit.ensures c.in_ok-put-2.ensures) c.put-3.ensures
+
+pub emit_behind-loop-back-preserved : goal.emit_behind-loop-back-preserved
+emit_behind-loop-back-preserved t c =
+    let at = address_of c.args.layout.now in
+    let p = core_of c.args.body.now in
+    let most = c.args.most in
+    let k = c.loop-back.back in
+    let d = c.loop-back.draft in
+    let left = most + 1 - (k + 1) in
+    let end = c.next.result + c.behind_size.result in
+    let one : suc left ≡ most + 1 - k = omega arith in (
+      room_turn most k (len p) (length d.code) (length c.emit_length.new.draft.code) (omega arith) c.loop-back.invariant.0 c.in_ok-emit_length.ensures.long,
+      λ x rest.
+          c.loop-back.invariant.1 x (subst (λ n. Adds d x (C.lengths_code (C.code at p) end n k (length d.code))) one (c.in_ok-emit_length.ensures.goes_on left x rest)),
+    )
+
+pub emit_behind-returns : goal.emit_behind-returns
+emit_behind-returns t c =
+    let at = address_of c.args.layout.now in
+    let p = core_of c.args.body.now in
+    let d = c.loop-back.draft in
+    let n = c.args.most + 1 - c.args.least in
+    let a = length c.args.draft.now.code in
+    let end = c.next.result + c.behind_size.result in
+    let room : a + (n * (len p + 3) + 1) ≤ 1048576 = c.requires in
+    let is : end ≡ a + (n * (len p + 3) + 1) = sized a n (len p) c.next.result c.size_of.result c.behind_size.result room c.next.ensures c.size_of.ensures c.behind_size.ensures in
+    let same = behind_end (C.code at p) n c.args.least a (len p) end (code_length at p) is in
+    let none : 0 ≡ c.args.most + 1 - c.loop-back.back = omega arith in
+    on_ok c.put.result _ _ (λ w.
+    subst (λ l. Adds c.args.draft.now c.put.new.self l) (sym same) (c.loop-back.invariant.1 c.put.new.self (subst (λ m. Adds d c.put.new.self (C.lengths_code (C.code at p) end m c.loop-back.back (length d.code))) none w))) c.put.ensures
+
+pub emit_capture-put-requires : goal.emit_capture-put-requires
+emit_capture-put-requires t c =
+    let at = address_of c.args.layout.now in
+    let a = c.in_ok-put_open.ensures in
+    let b = c.in_ok-emit.ensures in
+    omega (arith, a.long, b.long, code_length at (core_of c.args.body.now) (length c.put_open.new.self.code))
+
+pub emit_capture-returns : goal.emit_capture-returns
+emit_capture-returns t c =
+    on_ok c.put.result _ _ (piece_capture c.args.draft.now c.put_open.new.self c.emit.new.draft c.put.new.self (C.code (address_of c.args.layout.now) (core_of c.args.body.now)) c.args.label.now c.in_ok-put_open.ensures c.in_ok-emit.ensures) c.put.ensures
+
+pub emit_first-put-requires : goal.emit_first-put-requires
+emit_first-put-requires t c =
+    let e = ap len (no_parts c.args.parts.now (sym (ap length c.as_slice-parts.ensures) ∙ eqb-true (length c.as_slice-parts.result.now) 0 (sym c.is_empty.ensures ∙ c.if-is_empty.true))) in
+    omega (arith, e, c.requires)
+
+pub emit_first-returns-then-is_empty : goal.emit_first-returns-then-is_empty
+emit_first-returns-then-is_empty t c =
+    let e = no_parts c.args.parts.now (sym (ap length c.as_slice-parts.ensures) ∙ eqb-true (length c.as_slice-parts.result.now) 0 (sym c.is_empty.ensures ∙ c.if-is_empty.true)) in
+    subst (λ x. OnOk c.put.result (Adds c.args.draft.now c.put.new.self (C.code (address_of c.args.layout.now) x (length c.args.draft.now.code)))) (sym e) c.put.ensures
+
+pub emit_first-loop-number-init : goal.emit_first-loop-number-init
+emit_first-loop-number-init t c =
+    let ps = c.args.parts.now in
+    let n = length c.args.draft.now.code in
+    let same = ap (λ l. len_first (cores l)) c.as_slice-parts.ensures in
+    (omega (arith, ap len (choice_view ps), c.requires, same, c.next.ensures, c.choice_size.ensures), λ x a. subst (λ e. Adds c.args.draft.now x (C.code (address_of c.args.layout.now) e n)) (sym (choice_view ps)) a)
+
+pub emit_first-emit_tried-requires : goal.emit_first-emit_tried-requires
+emit_first-emit_tried-requires t c =
+    let ps = listed c.args.parts.now in
+    let k = c.loop-number.number in
+    let p = c.index-parts-number.result in
+    let lt : k + 1 < length ps = omega (arith, ap length c.as_slice-parts.ensures) in
+    let is = part_of c.as_slice-parts.result.now ps k p c.as_slice-parts.ensures c.index-parts-number.is in
+    let here = len_first_here ps k p lt is in
+    let same = ap (λ l. len_first (cores l)) c.as_slice-parts.ensures in
+    (omega (arith, c.decreases, choice_part c.args.parts.now k p (omega arith) is), (omega (arith, here, same, ap len (choice_view c.args.parts.now), c.requires, c.next.ensures, c.choice_size.ensures, c.loop-number.invariant.0)))
+
+pub emit_first-loop-number-preserved : goal.emit_first-loop-number-preserved
+emit_first-loop-number-preserved t c =
+    let at = address_of c.args.layout.now in
+    let ps = listed c.args.parts.now in
+    let k = c.loop-number.number in
+    let p = c.index-parts-number.result in
+    let d = c.loop-number.draft in
+    let d1 = c.emit_tried.new.draft in
+    let lt : k + 1 < length ps = omega (arith, ap length c.as_slice-parts.ensures) in
+    let is = part_of c.as_slice-parts.result.now ps k p c.as_slice-parts.ensures c.index-parts-number.is in
+    let rest = cores (drop (k + 1) ps) in
+    let q = C.code_first at rest in
+    let end : c.next.result + c.choice_size.result ≡ length d1.code + len_first rest = omega (arith, len_first_here ps k p lt is, c.loop-number.invariant.0, c.in_ok-emit_tried.ensures.long) in (
+      end,
+      λ x more.
+          c.loop-number.invariant.1 x (subst (λ l. Adds d x l) (sym (code_first_here at ps k p (length d.code) lt is)) (c.in_ok-emit_tried.ensures.goes_on q x (omega (arith, end, first_length at rest (length d1.code))) more)),
+    )
+
+pub emit_first-emit-requires : goal.emit_first-emit-requires
+emit_first-emit-requires t c =
+    let row = c.as_slice-parts.result.now in
+    let ps = listed c.args.parts.now in
+    let k = c.loop-number.number in
+    let p = c.index-parts-last.result in
+    let some = eqb-false (length row) 0 (sym c.is_empty.ensures ∙ c.if-is_empty.false) in
+    let full : 0 < length row = omega (arith, some) in
+    let same = c.as_slice-parts.ensures in
+    let x = c.index-parts-last.is in
+    let last : k + 1 ≡ length ps = omega (arith, full, ap length same) in
+    let at_last : length row - 1 ≡ k = omega arith in
+    let is = part_of row ps k p same (x ∙ ap (λ i. get_or row i p) at_last) in
+    let here = ap (λ l. len_first (cores l)) (drop_last ps k p last is) in
+    let all = ap (λ l. len_first (cores l)) same in
+    (omega (arith, c.decreases, choice_part c.args.parts.now k p (omega arith) is), (omega (arith, here, all, ap len (choice_view c.args.parts.now), c.requires, c.next.ensures, c.choice_size.ensures, c.loop-number.invariant.0)))
+
+pub emit_length-put-requires-3 : goal.emit_length-put-requires-3
+emit_length-put-requires-3 t c =
+    let at = address_of c.args.layout.now in
+    let a = c.in_ok-put.ensures in
+    let b = c.in_ok-put-2.ensures in
+    let e = c.in_ok-emit.ensures in
+    omega (arith, a.long, b.long, e.long, code_length at (core_of c.args.body.now) (length c.put-2.new.self.code))
+
+pub emit_length-returns-clause-goes_on : goal.emit_length-returns-clause-goes_on
+emit_length-returns-clause-goes_on t c =
+    let at = address_of c.args.layout.now in
+    let p = core_of c.args.body.now in
+    let to = c.next.result + 2 + c.size_of.result + 1 in
+    let is : to ≡ length c.args.draft.now.code + 1 + 1 + len p + 1 = omega (arith, c.next.ensures, c.size_of.ensures, c.requires) in
+    on_ok c.put-3.result _ _ (λ w left x rest.
+    piece_length c.args.draft.now c.put.new.self c.put-2.new.self c.emit.new.draft c.put-3.new.self x (C.code at p) (len p) to c.args.end c.args.back left (code_length at p) is c.in_ok-put.ensures c.in_ok-put-2.ensures c.in_ok-emit.ensures w rest) c.put-3.ensures
+
+pub emit_length-returns-clause-long : goal.emit_length-returns-clause-long
+emit_length-returns-clause-long t c =
+    let at = address_of c.args.layout.now in
+    let p = core_of c.args.body.now in
+    let a = c.in_ok-put.ensures in
+    let b = c.in_ok-put-2.ensures in
+    let e = c.in_ok-emit.ensures in
+    on_ok c.put-3.result (Adds c.emit.new.draft c.put-3.new.self (I.Meet c.args.end ∷ [])) _ (λ w. omega (arith, a.long, b.long, e.long, w.long, code_length at p (length c.put-2.new.self.code))) c.put-3.ensures
+
+pub emit_many-put-requires-2 : goal.emit_many-put-requires-2
+emit_many-put-requires-2 t c =
+    let at = address_of c.args.layout.now in
+    let a = c.in_ok-put.ensures in
+    let b = c.in_ok-emit.ensures in
+    let none = sym c.in_default.ensures in
+    let room = ap (λ o. many_len o (len (core_of c.args.body.now))) none in
+    omega (arith, a.long, b.long, room, c.requires, code_length at (core_of c.args.body.now) (length c.put.new.self.code))
+
+pub emit_many-returns : goal.emit_many-returns
+emit_many-returns t c =
+    let at = address_of c.args.layout.now in
+    let p = core_of c.args.body.now in
+    let l = c.next-start.result + 1 + c.size_of.result + 1 in
+    let none = sym c.in_default.ensures in
+    let room = ap (λ o. many_len o (len p)) none in
+    let is : l ≡ length c.args.draft.now.code + 1 + len p + 1 = omega (arith, c.next-start.ensures, c.size_of.ensures, room, c.requires) in
+    let start : c.next-start.result + 1 ≡ length c.args.draft.now.code + 1 = omega (arith, c.next-start.ensures) in
+    on_ok c.put-2.result _ _ (λ w.
+    subst (λ o. Adds c.args.draft.now c.put-2.new.self (C.many_code o (C.code at p) (length c.args.draft.now.code))) (sym none) (piece_loop c.args.draft.now c.put.new.self c.emit.new.draft c.put-2.new.self (C.code at p) (len p) (c.next-start.result + 1) l (code_length at p) start is c.in_ok-put.ensures c.in_ok-emit.ensures w)) c.put-2.ensures
+
+pub emit_not-put-requires-3 : goal.emit_not-put-requires-3
+emit_not-put-requires-3 t c =
+    let at = address_of c.args.layout.now in
+    let a = c.in_ok-put.ensures in
+    let b = c.in_ok-emit.ensures in
+    let none = sym c.in_default.ensures in
+    let room = ap (λ o. not_len o (len (core_of c.args.body.now))) none in
+    omega (arith, a.long, b.long, room, c.requires, code_length at (core_of c.args.body.now) (length c.put-2.new.self.code))
+
+pub emit_not-returns : goal.emit_not-returns
+emit_not-returns t c =
+    let at = address_of c.args.layout.now in
+    let p = core_of c.args.body.now in
+    let l = c.next-start.result + 1 + c.size_of.result + 1 in
+    let none = sym c.in_default.ensures in
+    let room = ap (λ o. not_len o (len p)) none in
+    let is : l ≡ length c.args.draft.now.code + 1 + len p + 1 = omega (arith, c.next-start.ensures, c.size_of.ensures, room, c.requires) in
+    on_ok c.put-3.result _ _ (λ w.
+    subst (λ o. Adds c.args.draft.now c.put-3.new.self (C.not_code o (C.code at p) (length c.args.draft.now.code))) (sym none) (piece_refuse c.args.draft.now c.put-2.new.self c.emit.new.draft c.put-3.new.self (C.code at p) (len p) l (code_length at p) is c.in_ok-put.ensures c.in_ok-emit.ensures w)) c.put-3.ensures
+
+pub emit_tried-put-requires-2 : goal.emit_tried-put-requires-2
+emit_tried-put-requires-2 t c =
+    let at = address_of c.args.layout.now in
+    let x = c.in_ok-emit_test.ensures in
+    let a = c.in_ok-put.ensures in
+    let b = c.in_ok-emit.ensures in
+    let p = core_of c.args.part.now in
+    omega (arith, x.long, a.long, b.long, test_length (H.head p) (c.next.result + 2 + c.size_of-size.result + 1) (len p), c.requires, code_length at p (length c.put.new.self.code))
+
+pub emit_tried-returns-clause-goes_on : goal.emit_tried-returns-clause-goes_on
+emit_tried-returns-clause-goes_on t c =
+    let at = address_of c.args.layout.now in
+    let p = core_of c.args.part.now in
+    let h = H.head p in
+    let l = c.next.result + 2 + c.size_of-size.result + 1 in
+    let m = c.next-2.result + 1 + c.size_of-size.result + 1 in
+    let d1 = c.emit_test.new.draft in
+    let size : c.size_of-size.result ≡ len p = omega (arith, c.size_of-size.ensures, test_length h l (len p), c.requires) in
+    let is : l ≡ length c.args.draft.now.code + 1 + 1 + len p + 1 = omega (arith, c.next.ensures, size) in
+    let is1 : m ≡ length d1.code + 1 + len p + 1 = omega (arith, c.next-2.ensures, size) in
+    on_ok c.put-2.result _ _ (λ w q x end rest.
+    piece_tried h c.args.draft.now d1 x (C.code at p) q (len p) l (code_length at p) is c.in_ok-emit_test.ensures (piece_choice d1 c.put.new.self c.emit.new.draft c.put-2.new.self x (C.code at p) q (len p) m c.args.end (code_length at p) is1 end c.in_ok-put.ensures c.in_ok-emit.ensures w rest)) c.put-2.ensures
+
+pub emit_tried-returns-clause-long : goal.emit_tried-returns-clause-long
+emit_tried-returns-clause-long t c =
+    let at = address_of c.args.layout.now in
+    let p = core_of c.args.part.now in
+    let x = c.in_ok-emit_test.ensures in
+    let a = c.in_ok-put.ensures in
+    let b = c.in_ok-emit.ensures in
+    on_ok c.put-2.result (Adds c.emit.new.draft c.put-2.new.self (I.Commit c.args.end ∷ [])) _ (λ w. omega (arith, x.long, a.long, b.long, w.long, test_length (H.head p) (c.next.result + 2 + c.size_of-size.result + 1) (len p), code_length at p (length c.put.new.self.code))) c.put-2.ensures
