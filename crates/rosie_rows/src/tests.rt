@@ -19,6 +19,9 @@ const A: &[&str] = &["match", "\"a\""];
 
 const A_LINE: &str = "{\"type\":\"*\",\"s\":1,\"e\":2,\"data\":\"a\"}\n";
 
+/// The first 46 bytes of three such lines.
+const A_LINE_AND_MORE: &str = "{\"type\":\"*\",\"s\":1,\"e\":2,\"data\":\"a\"}\n{\"type\":\"*";
+
 const MISSING_ARGUMENT: &str = "\
 rosie: usage: missing argument
 usage: rosie [options] match PATTERN [FILE ...]
@@ -34,91 +37,92 @@ usage: rosie [options] match PATTERN [FILE ...]
        rosie [options] class NAME
 ";
 
+static CASES: [Case; 10] = [
+    Case {
+        shows: "one literal",
+        words: LITERAL,
+        input: b"abc\n",
+        out: "{\"type\":\"*\",\"s\":1,\"e\":3,\"data\":\"ab\"}\n",
+        err: "",
+        status: Status::Matched,
+    },
+    Case {
+        shows: "an empty input",
+        words: LITERAL,
+        input: b"",
+        out: "",
+        err: "",
+        status: Status::NoMatch,
+    },
+    Case {
+        shows: "a line that doesn't match, and a last one without a line feed that does",
+        words: A,
+        input: b"ba\na",
+        out: A_LINE,
+        err: "",
+        status: Status::Matched,
+    },
+    Case {
+        shows: "places count bytes, and what stands for JSON is escaped",
+        words: &["match", " \"\u{e9}\t\" "],
+        input: b"\xc3\xa9\tx\n",
+        out: "{\"type\":\"*\",\"s\":1,\"e\":4,\"data\":\"\u{e9}\\t\"}\n",
+        err: "",
+        status: Status::Matched,
+    },
+    Case {
+        shows: "a line that is no text is reported, and the run goes on",
+        words: LITERAL,
+        input: b"ab\n\xff\nab\n",
+        out: "{\"type\":\"*\",\"s\":1,\"e\":3,\"data\":\"ab\"}\n{\"type\":\"*\",\"s\":1,\"e\":3,\"data\":\"ab\"}\n",
+        err: "rosie: -:2: not UTF-8\n",
+        status: Status::LineFault,
+    },
+    Case {
+        shows: "a group isn't built",
+        words: &["match", "{\"a\""],
+        input: b"a\n",
+        out: "",
+        err: "rosie: (pattern):0: not yet\n",
+        status: Status::Refused,
+    },
+    Case {
+        shows: "two literals aren't built",
+        words: &["match", "\"a\" \"b\""],
+        input: b"ab\n",
+        out: "",
+        err: "rosie: (pattern):0: not yet\n",
+        status: Status::Refused,
+    },
+    Case {
+        shows: "another command isn't built",
+        words: &["grep", "\"a\""],
+        input: b"a\n",
+        out: "",
+        err: "rosie: not yet: grep\n",
+        status: Status::Refused,
+    },
+    Case {
+        shows: "an option isn't built",
+        words: &["match", "-w", "\"a\""],
+        input: b"a\n",
+        out: "",
+        err: "rosie: not yet: -w\n",
+        status: Status::Refused,
+    },
+    Case {
+        shows: "a usage fault has its line and the usage text",
+        words: &["match"],
+        input: b"a\n",
+        out: "",
+        err: MISSING_ARGUMENT,
+        status: Status::Refused,
+    },
+];
+
 #[test]
 fn answers(rt: HostRuntime) -> Result<(), Fail> {
-    let cases = [
-        Case {
-            shows: "one literal",
-            words: LITERAL,
-            input: b"abc\n",
-            out: "{\"type\":\"*\",\"s\":1,\"e\":3,\"data\":\"ab\"}\n",
-            err: "",
-            status: Status::Matched,
-        },
-        Case {
-            shows: "an empty input",
-            words: LITERAL,
-            input: b"",
-            out: "",
-            err: "",
-            status: Status::NoMatch,
-        },
-        Case {
-            shows: "a line that doesn't match, and a last one without a line feed that does",
-            words: A,
-            input: b"ba\na",
-            out: A_LINE,
-            err: "",
-            status: Status::Matched,
-        },
-        Case {
-            shows: "places count bytes, and what stands for JSON is escaped",
-            words: &["match", " \"\u{e9}\t\" "],
-            input: b"\xc3\xa9\tx\n",
-            out: "{\"type\":\"*\",\"s\":1,\"e\":4,\"data\":\"\u{e9}\\t\"}\n",
-            err: "",
-            status: Status::Matched,
-        },
-        Case {
-            shows: "a line that is no text is reported, and the run goes on",
-            words: LITERAL,
-            input: b"ab\n\xff\nab\n",
-            out: "{\"type\":\"*\",\"s\":1,\"e\":3,\"data\":\"ab\"}\n{\"type\":\"*\",\"s\":1,\"e\":3,\"data\":\"ab\"}\n",
-            err: "rosie: -:2: not UTF-8\n",
-            status: Status::LineFault,
-        },
-        Case {
-            shows: "a group isn't built",
-            words: &["match", "{\"a\""],
-            input: b"a\n",
-            out: "",
-            err: "rosie: (pattern):0: not yet\n",
-            status: Status::Refused,
-        },
-        Case {
-            shows: "two literals aren't built",
-            words: &["match", "\"a\" \"b\""],
-            input: b"ab\n",
-            out: "",
-            err: "rosie: (pattern):0: not yet\n",
-            status: Status::Refused,
-        },
-        Case {
-            shows: "another command isn't built",
-            words: &["grep", "\"a\""],
-            input: b"a\n",
-            out: "",
-            err: "rosie: not yet: grep\n",
-            status: Status::Refused,
-        },
-        Case {
-            shows: "an option isn't built",
-            words: &["match", "-w", "\"a\""],
-            input: b"a\n",
-            out: "",
-            err: "rosie: not yet: -w\n",
-            status: Status::Refused,
-        },
-        Case {
-            shows: "a usage fault has its line and the usage text",
-            words: &["match"],
-            input: b"a\n",
-            out: "",
-            err: MISSING_ARGUMENT,
-            status: Status::Refused,
-        },
-    ];
-    for case in cases {
+    for case in &CASES {
         let got = run_on(rt.alloc(), case.words, case.input, SURE, SURE, SURE)?;
         assert_eq!(rt;
             got.out.as_slice(),
@@ -146,8 +150,7 @@ fn a_sink_that_fails_keeps_what_it_took(rt: HostRuntime) -> Result<(), Fail> {
     let got = run_on(rt.alloc(), A, b"a\na\na\n", SURE, out, SURE)?;
     assert_eq!(rt; got.status, Status::WriteFault);
     assert_eq!(rt; got.out.len(), 46);
-    assert_eq!(rt; &got.out[..36], A_LINE.as_bytes());
-    assert_eq!(rt; &got.out[36..46], b"{\"type\":\"*".as_slice());
+    assert_eq!(rt; got.out.as_slice(), A_LINE_AND_MORE.as_bytes());
     Ok(())
 }
 
