@@ -23,12 +23,11 @@ use std::marker::Model;
 pub struct Set {
     class: Class,
     /// The members from 0 to 63, and those from 64 to 127, as bits.
-    low: u64,
-    high: u64,
+    masks: [u64; 2],
 }
 
 impl Model for Set {
-    ghost use Rattle.std.specs.Prelude.{List};
+    ghost use Rattle.std.specs.Prelude.{◌<◌, ◌*◌, ℕ, List, get_or};
     ghost use Rattle.regex_class.specs.Ranges.{Range};
     ghost use Rattle.rpl_classes.specs.Sets.{IsNormal, IsBitmap};
 
@@ -36,7 +35,7 @@ impl Model for Set {
 
     ghost view = { λ a. a.class.ranges.items };
 
-    ghost invariant = { λ a. IsNormal a.class.ranges.items × IsBitmap 0 a.class.ranges.items a.low × IsBitmap 64 a.class.ranges.items a.high };
+    ghost invariant = { λ a. IsNormal a.class.ranges.items × ((j : ℕ) → j < 2 → IsBitmap (64 * j) a.class.ranges.items (get_or a.masks j 0)) };
 }
 
 /// The set of a class that is normal, with its masks.
@@ -44,9 +43,8 @@ fn sealed(class: Class) -> Set
     requires { IsNormal class.ranges.items }
     ensures { result ≡ class.ranges.items }
 {
-    let low = bitmap(&class, 0);
-    let high = bitmap(&class, 64);
-    Set { class, low, high }
+    let masks = [bitmap(&class, 0), bitmap(&class, 64)];
+    Set { class, masks }
 }
 
 /// The ranges without their surrogates, each in two parts.
@@ -192,8 +190,7 @@ impl Set {
         let class = Class { ranges };
         Ok(Set {
             class,
-            low: self.low,
-            high: self.high,
+            masks: self.masks,
         })
     }
 
@@ -210,10 +207,8 @@ impl Set {
         ensures { result ≡ in_ranges self.now c }
     {
         let number = c as u32;
-        if number < 64 {
-            (self.low >> number) & 1 != 0
-        } else if number < 128 {
-            (self.high >> (number - 64)) & 1 != 0
+        if number < 128 {
+            (self.masks[(number / 64) as usize] >> (number % 64)) & 1 != 0
         } else {
             self.class.contains(number)
         }
