@@ -32,7 +32,7 @@ fn open(alloc: Global) -> Result<Ending, AllocError> {
 }
 
 /// The line's characters.
-fn characters(alloc: Global, line: &str) -> Result<Vec<char>, AllocError> {
+pub(crate) fn characters(alloc: Global, line: &str) -> Result<Vec<char>, AllocError> {
     let mut chars = Vec::new(alloc);
     for c in line.chars() {
         chars.push(c)?;

@@ -5,6 +5,8 @@
 #[cfg(test)]
 mod cases;
 #[cfg(test)]
+mod code_words;
+#[cfg(test)]
 mod endings;
 #[cfg(test)]
 mod generated;

@@ -6,7 +6,7 @@ use std::alloc::Global;
 use std::test::Fail;
 
 /// The set of one character, or of those from one to another, as in `a-z`.
-fn read_set(alloc: Global, word: &str) -> Result<Set, Fail> {
+pub(crate) fn read_set(alloc: Global, word: &str) -> Result<Set, Fail> {
     let mut chars = word.chars();
     let low = chars.next().ok_or("a set has a character")?;
     let mut high = low;

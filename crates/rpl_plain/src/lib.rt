@@ -11,6 +11,3 @@ pub use evaluation::evaluate;
 pub use forest::Forest;
 pub use machine::{Answer, Caught, run};
 pub use outcome::Outcome;
-
-#[cfg(test)]
-mod tests;
