@@ -2,4 +2,5 @@ mod Walks
 mod Acting
 mod Stepping
 mod Later
+mod Advancing
 mod Ranges

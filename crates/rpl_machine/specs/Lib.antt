@@ -4,3 +4,4 @@ pub mod Lists
 pub mod Kept
 pub mod Answers
 pub mod Ending
+pub mod Progress

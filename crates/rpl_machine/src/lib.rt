@@ -11,6 +11,7 @@ mod lists;
 mod looping;
 mod moves;
 mod scratch;
+mod spans;
 mod steps;
 mod turn;
 
