@@ -1,6 +1,6 @@
 -- How a text is cut, token by token, and that there is one such cut.
-use Rattle.std.proofs.Common.{◌≡◌, ℕ, ◌+◌, ◌-◌, ◌<◌, ◌≤◌, List, [], ◌∷◌, ◌++◌, length, drop, refl, sym, ap, ◌∙◌, subst, append_assoc, arith}
-use Rattle.std.specs.Prelude.{false}
+use Rattle.std.proofs.Common.{◌≡◌, ℕ, zero, suc, ◌+◌, ◌-◌, ◌<◌, ◌≤◌, List, [], ◌∷◌, ◌++◌, length, drop, refl, sym, ap, ◌∙◌, subst, append_assoc, arith}
+use Rattle.std.specs.Prelude.{false, Some, slice_get}
 use Rattle.std.proofs.lemmas.List.{append-nil, length-drop}
 use Rattle.rpl_lexer.specs.declared.token.Token.{Token}
 use Rattle.rpl_lexer.specs.declared.token.TokenKind.{TokenKind}
@@ -10,7 +10,7 @@ use Rattle.rpl_lexer.specs.declared.front.Stand.{Stand}
 use Rattle.rpl_lexer.specs.declared.front.Stand.TheVariants.{Found, Fault}
 use Rattle.rpl_lexer.specs.Gaps.{gap}
 use Rattle.rpl_lexer.specs.Fronts.{stands}
-use Rattle.rpl_lexer.specs.Cut.{End, Done, Fails, start, IsFault, IsToken, Next, Chain}
+use Rattle.rpl_lexer.specs.Cut.{End, Done, Fails, start, IsFault, IsToken, Next, Chain, IsCut}
 
 pub start_is : (s bs : List ℕ) (at g : ℕ) (r : List ℕ) → bs ≡ s → r ≡ drop at bs → g ≡ gap false r → at + g ≡ start s at
 start_is s bs at g r e f h = ap (λ x. at + x) (h ∙ ap (gap false) (f ∙ ap (drop at) e))
@@ -77,3 +77,12 @@ one_cut s pos n (t ∷ ts) (u ∷ us) e f h k =
     let q = next_one s pos n t u h.0 k.0 in
     let r = one_cut s t.end (n + 1) ts us e f h.1 (subst (λ x. Chain s x.end (n + 1) us f) (sym q) k.1) in
     (ap (λ x. x ∷ ts) q ∙ ap (λ xs. u ∷ xs) r.0, r.1)
+
+pub chain_stands : (s : List ℕ) (pos n : ℕ) (ts : List Token) (e : End) (i : ℕ) (t : Token) → Chain s pos n ts e → slice_get ts i ≡ Some t → IsToken s t
+chain_stands s pos n [] e i t h g = absurd (cc)
+chain_stands s pos n (u ∷ us) e zero t h g = let q : u ≡ t = cc in subst (IsToken s) q h.0.token
+chain_stands s pos n (u ∷ us) e (suc i) t h g = chain_stands s u.end (n + 1) us e i t h.1 g
+
+-- a token of a cut stands where it says
+pub tokens_stand : (s : List ℕ) (ts : List Token) (i : ℕ) (t : Token) → IsCut s ts → slice_get ts i ≡ Some t → IsToken s t
+tokens_stand s ts i t h g = chain_stands s 0 0 ts Done i t h g

@@ -3,3 +3,7 @@ pub mod Walks
 pub mod Words
 pub mod Places
 pub mod Cuts
+pub mod Ways
+pub mod Edges
+pub mod Decoding
+pub mod Values

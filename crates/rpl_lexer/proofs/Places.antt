@@ -1,5 +1,5 @@
 -- The parts of bounds, one behind the other.
-use Rattle.std.proofs.Common.{◌≡◌, ℕ, ◌+◌, List, drop, sym, ap, ◌∙◌}
+use Rattle.std.proofs.Common.{◌≡◌, ℕ, ◌+◌, List, sym, ap, ◌∙◌}
 use Rattle.std.specs.Prelude.{Bool, true, false}
 use Rattle.rpl_lexer.specs.declared.bounds.Span.{Span}
 use Rattle.rpl_lexer.specs.declared.bounds.Parts.{Parts}

@@ -1,6 +1,6 @@
 -- What a brace begins, from behind it: bounds where a digit or a comma comes next but for blanks, else the sign.
 -- Bounds are a number or none, perhaps a comma and a number or none, and the closing brace; spaces and tabs may stand between.
-use Rattle.std.specs.Prelude.{ℕ, ◌+◌, ◌≤◌, Bool, true, false, ◌||◌, not, nat_eq, nat_lt, is_some, List, [], Option, Some, None, if◌then◌else◌, drop, slice_range}
+use Rattle.std.specs.Prelude.{ℕ, ◌+◌, ◌≤◌, Bool, true, false, ◌||◌, not, nat_eq, nat_lt, is_some, List, Option, None, if◌then◌else◌, drop, slice_range}
 use Rattle.rpl_lexer.specs.declared.token.TokenKind.TheVariants as K
 use Rattle.rpl_lexer.specs.declared.fault.LexKind.TheVariants.{BadChar, NumberTooWide}
 use Rattle.rpl_lexer.specs.declared.front.Stand.{Stand}

@@ -1,5 +1,5 @@
 -- Texts and brackets, from behind what opens them: `"` is 34, `[` 91, `]` 93, the backslash 92, the line feed 10.
-use Rattle.std.specs.Prelude.{ℕ, zero, suc, ◌+◌, ◌-◌, Bool, true, false, not, ◌&&◌, nat_eq, is_some, List, [], ◌∷◌, Option, Some, None, if◌then◌else◌, take}
+use Rattle.std.specs.Prelude.{ℕ, ◌+◌, ◌-◌, Bool, false, not, ◌&&◌, nat_eq, is_some, List, [], ◌∷◌, Option, Some, None, if◌then◌else◌, take}
 use Rattle.rpl_text.specs.Escapes.{escape}
 use Rattle.rpl_lexer.specs.declared.enclosed.Enclosure.{Enclosure}
 use Rattle.rpl_lexer.specs.declared.enclosed.Enclosure.TheVariants.{Quotes, Brackets}

@@ -7,3 +7,4 @@ pub mod Enclosed
 pub mod Braces
 pub mod Fronts
 pub mod Cut
+pub mod Payloads

@@ -14,7 +14,9 @@ mod fault;
 mod front;
 mod gaps;
 mod keyword;
+mod laws;
 mod number;
+mod payload;
 mod punct;
 #[cfg(test)]
 mod tests;
@@ -24,6 +26,8 @@ pub use bounds::Bounds;
 pub use cut::lex;
 pub use fault::{LexFault, LexKind};
 pub use keyword::Keyword;
+pub use laws::{boundaries, one_cut, tokens_stand};
+pub use payload::{bounds_of, decode_text, halves_of, keyword_of, number_of, punct_of, token_text};
 pub use punct::Punct;
 pub use rpl_text::NoMemory;
 pub use token::{Token, TokenKind, Tokens};
