@@ -122,7 +122,7 @@ name_edged s k n b h = elim (named s) [
     lt : 0 < run is_word s
     lt = run_begins is_letter is_word s letter_word b
 
-plus_some : (o : Option ℕ) (n : ℕ) → plus 1 o ≡ Some n → (m : ℕ) × (o ≡ Some m) × (n ≡ suc m)
+pub plus_some : (o : Option ℕ) (n : ℕ) → plus 1 o ≡ Some n → (m : ℕ) × (o ≡ Some m) × (n ≡ suc m)
 plus_some None n e = absurd (cc)
 plus_some (Some m) n e = let k : 1 + m ≡ n = cc in (m, refl, omega arith)
 

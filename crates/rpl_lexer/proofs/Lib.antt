@@ -7,3 +7,6 @@ pub mod Ways
 pub mod Edges
 pub mod Decoding
 pub mod Values
+pub mod Spans
+pub mod BoundsFit
+pub mod Longest

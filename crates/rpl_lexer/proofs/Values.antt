@@ -114,7 +114,7 @@ is_qualified [] n h = absurd (no_token K.Qualified n h)
 is_qualified (b ∷ bs) n h = qualified_way b bs n (subst (Way b bs) h (way b bs))
 
 -- a run within the first n bytes is the same in them
-run_take : (p : ℕ → Bool) (s : List ℕ) (n : ℕ) → run p s < n → run p (take n s) ≡ run p s
+pub run_take : (p : ℕ → Bool) (s : List ℕ) (n : ℕ) → run p s < n → run p (take n s) ≡ run p s
 run_take p [] zero lt = absurd (omega arith)
 run_take p [] (suc n) lt = refl
 run_take p (b ∷ bs) zero lt = absurd (omega arith)

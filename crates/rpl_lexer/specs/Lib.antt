@@ -8,3 +8,4 @@ pub mod Braces
 pub mod Fronts
 pub mod Cut
 pub mod Payloads
+pub mod Forms

@@ -1,6 +1,12 @@
 // What holds of the definitions alone.
-ghost use Rattle.std.specs.Prelude.{◌≡◌, ℕ, List, slice_get, Some, IsUtf8, IsCharBoundary};
+ghost use Rattle.std.specs.Prelude.{◌≡◌, ◌≢◌, ℕ, List, ◌∷◌, slice_get, Some, IsUtf8, IsCharBoundary};
 ghost use Rattle.rpl_lexer.specs.Cut.{End, Chain, IsCut, IsToken};
+ghost use Rattle.rpl_lexer.specs.Fronts.{stands};
+ghost use Rattle.rpl_lexer.specs.Forms.{Fits, Longest};
+ghost use Rattle.rpl_lexer.specs.declared.front.Stand.TheVariants.{Found, Fault};
+ghost use Rattle.rpl_lexer.specs.declared.fault.LexKind.{LexKind};
+ghost use Rattle.rpl_lexer.specs.declared.fault.LexKind.TheVariants.{NumberTooWide};
+ghost use Rattle.rpl_lexer.specs.declared.token.TokenKind.{TokenKind};
 ghost use Rattle.rpl_lexer.specs.declared.token.Token.{Token};
 
 /// Each text has one cut: its tokens, or those before its first fault, and that fault.
@@ -17,4 +23,14 @@ pub fn tokens_stand()
 pub fn boundaries()
     ensures start { (s : List ℕ) (t : Token) → IsUtf8 s → IsToken s t → IsCharBoundary s t.start }
     ensures end { (s : List ℕ) (t : Token) → IsUtf8 s → IsToken s t → IsCharBoundary s t.end }
+{}
+
+/// What stands at a place is the longest of all the forms that fit there, and of its kind alone.
+pub fn longest_form()
+    ensures { (s : List ℕ) (kind : TokenKind) (n : ℕ) → stands s ≡ Found kind n → Longest kind s n }
+{}
+
+/// Where a fault stands, no form fits, but for a number that is too wide.
+pub fn no_form()
+    ensures { (b : ℕ) (bs : List ℕ) (fault : LexKind) (skip : ℕ) → stands (b ∷ bs) ≡ Fault fault skip → fault ≢ NumberTooWide → (kind : TokenKind) (n : ℕ) → Fits kind (b ∷ bs) n → ⊥ }
 {}
