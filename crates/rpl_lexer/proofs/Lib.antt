@@ -10,3 +10,4 @@ pub mod Values
 pub mod Spans
 pub mod BoundsFit
 pub mod Longest
+pub mod Told
