@@ -9,3 +9,4 @@ pub mod Fronts
 pub mod Cut
 pub mod Payloads
 pub mod Forms
+pub mod Laws

@@ -439,3 +439,25 @@ fn words_and_signs(rt: HostRuntime) -> Result<(), Fail> {
     }
     Ok(())
 }
+
+#[test]
+fn messages(rt: HostRuntime) -> Result<(), Fail> {
+    for (kind, want) in [
+        (LexKind::BadChar, "bad character"),
+        (LexKind::OpenText, "text without end"),
+        (LexKind::BadEscape, "bad escape"),
+        (LexKind::NumberTooWide, "number too wide"),
+        (LexKind::TooManyTokens, "too many tokens"),
+    ] {
+        assert_eq!(rt; kind.to_string(rt.alloc())?.as_str(), want);
+    }
+    let fault = LexFault {
+        at: 7,
+        kind: LexKind::BadChar,
+    };
+    assert_eq!(rt;
+        fault.to_string(rt.alloc())?.as_str(),
+        "bad character at byte 7"
+    );
+    Ok(())
+}

@@ -2,4 +2,4 @@ use Rattle.rpl_lexer.proofs.Edges.{token_cuttable}
 use Rattle.rpl_lexer.proofs.laws.boundaries.Goals as goal
 
 pub returns : goal.returns
-returns c = record { start = λ s t u h. (token_cuttable s t u h).start; end = λ s t u h. (token_cuttable s t u h).end }
+returns c = λ s t u h. let k = token_cuttable s t u h in (k.start, k.end)
