@@ -1,0 +1,13 @@
+pub mod Wide
+pub mod Walks
+pub mod Words
+pub mod Places
+pub mod Cuts
+pub mod Ways
+pub mod Edges
+pub mod Decoding
+pub mod Values
+pub mod Spans
+pub mod BoundsFit
+pub mod Longest
+pub mod Told

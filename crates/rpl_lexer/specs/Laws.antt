@@ -1,0 +1,43 @@
+-- What holds of tokens and cuts, whatever the text.
+use Rattle.std.specs.Prelude.{◌≡◌, ◌≢◌, ℕ, List, ◌∷◌, Some, slice_get, slice_index, IsUtf8, IsCharBoundary}
+use Rattle.rpl_lexer.specs.declared.token.Token.{Token}
+use Rattle.rpl_lexer.specs.declared.token.TokenKind.{TokenKind}
+use Rattle.rpl_lexer.specs.declared.token.TokenKind.TheVariants as K
+use Rattle.rpl_lexer.specs.declared.fault.LexKind.{LexKind}
+use Rattle.rpl_lexer.specs.declared.fault.LexKind.TheVariants.{NumberTooWide}
+use Rattle.rpl_lexer.specs.declared.front.Stand.TheVariants.{Found, Fault}
+use Rattle.rpl_lexer.specs.Keywords.{keyword_named}
+use Rattle.rpl_lexer.specs.Signs.{punct}
+use Rattle.rpl_lexer.specs.Fronts.{stands}
+use Rattle.rpl_lexer.specs.Cut.{End, Chain, IsCut, IsToken}
+use Rattle.rpl_lexer.specs.Forms.{Fits, Longest}
+use Rattle.rpl_lexer.specs.Payloads.{span, keyword_of, punct_of}
+
+-- a text has one cut: its tokens, or those before its first fault and that fault
+abbrev pub OneCut : Type 0
+OneCut = (s : List ℕ) (ts us : List Token) (e f : End) → Chain s 0 0 ts e → Chain s 0 0 us f → (ts ≡ us) × (e ≡ f)
+
+-- each token of a cut stands in the text where it says
+abbrev pub TokensStand : Type 0
+TokensStand = (s : List ℕ) (ts : List Token) (i : ℕ) (t : Token) → IsCut s ts → slice_get ts i ≡ Some t → IsToken s t
+
+-- a token begins and ends between characters
+abbrev pub BetweenCharacters : Type 0
+BetweenCharacters = (s : List ℕ) (t : Token) → IsUtf8 s → IsToken s t → IsCharBoundary s t.start × IsCharBoundary s t.end
+
+-- what stands at a place is the longest of all the forms that fit there, and of its kind alone
+abbrev pub LongestForm : Type 0
+LongestForm = (s : List ℕ) (kind : TokenKind) (n : ℕ) → stands s ≡ Found kind n → Longest kind s n
+
+-- where a fault stands no form fits, but for a number that is too wide
+abbrev pub NoForm : Type 0
+NoForm =
+    (b : ℕ) (bs : List ℕ) (fault : LexKind) (skip : ℕ) → stands (b ∷ bs) ≡ Fault fault skip → fault ≢ NumberTooWide
+    → (kind : TokenKind) (n : ℕ) → Fits kind (b ∷ bs) n → ⊥
+
+-- a Keyword is spelled as a keyword and a Sign as a sign, so that what is said of them is never a default
+abbrev pub KeywordsTold : Type 0
+KeywordsTold = (s : List ℕ) (t : Token) → t.kind ≡ K.Keyword → IsToken s t → keyword_named (span s t) ≡ Some (keyword_of s t)
+
+abbrev pub SignsTold : Type 0
+SignsTold = (s : List ℕ) (t : Token) → t.kind ≡ K.Sign → IsToken s t → punct (slice_index s t.start) ≡ Some (punct_of s t)

@@ -1,0 +1,33 @@
+// What holds of the definitions alone.
+ghost use Rattle.rpl_lexer.specs.Laws.{OneCut, TokensStand, BetweenCharacters, LongestForm, NoForm, KeywordsTold, SignsTold};
+
+/// Each text has one cut: its tokens, or those before its first fault, and that fault.
+pub fn one_cut()
+    ensures { OneCut }
+{}
+
+/// Each token of a cut stands in the text where it says.
+pub fn tokens_stand()
+    ensures { TokensStand }
+{}
+
+/// A token begins and ends between characters.
+pub fn boundaries()
+    ensures { BetweenCharacters }
+{}
+
+/// What stands at a place is the longest of all the forms that fit there, and of its kind alone.
+pub fn longest_form()
+    ensures { LongestForm }
+{}
+
+/// Where a fault stands, no form fits, but for a number that is too wide.
+pub fn no_form()
+    ensures { NoForm }
+{}
+
+/// A Keyword is spelled as a keyword, and a Sign as a sign: what is said of them is never a default.
+pub fn words_and_signs()
+    ensures keywords { KeywordsTold }
+    ensures signs { SignsTold }
+{}
