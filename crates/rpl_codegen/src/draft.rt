@@ -2,9 +2,9 @@
 ghost use Rattle.std.specs.Prelude.{◌≡◌, ◌<◌, ◌≤◌, [], ◌∷◌, IfSome, OnOk, length};
 
 use crate::NoMemory;
-use crate::tables::{keep_label, keep_set};
+use crate::tables::{LabelTable, SetTable};
 use rpl_classes::Set;
-use rpl_core::{Instr, Instrs, Labels, Sets};
+use rpl_core::{Instr, Instrs};
 use rpl_text::Chars;
 use std::alloc::Global;
 
@@ -12,8 +12,8 @@ use std::alloc::Global;
 #[derive(Drop)]
 pub(crate) struct Draft {
     pub(crate) code: Instrs,
-    pub(crate) sets: Sets,
-    pub(crate) labels: Labels,
+    pub(crate) sets: SetTable,
+    pub(crate) labels: LabelTable,
     ghost few: { length code ≤ 1048576 },
 }
 
@@ -29,8 +29,8 @@ impl Draft {
     {
         Draft {
             code: Instrs::new(alloc),
-            sets: Sets::new(alloc),
-            labels: Labels::new(alloc),
+            sets: SetTable::new(alloc),
+            labels: LabelTable::new(alloc),
         }
     }
 
@@ -55,7 +55,7 @@ impl Draft {
         requires { length self.old.code < 1048576 }
         ensures { OnOk result (Adds self.old self.new (I.Set set.now ∷ [])) }
     {
-        let number = keep_set(alloc, &mut self.sets, set)?;
+        let number = self.sets.keep(alloc, set)?;
         self.code.push(Instr::Set(number))?;
         Ok(())
     }
@@ -65,7 +65,7 @@ impl Draft {
         requires { length self.old.code < 1048576 }
         ensures { OnOk result (Adds self.old self.new (I.Span set.now ∷ [])) }
     {
-        let number = keep_set(alloc, &mut self.sets, set)?;
+        let number = self.sets.keep(alloc, set)?;
         self.code.push(Instr::Span(number))?;
         Ok(())
     }
@@ -75,7 +75,7 @@ impl Draft {
         requires { length self.old.code < 1048576 }
         ensures { OnOk result (Adds self.old self.new (I.TestSet other set.now ∷ [])) }
     {
-        let number = keep_set(alloc, &mut self.sets, set)?;
+        let number = self.sets.keep(alloc, set)?;
         self.code.push(Instr::TestSet(other, number))?;
         Ok(())
     }
@@ -85,7 +85,7 @@ impl Draft {
         requires { length self.old.code < 1048576 }
         ensures { OnOk result (Adds self.old self.new (I.Open label.now ∷ [])) }
     {
-        let number = keep_label(alloc, &mut self.labels, label)?;
+        let number = self.labels.keep(alloc, label)?;
         self.code.push(Instr::Open(number))?;
         Ok(())
     }
@@ -95,7 +95,7 @@ impl Draft {
         requires { length self.old.code < 1048576 }
         ensures { OnOk result (Adds self.old self.new (I.Note text.now ∷ [])) }
     {
-        let number = keep_label(alloc, &mut self.labels, text)?;
+        let number = self.labels.keep(alloc, text)?;
         self.code.push(Instr::Note(number))?;
         Ok(())
     }

@@ -1,83 +1,136 @@
-// Tables that keep each set and each text once.
-ghost use Rattle.std.specs.List.{Contains};
-ghost use Rattle.std.specs.Prelude.{◌≡◌, ◌↔◌, IsTrue, ℕ, ◌<◌, [], ◌∷◌, IfOk, IfSome, IsNone, Some, slice_get};
+// Tables that keep each set and each text once, and find it by its hash.
+ghost use Rattle.std.specs.Prelude.{◌≡◌, [], ◌∷◌, IfOk, Some, chars, slice_get};
 ghost use Rattle.rpl_codegen.specs.Uses.{Keeps};
 
 use crate::NoMemory;
+use indexmap::IndexSet;
+use regex_class::ClassRange;
 use rpl_classes::Set;
 use rpl_core::{Labels, Sets};
 use rpl_text::Chars;
 use std::alloc::Global;
+use std::marker::Model;
 
-/// The number of the set in the table.
-fn find_set(sets: &Sets, set: &Set) -> Option<usize>
-    ensures none { IsNone result → ¬ Contains sets.now set.now }
-    ensures some { IfSome result (λ k. slice_get sets.now k ≡ Some set.now) }
-{
-    for number in 0..sets.len() {
-        if let Some(known) = sets.get(number) {
-            if known.same(set) {
-                return Some(number);
-            }
-        }
-    }
-    None
+/// Sets in the order of their first uses, each once. Contracts see the list of their lists of ranges.
+#[derive(Drop)]
+pub(crate) struct SetTable {
+    known: IndexSet<Vec<ClassRange>>,
 }
 
-/// The number of the set in the table, to which it is added where it isn't there.
-pub(crate) fn keep_set(alloc: Global, sets: &mut Sets, set: &Set) -> Result<u32, NoMemory>
-    ensures kept { IfOk result (λ k. Keeps sets.old (set.now ∷ []) sets.new) }
-    ensures number { IfOk result (λ k. slice_get sets.new k ≡ Some set.now) }
-{
-    let count = sets.len();
-    if count > u32::MAX as usize {
-        return Err(NoMemory);
-    }
-    match find_set(sets, set) {
-        Some(number) => Ok(number as u32),
-        None => {
-            sets.push(set.copy(alloc)?)?;
-            Ok(count as u32)
+impl Model for SetTable {
+    ghost use Rattle.std.specs.Prelude.{List, map};
+    ghost use Rattle.std.specs.List.{All};
+    ghost use Rattle.regex_class.specs.Ranges.{Range};
+    ghost use Rattle.rpl_classes.specs.Sets.{IsNormal};
+
+    ghost Value = { List (List Range) };
+
+    ghost view = { λ a. map (λ v. v.items) a.known.keys };
+
+    ghost invariant = { λ a. All IsNormal (map (λ v. v.items) a.known.keys) };
+}
+
+impl SetTable {
+    /// No sets.
+    pub(crate) fn new(alloc: Global) -> SetTable
+        ensures { result ≡ [] }
+    {
+        SetTable {
+            known: IndexSet::new(alloc),
         }
+    }
+
+    /// The number of the set, which is added where it isn't there.
+    pub(crate) fn keep(&mut self, alloc: Global, set: &Set) -> Result<u32, NoMemory>
+        ensures kept { IfOk result (λ k. Keeps self.old (set.now ∷ []) self.new) }
+        ensures number { IfOk result (λ k. slice_get self.new k ≡ Some set.now) }
+    {
+        let ranges = Vec::from_slice(alloc, set.ranges())?;
+        let (number, _) = self.known.insert_full(ranges)?;
+        if number > u32::MAX as usize {
+            return Err(NoMemory);
+        }
+        Ok(number as u32)
+    }
+
+    /// All of them, as the machine takes them.
+    pub(crate) fn sets(&self, alloc: Global) -> Result<Sets, NoMemory>
+        ensures { IfOk result (λ sets. sets ≡ self.now) }
+    {
+        let mut sets = Sets::new(alloc);
+        for ranges in self.known.as_slice() {
+            sets.push(Set::from_ranges(alloc, ranges)?)?;
+        }
+        Ok(sets)
     }
 }
 
-/// Whether the two are the same text.
-fn same_text(one: &Chars, other: &Chars) -> bool
-    ensures { IsTrue result ↔ (one.now ≡ other.now) }
-{
-    one.as_str() == other.as_str()
+/// Texts in the order of their first uses, each once. Contracts see the list of their lists of characters.
+#[derive(Drop)]
+pub(crate) struct LabelTable {
+    known: IndexSet<Vec<char>>,
 }
 
-/// The number of the text in the table.
-fn find_label(labels: &Labels, label: &Chars) -> Option<usize>
-    ensures none { IsNone result → ¬ Contains labels.now label.now }
-    ensures some { IfSome result (λ k. slice_get labels.now k ≡ Some label.now) }
-{
-    for number in 0..labels.len() {
-        if let Some(known) = labels.get(number) {
-            if same_text(known, label) {
-                return Some(number);
-            }
-        }
-    }
-    None
+impl Model for LabelTable {
+    ghost use Rattle.std.specs.Prelude.{ℕ, List, map};
+
+    ghost Value = { List (List ℕ) };
+
+    ghost view = { λ a. map (λ v. v.items) a.known.keys };
 }
 
-/// The number of the text in the table, to which it is added where it isn't there.
-pub(crate) fn keep_label(alloc: Global, labels: &mut Labels, label: &Chars) -> Result<u32, NoMemory>
-    ensures kept { IfOk result (λ k. Keeps labels.old (label.now ∷ []) labels.new) }
-    ensures number { IfOk result (λ k. slice_get labels.new k ≡ Some label.now) }
+/// The text's characters in a list.
+fn characters(alloc: Global, text: &str) -> Result<Vec<char>, NoMemory>
+    ensures { IfOk result (λ v. v.items ≡ chars text.now) }
 {
-    let count = labels.len();
-    if count > u32::MAX as usize {
-        return Err(NoMemory);
+    let mut all = Vec::new(alloc);
+    for c in text.chars() {
+        all.push(c)?;
     }
-    match find_label(labels, label) {
-        Some(number) => Ok(number as u32),
-        None => {
-            labels.push(label.copy(alloc)?)?;
-            Ok(count as u32)
+    Ok(all)
+}
+
+/// The text of the characters.
+fn text(alloc: Global, characters: &[char]) -> Result<Chars, NoMemory>
+    ensures { IfOk result (λ c. c ≡ characters.now) }
+{
+    let mut text = String::new(alloc);
+    for c in characters {
+        text.push(*c)?;
+    }
+    Chars::from_str(alloc, text.as_str())
+}
+
+impl LabelTable {
+    /// No texts.
+    pub(crate) fn new(alloc: Global) -> LabelTable
+        ensures { result ≡ [] }
+    {
+        LabelTable {
+            known: IndexSet::new(alloc),
         }
+    }
+
+    /// The number of the text, which is added where it isn't there.
+    pub(crate) fn keep(&mut self, alloc: Global, label: &Chars) -> Result<u32, NoMemory>
+        ensures kept { IfOk result (λ k. Keeps self.old (label.now ∷ []) self.new) }
+        ensures number { IfOk result (λ k. slice_get self.new k ≡ Some label.now) }
+    {
+        let (number, _) = self.known.insert_full(characters(alloc, label.as_str())?)?;
+        if number > u32::MAX as usize {
+            return Err(NoMemory);
+        }
+        Ok(number as u32)
+    }
+
+    /// All of them, as the program takes them.
+    pub(crate) fn labels(&self, alloc: Global) -> Result<Labels, NoMemory>
+        ensures { IfOk result (λ labels. labels ≡ self.now) }
+    {
+        let mut labels = Labels::new(alloc);
+        for characters in self.known.as_slice() {
+            labels.push(text(alloc, characters)?)?;
+        }
+        Ok(labels)
     }
 }

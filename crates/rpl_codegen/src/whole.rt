@@ -63,7 +63,7 @@ pub fn compile(alloc: Global, rules: &Rules, goal: &Peg) -> Result<Program, Comp
     draft.put(Instr::Finish)?;
     emit_rules(alloc, &mut draft, &layout, rules, &marks)?;
     let Draft { code, sets, labels } = draft;
-    Ok(Program::new(code, sets, labels))
+    Ok(Program::new(code, sets.sets(alloc)?, labels.labels(alloc)?))
 }
 
 /// Writes the marked rules in the order of the table, each with its return.

@@ -1,5 +1,6 @@
 use Rattle.std.proofs.Common.{◌∙◌, sym, ap, subst, arith, length, refl}
 use Rattle.rpl_core.specs.Listed.{rules_of}
+use Rattle.rpl_core.specs.Numbers.{AreInRange}
 use Rattle.rpl_core.specs.Programs.{program}
 use Rattle.rpl_core.specs.Table.{bodies_of}
 use Rattle.rpl_core.specs.View.{core_of}
@@ -49,7 +50,10 @@ new-requires-2 c =
     let bs = c.in_ok-marks.marks.items in
     let d = c.new-draft.result in
     let all = compiled d c.emit.new.draft c.put.new.self c.emit_rules.new.draft c.in_ok-layout.layout bs c.deref.result.now c.deref-2.result.now R g c.deref.ensures.value c.deref-2.ensures.value c.in_ok-layout.ensures (omega (arith, c.size.ensures, c.if-size-gt-MAX_CODE.false)) c.new-draft.ensures.code c.in_ok-emit.ensures c.in_ok-put.ensures c.in_ok-emit_rules.ensures in
-    (finished d c.emit_rules.new.draft bs R g c.requires c.in_ok-marks.ensures c.new-draft.ensures.code all).1
+    let d3 = c.emit_rules.new.draft in
+    subst (λ s. AreInRange d3.code s c.in_ok-labels.field-0) (sym c.in_ok-sets.ensures)
+    (subst (λ l. AreInRange d3.code d3.sets l) (sym c.in_ok-labels.ensures)
+    (finished d d3 bs R g c.requires c.in_ok-marks.ensures c.new-draft.ensures.code all).1)
 
 pub returns-clause-code : goal.returns-clause-code
 returns-clause-code c =
@@ -61,7 +65,7 @@ returns-clause-code c =
     let p = c.new-2.result in
     let all = compiled d c.emit.new.draft c.put.new.self d3 c.in_ok-layout.layout bs c.deref.result.now c.deref-2.result.now R g c.deref.ensures.value c.deref-2.ensures.value c.in_ok-layout.ensures (omega (arith, c.size.ensures, c.if-size-gt-MAX_CODE.false)) c.new-draft.ensures.code c.in_ok-emit.ensures c.in_ok-put.ensures c.in_ok-emit_rules.ensures in
     let is = finished d d3 bs R g c.requires c.in_ok-marks.ensures c.new-draft.ensures.code all in
-    is_code bs R g _ c.in_ok-marks.ensures (program_means p d3.code d3.sets d3.labels (program (marked bs) R g) c.new-2.ensures.code c.new-2.ensures.sets c.new-2.ensures.labels is.0)
+    is_code bs R g _ c.in_ok-marks.ensures (program_means p d3.code d3.sets d3.labels (program (marked bs) R g) c.new-2.ensures.code (c.new-2.ensures.sets ∙ c.in_ok-sets.ensures) (c.new-2.ensures.labels ∙ c.in_ok-labels.ensures) is.0)
 
 pub returns-clause-meant : goal.returns-clause-meant
 returns-clause-meant c =
@@ -73,7 +77,7 @@ returns-clause-meant c =
     let p = c.new-2.result in
     let all = compiled d c.emit.new.draft c.put.new.self d3 c.in_ok-layout.layout bs c.deref.result.now c.deref-2.result.now R g c.deref.ensures.value c.deref-2.ensures.value c.in_ok-layout.ensures (omega (arith, c.size.ensures, c.if-size-gt-MAX_CODE.false)) c.new-draft.ensures.code c.in_ok-emit.ensures c.in_ok-put.ensures c.in_ok-emit_rules.ensures in
     let is = finished d d3 bs R g c.requires c.in_ok-marks.ensures c.new-draft.ensures.code all in
-    let code = is_code bs R g _ c.in_ok-marks.ensures (program_means p d3.code d3.sets d3.labels (program (marked bs) R g) c.new-2.ensures.code c.new-2.ensures.sets c.new-2.ensures.labels is.0) in
+    let code = is_code bs R g _ c.in_ok-marks.ensures (program_means p d3.code d3.sets d3.labels (program (marked bs) R g) c.new-2.ensures.code (c.new-2.ensures.sets ∙ c.in_ok-sets.ensures) (c.new-2.ensures.labels ∙ c.in_ok-labels.ensures) is.0) in
     λ h still. simulation_holds h R g _ still code
 
 pub returns-clause-sets : goal.returns-clause-sets
@@ -86,8 +90,8 @@ returns-clause-sets c =
     let p = c.new-2.result in
     let all = compiled d c.emit.new.draft c.put.new.self d3 c.in_ok-layout.layout bs c.deref.result.now c.deref-2.result.now R g c.deref.ensures.value c.deref-2.ensures.value c.in_ok-layout.ensures (omega (arith, c.size.ensures, c.if-size-gt-MAX_CODE.false)) c.new-draft.ensures.code c.in_ok-emit.ensures c.in_ok-put.ensures c.in_ok-emit_rules.ensures in
     let is = finished d d3 bs R g c.requires c.in_ok-marks.ensures c.new-draft.ensures.code all in
-    let same = program_means p d3.code d3.sets d3.labels (program (marked bs) R g) c.new-2.ensures.code c.new-2.ensures.sets c.new-2.ensures.labels is.0 in
-    kept (sets_in (program (marked bs) R g)) _ d.sets d3.sets p.sets (ap sets_in (sym same)) c.new-draft.ensures.sets (sym c.new-2.ensures.sets) all.sets
+    let same = program_means p d3.code d3.sets d3.labels (program (marked bs) R g) c.new-2.ensures.code (c.new-2.ensures.sets ∙ c.in_ok-sets.ensures) (c.new-2.ensures.labels ∙ c.in_ok-labels.ensures) is.0 in
+    kept (sets_in (program (marked bs) R g)) _ d.sets d3.sets p.sets (ap sets_in (sym same)) c.new-draft.ensures.sets (sym (c.new-2.ensures.sets ∙ c.in_ok-sets.ensures)) all.sets
 
 pub returns-clause-labels : goal.returns-clause-labels
 returns-clause-labels c =
@@ -99,5 +103,5 @@ returns-clause-labels c =
     let p = c.new-2.result in
     let all = compiled d c.emit.new.draft c.put.new.self d3 c.in_ok-layout.layout bs c.deref.result.now c.deref-2.result.now R g c.deref.ensures.value c.deref-2.ensures.value c.in_ok-layout.ensures (omega (arith, c.size.ensures, c.if-size-gt-MAX_CODE.false)) c.new-draft.ensures.code c.in_ok-emit.ensures c.in_ok-put.ensures c.in_ok-emit_rules.ensures in
     let is = finished d d3 bs R g c.requires c.in_ok-marks.ensures c.new-draft.ensures.code all in
-    let same = program_means p d3.code d3.sets d3.labels (program (marked bs) R g) c.new-2.ensures.code c.new-2.ensures.sets c.new-2.ensures.labels is.0 in
-    kept (labels_in (program (marked bs) R g)) _ d.labels d3.labels p.labels (ap labels_in (sym same)) c.new-draft.ensures.labels (sym c.new-2.ensures.labels) all.labels
+    let same = program_means p d3.code d3.sets d3.labels (program (marked bs) R g) c.new-2.ensures.code (c.new-2.ensures.sets ∙ c.in_ok-sets.ensures) (c.new-2.ensures.labels ∙ c.in_ok-labels.ensures) is.0 in
+    kept (labels_in (program (marked bs) R g)) _ d.labels d3.labels p.labels (ap labels_in (sym same)) c.new-draft.ensures.labels (sym (c.new-2.ensures.labels ∙ c.in_ok-labels.ensures)) all.labels
