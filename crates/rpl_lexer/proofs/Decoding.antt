@@ -20,12 +20,12 @@ decoded-skip : (k c : ℕ) (cs : List ℕ) → decoded (suc k) (c ∷ cs) ≡ de
 unfolding decoded
 decoded-skip k c cs = refl
 
-decoded-cons : (c : ℕ) (cs : List ℕ) → decoded 0 (c ∷ cs) ≡ (if nat_eq c 34 then [] else (if nat_eq c 92 then unescaped (escape cs) (λ k. decoded k cs) else c ∷ decoded 0 cs))
+pub decoded-cons : (c : ℕ) (cs : List ℕ) → decoded 0 (c ∷ cs) ≡ (if nat_eq c 34 then [] else (if nat_eq c 92 then unescaped (escape cs) (λ k. decoded k cs) else c ∷ decoded 0 cs))
 unfolding decoded
 decoded-cons c cs = refl
 
 -- characters of an escape are passed over
-skipped : (k : ℕ) (cs : List ℕ) → decoded k cs ≡ decoded 0 (drop k cs)
+pub skipped : (k : ℕ) (cs : List ℕ) → decoded k cs ≡ decoded 0 (drop k cs)
 skipped zero cs = refl
 skipped (suc k) [] = decoded-nil (suc k) ∙ sym (decoded-nil 0)
 skipped (suc k) (c ∷ cs) = decoded-skip k c cs ∙ skipped k cs

@@ -11,3 +11,4 @@ pub mod Spans
 pub mod BoundsFit
 pub mod Longest
 pub mod Told
+pub mod Quotes

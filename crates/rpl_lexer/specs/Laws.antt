@@ -12,6 +12,7 @@ use Rattle.rpl_lexer.specs.Fronts.{stands}
 use Rattle.rpl_lexer.specs.Cut.{End, Chain, IsCut, IsToken}
 use Rattle.rpl_lexer.specs.Forms.{Fits, Longest}
 use Rattle.rpl_lexer.specs.Payloads.{span, keyword_of, punct_of}
+use Rattle.rpl_lexer.specs.Written.{Writes, ReadsBack}
 
 -- a text has one cut: its tokens, or those before its first fault and that fault
 abbrev pub OneCut : Type 0
@@ -41,3 +42,7 @@ KeywordsTold = (s : List ℕ) (t : Token) → t.kind ≡ K.Keyword → IsToken s
 
 abbrev pub SignsTold : Type 0
 SignsTold = (s : List ℕ) (t : Token) → t.kind ≡ K.Sign → IsToken s t → punct (slice_index s t.start) ≡ Some (punct_of s t)
+
+-- what is written between quotes by characters and escapes is one text, whatever follows it, and is read as what it stands for
+abbrev pub WrittenReadsBack : Type 0
+WrittenReadsBack = (w cs r : List ℕ) → Writes w cs → ReadsBack w cs r

@@ -9,4 +9,5 @@ pub mod Fronts
 pub mod Cut
 pub mod Payloads
 pub mod Forms
+pub mod Written
 pub mod Laws

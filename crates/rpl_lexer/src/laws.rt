@@ -1,5 +1,5 @@
 // What holds of the definitions alone.
-ghost use Rattle.rpl_lexer.specs.Laws.{OneCut, TokensStand, BetweenCharacters, LongestForm, NoForm, KeywordsTold, SignsTold};
+ghost use Rattle.rpl_lexer.specs.Laws.{OneCut, TokensStand, BetweenCharacters, LongestForm, NoForm, KeywordsTold, SignsTold, WrittenReadsBack};
 
 /// Each text has one cut: its tokens, or those before its first fault, and that fault.
 pub fn one_cut()
@@ -30,4 +30,10 @@ pub fn no_form()
 pub fn words_and_signs()
     ensures keywords { KeywordsTold }
     ensures signs { SignsTold }
+{}
+
+/// What is written between quotes, by characters and escapes, is one Text, whatever follows it, and is
+/// read as what it stands for.
+pub fn written_reads_back()
+    ensures { WrittenReadsBack }
 {}
