@@ -17,3 +17,6 @@ mod tree;
 pub use answer::{AnswerText, encode};
 pub use fault::EncodeFault;
 pub use style::Style;
+
+#[cfg(test)]
+mod tests;
