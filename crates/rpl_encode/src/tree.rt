@@ -58,6 +58,7 @@ fn put_below<T: Target>(
     while let Some(left) = pending.pop() {
         match forest.get(index) {
             Some(node) if left > 0 => {
+                // A node's nodes end at the latest where those of its parent do.
                 let below = node.below.min(left - 1);
                 pending.push(left - 1 - below)?;
                 index += 1;

@@ -1,15 +1,17 @@
-use Rattle.std.proofs.Common.{◌≤◌, ◌+◌, refl, arith}
-use Rattle.rpl_encode.proofs.Quoting.{plain_step, escape_step}
+use Rattle.std.proofs.Common.{◌≤◌, ◌++◌, length, take, sym, ap, ◌∙◌, arith, append_assoc}
+use Rattle.std.specs.Prelude.{flat_map, slice_range}
+use Rattle.rpl_encode.specs.Quoted.{escaped}
+use Rattle.rpl_encode.proofs.Quoting.{more_chunk}
 use Rattle.rpl_encode.proofs.quoted.push_quoted.Goals as goal
-use Rattle.rpl_encode.proofs.quoted.push_quoted.Goals.{then-not-is_plain+in_ok-extend_from_slice+in_ok-push_escaped, else-not-is_plain}
 
-pub loop-index-preserved : goal.loop-index-preserved
-loop-index-preserved c =
-    elim c.if-not-is_plain.branch [
-      | then-not-is_plain+in_ok-extend_from_slice+in_ok-push_escaped w ↦
-          let at : c.if-not-is_plain.from ≤ c.loop-index.index + 1 = omega arith in
-          (at, rw (w.from-is, w.out-is, w.in_ok-push_escaped.ensures, w.in_ok-extend_from_slice.ensures.items) (escape_step c.args.text.now c.loop-index.out.items c.push.new.self.items c.loop-index.from c.loop-index.index (omega arith) c.loop-index.invariant.1))
-      | else-not-is_plain w ↦
-          let at : c.if-not-is_plain.from ≤ c.loop-index.index + 1 = omega arith in
-          (at, rw (w.from-is, w.out-is) (plain_step c.args.text.now c.loop-index.out.items c.push.new.self.items c.loop-index.from c.loop-index.index (omega arith) (omega arith) (w.if-not-is_plain.ensures refl) c.loop-index.invariant.1))
-    ]
+pub loop-from-preserved : goal.loop-from-preserved
+loop-from-preserved c =
+    let text = c.args.text.now in
+    let within : c.min-to.result ≤ length text = omega (arith, c.min-to.ensures) in
+    let more = more_chunk text c.loop-from.from c.min-to.result (omega (arith, c.min-to.ensures)) in (
+      within,
+      c.in_ok-push_chunk.ensures
+          ∙ ap (λ x. x ++ flat_map escaped (slice_range text c.loop-from.from c.min-to.result)) c.loop-from.invariant.1
+          ∙ append_assoc c.push.new.self.items (flat_map escaped (take c.loop-from.from text)) (flat_map escaped (slice_range text c.loop-from.from c.min-to.result))
+          ∙ ap (λ x. c.push.new.self.items ++ x) (sym more),
+    )
