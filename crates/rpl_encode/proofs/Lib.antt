@@ -1,0 +1,5 @@
+pub mod Quoting
+pub mod Nodes
+pub mod Walking
+pub mod Listing
+pub mod Placed

@@ -1,0 +1,53 @@
+-- The text of an answer in each style.
+use Rattle.std.specs.Prelude.{ℕ, if◌then◌else◌, List, [], ◌∷◌, ◌++◌, flat_map, take, slice_range, codes, Option, None, Some}
+use Rattle.std.specs.Str.{encode_utf8_all, bytes_eq}
+use Rattle.rpl_core.specs.Forest.{Forest, NoTree, Tree, Noted}
+use Rattle.rpl_encode.specs.Texts.{texts, objects}
+use Rattle.rpl_encode.specs.declared.style.Style.{Style}
+use Rattle.rpl_encode.specs.declared.style.Style.TheVariants.{Json, Line, Matches, Subs, Plain, Bool as TrueOrFalse}
+
+-- the trees inside the first one, which is the root
+abbrev pub below_root : Forest → Forest
+below_root NoTree = NoTree
+below_root (Tree label start end below behind) = below
+below_root (Noted text place behind) = NoTree
+
+-- the texts of the hits of a search, which have the type `find.*`
+abbrev pub hits : List ℕ → Forest → List (List ℕ)
+hits line NoTree = []
+hits line (Tree label start end below behind) =
+    if bytes_eq (encode_utf8_all label) (codes "find.*") then slice_range line start end ∷ hits line behind else hits line behind
+hits line (Noted text place behind) = hits line behind
+
+abbrev pub or_else : List (List ℕ) → List (List ℕ) → List (List ℕ)
+or_else [] others = others
+or_else (first ∷ more) others = first ∷ more
+
+-- the parts that are printed of a match, whose root is the first tree
+abbrev pub parts : Style → List ℕ → Forest → List (List ℕ)
+parts Json line f = take 1 (objects line f)
+parts Line line f = line ∷ []
+parts Matches line f = or_else (hits line (below_root f)) (take 1 (texts line f))
+parts Subs line f = texts line (below_root f)
+parts Plain line f = take 1 (texts line f)
+parts TrueOrFalse line f = codes "true" ∷ []
+
+-- the same where there is no match
+abbrev pub none : Style → List (List ℕ)
+none TrueOrFalse = codes "false" ∷ []
+none _ = []
+
+abbrev pub parts_of : Style → List ℕ → Option Forest → List (List ℕ)
+parts_of style line None = none style
+parts_of style line (Some f) = parts style line f
+
+-- each part with a line feed
+abbrev pub line_by_line : List (List ℕ) → List ℕ
+line_by_line = flat_map (λ part. part ++ 10 ∷ [])
+
+abbrev pub answer : Style → List ℕ → Option Forest → List ℕ
+answer style line found = line_by_line (parts_of style line found)
+
+-- the greatest number of bytes of an answer
+abbrev pub most_bytes : ℕ
+most_bytes = 67108864

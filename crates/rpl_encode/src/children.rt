@@ -1,0 +1,94 @@
+// The texts of the root, and of the nodes directly under it.
+ghost use Rattle.std.specs.Prelude.{◌≡◌, ◌<◌, ◌⊎◌, ◌++◌, [], ◌∷◌, slice_get, OnOk, IfOk, IfSome, IfNone};
+ghost use Rattle.rpl_core.specs.Program.{labels_of};
+ghost use Rattle.rpl_encode.specs.Answer.{below_root, line_by_line, parts};
+ghost use Rattle.rpl_encode.specs.Children.{below_of_first, is_some_text, is_wanted, wanted};
+ghost use Rattle.rpl_encode.specs.Labels.{trees_in};
+
+use crate::node_text::{label_of, text_of};
+use crate::style::Style;
+use crate::target::Target;
+use rpl_core::{NoMemory, Program};
+use rpl_tree::{Forest, Node};
+
+/// The type of the hits of a search.
+const HIT: &str = "find.*";
+
+/// Writes the bytes and a line feed.
+pub(crate) fn put_line<T: Target>(out: &mut T, bytes: &[u8]) -> Result<(), NoMemory>
+    ensures { OnOk result (out.new ≡ T.after out.old (bytes.now ++ 10 ∷ [])) }
+{
+    out.put(bytes)?;
+    out.put(b"\n")
+}
+
+/// Writes the text of the first tree and a line feed, or nothing where there is no tree.
+pub(crate) fn put_root_text<T: Target>(
+    out: &mut T,
+    line: &[u8],
+    forest: &Forest,
+    program: &Program,
+) -> Result<(), NoMemory>
+    ensures { OnOk result (out.new ≡ T.after out.old (line_by_line (parts Style.Plain line.now (trees_in program.now forest.now)))) }
+{
+    match forest.get(0) {
+        Some(root) => put_line(out, text_of(root, line, program)),
+        None => Ok(()),
+    }
+}
+
+/// Writes the texts of the nodes directly under the root, or only those of hits, each with a line feed. Tells whether there was one.
+pub(crate) fn put_texts<T: Target>(
+    out: &mut T,
+    only_hits: bool,
+    line: &[u8],
+    forest: &Forest,
+    program: &Program,
+) -> Result<bool, NoMemory>
+    ensures text { OnOk result (out.new ≡ T.after out.old (line_by_line (wanted only_hits line.now (below_root (trees_in program.now forest.now))))) }
+    ensures found { IfOk result (λ some. some ≡ is_some_text (wanted only_hits line.now (below_root (trees_in program.now forest.now)))) }
+{
+    let count = forest.len();
+    let mut left = below_first(forest);
+    let mut index = 1;
+    let mut some = false;
+    while let Some(node) = node_within(forest, index, left) {
+        if wants(only_hits, node, program) {
+            put_line(out, text_of(node, line, program))?;
+            some = true;
+        }
+        let below = node.below.min(left - 1);
+        left -= 1 + below;
+        index = (index + 1).saturating_add(below);
+    }
+    Ok(some)
+}
+
+/// The number of nodes below the first one; a note has none.
+fn below_first(forest: &Forest) -> usize
+    ensures { result ≡ below_of_first forest.now }
+{
+    match forest.get(0) {
+        Some(root) if root.note.is_none() => root.below,
+        _ => 0,
+    }
+}
+
+/// The node with a number, where nodes are still to come.
+fn node_within(forest: &Forest, index: usize, left: usize) -> Option<Node>
+    ensures some { IfSome result (λ node. (0 < left) × (slice_get forest.now index ≡ Some node)) }
+    ensures none { IfNone result ((left ≡ 0) ⊎ (slice_get forest.now index ≡ None)) }
+{
+    if left > 0 { forest.get(index) } else { None }
+}
+
+/// Whether the text of a node is printed.
+fn wants(only_hits: bool, node: Node, program: &Program) -> bool
+    ensures { result ≡ is_wanted (labels_of program.now) only_hits node }
+{
+    match node.note {
+        _ if !only_hits => true,
+        Some(_) => false,
+        None => label_of(program, node.label) == HIT,
+    }
+}

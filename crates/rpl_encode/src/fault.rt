@@ -1,0 +1,24 @@
+ghost use Rattle.std.specs.Prelude.{◌≡◌};
+ghost use Rattle.rpl_encode.specs.declared.fault.EncodeFault.TheVariants.{NoMemory};
+
+use rpl_core::NoMemory;
+use thiserror::Error;
+
+/// Why there is no text.
+#[derive(Clone, Copy, Debug, PartialEq, Eq, Error)]
+pub enum EncodeFault {
+    /// Memory is wanting.
+    #[error("out of memory")]
+    NoMemory,
+    /// The text has more than 67,108,864 bytes.
+    #[error("answer too long")]
+    AnswerTooLong,
+}
+
+impl From<NoMemory> for EncodeFault {
+    ghost from_gives = { λ _ e. e ≡ NoMemory };
+
+    fn from(_error: NoMemory) -> EncodeFault {
+        EncodeFault::NoMemory
+    }
+}
