@@ -187,7 +187,10 @@ fn a_line_over_the_limit_is_reported(rt: HostRuntime) -> Result<(), Fail> {
     let got = run_on(rt.alloc(), A, &input, SURE, SURE, SURE)?;
     assert_eq!(rt; got.status, Status::LineFault);
     assert_eq!(rt; got.out.as_slice(), A_LINE.as_bytes());
-    assert_eq!(rt; got.err.as_slice(), b"rosie: -:1: line too long\n".as_slice());
+    assert_eq!(rt;
+        got.err.as_slice(),
+        b"rosie: -:1: line too long\n".as_slice()
+    );
     Ok(())
 }
 
@@ -205,8 +208,14 @@ fn each_call_of_out_fails_in_turn(rt: HostRuntime) -> Result<(), Fail> {
         };
         let got = run_on(rt.alloc(), LITERAL, THREE_LINES, SURE, out, SURE)?;
         assert_eq!(rt; got.status, Status::WriteFault, "call {number}");
-        assert!(rt; whole.out.as_slice().starts_with(got.out.as_slice()), "out at call {number}");
-        assert!(rt; whole.err.as_slice().starts_with(got.err.as_slice()), "err at call {number}");
+        assert!(rt;
+            whole.out.as_slice().starts_with(got.out.as_slice()),
+            "out at call {number}"
+        );
+        assert!(rt;
+            whole.err.as_slice().starts_with(got.err.as_slice()),
+            "err at call {number}"
+        );
     }
     Ok(())
 }
@@ -222,8 +231,14 @@ fn each_call_of_err_fails_in_turn(rt: HostRuntime) -> Result<(), Fail> {
         };
         let got = run_on(rt.alloc(), LITERAL, THREE_LINES, SURE, SURE, err)?;
         assert_eq!(rt; got.status, Status::WriteFault, "call {number}");
-        assert!(rt; whole.out.as_slice().starts_with(got.out.as_slice()), "out at call {number}");
-        assert!(rt; whole.err.as_slice().starts_with(got.err.as_slice()), "err at call {number}");
+        assert!(rt;
+            whole.out.as_slice().starts_with(got.out.as_slice()),
+            "out at call {number}"
+        );
+        assert!(rt;
+            whole.err.as_slice().starts_with(got.err.as_slice()),
+            "err at call {number}"
+        );
     }
     Ok(())
 }
@@ -239,8 +254,45 @@ fn each_read_fails_in_turn(rt: HostRuntime) -> Result<(), Fail> {
         };
         let got = run_on(rt.alloc(), LITERAL, THREE_LINES, input, SURE, SURE)?;
         assert_eq!(rt; got.status, Status::ReadFault, "call {number}");
-        assert!(rt; whole.out.as_slice().starts_with(got.out.as_slice()), "out at call {number}");
-        assert!(rt; got.err.as_slice().ends_with(b"rosie: -: read failed\n".as_slice()), "err at call {number}");
+        assert!(rt;
+            whole.out.as_slice().starts_with(got.out.as_slice()),
+            "out at call {number}"
+        );
+        assert!(rt;
+            got.err
+                .as_slice()
+                .ends_with(b"rosie: -: read failed\n".as_slice()),
+            "err at call {number}"
+        );
     }
+    Ok(())
+}
+
+const TWO_ANSWERS: &str =
+    "{\"type\":\"*\",\"s\":1,\"e\":3,\"data\":\"ab\"}\n{\"type\":\"*\",\"s\":1,\"e\":3,\"data\":\"ab\"}\n";
+
+/// Where an allocation fails (`rt try --test --fail-alloc N`), what was written is a front.
+#[test]
+fn want_of_memory_leaves_a_front(rt: HostRuntime) -> Result<(), Fail> {
+    let got = match run_on(rt.alloc(), LITERAL, THREE_LINES, SURE, SURE, SURE) {
+        Ok(got) => got,
+        Err(_) => return Ok(()),
+    };
+    if got.status == Status::NoMemory {
+        assert!(rt;
+            TWO_ANSWERS.as_bytes().starts_with(got.out.as_slice()),
+            "out"
+        );
+        assert!(rt;
+            b"rosie: -:2: not UTF-8\n"
+                .as_slice()
+                .starts_with(got.err.as_slice()),
+            "err"
+        );
+        return Ok(());
+    }
+    assert_eq!(rt; got.status, Status::LineFault);
+    assert_eq!(rt; got.out.as_slice(), TWO_ANSWERS.as_bytes());
+    assert_eq!(rt; got.err.as_slice(), b"rosie: -:2: not UTF-8\n".as_slice());
     Ok(())
 }
