@@ -4,11 +4,15 @@
 //! It returns on every input, writes only what its answer says, and answers a fault of a stream only where the stream's count of faults rose.
 #![tactic(auto)]
 
-mod answer;
+mod ended;
+mod job;
 mod lines;
 mod pattern;
+mod plan;
 mod refusal;
+mod run;
 mod status;
+mod tally;
 mod top;
 mod workshop;
 mod write;

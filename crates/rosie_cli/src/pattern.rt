@@ -1,34 +1,94 @@
 // The pattern: today one literal.
-ghost use Rattle.std.specs.Prelude.{◌≡◌, true, IfSome, IfOk, chars};
+ghost use Rattle.std.specs.Prelude.{◌≡◌, [], IfOk, chars};
 ghost use Rattle.rpl_core.specs.View.{core_of, cores, listed};
-ghost use Rattle.rosie_cli.specs.Literals.{is_plain, char_core, char_cores, literal_core, literal_goal};
+ghost use Rattle.rosie_cli.specs.Literals.{is_blank, char_core, char_cores, literal_core, literal_goal, literal_of, between_quotes};
+ghost use Rattle.rosie_cli.specs.ReadLiteral.{Goes, finished, texts_of, IsGoalOf};
 
 use rpl_classes::Set;
 use rpl_core::{NoMemory, Peg, Pegs};
-use rpl_text::{Chars, Text};
+use rpl_text::Chars;
 use std::alloc::Global;
 
 /// The longest pattern that is read, in bytes.
 const MOST_BYTES: usize = 65_536;
 
-/// The text of a pattern that is one literal: a quote, characters other than a quote, a backslash and a line feed, and a quote, with blanks
-/// around. Any other pattern has none yet.
-pub(crate) fn literal_of(pattern: &str) -> Option<&str>
-    ensures { IfSome result (λ text. is_plain text.now ≡ true) }
+/// What may stand around a pattern.
+fn is_blank(c: char) -> bool
+    ensures { result ≡ is_blank c }
 {
-    if pattern.len() > MOST_BYTES {
-        return None;
-    }
-    let quoted = pattern.trim_matches([' ', '\t', '\r', '\n']);
-    let text = quoted.strip_prefix('"')?.strip_suffix('"')?;
-    if is_plain(text) { Some(text) } else { None }
+    c == ' ' || c == '\t' || c == '\r' || c == '\n'
 }
 
-/// What may stand between the quotes.
-fn is_plain(text: &str) -> bool
-    ensures { result ≡ is_plain text.now }
+/// Where the reading of a literal stands: before its first quote, between its quotes, or behind its last one.
+#[derive(Clone, Copy, Debug, PartialEq, Eq)]
+enum Stage {
+    Before,
+    Inside,
+    Behind,
+}
+
+/// A literal that is being read.
+#[derive(Drop)]
+struct Reading {
+    stage: Stage,
+    text: Vec<char>,
+}
+
+impl Reading {
+    /// Goes on by one character. `false` where the pattern is no literal.
+    fn take(&mut self, c: char) -> Result<bool, NoMemory>
+        ensures { IfOk result (λ goes. Goes goes self.old self.new c) }
+    {
+        match self.stage {
+            Stage::Before => {
+                if c == '"' {
+                    self.stage = Stage::Inside;
+                    return Ok(true);
+                }
+                Ok(is_blank(c))
+            }
+            Stage::Inside => {
+                if c == '"' {
+                    self.stage = Stage::Behind;
+                    return Ok(true);
+                }
+                if c == '\\' || c == '\n' {
+                    return Ok(false);
+                }
+                self.text.push(c)?;
+                Ok(true)
+            }
+            Stage::Behind => Ok(is_blank(c)),
+        }
+    }
+
+    /// The characters, where the last quote was read.
+    fn finish(self) -> Option<Vec<char>>
+        ensures { texts_of result ≡ finished self [] }
+    {
+        match self.stage {
+            Stage::Behind => Some(self.text),
+            _ => None,
+        }
+    }
+}
+
+/// The characters of a pattern that is one literal: a quote, characters other than a quote, a backslash and a line feed, and a quote, with
+/// blanks around.
+fn literal_of(alloc: Global, pattern: &str) -> Result<Option<Vec<char>>, NoMemory>
+    ensures { IfOk result (λ text. texts_of text ≡ between_quotes (chars pattern.now)) }
 {
-    text.bytes().all(|b| b != b'"' && b != b'\\' && b != b'\n')
+    let mut reading = Reading {
+        stage: Stage::Before,
+        text: Vec::new(alloc),
+    };
+    for c in pattern.chars() {
+        let goes_on = reading.take(c)?;
+        if !goes_on {
+            return Ok(None);
+        }
+    }
+    Ok(reading.finish())
 }
 
 /// One character.
@@ -39,34 +99,44 @@ fn one_char(alloc: Global, c: char) -> Result<Peg, NoMemory>
 }
 
 /// The characters in turn.
-fn parts_of(alloc: Global, text: &str) -> Result<Pegs, NoMemory>
-    ensures { IfOk result (λ parts. cores (listed parts) ≡ char_cores (chars text.now)) }
+fn parts_of(alloc: Global, text: &[char]) -> Result<Pegs, NoMemory>
+    ensures { IfOk result (λ parts. cores (listed parts) ≡ char_cores text.now) }
 {
     let mut parts = Pegs::new(alloc);
-    for c in text.chars() {
-        parts.push(one_char(alloc, c)?)?;
+    for c in text {
+        parts.push(one_char(alloc, *c)?)?;
     }
     Ok(parts)
 }
 
 /// The literal alone.
-fn body_of(alloc: Global, text: &str) -> Result<Peg, NoMemory>
-    ensures { IfOk result (λ p. core_of p ≡ literal_core (chars text.now)) }
+fn body_of(alloc: Global, text: &[char]) -> Result<Peg, NoMemory>
+    ensures { IfOk result (λ p. core_of p ≡ literal_core text.now) }
 {
-    let parts = parts_of(alloc, text)?;
-    if parts.len() == 1 {
-        if let Some((c, _)) = Text::new(text).step(0) {
-            return one_char(alloc, c);
-        }
+    if text.len() == 1 {
+        return one_char(alloc, text[0]);
     }
-    Ok(Peg::Seq(parts))
+    Ok(Peg::Seq(parts_of(alloc, text)?))
 }
 
-/// The pattern of a literal, which has the type `*`.
-pub(crate) fn goal_of(alloc: Global, text: &str) -> Result<Peg, NoMemory>
-    ensures { IfOk result (λ p. core_of p ≡ literal_goal (chars text.now)) }
+/// A literal, which has the type `*`.
+fn goal_of(alloc: Global, text: &[char]) -> Result<Peg, NoMemory>
+    ensures { IfOk result (λ p. core_of p ≡ literal_goal text.now) }
 {
     let star = Chars::from_str(alloc, "*")?;
     let body = body_of(alloc, text)?;
     Ok(Peg::Capture(star, Box::new(alloc, body)?))
+}
+
+/// The goal of a pattern that is one literal. Any other pattern has none yet.
+pub(crate) fn read_pattern(alloc: Global, pattern: &str) -> Result<Option<Peg>, NoMemory>
+    ensures { IfOk result (λ goal. IsGoalOf goal (literal_of (chars pattern.now))) }
+{
+    if pattern.len() > MOST_BYTES {
+        return Ok(None);
+    }
+    match literal_of(alloc, pattern)? {
+        Some(text) => Ok(Some(goal_of(alloc, &text)?)),
+        None => Ok(None),
+    }
 }

@@ -1,6 +1,6 @@
 // How the command ends.
 ghost use Rattle.std.specs.Prelude.{◌≡◌};
-ghost use Rattle.rosie_cli.specs.Statuses.{code_of, flags_status};
+ghost use Rattle.rosie_cli.specs.Statuses.{code_of};
 
 /// How the command ends. The exit status of the process is its number.
 #[derive(Clone, Copy, Debug, PartialEq, Eq)]
@@ -38,18 +38,5 @@ impl Status {
             Status::NoMemory => 6,
             Status::Spent => 7,
         }
-    }
-}
-
-/// The status of a run that came to the end of its input.
-pub(crate) fn status_of_flags(fault: bool, hit: bool) -> Status
-    ensures { result ≡ flags_status fault hit }
-{
-    if fault {
-        Status::LineFault
-    } else if hit {
-        Status::Matched
-    } else {
-        Status::NoMatch
     }
 }

@@ -178,3 +178,121 @@ fn a_flush_that_fails_is_told(rt: HostRuntime) -> Result<(), Fail> {
     assert_eq!(rt; got.out.as_slice(), A_LINE.as_bytes());
     Ok(())
 }
+
+#[test]
+fn a_line_over_the_limit_is_reported(rt: HostRuntime) -> Result<(), Fail> {
+    let mut input = Vec::new(rt.alloc());
+    input.resize(16_777_217, b'a')?;
+    input.extend_from_slice(b"\na\n")?;
+    let got = run_on(rt.alloc(), A, &input, SURE, SURE, SURE)?;
+    assert_eq!(rt; got.status, Status::LineFault);
+    assert_eq!(rt; got.out.as_slice(), A_LINE.as_bytes());
+    assert_eq!(rt;
+        got.err.as_slice(),
+        b"rosie: -:1: line too long\n".as_slice()
+    );
+    Ok(())
+}
+
+/// A line that matches, one that is no text, and one that matches.
+const THREE_LINES: &[u8] = b"ab\n\xff\nab\n";
+
+#[test]
+fn each_call_of_out_fails_in_turn(rt: HostRuntime) -> Result<(), Fail> {
+    let whole = run_on(rt.alloc(), LITERAL, THREE_LINES, SURE, SURE, SURE)?;
+    for number in 1..13u64 {
+        let fails = [number];
+        let out = Device {
+            most: 9,
+            fails: &fails,
+        };
+        let got = run_on(rt.alloc(), LITERAL, THREE_LINES, SURE, out, SURE)?;
+        assert_eq!(rt; got.status, Status::WriteFault, "call {number}");
+        assert!(rt;
+            whole.out.as_slice().starts_with(got.out.as_slice()),
+            "out at call {number}"
+        );
+        assert!(rt;
+            whole.err.as_slice().starts_with(got.err.as_slice()),
+            "err at call {number}"
+        );
+    }
+    Ok(())
+}
+
+#[test]
+fn each_call_of_err_fails_in_turn(rt: HostRuntime) -> Result<(), Fail> {
+    let whole = run_on(rt.alloc(), LITERAL, THREE_LINES, SURE, SURE, SURE)?;
+    for number in 1..5u64 {
+        let fails = [number];
+        let err = Device {
+            most: 9,
+            fails: &fails,
+        };
+        let got = run_on(rt.alloc(), LITERAL, THREE_LINES, SURE, SURE, err)?;
+        assert_eq!(rt; got.status, Status::WriteFault, "call {number}");
+        assert!(rt;
+            whole.out.as_slice().starts_with(got.out.as_slice()),
+            "out at call {number}"
+        );
+        assert!(rt;
+            whole.err.as_slice().starts_with(got.err.as_slice()),
+            "err at call {number}"
+        );
+    }
+    Ok(())
+}
+
+#[test]
+fn each_read_fails_in_turn(rt: HostRuntime) -> Result<(), Fail> {
+    let whole = run_on(rt.alloc(), LITERAL, THREE_LINES, SURE, SURE, SURE)?;
+    for number in 1..6u64 {
+        let fails = [number];
+        let input = Device {
+            most: 2,
+            fails: &fails,
+        };
+        let got = run_on(rt.alloc(), LITERAL, THREE_LINES, input, SURE, SURE)?;
+        assert_eq!(rt; got.status, Status::ReadFault, "call {number}");
+        assert!(rt;
+            whole.out.as_slice().starts_with(got.out.as_slice()),
+            "out at call {number}"
+        );
+        assert!(rt;
+            got.err
+                .as_slice()
+                .ends_with(b"rosie: -: read failed\n".as_slice()),
+            "err at call {number}"
+        );
+    }
+    Ok(())
+}
+
+const TWO_ANSWERS: &str =
+    "{\"type\":\"*\",\"s\":1,\"e\":3,\"data\":\"ab\"}\n{\"type\":\"*\",\"s\":1,\"e\":3,\"data\":\"ab\"}\n";
+
+/// Where an allocation fails (`rt try --test --fail-alloc N`), what was written is a front.
+#[test]
+fn want_of_memory_leaves_a_front(rt: HostRuntime) -> Result<(), Fail> {
+    let got = match run_on(rt.alloc(), LITERAL, THREE_LINES, SURE, SURE, SURE) {
+        Ok(got) => got,
+        Err(_) => return Ok(()),
+    };
+    if got.status == Status::NoMemory {
+        assert!(rt;
+            TWO_ANSWERS.as_bytes().starts_with(got.out.as_slice()),
+            "out"
+        );
+        assert!(rt;
+            b"rosie: -:2: not UTF-8\n"
+                .as_slice()
+                .starts_with(got.err.as_slice()),
+            "err"
+        );
+        return Ok(());
+    }
+    assert_eq!(rt; got.status, Status::LineFault);
+    assert_eq!(rt; got.out.as_slice(), TWO_ANSWERS.as_bytes());
+    assert_eq!(rt; got.err.as_slice(), b"rosie: -:2: not UTF-8\n".as_slice());
+    Ok(())
+}
