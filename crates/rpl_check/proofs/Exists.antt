@@ -10,7 +10,8 @@ use Rattle.rpl_simulation.specs.Ending.{may_be_empty}
 use Rattle.rpl_simulation.specs.Static.{may_halt}
 use Rattle.rpl_check.specs.Facts.{IsLeast, Solves, Follows, Facts, passes, calls_here}
 use Rattle.rpl_check.specs.Laws.{CallsStay, AreSame}
-use Rattle.rpl_check.proofs.Counts.{count, count_lt, count_all_le}
+use Rattle.rpl_check.specs.Marked.{count}
+use Rattle.rpl_check.proofs.Counts.{count_lt, count_all_le}
 use Rattle.rpl_check.proofs.Least.{least_unique, empty_grows, halt_grows, here_called}
 use Rattle.rpl_check.proofs.Tests.{right, both, paired, not_on, not_off, eq_of, eq_self, passing, pass_at}
 
