@@ -6,3 +6,8 @@ pub mod Walk
 pub mod Stay
 pub mod Settling
 pub mod Ordering
+pub mod Finding
+pub mod Fronts
+pub mod Following
+pub mod Clean
+pub mod Selves

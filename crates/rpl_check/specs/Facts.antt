@@ -36,14 +36,18 @@ abbrev pub passes : (Core → Bool) → Option Core → Bool
 passes test None = false
 passes test (Some p) = test p
 
+-- the rule q calls the rule t before it has taken a character
+abbrev pub calls_at : (ℕ → Bool) → List Core → ℕ → ℕ → Bool
+calls_at m R q t = passes (λ p. calls_here m p t) (slice_get R q)
+
 -- the set m has each rule that passes the test, where just the rules of m are known to
 abbrev pub Solves : ((ℕ → Bool) → Core → Bool) → List Core → (ℕ → Bool) → Type 0
 Solves test R m = (r : ℕ) → passes (test m) (slice_get R r) ≡ true → m r ≡ true
 
 -- the set s has each rule that r calls before a character, and each that a rule of s calls so
 pub record Follows (R : List Core) (m : ℕ → Bool) (r : ℕ) (s : ℕ → Bool) : Type 0 where
-  pub first : (t : ℕ) → passes (λ p. calls_here m p t) (slice_get R r) ≡ true → s t ≡ true
-  pub further : (q t : ℕ) → s q ≡ true → passes (λ p. calls_here m p t) (slice_get R q) ≡ true → s t ≡ true
+  pub first : (t : ℕ) → calls_at m R r t ≡ true → s t ≡ true
+  pub further : (q t : ℕ) → s q ≡ true → calls_at m R q t ≡ true → s t ≡ true
 
 -- the least of the sets that are closed in some sense
 pub record IsLeast (closed : (ℕ → Bool) → Type 0) (m : ℕ → Bool) : Type 0 where

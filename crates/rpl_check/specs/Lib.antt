@@ -5,3 +5,4 @@ pub mod Faults
 pub mod Marked
 pub mod Answers
 pub mod Rounds
+pub mod Search

@@ -19,7 +19,7 @@ pub(crate) enum Fact {
 }
 
 /// The list marks the rule.
-fn is_marked(marks: &[bool], rule: u32) -> bool
+pub(crate) fn is_marked(marks: &[bool], rule: u32) -> bool
     ensures { result ≡ marked marks.now rule }
 {
     if (rule as usize) < marks.len() {

@@ -6,6 +6,7 @@ mod facts;
 mod fault;
 mod inside;
 mod laws;
+mod recursion;
 mod rounds;
 
 pub use fault::{BehindCause, CheckFault};
