@@ -1,10 +1,9 @@
 -- How rules are found, one after the other.
-use Rattle.std.proofs.Common.{◌≡◌, ℕ, zero, suc, ◌+◌, ◌-◌, ◌<◌, ◌≤◌, List, [], ◌∷◌, ◌++◌, length, get_or, set, refl, sym, ap, ◌∙◌, ⊎_elim, subst, arith, length-append, length-set, eq-eqb, get_or-set_same, get_or-set_other}
+use Rattle.std.proofs.Common.{◌≡◌, ℕ, zero, suc, ◌-◌, ◌<◌, ◌≤◌, List, [], ◌∷◌, ◌++◌, length, get_or, set, refl, sym, ap, ◌∙◌, ⊎_elim, subst, arith, length-append, length-set, eq-eqb, get_or-set_same, get_or-set_other}
 use Rattle.std.proofs.Math.Bool.{or-false}
 use Rattle.std.proofs.lemmas.Bool.{cases_eq, ne_eqb}
 use Rattle.std.proofs.lemmas.Bool.Decides.{nat_tests}
 use Rattle.std.specs.Prelude.{Bool, true, false, ◌||◌, ◌&&◌, ◌⊎◌, not, nat_eq, nat_lt, nat_le}
-use Rattle.rpl_check.specs.Marked.{marked}
 use Rattle.rpl_check.specs.Search.{unmarked, waits, in_block, found, Finds}
 use Rattle.rpl_check.specs.declared.recursion.Search.{Search}
 

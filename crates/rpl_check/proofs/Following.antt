@@ -1,18 +1,18 @@
 -- What a rule reaches before a character: found from rule to rule, or shown not to be the rule itself.
-use Rattle.std.proofs.Common.{◌≡◌, ℕ, ◌+◌, ◌-◌, ◌<◌, ◌≤◌, List, [], ◌∷◌, ◌++◌, length, Option, Some, None, refl, sym, ap, ◌∙◌, subst, ⊎_elim, inl, inr, arith, get_or, eq-eqb}
-use Rattle.std.proofs.lemmas.Bool.{cases_lt, cases_eq, eqb-true}
+use Rattle.std.proofs.Common.{◌≡◌, ℕ, ◌+◌, ◌-◌, ◌<◌, ◌≤◌, List, [], ◌∷◌, ◌++◌, length, refl, sym, ap, ◌∙◌, subst, ⊎_elim, inl, inr, arith}
+use Rattle.std.proofs.lemmas.Bool.{cases_lt}
 use Rattle.std.proofs.lemmas.Bool.Decides.{nat_tests}
 use Rattle.std.proofs.lemmas.List.{get_or_past}
-use Rattle.std.specs.Prelude.{Bool, true, false, ◌||◌, ◌&&◌, not, nat_lt, nat_le, nat_eq, slice_get, ◌≢◌, ◌⊎◌}
+use Rattle.std.specs.Prelude.{Bool, true, false, ◌||◌, ◌&&◌, not, nat_lt, nat_le, nat_eq, ◌≢◌, ◌⊎◌}
 use Rattle.rpl_core.specs.Core.{Core}
-use Rattle.rpl_check.specs.Facts.{IsLeast, Follows, calls_at, calls_here, passes}
+use Rattle.rpl_check.specs.Facts.{IsLeast, Follows, calls_at, calls_here}
 use Rattle.rpl_check.specs.Marked.{marked, marked_from}
 use Rattle.rpl_check.specs.Rounds.{CallsBefore, Reach}
 use Rattle.rpl_check.specs.Search.{found, in_block, waits, Finds}
 use Rattle.rpl_check.specs.declared.recursion.Search.{Search}
 use Rattle.rpl_check.proofs.Finding.{waits_more}
 use Rattle.rpl_check.proofs.Least.{here_called}
-use Rattle.rpl_check.proofs.Tests.{clash, either, left, right, both, paired, not_on, not_off, passing, eq_self, eq_of, same_tests}
+use Rattle.rpl_check.proofs.Tests.{clash, either, left, right, both, paired, not_on, passing, eq_self, eq_of, same_tests}
 
 -- a rule before b calls rules before b alone
 pub called_before : (R : List Core) (m : ℕ → Bool) (b q t : ℕ) → CallsBefore R b → q < b → calls_at m R q t ≡ true → t < b

@@ -11,3 +11,5 @@ pub mod Fronts
 pub mod Following
 pub mod Clean
 pub mod Selves
+pub mod Firsts
+pub mod Accepting

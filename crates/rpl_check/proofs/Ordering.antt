@@ -1,5 +1,5 @@
 -- Where a block ends in a table in order, no rule calls one behind.
-use Rattle.std.proofs.Common.{◌≡◌, ℕ, ◌+◌, ◌-◌, ◌<◌, ◌≤◌, List, length, Option, Some, None, sym, ap, refl, ◌∙◌, ⊎_elim, arith}
+use Rattle.std.proofs.Common.{◌≡◌, ℕ, ◌+◌, ◌-◌, ◌<◌, ◌≤◌, List, length, Option, Some, None, ap, refl, ◌∙◌, ⊎_elim, arith}
 use Rattle.std.proofs.lemmas.Bool.{cases_lt}
 use Rattle.std.proofs.lemmas.List.{length-map}
 use Rattle.std.proofs.lemmas.Option.{slice_get_within, slice_get_past}
@@ -14,7 +14,7 @@ use Rattle.rpl_check.specs.Faults.{joins_next, same_block}
 use Rattle.rpl_check.specs.Marked.{marked}
 use Rattle.rpl_check.specs.Order.{IsInOrder, AreTogether, block_at}
 use Rattle.rpl_check.specs.Rounds.{test_of, CallsBefore, AreKnown}
-use Rattle.rpl_check.proofs.Tests.{clash, eq_self, passing}
+use Rattle.rpl_check.proofs.Tests.{clash, passing}
 
 same_of : (x y : Option ℕ) (b : ℕ) → x ≡ Some b → y ≡ Some b → same_block x y ≡ true
 same_of None y b e f = absurd (cc)

@@ -6,3 +6,5 @@ pub mod Marked
 pub mod Answers
 pub mod Rounds
 pub mod Search
+pub mod Checked
+pub mod Goal

@@ -29,13 +29,19 @@ pub enum CheckFault {
     },
     /// The rules of a block that may call themselves again before a character is taken, all of them in order.
     #[error("left recursion")]
-    LeftRecursion { rules: Vec<u32> },
+    LeftRecursion {
+        rules: Vec<u32>,
+    },
     /// A repetition whose body may be empty.
     #[error("empty loop")]
-    EmptyLoop { rule: Option<u32> },
+    EmptyLoop {
+        rule: Option<u32>,
+    },
     /// A predicate whose body may halt.
     #[error("halt under a predicate")]
-    HaltInside { rule: Option<u32> },
+    HaltInside {
+        rule: Option<u32>,
+    },
 }
 
 impl From<NoMemory> for CheckFault {

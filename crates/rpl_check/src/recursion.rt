@@ -61,12 +61,7 @@ fn stays(body: Option<bool>) -> Option<bool>
 
 /// That of parts in turn.
 #[cycle(front)]
-fn clean_front_in_turn(
-    parts: &[Peg],
-    empties: &[bool],
-    clean: &[bool],
-    start: u32,
-) -> Option<bool>
+fn clean_front_in_turn(parts: &[Peg], empties: &[bool], clean: &[bool], start: u32) -> Option<bool>
     ensures { result ≡ within_or_none (front_calls_within (marked empties.now) (marked_from start clean.now) (cores parts.now)) (E.all_may_be_empty (marked empties.now) (cores parts.now)) }
 {
     for part in parts {
@@ -81,12 +76,7 @@ fn clean_front_in_turn(
 
 /// That of a choice of the parts.
 #[cycle(front)]
-fn clean_front_of_each(
-    parts: &[Peg],
-    empties: &[bool],
-    clean: &[bool],
-    start: u32,
-) -> Option<bool>
+fn clean_front_of_each(parts: &[Peg], empties: &[bool], clean: &[bool], start: u32) -> Option<bool>
     ensures { result ≡ within_or_none (each_calls_within (marked empties.now) (marked_from start clean.now) (cores parts.now)) (E.any_may_be_empty (marked empties.now) (cores parts.now)) }
 {
     let mut any = false;

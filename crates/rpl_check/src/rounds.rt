@@ -14,7 +14,7 @@ use rpl_core::Rules;
 use std::alloc::Global;
 
 /// The block of the rule with this number, if there is the rule and it stands in one.
-fn block_of(rules: &Rules, number: u32) -> Option<u32>
+pub(crate) fn block_of(rules: &Rules, number: u32) -> Option<u32>
     ensures { result ≡ block_at (slice_get (blocks_of (rules_of rules.now)) number) }
 {
     match rules.get(number) {

@@ -46,8 +46,7 @@ find_front_calls-loop-part-preserved t c =
     let ps = c.args.parts.now in
     let k = c.loop-part.part-index in
     let p = c.part-item.result in
-    let on : may_be_empty m (core_of p) ≡ true = sym c.in_ok-find_calls.ensures.empty ∙ c.if-not-branch.false in
-    (
+    let on : may_be_empty m (core_of p) ≡ true = sym c.in_ok-find_calls.ensures.empty ∙ c.if-not-branch.false in (
       c.loop-part.invariant.0 ∙ ap (λ l. all_may_be_empty m (cores l)) (drop_here ps k p c.loop-part-test.true c.part-item.is) ∙ ap (λ b. b && all_may_be_empty m (cores (drop (k + 1) ps))) on,
       λ x rest. c.loop-part.invariant.1 x (finds_as _ (front_calls_here m (cores (drop k ps))) c.loop-part.search x (finds_then (calls_here m (core_of p)) (front_calls_here m (cores (drop (k + 1) ps))) c.loop-part.search c.find_calls.new.search x c.in_ok-find_calls.ensures.finds rest) (front_on m ps k p c.loop-part-test.true c.part-item.is on)),
     )
@@ -68,8 +67,7 @@ find_all_calls-loop-part-preserved t c =
     let next : c.if-any.any ≡ (c.loop-part.any || c.in_ok-empty.empty) = elim c.if-any.branch [
       | find_all_calls-then-any w ↦ w.any-is ∙ w.if-any.true ∙ sym (ap (λ b. b || c.in_ok-empty.empty) w.if-any.true)
       | find_all_calls-else-any w ↦ w.any-is ∙ sym (ap (λ b. b || c.in_ok-empty.empty) w.if-any.false)
-    ] in
-    (
+    ] in (
       any_empty m ps k p c.loop-part-test.true c.part-item.is _ c.loop-part.any c.in_ok-empty.empty c.if-any.any c.loop-part.invariant.0 c.in_ok-empty.ensures.empty next,
       λ x rest. c.loop-part.invariant.1 x (finds_as _ (any_calls_here m (cores (drop k ps))) c.loop-part.search x (finds_then (calls_here m (core_of p)) (any_calls_here m (cores (drop (k + 1) ps))) c.loop-part.search c.find_calls.new.search x c.in_ok-empty.ensures.finds rest) (any_on m ps k p c.loop-part-test.true c.part-item.is)),
     )

@@ -1,4 +1,4 @@
-use Rattle.std.proofs.Common.{sym, ap, ◌∙◌}
+use Rattle.std.proofs.Common.{sym, ◌∙◌}
 use Rattle.rpl_core.specs.Listed.{rules_of}
 use Rattle.rpl_check.specs.Marked.{marked, marked_from}
 use Rattle.rpl_check.proofs.Clean.{rule_within, no_rule_calls}

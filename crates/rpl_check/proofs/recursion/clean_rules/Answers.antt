@@ -1,4 +1,4 @@
-use Rattle.std.proofs.Common.{◌≡◌, ◌-◌, ◌++◌, ◌∙◌, ap, sym, subst, take, drop, length, arith}
+use Rattle.std.proofs.Common.{◌≡◌, ◌++◌, ◌∙◌, ap, sym, subst, take, drop, length, arith}
 use Rattle.std.proofs.Math.Seq.{take-append_seam}
 use Rattle.rpl_core.specs.Listed.{rules_of}
 use Rattle.rpl_core.specs.Table.{bodies_of}

@@ -1,4 +1,4 @@
-use Rattle.std.proofs.Common.{◌≡◌, ◌+◌, ◌-◌, ◌<◌, arith}
+use Rattle.std.proofs.Common.{◌≡◌, ◌-◌, arith}
 use Rattle.std.specs.Prelude.{false}
 use Rattle.rpl_core.specs.Listed.{rules_of}
 use Rattle.rpl_core.specs.Table.{bodies_of}
@@ -14,8 +14,7 @@ loop-number-preserved-then-calls_clean c =
     let n = c.loop-number.number - 1 in
     let a = c.args.start in
     let clean = c.loop-number.clean in
-    let off : marked clean (n - a) ≡ false = c.loop-number.invariant.2 (n - a) (omega arith) in
-    (
+    let off : marked clean (n - a) ≡ false = c.loop-number.invariant.2 (n - a) (omega arith) in (
       omega arith,
       omega arith,
       λ i lt. open_still a n i clean lt (λ j l. c.loop-number.invariant.2 j (omega arith)),
