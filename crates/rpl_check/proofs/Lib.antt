@@ -13,3 +13,4 @@ pub mod Clean
 pub mod Selves
 pub mod Firsts
 pub mod Accepting
+pub mod Standings

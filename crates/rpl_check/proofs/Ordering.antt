@@ -16,7 +16,7 @@ use Rattle.rpl_check.specs.Order.{IsInOrder, AreTogether, block_at}
 use Rattle.rpl_check.specs.Rounds.{test_of, CallsBefore, AreKnown}
 use Rattle.rpl_check.proofs.Tests.{clash, passing}
 
-same_of : (x y : Option ℕ) (b : ℕ) → x ≡ Some b → y ≡ Some b → same_block x y ≡ true
+pub same_of : (x y : Option ℕ) (b : ℕ) → x ≡ Some b → y ≡ Some b → same_block x y ≡ true
 same_of None y b e f = absurd (cc)
 same_of (Some c) None b e f = absurd (cc)
 same_of (Some c) (Some d) b e f = let x : c ≡ b = cc in let y : d ≡ b = cc in grind arith

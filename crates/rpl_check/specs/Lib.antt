@@ -1,5 +1,6 @@
 pub mod Facts
 pub mod Order
+pub mod Standing
 pub mod Laws
 pub mod Faults
 pub mod Marked

@@ -13,8 +13,8 @@ use crate::NoMemory;
 use crate::behinds::first_cause;
 use crate::fault::{BehindCause, CheckFault};
 use crate::inside::{has_empty_loop, predicates_stay};
+use crate::order::{block_of, joins_next};
 use crate::recursion::selves;
-use crate::rounds::{block_of, joins_next};
 use rpl_core::Rules;
 use std::alloc::Global;
 

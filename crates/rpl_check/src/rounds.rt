@@ -10,29 +10,9 @@ ghost use Rattle.rpl_check.specs.Rounds.{AreKnown, CallsBefore, Grows, IsSettled
 
 use crate::NoMemory;
 use crate::facts::{Fact, rule_holds};
+use crate::order::joins_next;
 use rpl_core::Rules;
 use std::alloc::Global;
-
-/// The block of the rule with this number, if there is the rule and it stands in one.
-pub(crate) fn block_of(rules: &Rules, number: u32) -> Option<u32>
-    ensures { result ≡ block_at (slice_get (blocks_of (rules_of rules.now)) number) }
-{
-    match rules.get(number) {
-        Some(rule) => rule.block,
-        None => None,
-    }
-}
-
-/// The rule stands in one block with the next one.
-pub(crate) fn joins_next(rules: &Rules, number: u32) -> bool
-    requires { number < length (rules_of rules.now) }
-    ensures { result ≡ F.joins_next (blocks_of (rules_of rules.now)) number }
-{
-    match (block_of(rules, number), block_of(rules, number + 1)) {
-        (Some(block), Some(next)) => block == next,
-        _ => false,
-    }
-}
 
 /// The rule isn't marked, and passes.
 fn is_new(rules: &Rules, number: u32, fact: Fact, marks: &[bool]) -> bool
