@@ -3,14 +3,14 @@ use Rattle.std.proofs.Common.{◌≡◌, ℕ, zero, suc, ◌+◌, ◌-◌, ◌<�
 use Rattle.std.proofs.lemmas.Bool.{cases_lt}
 use Rattle.std.proofs.lemmas.Bool.Decides.{nat_tests}
 use Rattle.std.proofs.lemmas.Option.{slice_get_within}
-use Rattle.std.specs.Prelude.{Bool, true, false, ◌||◌, ◌&&◌, ◌⊎◌, not, nat_eq, nat_lt, slice_get}
+use Rattle.std.specs.Prelude.{Bool, true, false, ◌||◌, ◌&&◌, ◌⊎◌, not, nat_lt, slice_get}
 use Rattle.rpl_core.specs.Core.{Core, Set, Seq, Choice, Many, Not, And, Behind, Call, Capture, Note, Start, End, Halt, Cores, NoMore, Then}
 use Rattle.rpl_core.specs.Programs.{calls, calls_any}
 use Rattle.rpl_check.specs.Faults.{same_block, joins_next}
 use Rattle.rpl_check.specs.Order.{IsInOrder, AreTogether, block_at}
 use Rattle.rpl_check.specs.Standing.{calls_only, all_call_only, body_calls_only, may_call, has_mate, is_split, stands}
 use Rattle.rpl_check.proofs.Ordering.{same_of}
-use Rattle.rpl_check.proofs.Tests.{clash, either, left, right, both, paired, not_on, not_off, eq_self, eq_of}
+use Rattle.rpl_check.proofs.Tests.{either, left, right, both, paired, not_on, not_off, eq_self, eq_of}
 
 module _ (test : ℕ → Bool) where
   mutual
@@ -62,6 +62,11 @@ within_whole n p h = only_whole (λ r. nat_lt r n) p (λ r c. let x = h r c in g
 
 body_only : (test : ℕ → Bool) (o : Option Core) (p : Core) → o ≡ Some p → body_calls_only test o ≡ true → calls_only test p ≡ true
 body_only test o p is e = sym (ap (body_calls_only test) is) ∙ e
+
+-- a rule outside blocks has no mate
+pub no_mate : (blocks : List (Option ℕ)) (k n : ℕ) → block_at (slice_get blocks k) ≡ None → has_mate blocks k n ≡ false
+no_mate blocks k zero e = refl
+no_mate blocks k (suc n) e = ap (λ x. same_block x (block_at (slice_get blocks n)) || has_mate blocks k n) e ∙ no_mate blocks k n e
 
 -- rules that are in one block
 together : (x y : Option ℕ) → same_block x y ≡ true → (b : ℕ) × (x ≡ Some b) × (y ≡ Some b)

@@ -1,19 +1,19 @@
 // The first fault of a table.
-ghost use Rattle.std.specs.Prelude.{◌≡◌, ℕ, ◌-◌, ◌<◌, ◌≤◌, Bool, None, true, length, slice_get};
+ghost use Rattle.std.specs.Prelude.{◌≡◌, ℕ, ◌-◌, ◌<◌, ◌≤◌, Bool, length, slice_get};
 ghost use Rattle.rpl_core.specs.Listed.{rules_of};
 ghost use Rattle.rpl_core.specs.Table.{blocks_of, bodies_of};
 ghost use Rattle.rpl_check.specs.Answers.{Answers, some_cause};
 ghost use Rattle.rpl_check.specs.Facts.{passes};
 ghost use Rattle.rpl_check.specs.Faults as F;
 ghost use Rattle.rpl_check.specs.Marked.{marked};
-ghost use Rattle.rpl_check.specs.Order.{IsInOrder, block_at};
+ghost use Rattle.rpl_check.specs.Order.{IsInOrder};
 ghost use Rattle.rpl_check.specs.Rounds.{CallsBefore, Reach};
 
 use crate::NoMemory;
 use crate::behinds::first_cause;
 use crate::fault::{BehindCause, CheckFault};
 use crate::inside::{has_empty_loop, predicates_stay};
-use crate::order::{block_of, joins_next};
+use crate::order::{is_outside, joins_next};
 use crate::recursion::selves;
 use rpl_core::Rules;
 use std::alloc::Global;
@@ -90,16 +90,6 @@ fn check_behinds(rules: &Rules, start: u32, end: u32) -> Result<(), CheckFault>
         check_behind(rules, number)?;
     }
     Ok(())
-}
-
-/// The rule stands outside blocks.
-fn is_outside(rules: &Rules, number: u32) -> bool
-    ensures { result ≡ true → block_at (slice_get (blocks_of (rules_of rules.now)) number) ≡ None }
-{
-    match block_of(rules, number) {
-        Some(_) => false,
-        None => true,
-    }
 }
 
 /// No rule of the block reaches itself before a character. A rule outside blocks calls only earlier ones.

@@ -1,5 +1,5 @@
 // Whether tables stand in order, and patterns call rules of their table.
-ghost use Rattle.std.specs.Prelude.{◌≡◌, ℕ, ◌<◌, ◌≤◌, ◌↔◌, IsTrue, true, nat_lt, length, slice_get};
+ghost use Rattle.std.specs.Prelude.{◌≡◌, ℕ, ◌<◌, ◌≤◌, ◌↔◌, IsTrue, None, true, nat_lt, length, slice_get};
 ghost use Rattle.rpl_core.specs.Listed.{rules_of};
 ghost use Rattle.rpl_core.specs.Programs.{calls};
 ghost use Rattle.rpl_core.specs.Table.{blocks_of, bodies_of};
@@ -11,7 +11,7 @@ ghost use Rattle.rpl_check.specs.Standing as S;
 use rpl_core::{Peg, Rules};
 
 /// The block of the rule with this number, if there is the rule and it stands in one.
-pub(crate) fn block_of(rules: &Rules, number: u32) -> Option<u32>
+fn block_of(rules: &Rules, number: u32) -> Option<u32>
     ensures { result ≡ block_at (slice_get (blocks_of (rules_of rules.now)) number) }
 {
     match rules.get(number) {
@@ -36,6 +36,16 @@ pub(crate) fn joins_next(rules: &Rules, number: u32) -> bool
     ensures { result ≡ F.joins_next (blocks_of (rules_of rules.now)) number }
 {
     same_block(rules, number, number + 1)
+}
+
+/// The rule stands outside blocks.
+pub(crate) fn is_outside(rules: &Rules, number: u32) -> bool
+    ensures { result ≡ true → block_at (slice_get (blocks_of (rules_of rules.now)) number) ≡ None }
+{
+    match block_of(rules, number) {
+        Some(_) => false,
+        None => true,
+    }
 }
 
 /// The rule may call the other.
@@ -103,10 +113,10 @@ fn is_split(rules: &Rules, number: u32) -> bool
     requires { number < length (rules_of rules.now) }
     ensures { result ≡ S.is_split (blocks_of (rules_of rules.now)) number }
 {
-    if number == 0 {
+    if number == 0 || is_outside(rules, number) {
         return false;
     }
-    has_mate(rules, number) && !joins_next(rules, number - 1)
+    !joins_next(rules, number - 1) && has_mate(rules, number)
 }
 
 /// The rule stands in order.
@@ -118,7 +128,8 @@ fn stands(rules: &Rules, number: u32) -> bool
 }
 
 /// The table stands in order, as `check` needs it: the rules of a block stand side by side, and each rule calls only
-/// earlier rules and those of its block. A caller that knows this of its table needn't ask.
+/// earlier rules and those of its block. A caller that knows this of its table needn't ask; the first rule of each block
+/// is compared with all earlier rules.
 pub fn is_in_order(rules: &Rules) -> bool
     ensures { IsTrue result ↔ IsInOrder (bodies_of (rules_of rules.now)) (blocks_of (rules_of rules.now)) }
 {
