@@ -1,10 +1,10 @@
 // Tables and patterns without faults.
-ghost use Rattle.std.specs.Prelude.{◌≡◌, ℕ, ◌<◌, true, length, IfOk};
+ghost use Rattle.std.specs.Prelude.{◌≡◌, ℕ, ◌<◌, true, is_some, length, IfErr, IfOk};
 ghost use Rattle.rpl_core.specs.Listed.{rules_of};
 ghost use Rattle.rpl_core.specs.Programs.{calls};
 ghost use Rattle.rpl_core.specs.Table.{blocks_of, bodies_of};
 ghost use Rattle.rpl_core.specs.View.{core_of};
-ghost use Rattle.rpl_check.specs.Answers.{Answers};
+ghost use Rattle.rpl_check.specs.Answers.{Answers, fault_named};
 ghost use Rattle.rpl_check.specs.Checked.{IsWhole};
 ghost use Rattle.rpl_check.specs.Facts.{Facts};
 ghost use Rattle.rpl_check.specs.Faults as F;
@@ -98,7 +98,8 @@ impl CheckedPeg {
 
 /// The first fault of a pattern: a look-behind, an empty loop, or a halt under a predicate.
 fn check_goal(peg: &Peg, empties: &[bool], halting: &[bool]) -> Result<(), CheckFault>
-    ensures { Answers (F.goal_fault (marked empties.now) (marked halting.now) (core_of peg.now)) result }
+    ensures exactly { Answers (F.goal_fault (marked empties.now) (marked halting.now) (core_of peg.now)) result }
+    ensures memory { IfErr result (λ e. is_some (fault_named e) ≡ true) }
 {
     if let Some(cause) = first_cause(peg) {
         return Err(CheckFault::LookBehind { rule: None, cause });
@@ -113,10 +114,11 @@ fn check_goal(peg: &Peg, empties: &[bool], halting: &[bool]) -> Result<(), Check
 }
 
 /// The pattern, if it has no fault; else its first. A pattern without faults means something on every text, and so
-/// does its code. It needs each call to be one of a rule of the table.
+/// does its code. It needs each call to be one of a rule of the table, and takes no memory.
 pub fn check_pattern(_alloc: Global, checked: &Checked, peg: Peg) -> Result<CheckedPeg, CheckFault>
     requires { (r : ℕ) → calls (core_of peg) r ≡ true → r < length checked.now }
     ensures exactly { (d : Facts (bodies_of checked.now)) → Answers (F.goal_fault d.empties d.halting (core_of peg)) result }
+    ensures memory { IfErr result (λ e. is_some (fault_named e) ≡ true) }
     ensures same { IfOk result (λ g. peg_of g ≡ peg) }
     ensures whole { IfOk result (λ g. IsWhole (bodies_of checked.now) (core_of (peg_of g))) }
 {

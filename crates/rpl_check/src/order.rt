@@ -40,7 +40,7 @@ pub(crate) fn joins_next(rules: &Rules, number: u32) -> bool
 
 /// The rule stands outside blocks.
 pub(crate) fn is_outside(rules: &Rules, number: u32) -> bool
-    ensures { result ≡ true → block_at (slice_get (blocks_of (rules_of rules.now)) number) ≡ None }
+    ensures { IsTrue result ↔ (block_at (slice_get (blocks_of (rules_of rules.now)) number) ≡ None) }
 {
     match block_of(rules, number) {
         Some(_) => false,

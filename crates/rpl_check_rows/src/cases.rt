@@ -1,8 +1,6 @@
 // Tables and patterns with their faults.
 use crate::words::{read_pattern, read_rules};
-use rpl_check::{
-    BehindCause, CheckFault, calls_are_rules, check, check_pattern, is_in_order,
-};
+use rpl_check::{BehindCause, CheckFault, calls_are_rules, check, check_pattern, is_in_order};
 use rpl_core::Rules;
 use std::alloc::{AllocError, Global};
 use std::test::Fail;
@@ -40,9 +38,21 @@ static CASES: [Case; 74] = [
     ("a", "call:0 many", "ok"),
     ("a; a many many", "call:0", "loop 1"),
     // three calls deep
-    ("a many; call:0 call:0 seq2; call:1 end seq2; call:2 many", "a", "loop 3"),
-    ("a many; call:0 b seq2; call:1 end seq2; call:2 many", "a", "ok"),
-    ("0| call:1; 0| call:2; 0| a call:0 seq2 seq0 choice2; call:0 many", "a", "loop 3"),
+    (
+        "a many; call:0 call:0 seq2; call:1 end seq2; call:2 many",
+        "a",
+        "loop 3",
+    ),
+    (
+        "a many; call:0 b seq2; call:1 end seq2; call:2 many",
+        "a",
+        "ok",
+    ),
+    (
+        "0| call:1; 0| call:2; 0| a call:0 seq2 seq0 choice2; call:0 many",
+        "a",
+        "loop 3",
+    ),
     // left recursion
     ("0| call:0", "a", "left 0"),
     ("0| call:0 a seq2", "a", "left 0"),
@@ -56,21 +66,49 @@ static CASES: [Case; 74] = [
     ("0| a b call:0 choice2 seq2", "a", "ok"),
     ("0| call:1; 0| call:0", "a", "left 0 1"),
     ("0| call:1 a seq2; 0| b call:0 choice2", "a", "left 0 1"),
-    ("0| a call:1 seq2; 0| b call:0 seq2 c choice2", "call:0 call:1 seq2", "ok"),
+    (
+        "0| a call:1 seq2; 0| b call:0 seq2 c choice2",
+        "call:0 call:1 seq2",
+        "ok",
+    ),
     // behind a rule that may be empty
     ("a many; 0| call:0 call:1 seq2", "a", "left 1"),
     ("a; 0| call:0 call:1 seq2", "a", "ok"),
     ("0| call:1 call:0 seq2; 0| a many", "a", "left 0"),
-    ("0| call:1 call:0 seq2 b choice2; 0| c call:1 seq2 d choice2", "a", "ok"),
-    ("0| call:2 call:1 seq2; 0| call:2 call:0 seq2; 0| a seq0 choice2", "a", "left 0 1"),
+    (
+        "0| call:1 call:0 seq2 b choice2; 0| c call:1 seq2 d choice2",
+        "a",
+        "ok",
+    ),
+    (
+        "0| call:2 call:1 seq2; 0| call:2 call:0 seq2; 0| a seq0 choice2",
+        "a",
+        "left 0 1",
+    ),
     // only those that come back to themselves
     ("0| call:1; 0| call:1", "a", "left 1"),
-    ("0| call:1; 0| call:2 a seq2; 0| call:1 b choice2; 0| call:0", "a", "left 1 2"),
-    ("0| call:0 a choice2; 0| b; 0| c call:1 seq2 call:2 choice2", "a", "left 0 2"),
+    (
+        "0| call:1; 0| call:2 a seq2; 0| call:1 b choice2; 0| call:0",
+        "a",
+        "left 1 2",
+    ),
+    (
+        "0| call:0 a choice2; 0| b; 0| c call:1 seq2 call:2 choice2",
+        "a",
+        "left 0 2",
+    ),
     ("0| a call:0 seq2; 1| call:1 a choice2", "a", "left 1"),
     // a block that calls earlier ones
-    ("0| a call:1 seq2 b choice2; 0| call:0 many c seq2; 1| call:0 call:3 choice2; 1| a call:2 seq2", "call:2", "ok"),
-    ("0| a call:0 seq2 seq0 choice2; 1| call:0 call:1 seq2 a choice2", "a", "left 1"),
+    (
+        "0| a call:1 seq2 b choice2; 0| call:0 many c seq2; 1| call:0 call:3 choice2; 1| a call:2 seq2",
+        "call:2",
+        "ok",
+    ),
+    (
+        "0| a call:0 seq2 seq0 choice2; 1| call:0 call:1 seq2 a choice2",
+        "a",
+        "left 1",
+    ),
     // look-behinds
     ("", "a behind:1:1", "ok"),
     ("a", "call:0 behind:1:1", "behind - recursive"),
@@ -79,8 +117,16 @@ static CASES: [Case; 74] = [
     ("", "a b seq2 c choice2 behind:1:2", "ok"),
     ("a; call:0 behind:0:0", "a", "behind 1 recursive"),
     ("", "a behind:1:1 b seq2 behind:1:1", "ok"),
-    ("", "a many behind:0:0 b seq2 behind:1:1", "behind - repetition"),
-    ("", "a many behind:0:0 not b many behind:0:0 seq2", "behind - repetition"),
+    (
+        "",
+        "a many behind:0:0 b seq2 behind:1:1",
+        "behind - repetition",
+    ),
+    (
+        "",
+        "a many behind:0:0 not b many behind:0:0 seq2",
+        "behind - repetition",
+    ),
     // a halt under a predicate
     ("", "halt", "ok"),
     ("", "halt not", "halt -"),
@@ -89,11 +135,23 @@ static CASES: [Case; 74] = [
     ("", "halt cap:x many not not", "halt -"),
     ("halt", "call:0 a seq2", "ok"),
     ("halt", "call:0 not", "halt -"),
-    ("halt; a call:0 choice2; call:1 many; call:2 and", "a", "halt 3"),
-    ("0| a call:1 seq2 b choice2; 0| c call:0 seq2 halt choice2", "call:0 not", "halt -"),
+    (
+        "halt; a call:0 choice2; call:1 many; call:2 and",
+        "a",
+        "halt 3",
+    ),
+    (
+        "0| a call:1 seq2 b choice2; 0| c call:0 seq2 halt choice2",
+        "call:0 not",
+        "halt -",
+    ),
     // which comes first
     ("a; a many many; call:0 behind:0:0", "a", "loop 1"),
-    ("0| a many many; 0| call:1; 0| halt not; 0| b many behind:0:0", "a", "behind 3 repetition"),
+    (
+        "0| a many many; 0| call:1; 0| halt not; 0| b many behind:0:0",
+        "a",
+        "behind 3 repetition",
+    ),
     ("0| a many many; 0| call:1; 0| halt not", "a", "left 1"),
     ("0| halt not; 0| a many many", "halt not", "loop 1"),
 ];

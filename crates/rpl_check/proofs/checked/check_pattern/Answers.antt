@@ -17,14 +17,14 @@ returns-in-Ok-clause-exactly c =
     let m = marked c.checked.inside.empties.items in
     let h = marked c.checked.inside.halting.items in
     let a = subst (λ x. IsAccepted (bodies_of x) m h) c.checked.view_is c.checked.invariant in
-    λ d. of_facts (bodies_of c.args.checked.now) m h a.empties a.halting d (λ x y. goal_fault x y (core_of c.args.peg) ≡ None) (rw (c.deref.ensures.value, c.deref-2.ensures.value) at c.in-Ok.ensures)
+    λ d. of_facts (bodies_of c.args.checked.now) m h a.empties a.halting d (λ x y. goal_fault x y (core_of c.args.peg) ≡ None) (rw (c.deref.ensures.value, c.deref-2.ensures.value) at c.in-Ok.ensures.exactly)
 
 pub returns-in-Err-clause-exactly : goal.returns-in-Err-clause-exactly
 returns-in-Err-clause-exactly c =
     let m = marked c.checked.inside.empties.items in
     let h = marked c.checked.inside.halting.items in
     let a = subst (λ x. IsAccepted (bodies_of x) m h) c.checked.view_is c.checked.invariant in
-    λ d. of_facts (bodies_of c.args.checked.now) m h a.empties a.halting d (λ x y. IsDue (goal_fault x y (core_of c.args.peg)) (fault_named c.in-Err.fault)) (rw (c.deref.ensures.value, c.deref-2.ensures.value) at c.in-Err.ensures)
+    λ d. of_facts (bodies_of c.args.checked.now) m h a.empties a.halting d (λ x y. IsDue (goal_fault x y (core_of c.args.peg)) (fault_named c.in-Err.fault)) (rw (c.deref.ensures.value, c.deref-2.ensures.value) at c.in-Err.ensures.exactly)
 
 pub returns-in-Ok-clause-whole : goal.returns-in-Ok-clause-whole
 returns-in-Ok-clause-whole c =
@@ -33,4 +33,4 @@ returns-in-Ok-clause-whole c =
     let a = subst (λ x. IsAccepted (bodies_of x) m h) c.checked.view_is c.checked.invariant in
     let g = core_of c.args.peg in
     let calls_in = subst (λ n. (r : ℕ) → calls g r ≡ true → r < n) (sym (length-map c.args.checked.now (λ (r : Rule). core_of r.body))) c.requires in
-    whole_of (bodies_of c.args.checked.now) m h a g calls_in (rw (c.deref.ensures.value, c.deref-2.ensures.value) at c.in-Ok.ensures)
+    whole_of (bodies_of c.args.checked.now) m h a g calls_in (rw (c.deref.ensures.value, c.deref-2.ensures.value) at c.in-Ok.ensures.exactly)

@@ -14,5 +14,5 @@ returns-then-number-eq0 c =
     let k = c.args.number in
     elim c.then-number-eq0.branch [
       | then-number-eq0-via-then-number-eq0 w ↦ sym (ap (is_split blocks) w.if-number-eq0.true)
-      | then-number-eq0-via-else-number-eq0+then-is_outside w ↦ sym (ap (λ b. b && not (joins_next blocks (k - 1))) (no_mate blocks k k (w.is_outside.ensures w.if-is_outside.true)))
+      | then-number-eq0-via-else-number-eq0+then-is_outside w ↦ sym (ap (λ b. b && not (joins_next blocks (k - 1))) (no_mate blocks k k (w.is_outside.ensures.0 w.if-is_outside.true)))
     ]
