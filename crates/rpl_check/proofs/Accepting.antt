@@ -1,0 +1,231 @@
+-- What a table and a goal without faults are for the laws of the simulation.
+use Rattle.std.proofs.Common.{◌≡◌, ℕ, zero, suc, ◌+◌, ◌-◌, ◌<◌, ◌≤◌, List, [], ◌∷◌, length, Option, Some, None, refl, sym, ap, ◌∙◌, subst, inl, arith}
+use Rattle.std.proofs.lemmas.Option.{slice_get_within}
+use Rattle.std.specs.Prelude.{Bool, true, false, ◌&&◌, nat_lt, if◌then◌else◌, slice_get}
+use Rattle.rpl_core.specs.Core.{Core, Set, Seq, Choice, Many, Not, And, Behind, Call, Capture, Note, Start, End, Halt, Cores, NoMore, Then}
+use Rattle.rpl_core.specs.Programs.{calls, calls_any}
+use Rattle.rpl_simulation.specs.Ending.{may_be_empty, IfEmpty, CallsBelow, AllCallBelow, EachCallsBelow, IsPlain, ArePlain, IsTidy, AreTidy, Ends}
+use Rattle.rpl_simulation.specs.Static.{may_halt, predicates_stay}
+use Rattle.rpl_simulation.proofs.Ending.{ends_holds}
+use Rattle.rpl_check.specs.Checked.{IsAccepted, IsWhole}
+use Rattle.rpl_check.specs.Facts.{IsLeast, Solves, Follows, Facts, passes, calls_here, front_calls_here, any_calls_here}
+use Rattle.rpl_check.specs.Faults.{Cause, Recursive, Repetition, TooLong, Fault, EmptyLoop, HaltInside, has_call, any_has_call, has_repetition, any_has_repetition, greatest, cause_of, first_cause, first_cause_in, body_cause, behind_fault, fault_if, has_empty_loop, any_has_empty_loop, has_halt_inside, behind_at, loop_at, halt_at, first_from, or_then, selves, recursion_of, group_fault, table_fault, goal_fault}
+use Rattle.rpl_check.specs.Laws.{CallsStay}
+use Rattle.rpl_check.specs.Marked.{count}
+use Rattle.rpl_check.specs.Order.{IsInOrder}
+use Rattle.rpl_check.specs.Rounds.{Reach}
+use Rattle.rpl_check.proofs.Counts.{count_lt, count_below}
+use Rattle.rpl_check.proofs.Exists.{facts_of}
+use Rattle.rpl_check.proofs.Firsts.{or_none, first_none, selves_none, group_of}
+use Rattle.rpl_check.proofs.Following.{reach_on}
+use Rattle.rpl_check.proofs.Least.{least_unique, here_called}
+use Rattle.rpl_check.proofs.Ordering.{calls_end, last_ends}
+use Rattle.rpl_check.proofs.Tests.{neither, left, right, paired, not_off, off_with, eq_self}
+
+mutual
+  plain_of : (e : Core) → has_call e ≡ false → has_repetition e ≡ false → IsPlain e
+  plain_of (Set s) c d = tt
+  plain_of (Seq ps) c d = all_plain ps c d
+  plain_of (Choice ps) c d = all_plain ps c d
+  plain_of (Many p) c d = absurd (cc)
+  plain_of (Not p) c d = plain_of p c d
+  plain_of (And p) c d = plain_of p c d
+  plain_of (Behind a b p) c d = plain_of p c d
+  plain_of (Call r) c d = absurd (cc)
+  plain_of (Capture x p) c d = plain_of p c d
+  plain_of (Note x) c d = tt
+  plain_of Start c d = tt
+  plain_of End c d = tt
+  plain_of Halt c d = tt
+
+  all_plain : (ps : Cores) → any_has_call ps ≡ false → any_has_repetition ps ≡ false → ArePlain ps
+  all_plain NoMore c d = tt
+  all_plain (Then p ps) c d = let x = neither (has_call p) (any_has_call ps) c in let y = neither (has_repetition p) (any_has_repetition ps) d in (plain_of p x.0 y.0, all_plain ps x.1 y.1)
+
+no_cause : (p : Core) → cause_of p ≡ None → (has_call p ≡ false) × (has_repetition p ≡ false)
+no_cause p e = go (has_call p) (has_repetition p) (nat_lt 255 (greatest p)) e
+  where
+    go : (a b c : Bool) → (if a then Some Recursive else (if b then Some Repetition else (if c then Some TooLong else None))) ≡ None → (a ≡ false) × (b ≡ false)
+    go true b c e = absurd (cc)
+    go false true c e = absurd (cc)
+    go false false c e = (refl, refl)
+
+module _ (m : ℕ → Bool) (n : ℕ) where
+  mutual
+    tidy_of : (e : Core) → has_empty_loop m e ≡ false → first_cause e ≡ None → ((r : ℕ) → calls e r ≡ true → r < n) → IsTidy m n e
+    tidy_of (Set s) f b c = tt
+    tidy_of (Seq ps) f b c = all_tidy ps f b c
+    tidy_of (Choice ps) f b c = all_tidy ps f b c
+    tidy_of (Many p) f b c = let x = neither (may_be_empty m p) (has_empty_loop m p) f in (x.0, tidy_of p x.1 b c)
+    tidy_of (Not p) f b c = tidy_of p f b c
+    tidy_of (And p) f b c = tidy_of p f b c
+    tidy_of (Behind l k p) f b c = let y = or_none (cause_of p) (first_cause p) b in let z = no_cause p y.0 in plain_of p z.0 z.1
+    tidy_of (Call r) f b c = c r (eq_self r)
+    tidy_of (Capture x p) f b c = tidy_of p f b c
+    tidy_of (Note x) f b c = tt
+    tidy_of Start f b c = tt
+    tidy_of End f b c = tt
+    tidy_of Halt f b c = tt
+
+    all_tidy : (ps : Cores) → any_has_empty_loop m ps ≡ false → first_cause_in ps ≡ None → ((r : ℕ) → calls_any ps r ≡ true → r < n) → AreTidy m n ps
+    all_tidy NoMore f b c = tt
+    all_tidy (Then p ps) f b c =
+        let x = neither (has_empty_loop m p) (any_has_empty_loop m ps) f in
+        let y = or_none (first_cause p) (first_cause_in ps) b in
+        (tidy_of p x.0 y.0 (λ r e. c r (left (calls p r) (calls_any ps r) e)), all_tidy ps x.1 y.1 (λ r e. c r (right (calls p r) (calls_any ps r) e)))
+
+module _ (m : ℕ → Bool) (rank : ℕ → ℕ) (k : ℕ) where
+  mutual
+    below_of : (e : Core) → ((t : ℕ) → calls_here m e t ≡ true → rank t < k) → CallsBelow m rank k e
+    below_of (Set s) f = tt
+    below_of (Seq ps) f = front_below ps f
+    below_of (Choice ps) f = each_below ps f
+    below_of (Many p) f = below_of p f
+    below_of (Not p) f = below_of p f
+    below_of (And p) f = below_of p f
+    below_of (Behind a b p) f = below_of p f
+    below_of (Call r) f = f r (eq_self r)
+    below_of (Capture x p) f = below_of p f
+    below_of (Note x) f = tt
+    below_of Start f = tt
+    below_of End f = tt
+    below_of Halt f = tt
+
+    front_below : (ps : Cores) → ((t : ℕ) → front_calls_here m ps t ≡ true → rank t < k) → AllCallBelow m rank k ps
+    front_below NoMore f = tt
+    front_below (Then p ps) f = (below_of p (λ t x. f t (left (calls_here m p t) (may_be_empty m p && front_calls_here m ps t) x)), if_empty (may_be_empty m p) refl (λ e. front_below ps (λ t x. f t (right (calls_here m p t) (may_be_empty m p && front_calls_here m ps t) (paired (may_be_empty m p) (front_calls_here m ps t) e x)))))
+      where
+        if_empty : (b : Bool) → may_be_empty m p ≡ b → (b ≡ true → AllCallBelow m rank k ps) → IfEmpty b (AllCallBelow m rank k ps)
+        if_empty true e h = h refl
+        if_empty false e h = tt
+
+    each_below : (ps : Cores) → ((t : ℕ) → any_calls_here m ps t ≡ true → rank t < k) → EachCallsBelow m rank k ps
+    each_below NoMore f = tt
+    each_below (Then p ps) f = (below_of p (λ t x. f t (left (calls_here m p t) (any_calls_here m ps t) x)), each_below ps (λ t x. f t (right (calls_here m p t) (any_calls_here m ps t) x)))
+
+-- the calls of a table in order stay in it
+pub calls_stay : (R : List Core) (bs : List (Option ℕ)) → length bs ≡ length R → IsInOrder R bs → CallsStay R
+calls_stay R bs long o r s p is c = go (length R) refl
+  where
+    go : (n : ℕ) → length R ≡ n → s < length R
+    go zero e = absurd (omega (arith, slice_get_within R r p is))
+    go (suc k) e =
+        let z : k + 1 ≡ length R = omega arith in
+        let lt = calls_end R bs k o (last_ends bs k (omega arith)) r s p (omega (arith, slice_get_within R r p is)) is c in
+        omega arith
+
+no_behind : (rule : Option ℕ) (o : Option Cause) → behind_fault rule o ≡ None → o ≡ None
+no_behind rule None e = refl
+no_behind rule (Some c) e = absurd (cc)
+
+no_fault : (b : Bool) (f : Fault) → fault_if b f ≡ None → b ≡ false
+no_fault true f e = absurd (cc)
+no_fault false f e = refl
+
+no_rules : (l : List ℕ) → recursion_of l ≡ None → l ≡ []
+no_rules [] e = refl
+no_rules (r ∷ l) e = absurd (cc)
+
+off_rule : (f : Core → Bool) (o : Option Core) (p : Core) → o ≡ Some p → passes f o ≡ false → f p ≡ false
+off_rule f o p e h = sym (ap (passes f) e) ∙ h
+
+off_behind : (o : Option Core) (p : Core) → o ≡ Some p → body_cause o ≡ None → first_cause p ≡ None
+off_behind o p e h = sym (ap body_cause e) ∙ h
+
+module _ (R : List Core) (bs : List (Option ℕ)) (m h : ℕ → Bool) (long : length bs ≡ length R) (o : IsInOrder R bs) (em : IsLeast (Solves may_be_empty R) m) (ha : IsLeast (Solves may_halt R) h)
+    (free : (reach : ℕ → ℕ → Bool) → Reach R m reach → table_fault m h reach R bs ≡ None) where
+  record Free (reach : ℕ → ℕ → Bool) (r : ℕ) : Type 0 where
+    pub behind : body_cause (slice_get R r) ≡ None
+    pub self : reach r r ≡ false
+    pub loop : passes (has_empty_loop m) (slice_get R r) ≡ false
+    pub stop : passes (has_halt_inside h) (slice_get R r) ≡ false
+
+  free_rule : (reach : ℕ → ℕ → Bool) → Reach R m reach → (r : ℕ) → r < length R → Free reach r
+  free_rule reach all r lt =
+      let g = group_of (group_fault m h reach R) bs 0 0 (length bs) (omega arith) (omega arith) (inl refl) (free reach all) r (omega arith) (omega arith) in
+      parts g.0 g.1 g.2 g.3 g.4
+    where
+      parts : (x y : ℕ) → x ≤ r → r < y → group_fault m h reach R x y ≡ None → Free reach r
+      parts x y xr ry e =
+          let n = y - x in
+          let a = or_none (first_from (behind_at R) x n) _ e in
+          let b = or_none (recursion_of (selves reach x n)) _ a.1 in
+          let c = or_none (first_from (loop_at m R) x n) (first_from (halt_at h R) x n) b.1 in
+          let fit : r < x + n = omega arith in
+          record {
+            behind = no_behind (Some r) (body_cause (slice_get R r)) (first_none (behind_at R) x n a.0 r xr fit);
+            self = selves_none reach x n (no_rules (selves reach x n) b.0) r xr fit;
+            loop = no_fault (passes (has_empty_loop m) (slice_get R r)) (EmptyLoop (Some r)) (first_none (loop_at m R) x n c.0 r xr fit);
+            stop = no_fault (passes (has_halt_inside h) (slice_get R r)) (HaltInside (Some r)) (first_none (halt_at h R) x n c.1 r xr fit);
+          }
+
+  some_reach : (reach : ℕ → ℕ → Bool) × Reach R m reach
+  some_reach =
+      let d = facts_of R (calls_stay R bs long o) in
+      let e = least_unique (Solves may_be_empty R) d.empties m d.empties_least em in
+      (d.reach, λ r. subst (λ x. IsLeast (Follows R x r) (d.reach r)) e (d.reach_least r))
+
+  pub accepted : IsAccepted R m h
+  accepted =
+      let d = some_reach in
+      record {
+        empties = em;
+        halting = ha;
+        calls = calls_stay R bs long o;
+        behinds = λ r p is. off_behind (slice_get R r) p is (free_rule d.0 d.1 r (slice_get_within R r p is)).behind;
+        loops = λ r p is. off_rule (has_empty_loop m) (slice_get R r) p is (free_rule d.0 d.1 r (slice_get_within R r p is)).loop;
+        halts = λ r p is. not_off (predicates_stay h p) (off_rule (has_halt_inside h) (slice_get R r) p is (free_rule d.0 d.1 r (slice_get_within R r p is)).stop);
+        selves = λ reach all r lt. (free_rule reach all r lt).self;
+      }
+
+module _ (R : List Core) (m h : ℕ → Bool) (a : IsAccepted R m h) where
+  reach_of : (reach : ℕ → ℕ → Bool) × Reach R m reach
+  reach_of =
+      let d = facts_of R a.calls in
+      let e = least_unique (Solves may_be_empty R) d.empties m d.empties_least a.empties in
+      (d.reach, λ r. subst (λ x. IsLeast (Follows R x r) (d.reach r)) e (d.reach_least r))
+
+  abbrev rank_in : (ℕ → ℕ → Bool) → ℕ → ℕ
+  rank_in reach r = count (reach r) (length R)
+
+  ends_of : (g : Core) (reach : ℕ → ℕ → Bool) → Reach R m reach → has_empty_loop m g ≡ false → first_cause g ≡ None → ((r : ℕ) → calls g r ≡ true → r < length R) → Ends m (rank_in reach) R g
+  ends_of g reach all lg bg cg = record {
+    empties = λ r p is off. off_with (m r) (may_be_empty m p) (λ e. a.empties.solution r (ap (passes (may_be_empty m)) is ∙ e)) off;
+    low = λ r lt. count_below (reach r) (length R) r lt (a.selves reach all r lt);
+    falls = λ r p is. below_of m (rank_in reach) (rank_in reach r) p (λ t e.
+        let one = (all r).solution.first t (ap (passes (λ x. calls_here m x t)) is ∙ e) in
+        let lt : t < length R = a.calls r t p is (here_called m t p e) in
+        count_lt (reach t) (reach r) (length R) t (λ q f. reach_on R m reach all r t q one f) lt (a.selves reach all t lt) one);
+    rules = λ r p is. tidy_of m (length R) p (a.loops r p is) (a.behinds r p is) (λ s e. a.calls r s p is e);
+    goal = tidy_of m (length R) g lg bg cg;
+  }
+
+  -- a goal without faults
+  pub whole_of : (g : Core) → ((r : ℕ) → calls g r ≡ true → r < length R) → goal_fault m h g ≡ None → IsWhole R g
+  whole_of g cg none =
+      let x = or_none (behind_fault None (first_cause g)) (or_then (fault_if (has_empty_loop m g) (EmptyLoop None)) (fault_if (has_halt_inside h g) (HaltInside None))) none in
+      let y = or_none (fault_if (has_empty_loop m g) (EmptyLoop None)) (fault_if (has_halt_inside h g) (HaltInside None)) x.1 in
+      let d = reach_of in
+      record {
+        shut = λ t. ends_holds m (rank_in d.0) R g t (ends_of g d.0 d.1 (no_fault (has_empty_loop m g) (EmptyLoop None) y.0) (no_behind None (first_cause g) x.0) cg);
+        stays = (
+          h,
+          record {
+            closed = λ r p is off. off_with (h r) (may_halt h p) (λ e. a.halting.solution r (ap (passes (may_halt h)) is ∙ e)) off;
+            rules = λ r p reached is. a.halts r p is;
+            goal = not_off (predicates_stay h g) (no_fault (has_halt_inside h g) (HaltInside None) y.1);
+          },
+        );
+        goal = cg;
+        rules = a.calls;
+      }
+
+-- what is said of the least sets is said of all static facts
+pub of_facts : (R : List Core) (m h : ℕ → Bool) → IsLeast (Solves may_be_empty R) m → IsLeast (Solves may_halt R) h → (d : Facts R) (P : (ℕ → Bool) → (ℕ → Bool) → Type 0) → P m h → P d.empties d.halting
+of_facts R m h em ha d P p =
+    let e = least_unique (Solves may_be_empty R) m d.empties em d.empties_least in
+    let f = least_unique (Solves may_halt R) h d.halting ha d.halting_least in
+    subst (λ x. P x d.halting) e (subst (λ y. P m y) f p)
+
+pub of_reach : (R : List Core) (m h : ℕ → Bool) → IsLeast (Solves may_be_empty R) m → IsLeast (Solves may_halt R) h → (d : Facts R) (P : (ℕ → Bool) → (ℕ → Bool) → (ℕ → ℕ → Bool) → Type 0) → ((reach : ℕ → ℕ → Bool) → Reach R m reach → P m h reach) → P d.empties d.halting d.reach
+of_reach R m h em ha d P p = of_facts R m h em ha d (λ x y. (reach : ℕ → ℕ → Bool) → Reach R x reach → P x y reach) p d.reach d.reach_least

@@ -1,0 +1,145 @@
+-- Each table has its static facts, and one set of them.
+use Rattle.std.proofs.Common.{◌≡◌, ℕ, zero, suc, ◌+◌, ◌<◌, List, length, refl, ap, subst, ⊎_elim, inl, inr, arith}
+use mathlib.Core.Path.{fun_ext}
+use Rattle.std.proofs.lemmas.Bool.{cases_lt}
+use Rattle.std.proofs.lemmas.Option.{slice_get_within}
+use Rattle.std.specs.Prelude.{Bool, true, false, ◌||◌, ◌&&◌, not, ◌⊎◌, nat_eq, slice_get}
+use Rattle.rpl_core.specs.Core.{Core}
+use Rattle.rpl_core.specs.Programs.{calls}
+use Rattle.rpl_simulation.specs.Ending.{may_be_empty}
+use Rattle.rpl_simulation.specs.Static.{may_halt}
+use Rattle.rpl_check.specs.Facts.{IsLeast, Solves, Follows, Facts, passes, calls_here}
+use Rattle.rpl_check.specs.Laws.{CallsStay, AreSame}
+use Rattle.rpl_check.specs.Marked.{count}
+use Rattle.rpl_check.proofs.Counts.{count_lt, count_all_le}
+use Rattle.rpl_check.proofs.Least.{least_unique, empty_grows, halt_grows, here_called}
+use Rattle.rpl_check.proofs.Tests.{right, both, paired, not_on, not_off, eq_of, eq_self, passing, pass_at}
+
+-- a test of the numbers below n holds of one of them, or of none
+pub some_below : (f : ℕ → Bool) (n : ℕ) → ((r : ℕ) × (r < n) × (f r ≡ true)) ⊎ ((r : ℕ) → r < n → f r ≡ false)
+some_below f zero = inr (λ r lt. absurd (omega arith))
+some_below f (suc n) = ⊎_elim (λ h. inl (h.0, omega (arith, h.1), h.2)) (λ none. here_or_not none (f n) refl) (some_below f n)
+  where
+    here_or_not : ((r : ℕ) → r < n → f r ≡ false) → (b : Bool) → f n ≡ b → ((r : ℕ) × (r < suc n) × (f r ≡ true)) ⊎ ((r : ℕ) → r < suc n → f r ≡ false)
+    here_or_not none true e = inl (n, omega arith, e)
+    here_or_not none false e = inr (λ r lt. ⊎_elim (none r) (λ ge. let z : n ≡ r = omega arith in subst (λ x. f x ≡ false) z e) (cases_lt r n))
+
+-- what is missing of a closed set: a number that each closed set above has
+abbrev pub Missing : ((ℕ → Bool) → Type 0) → ℕ → (ℕ → Bool) → Type 0
+Missing closed n m = (q : ℕ) × (q < n) × (m q ≡ false) × ((k : ℕ → Bool) → closed k → ((r : ℕ) → m r ≡ true → k r ≡ true) → k q ≡ true)
+
+abbrev with_one : ℕ → (ℕ → Bool) → ℕ → Bool
+with_one q m r = nat_eq q r || m r
+
+with_cases : (q : ℕ) (m k : ℕ → Bool) → k q ≡ true → ((r : ℕ) → m r ≡ true → k r ≡ true) → (r : ℕ) → with_one q m r ≡ true → k r ≡ true
+with_cases q m k hq h r = go (nat_eq q r) refl
+  where
+    go : (b : Bool) → nat_eq q r ≡ b → (b || m r) ≡ true → k r ≡ true
+    go true e x = subst (λ z. k z ≡ true) (eq_of q r e) hq
+    go false e x = h r x
+
+-- by adding what is missing, one number at a time
+grown : (closed : (ℕ → Bool) → Type 0) (n : ℕ) → ((m : ℕ → Bool) → closed m ⊎ Missing closed n m) → (fuel : ℕ) (m : ℕ → Bool) → n < fuel + count m n → ((k : ℕ → Bool) → closed k → (r : ℕ) → m r ≡ true → k r ≡ true) → (s : ℕ → Bool) × IsLeast closed s
+grown closed n find zero m enough under = absurd (let h = count_all_le m n in omega arith)
+grown closed n find (suc fuel) m enough under = ⊎_elim done (more (λ m1. grown closed n find fuel m1)) (find m)
+  where
+    done : closed m → (s : ℕ → Bool) × IsLeast closed s
+    done c = (m, record { solution = c; least = under })
+
+    more : ((m1 : ℕ → Bool) → n < fuel + count m1 n → ((k : ℕ → Bool) → closed k → (r : ℕ) → m1 r ≡ true → k r ≡ true) → (s : ℕ → Bool) × IsLeast closed s) → Missing closed n m → (s : ℕ → Bool) × IsLeast closed s
+    more again x =
+        let m1 = with_one x.0 m in
+        let new : m1 x.0 ≡ true = ap (λ b. b || m x.0) (eq_self x.0) in
+        let up = count_lt m m1 n x.0 (λ r e. right (nat_eq x.0 r) (m r) e) x.1 x.2 new in
+        again m1 (omega arith) (λ k c r. with_cases x.0 m k (x.3 k c (under k c)) (under k c) r)
+
+pub least_exists : (closed : (ℕ → Bool) → Type 0) (n : ℕ) → ((m : ℕ → Bool) → closed m ⊎ Missing closed n m) → (s : ℕ → Bool) × IsLeast closed s
+least_exists closed n find = grown closed n find (suc n) (λ r. false) (omega arith) (λ k c r e. absurd (cc))
+
+on_of : (a b : Bool) → (a && not b) ≡ false → a ≡ true → b ≡ true
+on_of true b e x = not_off b e
+on_of false b e x = absurd (cc)
+
+module _ (test : (ℕ → Bool) → Core → Bool)
+    (grows : (m k : ℕ → Bool) (e : Core) → ((r : ℕ) → calls e r ≡ true → m r ≡ true → k r ≡ true) → test m e ≡ true → test k e ≡ true)
+    (R : List Core) where
+  abbrev open_rule : (ℕ → Bool) → ℕ → Bool
+  open_rule m r = passes (test m) (slice_get R r) && not (m r)
+
+  solve_find : (m : ℕ → Bool) → Solves test R m ⊎ Missing (Solves test R) (length R) m
+  solve_find m = ⊎_elim (λ h. inr (missing h)) (λ none. inl (closed none)) (some_below (open_rule m) (length R))
+    where
+      missing : ((r : ℕ) × (r < length R) × (open_rule m r ≡ true)) → Missing (Solves test R) (length R) m
+      missing h =
+          let s = both (passes (test m) (slice_get R h.0)) (not (m h.0)) h.2 in
+          let x = passing (test m) R h.0 s.0 in
+          (h.0, h.1, not_on (m h.0) s.1, λ k c up. c h.0 (pass_at (test k) R h.0 x.0 x.1 (grows m k x.0 (λ r d e. up r e) x.2)))
+
+      closed : ((r : ℕ) → r < length R → open_rule m r ≡ false) → Solves test R m
+      closed none r e = let x = passing (test m) R r e in on_of (passes (test m) (slice_get R r)) (m r) (none r (slice_get_within R r x.0 x.1)) e
+
+-- a test of pairs below n
+pair_below : (f : ℕ → ℕ → Bool) (n k : ℕ) → ((q : ℕ) × (t : ℕ) × (t < n) × (f q t ≡ true)) ⊎ ((q : ℕ) → q < k → (t : ℕ) → t < n → f q t ≡ false)
+pair_below f n zero = inr (λ q lt t l. absurd (omega arith))
+pair_below f n (suc k) = ⊎_elim (λ h. inl h) (λ none. ⊎_elim (λ h. inl (k, h.0, h.1, h.2)) (λ last. inr (all none last)) (some_below (f k) n)) (pair_below f n k)
+  where
+    all : ((q : ℕ) → q < k → (t : ℕ) → t < n → f q t ≡ false) → ((t : ℕ) → t < n → f k t ≡ false) → (q : ℕ) → q < suc k → (t : ℕ) → t < n → f q t ≡ false
+    all none last q lt t l = ⊎_elim (λ x. none q x t l) (λ ge. let z : k ≡ q = omega arith in subst (λ x. f x t ≡ false) z (last t l)) (cases_lt q k)
+
+module _ (R : List Core) (stay : CallsStay R) (m : ℕ → Bool) (r : ℕ) where
+  abbrev at : ℕ → ℕ → Bool
+  at q t = passes (λ p. calls_here m p t) (slice_get R q)
+
+  called_in : (q t : ℕ) → at q t ≡ true → t < length R
+  called_in q t e = let x = passing (λ p. calls_here m p t) R q e in stay q t x.0 x.1 (here_called m t x.0 x.2)
+
+  caller_in : (q t : ℕ) → at q t ≡ true → q < length R
+  caller_in q t e = let x = passing (λ p. calls_here m p t) R q e in slice_get_within R q x.0 x.1
+
+  abbrev first_open : (ℕ → Bool) → ℕ → Bool
+  first_open s t = at r t && not (s t)
+
+  abbrev further_open : (ℕ → Bool) → ℕ → ℕ → Bool
+  further_open s q t = (s q && at q t) && not (s t)
+
+  reach_find : (s : ℕ → Bool) → Follows R m r s ⊎ Missing (Follows R m r) (length R) s
+  reach_find s = ⊎_elim (λ h. inr (early h)) (λ none. ⊎_elim (λ h. inr (late h)) (λ rest. inl (closed none rest)) (pair_below (further_open s) (length R) (length R))) (some_below (first_open s) (length R))
+    where
+      early : ((t : ℕ) × (t < length R) × (first_open s t ≡ true)) → Missing (Follows R m r) (length R) s
+      early h = let x = both (at r h.0) (not (s h.0)) h.2 in (h.0, h.1, not_on (s h.0) x.1, λ k c up. c.first h.0 x.0)
+
+      late : ((q : ℕ) × (t : ℕ) × (t < length R) × (further_open s q t ≡ true)) → Missing (Follows R m r) (length R) s
+      late h =
+          let x = both (s h.0 && at h.0 h.1) (not (s h.1)) h.3 in
+          let y = both (s h.0) (at h.0 h.1) x.0 in
+          (h.1, h.2, not_on (s h.1) x.1, λ k c up. c.further h.0 h.1 (up h.0 y.0) y.1)
+
+      closed : ((t : ℕ) → t < length R → first_open s t ≡ false) → ((q : ℕ) → q < length R → (t : ℕ) → t < length R → further_open s q t ≡ false) → Follows R m r s
+      closed none rest = record {
+        first = λ t e. on_of (at r t) (s t) (none t (called_in r t e)) e;
+        further = λ q t x e. on_of (s q && at q t) (s t) (rest q (caller_in q t e) t (called_in q t e)) (paired (s q) (at q t) x e);
+      }
+
+-- each table whose calls stay in it has its facts
+pub facts_of : (R : List Core) → CallsStay R → Facts R
+facts_of R stay =
+    let m = least_exists (Solves may_be_empty R) (length R) (solve_find may_be_empty (λ m k e up. empty_grows m k e up) R) in
+    let h = least_exists (Solves may_halt R) (length R) (solve_find may_halt (λ m k e up. halt_grows m k e up) R) in
+    record {
+      empties = m.0;
+      halting = h.0;
+      reach = λ r. (least_exists (Follows R m.0 r) (length R) (reach_find R stay m.0 r)).0;
+      empties_least = m.1;
+      halting_least = h.1;
+      reach_least = λ r. (least_exists (Follows R m.0 r) (length R) (reach_find R stay m.0 r)).1;
+    }
+
+-- and no others
+pub facts_same : (R : List Core) (d e : Facts R) → AreSame R d e
+facts_same R d e =
+    let m = least_unique (Solves may_be_empty R) d.empties e.empties d.empties_least e.empties_least in
+    record {
+      empties = m;
+      halting = least_unique (Solves may_halt R) d.halting e.halting d.halting_least e.halting_least;
+      reach = fun_ext (λ r. least_unique (Follows R e.empties r) (d.reach r) (e.reach r) (subst (λ x. IsLeast (Follows R x r) (d.reach r)) m (d.reach_least r)) (e.reach_least r));
+    }

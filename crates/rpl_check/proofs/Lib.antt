@@ -1,0 +1,16 @@
+pub mod Tests
+pub mod Counts
+pub mod Least
+pub mod Exists
+pub mod Walk
+pub mod Stay
+pub mod Settling
+pub mod Ordering
+pub mod Finding
+pub mod Fronts
+pub mod Following
+pub mod Clean
+pub mod Selves
+pub mod Firsts
+pub mod Accepting
+pub mod Standings

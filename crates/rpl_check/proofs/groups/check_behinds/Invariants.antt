@@ -1,0 +1,8 @@
+use Rattle.std.proofs.Common.{◌≡◌, ◌-◌, ◌≤◌}
+use Rattle.rpl_core.specs.Listed.{rules_of}
+use Rattle.rpl_core.specs.Table.{bodies_of}
+use Rattle.rpl_check.specs.Faults.{first_from, behind_at}
+use Rattle.rpl_check.proofs.groups.check_behinds.Given as goal
+
+abbrev pub invariant-loop-number : goal.invariant-loop-number
+invariant-loop-number l = (l.start ≤ l.number) × (first_from (behind_at (bodies_of (rules_of l.rules))) l.start (l.end - l.start) ≡ first_from (behind_at (bodies_of (rules_of l.rules))) l.number (l.end - l.number))

@@ -1,0 +1,10 @@
+use Rattle.std.proofs.Common.{◌∙◌, arith}
+use Rattle.rpl_core.specs.Listed.{rules_of}
+use Rattle.rpl_core.specs.Table.{bodies_of}
+use Rattle.rpl_check.specs.Faults.{loop_at}
+use Rattle.rpl_check.specs.Marked.{marked}
+use Rattle.rpl_check.proofs.Firsts.{first_miss}
+use Rattle.rpl_check.proofs.groups.check_loops.Goals as goal
+
+pub loop-number-preserved : goal.loop-number-preserved
+loop-number-preserved c = (omega arith, c.loop-number.invariant.1 ∙ first_miss (loop_at (marked c.args.empties.now) (bodies_of (rules_of c.args.rules.now))) c.loop-number.number c.args.end c.loop-number-test.true c.in_ok-check_loop.ensures)

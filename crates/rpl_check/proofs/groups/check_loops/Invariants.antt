@@ -1,0 +1,9 @@
+use Rattle.std.proofs.Common.{◌≡◌, ◌-◌, ◌≤◌}
+use Rattle.rpl_core.specs.Listed.{rules_of}
+use Rattle.rpl_core.specs.Table.{bodies_of}
+use Rattle.rpl_check.specs.Faults.{first_from, loop_at}
+use Rattle.rpl_check.specs.Marked.{marked}
+use Rattle.rpl_check.proofs.groups.check_loops.Given as goal
+
+abbrev pub invariant-loop-number : goal.invariant-loop-number
+invariant-loop-number l = (l.start ≤ l.number) × (first_from (loop_at (marked l.empties) (bodies_of (rules_of l.rules))) l.start (l.end - l.start) ≡ first_from (loop_at (marked l.empties) (bodies_of (rules_of l.rules))) l.number (l.end - l.number))

@@ -1,0 +1,52 @@
+use Rattle.std.proofs.Common.{◌∙◌, ◌+◌, ◌-◌, ◌<◌, arith, length, sym}
+use Rattle.std.proofs.lemmas.List.{length-map}
+use Rattle.rpl_core.specs.Listed.{rules_of}
+use Rattle.rpl_core.specs.Table.{blocks_of, bodies_of}
+use Rattle.rpl_core.specs.declared.rules.Rule.{Rule}
+use Rattle.rpl_check.specs.Answers.{fault_named}
+use Rattle.rpl_check.specs.Faults.{group_fault, fault_from, table_fault}
+use Rattle.rpl_check.specs.Marked.{marked}
+use Rattle.rpl_check.proofs.Firsts.{group_joins, group_ends, groups_done, due_first, none_first}
+use Rattle.rpl_check.proofs.Ordering.{calls_end}
+use Rattle.rpl_check.proofs.groups.check_table.Goals as goal
+
+pub loop-number-preserved-then-joins_next : goal.loop-number-preserved-then-joins_next
+loop-number-preserved-then-joins_next c =
+    let rules = rules_of c.args.rules.now in
+    let blocks = blocks_of rules in
+    let k = c.loop-number.number in
+    let lt : k < length blocks = omega (arith, length-map rules (λ (r : Rule). r.block), c.len-number-end.ensures, c.loop-number-test.true) in (
+      omega arith,
+      c.loop-number.invariant.1,
+      λ reach all. c.loop-number.invariant.2 reach all ∙ group_joins (group_fault (marked c.args.empties.now) (marked c.args.halting.now) reach (bodies_of rules)) blocks c.loop-number.start k (length blocks) lt (sym c.joins_next.ensures ∙ c.if-joins_next.true),
+    )
+
+pub loop-number-preserved : goal.loop-number-preserved
+loop-number-preserved c =
+    let rules = rules_of c.args.rules.now in
+    let blocks = blocks_of rules in
+    let k = c.loop-number.number in
+    let lt : k < length blocks = omega (arith, length-map rules (λ (r : Rule). r.block), c.len-number-end.ensures, c.loop-number-test.true) in (
+      omega arith,
+      calls_end (bodies_of rules) blocks k c.requires (sym c.joins_next.ensures ∙ c.if-joins_next.false),
+      λ reach all.
+          let f = group_fault (marked c.args.empties.now) (marked c.args.halting.now) reach (bodies_of rules) in
+          let e = c.loop-number.invariant.2 reach all ∙ group_ends f blocks c.loop-number.start k (length blocks) lt (sym c.joins_next.ensures ∙ c.if-joins_next.false) in
+          none_first (table_fault (marked c.args.empties.now) (marked c.args.halting.now) reach (bodies_of rules) blocks) (f c.loop-number.start (k + 1)) (fault_from f blocks (k + 1) (k + 1) (length blocks - (k + 1))) e (c.in-Ok.ensures reach all),
+    )
+
+pub returns-in-Err : goal.returns-in-Err
+returns-in-Err c = λ reach all.
+    let rules = rules_of c.args.rules.now in
+    let blocks = blocks_of rules in
+    let k = c.loop-number.number in
+    let lt : k < length blocks = omega (arith, length-map rules (λ (r : Rule). r.block), c.len-number-end.ensures, c.loop-number-test.true) in
+    let f = group_fault (marked c.args.empties.now) (marked c.args.halting.now) reach (bodies_of rules) in
+    let e = c.loop-number.invariant.2 reach all ∙ group_ends f blocks c.loop-number.start k (length blocks) lt (sym c.joins_next.ensures ∙ c.if-joins_next.false) in
+    due_first (table_fault (marked c.args.empties.now) (marked c.args.halting.now) reach (bodies_of rules) blocks) (f c.loop-number.start (k + 1)) (fault_from f blocks (k + 1) (k + 1) (length blocks - (k + 1))) (fault_named c.in-Err.fault) e (c.in-Err.ensures reach all)
+
+pub returns : goal.returns
+returns c = λ reach all.
+    let rules = rules_of c.args.rules.now in
+    let blocks = blocks_of rules in
+    c.loop-number.invariant.2 reach all ∙ groups_done (group_fault (marked c.args.empties.now) (marked c.args.halting.now) reach (bodies_of rules)) blocks c.loop-number.start c.loop-number.number (length blocks) (omega (arith, length-map rules (λ (r : Rule). r.block), c.len-number-end.ensures, c.loop-number-test.false))

@@ -1,0 +1,15 @@
+use Rattle.std.proofs.Common.{◌≡◌, ◌++◌, ◌∙◌, ap, sym, subst, take, drop, length, arith}
+use Rattle.std.proofs.Math.Seq.{take-append_seam}
+use Rattle.rpl_core.specs.Listed.{rules_of}
+use Rattle.rpl_core.specs.Table.{bodies_of}
+use Rattle.rpl_check.specs.Marked.{marked}
+use Rattle.rpl_check.specs.Search.{AreClean}
+use Rattle.rpl_check.proofs.recursion.clean_rules.Goals as goal
+
+pub returns-clause-clean : goal.returns-clause-clean
+returns-clause-clean c =
+    let new = c.mark_clean.new.clean in
+    let tail = drop (length new) c.in_ok-clean.clean.items in
+    let long : c.in_ok-clean.clean.len ≡ length new = omega (arith, c.in_ok-clean.ensures.len, c.mark_clean.ensures.long) in
+    let same : new ≡ take c.in_ok-clean.clean.len (new ++ tail) = sym (ap (λ n. take n (new ++ tail)) long ∙ take-append_seam new tail) in
+    subst (λ l. AreClean (bodies_of (rules_of c.args.rules.now)) (marked c.args.empties.now) c.args.start l) same c.mark_clean.ensures.clean

@@ -1,0 +1,13 @@
+use Rattle.std.proofs.Common.{◌≡◌, ℕ, ◌-◌, ◌≤◌, ◌++◌}
+use Rattle.std.specs.Prelude.{Bool}
+use Rattle.rpl_core.specs.Listed.{rules_of}
+use Rattle.rpl_core.specs.Table.{bodies_of}
+use Rattle.rpl_check.specs.Faults.{selves}
+use Rattle.rpl_check.specs.Marked.{marked}
+use Rattle.rpl_check.specs.Rounds.{Reach}
+use Rattle.rpl_check.proofs.recursion.selves.Given as goal
+
+abbrev pub invariant-loop-number : goal.invariant-loop-number
+invariant-loop-number l =
+    (l.start ≤ l.number)
+    × ((reach : ℕ → ℕ → Bool) → Reach (bodies_of (rules_of l.rules)) (marked l.empties) reach → selves reach l.start (l.end - l.start) ≡ l.list.items ++ selves reach l.number (l.end - l.number))

@@ -1,0 +1,12 @@
+use Rattle.rpl_core.specs.Listed.{rules_of}
+use Rattle.rpl_core.specs.Table.{bodies_of}
+use Rattle.rpl_check.proofs.Settling.{room_less, known_end, grows_on}
+use Rattle.rpl_check.proofs.rounds.close.Goals as goal
+
+pub loop-fact-smaller : goal.loop-fact-smaller
+loop-fact-smaller c = room_less c.loop-fact.marks c.round.new.marks c.round.ensures.grows.long (c.round.ensures.found c.loop-fact-test.true)
+
+pub returns : goal.returns
+returns c =
+    known_end c.args.fact (bodies_of (rules_of c.args.rules.now)) c.args.start c.args.end c.args.marks.now c.round.new.marks c.requires.within.0 c.requires.known
+    (grows_on c.args.start c.args.marks.now c.loop-fact.marks c.round.new.marks c.loop-fact.invariant.0 c.round.ensures.grows) c.round.ensures.under (c.round.ensures.quiet c.loop-fact-test.false).1 c.requires.earlier

@@ -1,0 +1,11 @@
+use Rattle.std.proofs.Common.{◌≤◌, ◌-◌}
+use Rattle.rpl_core.specs.Listed.{rules_of}
+use Rattle.rpl_core.specs.Table.{bodies_of}
+use Rattle.rpl_check.proofs.Settling.{RoundTo}
+use Rattle.rpl_check.proofs.rounds.round.Given as goal
+
+abbrev pub invariant-loop-number : goal.invariant-loop-number
+invariant-loop-number l = (l.start ≤ l.number) × (l.number ≤ l.end) × RoundTo l.fact (bodies_of (rules_of l.rules)) l.start l.number l.end l.fn.marks l.marks l.found
+
+abbrev pub decreases-loop-number : goal.decreases-loop-number
+decreases-loop-number l = l.number - l.start

@@ -1,0 +1,11 @@
+pub mod Facts
+pub mod Order
+pub mod Standing
+pub mod Laws
+pub mod Faults
+pub mod Marked
+pub mod Answers
+pub mod Rounds
+pub mod Search
+pub mod Checked
+pub mod Goal

@@ -1,0 +1,70 @@
+-- How the rules of a block that reach themselves before a character are found.
+use Rattle.std.specs.Prelude.{◌≡◌, ℕ, suc, ◌+◌, ◌-◌, ◌≤◌, Bool, true, false, ◌||◌, ◌&&◌, not, nat_eq, nat_lt, nat_le, List, [], ◌∷◌, length, Option, Some, None}
+use Rattle.rpl_core.specs.Core.{Core, Set, Seq, Choice, Many, Not, And, Behind, Call, Capture, Note, Start, End, Halt, Cores, NoMore, Then}
+use Rattle.rpl_simulation.specs.Ending.{may_be_empty}
+use Rattle.rpl_check.specs.Marked.{marked}
+use Rattle.rpl_check.specs.Rounds.{Reach}
+use Rattle.rpl_check.specs.declared.recursion.Search.{Search}
+
+-- each rule that the core may call before it has taken a character is in w, where just the rules of m may be empty
+abbrev mutual
+  pub calls_within : (m w : ℕ → Bool) → Core → Bool
+  calls_within m w (Set s) = true
+  calls_within m w (Seq ps) = front_calls_within m w ps
+  calls_within m w (Choice ps) = each_calls_within m w ps
+  calls_within m w (Many p) = calls_within m w p
+  calls_within m w (Not p) = calls_within m w p
+  calls_within m w (And p) = calls_within m w p
+  calls_within m w (Behind l n p) = calls_within m w p
+  calls_within m w (Call r) = w r
+  calls_within m w (Capture c p) = calls_within m w p
+  calls_within m w (Note x) = true
+  calls_within m w Start = true
+  calls_within m w End = true
+  calls_within m w Halt = true
+
+  -- the parts up to and with the first that may not be empty
+  pub front_calls_within : (m w : ℕ → Bool) → Cores → Bool
+  front_calls_within m w NoMore = true
+  front_calls_within m w (Then p ps) = calls_within m w p && (not (may_be_empty m p) || front_calls_within m w ps)
+
+  -- all parts
+  pub each_calls_within : (m w : ℕ → Bool) → Cores → Bool
+  each_calls_within m w NoMore = true
+  each_calls_within m w (Then p ps) = calls_within m w p && each_calls_within m w ps
+
+-- where all are within, whether the core may be empty
+abbrev pub within_or_none : Bool → Bool → Option Bool
+within_or_none true empty = Some empty
+within_or_none false empty = None
+
+-- the marked rules of a block that begins at a don't reach themselves
+abbrev pub AreClean : List Core → (ℕ → Bool) → ℕ → List Bool → Type 0
+AreClean R m a clean = (reach : ℕ → ℕ → Bool) → Reach R m reach → (r : ℕ) → a ≤ r → marked clean (r - a) ≡ true → reach r r ≡ false
+
+-- how many rules have no mark
+abbrev pub unmarked : List Bool → ℕ
+unmarked [] = 0
+unmarked (true ∷ bs) = unmarked bs
+unmarked (false ∷ bs) = suc (unmarked bs)
+
+-- the rule is in the list
+abbrev pub waits : List ℕ → ℕ → Bool
+waits [] r = false
+waits (q ∷ qs) r = nat_eq q r || waits qs r
+
+-- the rule is one of the block
+abbrev pub in_block : Search → ℕ → Bool
+in_block s r = nat_le s.start r && nat_lt (r - s.start) (length s.marks.items)
+
+-- the rule is one of the block, and was found
+abbrev pub found : Search → ℕ → Bool
+found s r = nat_le s.start r && marked s.marks.items (r - s.start)
+
+-- the rules of the block that pass the test are found as well, and those found anew wait
+pub record Finds (test : ℕ → Bool) (old new : Search) : Type 0 where
+  pub start : new.start ≡ old.start
+  pub long : length new.marks.items ≡ length old.marks.items
+  pub marks : (r : ℕ) → found new r ≡ (found old r || (in_block old r && test r))
+  pub waiting : (r : ℕ) → waits new.waiting.items r ≡ (waits old.waiting.items r || (found new r && not (found old r)))
+  pub left : length new.waiting.items + unmarked new.marks.items ≡ length old.waiting.items + unmarked old.marks.items

@@ -1,0 +1,129 @@
+// Tables and patterns without faults.
+ghost use Rattle.std.specs.Prelude.{◌≡◌, ℕ, ◌<◌, true, is_some, length, IfErr, IfOk};
+ghost use Rattle.rpl_core.specs.Listed.{rules_of};
+ghost use Rattle.rpl_core.specs.Programs.{calls};
+ghost use Rattle.rpl_core.specs.Table.{blocks_of, bodies_of};
+ghost use Rattle.rpl_core.specs.View.{core_of};
+ghost use Rattle.rpl_check.specs.Answers.{Answers, fault_named};
+ghost use Rattle.rpl_check.specs.Checked.{IsWhole};
+ghost use Rattle.rpl_check.specs.Facts.{Facts};
+ghost use Rattle.rpl_check.specs.Faults as F;
+ghost use Rattle.rpl_check.specs.Goal.{peg_of};
+ghost use Rattle.rpl_check.specs.Marked.{marked};
+ghost use Rattle.rpl_check.specs.Order.{IsInOrder};
+
+use crate::behinds::first_cause;
+use crate::facts::Fact;
+use crate::fault::CheckFault;
+use crate::groups::check_table;
+use crate::inside::{has_empty_loop, predicates_stay};
+use crate::rounds::work_out;
+use rpl_core::{Peg, Rules};
+use std::alloc::Global;
+use std::marker::Model;
+
+/// A table of rules without faults, with the marks of the rules that may be empty and of those that may halt. Contracts
+/// see the rules.
+#[derive(Drop)]
+pub struct Checked {
+    rules: Rules,
+    empties: Vec<bool>,
+    halting: Vec<bool>,
+}
+
+impl Model for Checked {
+    ghost use Rattle.std.specs.Coded.{codes};
+    ghost use Rattle.std.specs.Prelude.{List};
+    ghost use Rattle.rpl_core.specs.Listed.{rules_of};
+    ghost use Rattle.rpl_core.specs.Table.{bodies_of};
+    ghost use Rattle.rpl_core.specs.contracts.peg.Peg as e;
+    ghost use Rattle.rpl_core.specs.declared.rules.Rule.{Rule};
+    ghost use Rattle.rpl_check.specs.Checked.{IsAccepted};
+    ghost use Rattle.rpl_check.specs.Marked.{marked};
+
+    ghost Value = { List Rule };
+
+    ghost coded = { Prim.hlevel (codes, e.the_row.coded) };
+
+    ghost view = { λ a. rules_of a.rules };
+
+    ghost invariant = { λ a. IsAccepted (bodies_of (rules_of a.rules)) (marked a.empties.items) (marked a.halting.items) };
+}
+
+impl Checked {
+    /// The rules.
+    pub fn rules(&self) -> &Rules
+        ensures { rules_of result.now ≡ self.now }
+    {
+        &self.rules
+    }
+}
+
+/// The table, if it has no fault; else its first.
+///
+/// Blocks, and rules outside blocks, are taken in the order of the table. Of each the look-behinds of all its rules
+/// come first, then left recursion, then empty loops, then halts under predicates. It needs a table in order, as every
+/// expansion is.
+pub fn check(alloc: Global, rules: Rules) -> Result<Checked, CheckFault>
+    requires { IsInOrder (bodies_of (rules_of rules)) (blocks_of (rules_of rules)) }
+    ensures exactly { (d : Facts (bodies_of (rules_of rules))) → Answers (F.table_fault d.empties d.halting d.reach (bodies_of (rules_of rules)) (blocks_of (rules_of rules))) result }
+    ensures same { IfOk result (λ c. c ≡ rules_of rules) }
+{
+    let empties = work_out(alloc, &rules, Fact::MayBeEmpty)?;
+    let halting = work_out(alloc, &rules, Fact::MayHalt)?;
+    match check_table(alloc, &rules, &empties, &halting) {
+        Ok(()) => Ok(Checked {
+            rules,
+            empties,
+            halting,
+        }),
+        Err(fault) => Err(fault),
+    }
+}
+
+/// A pattern without faults over a checked table.
+#[derive(Drop)]
+pub struct CheckedPeg {
+    peg: Peg,
+}
+
+impl CheckedPeg {
+    /// The pattern.
+    pub fn peg(&self) -> &Peg
+        ensures { result.now ≡ peg_of self.now }
+    {
+        &self.peg
+    }
+}
+
+/// The first fault of a pattern: a look-behind, an empty loop, or a halt under a predicate.
+fn check_goal(peg: &Peg, empties: &[bool], halting: &[bool]) -> Result<(), CheckFault>
+    ensures exactly { Answers (F.goal_fault (marked empties.now) (marked halting.now) (core_of peg.now)) result }
+    ensures memory { IfErr result (λ e. is_some (fault_named e) ≡ true) }
+{
+    if let Some(cause) = first_cause(peg) {
+        return Err(CheckFault::LookBehind { rule: None, cause });
+    }
+    if has_empty_loop(peg, empties) {
+        return Err(CheckFault::EmptyLoop { rule: None });
+    }
+    if !predicates_stay(peg, halting) {
+        return Err(CheckFault::HaltInside { rule: None });
+    }
+    Ok(())
+}
+
+/// The pattern, if it has no fault; else its first. A pattern without faults means something on every text, and so
+/// does its code. It needs each call to be one of a rule of the table, and takes no memory.
+pub fn check_pattern(_alloc: Global, checked: &Checked, peg: Peg) -> Result<CheckedPeg, CheckFault>
+    requires { (r : ℕ) → calls (core_of peg) r ≡ true → r < length checked.now }
+    ensures exactly { (d : Facts (bodies_of checked.now)) → Answers (F.goal_fault d.empties d.halting (core_of peg)) result }
+    ensures memory { IfErr result (λ e. is_some (fault_named e) ≡ true) }
+    ensures same { IfOk result (λ g. peg_of g ≡ peg) }
+    ensures whole { IfOk result (λ g. IsWhole (bodies_of checked.now) (core_of (peg_of g))) }
+{
+    match check_goal(&peg, &checked.empties, &checked.halting) {
+        Ok(()) => Ok(CheckedPeg { peg }),
+        Err(fault) => Err(fault),
+    }
+}

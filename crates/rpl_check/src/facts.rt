@@ -1,0 +1,122 @@
+// Which rules may be empty, and which may halt.
+ghost use Rattle.std.specs.Prelude.{◌≡◌, ◌<◌, ◌≤◌, false, true, length, slice_get};
+ghost use Rattle.rpl_core.specs.Listed.{rules_of};
+ghost use Rattle.rpl_core.specs.Table.{blocks_of, bodies_of};
+ghost use Rattle.rpl_core.specs.View.{core_of, cores};
+ghost use Rattle.rpl_simulation.specs.Ending as E;
+ghost use Rattle.rpl_simulation.specs.Static as S;
+ghost use Rattle.rpl_check.specs.Facts.{passes};
+ghost use Rattle.rpl_check.specs.Marked.{marked};
+ghost use Rattle.rpl_check.specs.Rounds.{test_of};
+
+use rpl_core::{Peg, Rules};
+
+/// What is asked of all rules.
+#[derive(Clone, Copy)]
+pub(crate) enum Fact {
+    MayBeEmpty,
+    MayHalt,
+}
+
+/// The list marks the rule.
+pub(crate) fn is_marked(marks: &[bool], rule: u32) -> bool
+    ensures { result ≡ marked marks.now rule }
+{
+    if (rule as usize) < marks.len() {
+        marks[rule as usize]
+    } else {
+        false
+    }
+}
+
+/// The pattern may succeed and take nothing, where just the marked rules may.
+#[cycle(empty)]
+pub(crate) fn may_be_empty(peg: &Peg, empties: &[bool]) -> bool
+    ensures { result ≡ E.may_be_empty (marked empties.now) (core_of peg.now) }
+{
+    match peg {
+        Peg::Set(_) | Peg::Halt => false,
+        Peg::Many(_) | Peg::Not(_) | Peg::And(_) | Peg::Behind { .. } => true,
+        Peg::Note(_) | Peg::Start | Peg::End => true,
+        Peg::Call(rule) => is_marked(empties, *rule),
+        Peg::Capture(_, body) => may_be_empty(body, empties),
+        Peg::Seq(parts) => all_may_be_empty(parts.as_slice(), empties),
+        Peg::Choice(parts) => any_may_be_empty(parts.as_slice(), empties),
+    }
+}
+
+/// So may all parts.
+#[cycle(empty)]
+fn all_may_be_empty(parts: &[Peg], empties: &[bool]) -> bool
+    ensures { result ≡ E.all_may_be_empty (marked empties.now) (cores parts.now) }
+{
+    for part in parts {
+        if !may_be_empty(part, empties) {
+            return false;
+        }
+    }
+    true
+}
+
+/// So may some part.
+#[cycle(empty)]
+fn any_may_be_empty(parts: &[Peg], empties: &[bool]) -> bool
+    ensures { result ≡ E.any_may_be_empty (marked empties.now) (cores parts.now) }
+{
+    for part in parts {
+        if may_be_empty(part, empties) {
+            return true;
+        }
+    }
+    false
+}
+
+/// The pattern may end the whole match, where just the marked rules may.
+#[cycle(halt)]
+pub(crate) fn may_halt(peg: &Peg, halting: &[bool]) -> bool
+    ensures { result ≡ S.may_halt (marked halting.now) (core_of peg.now) }
+{
+    match peg {
+        Peg::Halt => true,
+        Peg::Set(_) | Peg::Note(_) | Peg::Start | Peg::End => false,
+        Peg::Call(rule) => is_marked(halting, *rule),
+        Peg::Many(body) | Peg::Not(body) | Peg::And(body) => may_halt(body, halting),
+        Peg::Behind { body, .. } => may_halt(body, halting),
+        Peg::Capture(_, body) => may_halt(body, halting),
+        Peg::Seq(parts) => any_may_halt(parts.as_slice(), halting),
+        Peg::Choice(parts) => any_may_halt(parts.as_slice(), halting),
+    }
+}
+
+/// So may some part.
+#[cycle(halt)]
+fn any_may_halt(parts: &[Peg], halting: &[bool]) -> bool
+    ensures { result ≡ S.any_may_halt (marked halting.now) (cores parts.now) }
+{
+    for part in parts {
+        if may_halt(part, halting) {
+            return true;
+        }
+    }
+    false
+}
+
+/// The pattern passes the test of the fact, where just the marked rules do.
+fn holds(peg: &Peg, fact: Fact, marks: &[bool]) -> bool
+    ensures { result ≡ test_of fact (marked marks.now) (core_of peg.now) }
+{
+    match fact {
+        Fact::MayBeEmpty => may_be_empty(peg, marks),
+        Fact::MayHalt => may_halt(peg, marks),
+    }
+}
+
+/// So does the body of the rule with this number, if there is one.
+pub(crate) fn rule_holds(rules: &Rules, number: u32, fact: Fact, marks: &[bool]) -> bool
+    ensures { result ≡ passes (test_of fact (marked marks.now)) (slice_get (bodies_of (rules_of rules.now)) number) }
+{
+    match rules.get(number) {
+        Some(rule) => holds(&rule.body, fact, marks),
+        None => false,
+    }
+}

@@ -1,0 +1,55 @@
+// Why a table or a pattern is refused.
+ghost use Rattle.std.specs.Prelude.{◌≡◌};
+
+use crate::NoMemory;
+use thiserror::Error;
+
+/// Why a look-behind is refused.
+#[derive(Clone, Copy, Debug, PartialEq, Eq)]
+pub enum BehindCause {
+    /// Its body calls a rule.
+    Recursive,
+    /// Its body has a repetition.
+    Repetition,
+    /// Its body may take more than 255 characters.
+    TooLong,
+}
+
+/// Why a table of rules or a pattern is refused. A rule is its number in the table; where there is none it is the pattern.
+#[derive(Debug, Drop, Error)]
+pub enum CheckFault {
+    /// Memory is wanting.
+    #[error("out of memory")]
+    NoMemory,
+    /// A look-behind whose lengths have no bound, or too high a one.
+    #[error("look-behind")]
+    LookBehind {
+        rule: Option<u32>,
+        cause: BehindCause,
+    },
+    /// The rules of a block that may call themselves again before a character is taken, all of them in order.
+    #[error("left recursion")]
+    LeftRecursion {
+        rules: Vec<u32>,
+    },
+    /// A repetition whose body may be empty.
+    #[error("empty loop")]
+    EmptyLoop {
+        rule: Option<u32>,
+    },
+    /// A predicate whose body may halt.
+    #[error("halt under a predicate")]
+    HaltInside {
+        rule: Option<u32>,
+    },
+}
+
+impl From<NoMemory> for CheckFault {
+    ghost use Rattle.rpl_check.specs.declared.fault.CheckFault.TheVariants as V;
+
+    ghost from_gives = { λ _ e. e ≡ V.NoMemory };
+
+    fn from(_error: NoMemory) -> CheckFault {
+        CheckFault::NoMemory
+    }
+}

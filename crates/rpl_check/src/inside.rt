@@ -1,0 +1,69 @@
+// Empty loops, and halts under predicates.
+ghost use Rattle.std.specs.Prelude.{◌≡◌};
+ghost use Rattle.rpl_core.specs.View.{core_of, cores};
+ghost use Rattle.rpl_simulation.specs.Static as S;
+ghost use Rattle.rpl_check.specs.Faults as F;
+ghost use Rattle.rpl_check.specs.Marked.{marked};
+
+use crate::facts::{may_be_empty, may_halt};
+use rpl_core::Peg;
+
+/// The pattern repeats something that may be empty, where just the marked rules may.
+#[cycle(empty_loop)]
+pub(crate) fn has_empty_loop(peg: &Peg, empties: &[bool]) -> bool
+    ensures { result ≡ F.has_empty_loop (marked empties.now) (core_of peg.now) }
+{
+    match peg {
+        Peg::Set(_) | Peg::Call(_) | Peg::Note(_) | Peg::Start | Peg::End | Peg::Halt => false,
+        Peg::Many(body) => may_be_empty(body, empties) || has_empty_loop(body, empties),
+        Peg::Not(body) | Peg::And(body) => has_empty_loop(body, empties),
+        Peg::Behind { body, .. } => has_empty_loop(body, empties),
+        Peg::Capture(_, body) => has_empty_loop(body, empties),
+        Peg::Seq(parts) => any_has_empty_loop(parts.as_slice(), empties),
+        Peg::Choice(parts) => any_has_empty_loop(parts.as_slice(), empties),
+    }
+}
+
+/// Some part does.
+#[cycle(empty_loop)]
+fn any_has_empty_loop(parts: &[Peg], empties: &[bool]) -> bool
+    ensures { result ≡ F.any_has_empty_loop (marked empties.now) (cores parts.now) }
+{
+    for part in parts {
+        if has_empty_loop(part, empties) {
+            return true;
+        }
+    }
+    false
+}
+
+/// No predicate in the pattern may halt, where just the marked rules may. A body that may not halt has no predicate
+/// that may, so none is looked at twice.
+#[cycle(stay)]
+pub(crate) fn predicates_stay(peg: &Peg, halting: &[bool]) -> bool
+    ensures { result ≡ S.predicates_stay (marked halting.now) (core_of peg.now) }
+{
+    match peg {
+        Peg::Set(_) | Peg::Call(_) | Peg::Note(_) | Peg::Start | Peg::End | Peg::Halt => true,
+        Peg::Not(body) => !may_halt(body, halting),
+        Peg::And(body) => !may_halt(body, halting),
+        Peg::Behind { body, .. } => !may_halt(body, halting),
+        Peg::Many(body) => predicates_stay(body, halting),
+        Peg::Capture(_, body) => predicates_stay(body, halting),
+        Peg::Seq(parts) => all_predicates_stay(parts.as_slice(), halting),
+        Peg::Choice(parts) => all_predicates_stay(parts.as_slice(), halting),
+    }
+}
+
+/// No predicate in the parts may.
+#[cycle(stay)]
+fn all_predicates_stay(parts: &[Peg], halting: &[bool]) -> bool
+    ensures { result ≡ S.all_predicates_stay (marked halting.now) (cores parts.now) }
+{
+    for part in parts {
+        if !predicates_stay(part, halting) {
+            return false;
+        }
+    }
+    true
+}
