@@ -1,6 +1,6 @@
 // The head of a pattern: a set outside which it fails.
 ghost use Rattle.std.specs.Option.{option_copied};
-ghost use Rattle.std.specs.Prelude.{◌≡◌, IfOk, is_some, option_map};
+ghost use Rattle.std.specs.Prelude.{◌≡◌, IfOk, option_map};
 ghost use Rattle.rpl_classes.specs.Norm.{norm};
 ghost use Rattle.rpl_core.specs.Head as H;
 ghost use Rattle.rpl_core.specs.View.{core_of, cores};
@@ -20,46 +20,6 @@ pub(crate) fn lone_set(peg: &Peg) -> Option<&Set>
         Peg::Behind { .. } | Peg::Call(_) | Peg::Capture(_, _) | Peg::Note(_) => None,
         Peg::Start | Peg::End | Peg::Halt => None,
     }
-}
-
-/// Whether the pattern has a head.
-#[cycle(has_head)]
-pub(crate) fn has_head(peg: &Peg) -> bool
-    ensures { result ≡ is_some (H.head (core_of peg.now)) }
-{
-    match peg {
-        Peg::Set(_) => true,
-        Peg::Seq(parts) => first_has_head(parts.as_slice()),
-        Peg::Choice(parts) => each_has_head(parts.as_slice()),
-        Peg::Capture(_, body) => has_head(body),
-        Peg::Many(_) | Peg::Not(_) | Peg::And(_) | Peg::Behind { .. } => false,
-        Peg::Call(_) | Peg::Note(_) | Peg::Start | Peg::End | Peg::Halt => false,
-    }
-}
-
-/// Whether the first part has a head.
-#[cycle(has_head)]
-fn first_has_head(parts: &[Peg]) -> bool
-    ensures { result ≡ is_some (H.first_head (cores parts.now)) }
-{
-    if parts.is_empty() {
-        false
-    } else {
-        has_head(&parts[0])
-    }
-}
-
-/// Whether each part has a head.
-#[cycle(has_head)]
-fn each_has_head(parts: &[Peg]) -> bool
-    ensures { result ≡ is_some (H.all_heads (cores parts.now)) }
-{
-    for part in parts {
-        if !has_head(part) {
-            return false;
-        }
-    }
-    true
 }
 
 /// The head of the pattern, if it has one.
