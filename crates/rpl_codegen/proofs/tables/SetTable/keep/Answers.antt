@@ -1,5 +1,5 @@
-use Rattle.std.proofs.Common.{◌≡◌, [], ◌∷◌, Some, ap, subst, ◌∙◌}
-use Rattle.std.specs.Prelude.{map, slice_get}
+use Rattle.std.proofs.Common.{[], ◌∷◌, Some, ap, subst, ◌∙◌}
+use Rattle.std.specs.Prelude.{map}
 use Rattle.std.specs.Cmp.Lexicographic.{pointwise_decides}
 use Rattle.rpl_codegen.specs.Uses.{Keeps}
 use Rattle.rpl_codegen.proofs.Keeping.{range_decides, keeps_key, stored_at}
