@@ -1,0 +1,6 @@
+pub mod Again
+pub mod Sound
+pub mod Unique
+pub mod Rows
+pub mod Printing
+mod Examples

@@ -1,0 +1,5 @@
+pub mod Expression
+pub mod View
+pub mod Grammar
+pub mod Reading
+pub mod Printing

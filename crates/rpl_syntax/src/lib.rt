@@ -1,0 +1,20 @@
+//! The syntax of RPL: tokens with what they stand for, expressions, modules, the grammar, and printing.
+//!
+//! For the parser, which makes expressions and modules of tokens, and for all that walk over them. The grammar
+//! (`specs/Grammar.antt`) is a relation with one case for each of its lines; the laws promise that no tokens are a
+//! spelling of two expressions, and that what an expression is printed as is read as that expression. Besides,
+//! only memory can run out.
+#![tactic(auto)]
+
+mod build;
+mod expr;
+mod laws;
+mod name;
+mod token;
+
+pub use build::{choose, join, wrap};
+pub use expr::{Expr, Exprs, Mark, Sign};
+pub use laws::{one_reading, reads_back};
+pub use name::QName;
+pub use rpl_text::NoMemory;
+pub use token::{Keyword, Symbol, Token};
