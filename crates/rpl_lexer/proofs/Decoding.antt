@@ -1,0 +1,124 @@
+-- The reading of a text, character by character.
+use Rattle.std.proofs.Common.{◌≡◌, ℕ, zero, suc, ◌+◌, ◌<◌, ◌≤◌, List, [], ◌∷◌, ◌++◌, length, drop, Option, Some, None, refl, sym, ap, subst, ◌∙◌, arith, drop-drop, length-drop}
+use Rattle.std.specs.Prelude.{nat_eq, if◌then◌else◌, slice_get, chars, encode_utf8, encode_utf8_all, IsUtf8}
+use Rattle.std.specs.Char.{len_utf8}
+use Rattle.std.proofs.lemmas.Bool.{ne_eqb}
+use Rattle.std.proofs.lemmas.Str.{len_utf8_bounds, len_utf8_ascii, chars-nil, encodes-chars, encodes-append, chars_from_encodes}
+use Rattle.std.proofs.lemmas.List.{drop_all, append-nil}
+use Rattle.rpl_text.specs.Places.{at, index, IsPlace, step_from}
+use Rattle.rpl_text.specs.Escapes.{escape, placed, escape_from}
+use Rattle.rpl_text.proofs.Walks.{some_step, none_step, index_at, place_at, at_suc, get_below, at_le, at_end}
+use Rattle.rpl_text.proofs.Cuts.{at-drop}
+use Rattle.rpl_text.proofs.Escaped.{escape_plain, drop_front}
+use Rattle.rpl_lexer.specs.Payloads.{unescaped, decoded, Decodes}
+
+decoded-nil : (k : ℕ) → decoded k [] ≡ []
+unfolding decoded
+decoded-nil k = refl
+
+decoded-skip : (k c : ℕ) (cs : List ℕ) → decoded (suc k) (c ∷ cs) ≡ decoded k cs
+unfolding decoded
+decoded-skip k c cs = refl
+
+decoded-cons : (c : ℕ) (cs : List ℕ) → decoded 0 (c ∷ cs) ≡ (if nat_eq c 34 then [] else (if nat_eq c 92 then unescaped (escape cs) (λ k. decoded k cs) else c ∷ decoded 0 cs))
+unfolding decoded
+decoded-cons c cs = refl
+
+-- characters of an escape are passed over
+skipped : (k : ℕ) (cs : List ℕ) → decoded k cs ≡ decoded 0 (drop k cs)
+skipped zero cs = refl
+skipped (suc k) [] = decoded-nil (suc k) ∙ sym (decoded-nil 0)
+skipped (suc k) (c ∷ cs) = decoded-skip k c cs ∙ skipped k cs
+
+-- what a step of the text says
+pub record Stepped (t : List ℕ) (p c q : ℕ) : Type 0 where
+  pub front : drop (index t p) t ≡ c ∷ drop (index t p + 1) t
+  pub get : slice_get t (index t p) ≡ Some c
+  pub forward : p < q
+  pub place : IsPlace t q
+  pub number : index t q ≡ index t p + 1
+
+pub stepped : (t : List ℕ) (p c q : ℕ) → IsPlace t p → Some (c, q) ≡ step_from t (index t p) → Stepped t p c q
+stepped t p c q h e =
+    let i = index t p in
+    let s = some_step t i c q e in
+    let b = get_below t i c s.1 in
+    let n : q ≡ p + len_utf8 c = s.0 ∙ at_suc t i c s.1 ∙ ap (λ x. x + len_utf8 c) h in
+    record {
+      front = drop_front t i c s.1;
+      get = s.1;
+      forward = let w = len_utf8_bounds c in omega (arith, n, w.0);
+      place = subst (IsPlace t) (sym s.0) (place_at t (i + 1) (omega arith));
+      number = ap (index t) s.0 ∙ index_at t (i + 1) (omega arith);
+    }
+
+-- at the end, at a quote, and at any other character that stands for itself
+pub reads_end : (t : List ℕ) (p : ℕ) → None ≡ step_from t (index t p) → Decodes t p None
+reads_end t p e = let n = none_step t (index t p) e in ap (decoded 0) (drop_all (index t p) t n.1) ∙ decoded-nil 0
+
+pub reads_quote : (t : List ℕ) (p q : ℕ) → IsPlace t p → Some (34, q) ≡ step_from t (index t p) → Decodes t p None
+reads_quote t p q h e = let s = stepped t p 34 q h e in ap (decoded 0) s.front ∙ decoded-cons 34 (drop (index t p + 1) t)
+
+pub reads_plain : (t : List ℕ) (p c q : ℕ) → IsPlace t p → Some (c, q) ≡ step_from t (index t p) → (c ≡ 34 → ⊥) → (c ≡ 92 → ⊥) → Decodes t p (Some (c, q))
+reads_plain t p c q h e n m =
+    let s = stepped t p c q h e in
+    let cs = drop (index t p + 1) t in (
+      ap (decoded 0) s.front ∙ decoded-cons c cs
+          ∙ ap (λ b. if b then [] else (if nat_eq c 92 then unescaped (escape cs) (λ k. decoded k cs) else c ∷ decoded 0 cs)) (ne_eqb c 34 n)
+          ∙ ap (λ b. if b then unescaped (escape cs) (λ k. decoded k cs) else c ∷ decoded 0 cs) (ne_eqb c 92 m)
+          ∙ ap (λ k. c ∷ decoded 0 (drop k t)) (sym s.number),
+      s.place,
+      s.forward,
+    )
+
+backslash : (t : List ℕ) (p q : ℕ) → IsPlace t p → Some (92, q) ≡ step_from t (index t p)
+    → decoded 0 (drop (index t p) t) ≡ unescaped (escape (drop (index t p + 1) t)) (λ k. decoded k (drop (index t p + 1) t))
+backslash t p q h e = let s = stepped t p 92 q h e in ap (decoded 0) s.front ∙ decoded-cons 92 (drop (index t p + 1) t)
+
+by_escape : (t : List ℕ) (p q : ℕ) (o : Option (ℕ × ℕ)) → IsPlace t p → Some (92, q) ≡ step_from t (index t p) → escape (drop (index t p + 1) t) ≡ o → Decodes t p (placed t (index t p + 1) o)
+by_escape t p q None h e g = backslash t p q h e ∙ ap (λ o. unescaped o (λ k. decoded k (drop (index t p + 1) t))) g
+by_escape t p q (Some (v, k)) h e g =
+    let i = index t p in
+    let s = stepped t p 92 q h e in
+    let cs = drop (i + 1) t in
+    let plain = escape_plain cs v k g in
+    let b = get_below t i 92 s.get in
+    let inside : i + 1 + k ≤ length t = omega (arith, length-drop (i + 1) t, plain.inside) in
+    let r = at t (i + 1 + k) in
+    let number : index t r ≡ i + 1 + k = index_at t (i + 1 + k) inside in
+    let one = at_suc t i 92 s.get in
+    let later : p < r = omega (arith, at-drop t (i + 1) k, len_utf8_ascii 92) in
+    let same : drop k cs ≡ drop (index t r) t = drop-drop k (i + 1) t ∙ ap (λ n. drop n t) (sym number) in (
+      backslash t p q h e ∙ ap (λ o. unescaped o (λ k. decoded k cs)) g ∙ ap (λ x. v ∷ x) (skipped k cs ∙ ap (decoded 0) same),
+      place_at t (i + 1 + k) inside,
+      later,
+    )
+
+pub reads_escape : (t : List ℕ) (p q : ℕ) (r : Option (ℕ × ℕ)) → IsPlace t p → Some (92, q) ≡ step_from t (index t p) → r ≡ escape_from t (index t p) → Decodes t p r
+reads_escape t p q r h e g = subst (Decodes t p) (sym g) (by_escape t p q (escape (drop (index t p + 1) t)) h e refl)
+
+-- a place is no greater than the length
+pub place_le : (bs : List ℕ) (q : ℕ) → IsUtf8 bs → IsPlace (chars bs) q → q ≤ length bs
+place_le bs q u h = let l = at_le (chars bs) (index (chars bs) q) in omega (arith, at_end bs u, h)
+
+-- one more character at the end of a text
+pub pushed : (old new : List ℕ) (c : ℕ) → IsUtf8 old → IsUtf8 new → new ≡ old ++ encode_utf8 c → chars new ≡ chars old ++ c ∷ []
+pushed old new c u v e =
+    sym (chars_from_encodes (chars old ++ c ∷ []) new v
+    (encodes-append (chars old) (c ∷ []) ∙ ap (λ x. x ++ encode_utf8_all (c ∷ [])) (encodes-chars old u) ∙ ap (λ x. old ++ x) (append-nil (encode_utf8 c)) ∙ sym e))
+
+-- the start
+pub place_zero : (t : List ℕ) → IsPlace t 0
+place_zero [] = refl
+place_zero (c ∷ cs) = refl
+
+index_zero : (t : List ℕ) → index t 0 ≡ 0
+index_zero [] = refl
+index_zero (c ∷ cs) = refl
+
+drop_zero : (t : List ℕ) → drop 0 t ≡ t
+drop_zero [] = refl
+drop_zero (c ∷ cs) = refl
+
+pub begun : (bs t : List ℕ) → bs ≡ [] → chars bs ++ decoded 0 (drop (index t 0) t) ≡ decoded 0 t
+begun bs t e = ap (λ x. chars x ++ decoded 0 (drop (index t 0) t)) e ∙ ap (λ x. x ++ decoded 0 (drop (index t 0) t)) chars-nil ∙ ap (λ n. decoded 0 (drop n t)) (index_zero t) ∙ ap (decoded 0) (drop_zero t)

@@ -1,0 +1,9 @@
+pub mod Wide
+pub mod Walks
+pub mod Words
+pub mod Places
+pub mod Cuts
+pub mod Ways
+pub mod Edges
+pub mod Decoding
+pub mod Values

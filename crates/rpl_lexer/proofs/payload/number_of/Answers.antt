@@ -1,0 +1,9 @@
+use Rattle.std.proofs.Common.{◌∙◌, ap}
+use Rattle.rpl_lexer.specs.Numbers.{value, narrow}
+use Rattle.rpl_lexer.proofs.Values.{number_read}
+use Rattle.rpl_lexer.proofs.payload.number_of.Goals as goal
+
+pub returns : goal.returns
+returns c =
+    c.unwrap_or.ensures
+    ∙ number_read c.args.text.now c.args.token c.number.result c.requires.kind c.requires.stands (c.number.ensures ∙ ap (λ b. narrow (value 0 b)) (c.as_bytes.ensures.value ∙ c.token_text.ensures))

@@ -1,0 +1,29 @@
+-- The names that only the grammar may use.
+use Rattle.std.specs.Prelude.{ℕ, Bool, is_some, List, [], ◌∷◌, Option, Some, None, if◌then◌else◌, codes}
+use Rattle.std.specs.Str.{bytes_eq}
+use Rattle.rpl_lexer.specs.declared.keyword.Keyword.{Keyword}
+use Rattle.rpl_lexer.specs.declared.keyword.Keyword.TheVariants.{Rpl, Package, Import, As, Alias, Local, Grammar, In, End}
+
+-- how a keyword is spelled
+abbrev pub word_of : Keyword → List ℕ
+word_of Rpl = codes "rpl"
+word_of Package = codes "package"
+word_of Import = codes "import"
+word_of As = codes "as"
+word_of Alias = codes "alias"
+word_of Local = codes "local"
+word_of Grammar = codes "grammar"
+word_of In = codes "in"
+word_of End = codes "end"
+
+-- the first of some keywords that is spelled so
+abbrev pub first_named : List Keyword → List ℕ → Option Keyword
+first_named [] name = None
+first_named (k ∷ ks) name = if bytes_eq (word_of k) name then Some k else first_named ks name
+
+-- the keyword that a name is, where it is one
+unfoldable pub keyword_named : List ℕ → Option Keyword
+keyword_named = first_named (Rpl ∷ Package ∷ Import ∷ As ∷ Alias ∷ Local ∷ Grammar ∷ In ∷ End ∷ [])
+
+abbrev pub is_keyword : List ℕ → Bool
+is_keyword name = is_some (keyword_named name)

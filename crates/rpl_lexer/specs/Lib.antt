@@ -1,0 +1,10 @@
+pub mod Bytes
+pub mod Gaps
+pub mod Keywords
+pub mod Signs
+pub mod Numbers
+pub mod Enclosed
+pub mod Braces
+pub mod Fronts
+pub mod Cut
+pub mod Payloads

@@ -1,0 +1,108 @@
+-- What a token says to the grammar.
+use Rattle.std.specs.Prelude.{◌≡◌, ◌<◌, ℕ, zero, suc, ◌+◌, nat_eq, List, [], ◌∷◌, Option, Some, None, unwrap_or, if◌then◌else◌, drop, slice_range, slice_index, chars}
+use Rattle.rpl_text.specs.Places.{index, IsPlace}
+use Rattle.rpl_text.specs.Escapes.{escape}
+use Rattle.rpl_lexer.specs.declared.token.Token.{Token}
+use Rattle.rpl_lexer.specs.declared.token.TokenKind.{TokenKind}
+use Rattle.rpl_lexer.specs.declared.token.TokenKind.TheVariants as K
+use Rattle.rpl_lexer.specs.declared.keyword.Keyword.{Keyword as Word}
+use Rattle.rpl_lexer.specs.declared.keyword.Keyword.TheVariants as W
+use Rattle.rpl_lexer.specs.declared.punct.Punct.{Punct}
+use Rattle.rpl_lexer.specs.declared.punct.Punct.TheVariants as P
+use Rattle.rpl_lexer.specs.declared.bounds.Bounds.{Bounds as Numbers}
+use Rattle.rpl_lexer.specs.Bytes.{is_word, run}
+use Rattle.rpl_lexer.specs.Keywords.{keyword_named}
+use Rattle.rpl_lexer.specs.Signs.{punct}
+use Rattle.rpl_lexer.specs.Numbers.{value}
+use Rattle.rpl_lexer.specs.Braces.{bounds_in}
+use Rattle.rpl_lexer.specs.Fronts.{first_name}
+
+-- the bytes of a token, and those behind the first of them
+abbrev pub span : List ℕ → Token → List ℕ
+span s t = slice_range s t.start t.end
+
+abbrev pub inner : List ℕ → Token → List ℕ
+inner s t = slice_range s (t.start + 1) t.end
+
+-- ---- texts
+
+-- the character of an escape, and then what is behind its k characters; nothing where there is no escape
+abbrev pub unescaped : Option (ℕ × ℕ) → (ℕ → List ℕ) → List ℕ
+unescaped None rest = []
+unescaped (Some (c, k)) rest = c ∷ rest k
+
+-- the characters up to the closing quote with their escapes read, behind k characters that belong to an escape
+unfoldable pub decoded : ℕ → List ℕ → List ℕ
+decoded k [] = []
+decoded (suc k) (c ∷ cs) = decoded k cs
+decoded zero (c ∷ cs) =
+    if nat_eq c 34 then []
+    else (if nat_eq c 92 then unescaped (escape cs) (λ k. decoded k cs)
+    else c ∷ decoded 0 cs)
+
+-- ---- what each kind of token says; of another kind it says nothing that is used
+
+-- the characters of a Text
+abbrev pub text_of : List ℕ → Token → List ℕ
+text_of s t = decoded 0 (chars (inner s t))
+
+-- the name before the dot of a Qualified, and the one behind it
+abbrev pub prefix_of : List ℕ → Token → List ℕ
+prefix_of s t = first_name (span s t)
+
+abbrev pub name_of : List ℕ → Token → List ℕ
+name_of s t = drop (run is_word (span s t) + 1) (span s t)
+
+abbrev pub keyword_of : List ℕ → Token → Word
+keyword_of s t = unwrap_or (keyword_named (span s t)) W.Rpl
+
+abbrev pub punct_of : List ℕ → Token → Punct
+punct_of s t = unwrap_or (punct (slice_index s t.start)) P.OpenBrace
+
+abbrev pub number_of : List ℕ → Token → ℕ
+number_of s t = value 0 (span s t)
+
+abbrev pub bounds_of : List ℕ → Token → Numbers
+bounds_of s t = bounds_in (inner s t)
+
+pub data Payload : Type 0 where
+  Name : (name : List ℕ) → Payload
+  Qualified : (prefix name : List ℕ) → Payload
+  Keyword : (word : Word) → Payload
+  Text : (text : List ℕ) → Payload
+  Bracket : (text : List ℕ) → Payload
+  Bounds : (bounds : Numbers) → Payload
+  Number : (number : ℕ) → Payload
+  Sign : (sign : Punct) → Payload
+
+abbrev pub payload_by : TokenKind → List ℕ → Token → Payload
+payload_by K.Name s t = Name (chars (span s t))
+payload_by K.Qualified s t = Qualified (chars (prefix_of s t)) (chars (name_of s t))
+payload_by K.Keyword s t = Keyword (keyword_of s t)
+payload_by K.Text s t = Text (text_of s t)
+payload_by K.Bracket s t = Bracket (chars (span s t))
+payload_by K.Bounds s t = Bounds (bounds_of s t)
+payload_by K.Number s t = Number (number_of s t)
+payload_by K.Sign s t = Sign (punct_of s t)
+
+abbrev pub payload : List ℕ → Token → Payload
+payload s t = payload_by t.kind s t
+
+-- a token as the grammar sees it
+pub record Seen : Type 0 where
+  pub start : ℕ
+  pub payload : Payload
+
+abbrev pub seen : List ℕ → Token → Seen
+seen s t = record { start = t.start; payload = payload s t }
+
+abbrev pub seen_all : List ℕ → List Token → List Seen
+seen_all s [] = []
+seen_all s (t ∷ ts) = seen s t ∷ seen_all s ts
+
+-- ---- one step of the reading of a text
+
+-- from the byte place p on a character is read, and what is behind it stands at the place q; or the text is done
+abbrev pub Decodes : List ℕ → ℕ → Option (ℕ × ℕ) → Type 0
+Decodes t p None = decoded 0 (drop (index t p) t) ≡ []
+Decodes t p (Some (c, q)) = (decoded 0 (drop (index t p) t) ≡ c ∷ decoded 0 (drop (index t q) t)) × IsPlace t q × (p < q)

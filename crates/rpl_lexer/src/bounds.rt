@@ -1,0 +1,176 @@
+// Bounds, such as `{2,5}`.
+ghost use Rattle.std.specs.Prelude.{◌≡◌, ◌+◌, ◌<◌, ◌≤◌, length, drop, slice_range};
+ghost use Rattle.rpl_lexer.specs.Bytes.{is_digit, is_space};
+ghost use Rattle.rpl_lexer.specs.Braces.{digits_from, parts, is_wide, bounds_by, begins_bounds, brace_stands, number_in, bounds_in, part, IsWithin};
+ghost use Rattle.rpl_lexer.specs.Fronts.{Within};
+
+use crate::bytes::{Class, behind, has_at, is_digit, past};
+use crate::fault::LexKind;
+use crate::front::Stand;
+use crate::number::number;
+use crate::token::TokenKind;
+
+/// The numbers of bounds as they are written.
+#[derive(Clone, Copy, Debug, PartialEq, Eq)]
+pub struct Bounds {
+    /// The first number, where there is one.
+    pub least: Option<u64>,
+    /// Whether there is a comma.
+    pub comma: bool,
+    /// The number behind the comma, where there is one.
+    pub most: Option<u64>,
+}
+
+/// Some bytes, from a place up to another.
+#[derive(Clone, Copy)]
+pub(crate) struct Span {
+    start: usize,
+    end: usize,
+}
+
+/// Where the parts of bounds stand, from behind the opening brace.
+#[derive(Clone, Copy)]
+pub(crate) struct Parts {
+    least: Span,
+    comma: bool,
+    /// The digits behind the comma.
+    most: Span,
+    /// Where the closing brace is due.
+    close: usize,
+}
+
+/// The digits behind blanks from a place on.
+fn digits_from(bytes: &[u8], place: usize) -> Span
+    requires { place ≤ length bytes.now }
+    ensures value { result ≡ digits_from bytes.now place }
+    ensures inside { IsWithin (length bytes.now) result }
+{
+    let start = past(Class::Space, bytes, place);
+    let end = past(Class::Digit, bytes, start);
+    Span { start, end }
+}
+
+/// Where the parts stand.
+fn parts_of(bytes: &[u8]) -> Parts
+    ensures value { result ≡ parts bytes.now }
+    ensures least { IsWithin (length bytes.now) result.least }
+    ensures most { IsWithin (length bytes.now) result.most }
+    ensures inside { result.close ≤ length bytes.now }
+{
+    let least = digits_from(bytes, 0);
+    let next = past(Class::Space, bytes, least.end);
+    if has_at(bytes, next, b',') {
+        let most = digits_from(bytes, next + 1);
+        let close = past(Class::Space, bytes, most.end);
+        Parts {
+            least,
+            comma: true,
+            most,
+            close,
+        }
+    } else {
+        Parts {
+            least,
+            comma: false,
+            most: Span {
+                start: next,
+                end: next,
+            },
+            close: next,
+        }
+    }
+}
+
+/// The bytes of a part.
+fn part(bytes: &[u8], span: Span) -> &[u8]
+    requires { IsWithin (length bytes.now) span }
+    ensures { result.now ≡ part bytes.now span }
+{
+    &bytes[span.start..span.end]
+}
+
+fn is_wide(bytes: &[u8], span: Span) -> bool
+    requires { IsWithin (length bytes.now) span }
+    ensures { result ≡ is_wide bytes.now span }
+{
+    number(part(bytes, span)).is_none()
+}
+
+/// What stands there whose opening brace stands before the bytes, where bounds begin.
+fn whole_bounds(bytes: &[u8]) -> Stand
+    ensures value { result ≡ bounds_by bytes.now (parts bytes.now) }
+    ensures inside { Within (1 + length bytes.now) result }
+{
+    let parts = parts_of(bytes);
+    if !has_at(bytes, parts.close, b'}') {
+        return Stand::Fault {
+            kind: LexKind::BadChar,
+            skip: 0,
+        };
+    }
+    if is_wide(bytes, parts.least) {
+        return Stand::Fault {
+            kind: LexKind::NumberTooWide,
+            skip: 1 + parts.least.start,
+        };
+    }
+    if is_wide(bytes, parts.most) {
+        return Stand::Fault {
+            kind: LexKind::NumberTooWide,
+            skip: 1 + parts.most.start,
+        };
+    }
+    Stand::Found {
+        kind: TokenKind::Bounds,
+        len: parts.close + 2,
+    }
+}
+
+/// Whether bounds begin: a digit or a comma comes next, but for blanks.
+fn begins_bounds(bytes: &[u8]) -> bool
+    ensures { result ≡ begins_bounds bytes.now }
+{
+    match behind(bytes, past(Class::Space, bytes, 0)) {
+        [b, ..] => is_digit(*b) || *b == b',',
+        [] => false,
+    }
+}
+
+/// What stands there whose opening brace stands before the bytes.
+pub(crate) fn brace(bytes: &[u8]) -> Stand
+    ensures value { result ≡ brace_stands bytes.now }
+    ensures inside { Within (1 + length bytes.now) result }
+{
+    if begins_bounds(bytes) {
+        whole_bounds(bytes)
+    } else {
+        Stand::Found {
+            kind: TokenKind::Sign,
+            len: 1,
+        }
+    }
+}
+
+/// The number of a part, where it has one.
+fn number_in(bytes: &[u8], span: Span) -> Option<u64>
+    requires { IsWithin (length bytes.now) span }
+    ensures { result ≡ number_in bytes.now span }
+{
+    if span.start < span.end {
+        number(part(bytes, span))
+    } else {
+        None
+    }
+}
+
+/// The numbers of bounds, from behind the opening brace.
+pub(crate) fn bounds_in(bytes: &[u8]) -> Bounds
+    ensures { result ≡ bounds_in bytes.now }
+{
+    let parts = parts_of(bytes);
+    Bounds {
+        least: number_in(bytes, parts.least),
+        comma: parts.comma,
+        most: number_in(bytes, parts.most),
+    }
+}

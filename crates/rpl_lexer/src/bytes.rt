@@ -1,0 +1,83 @@
+// Kinds of bytes, and how far they go.
+ghost use Rattle.std.specs.Prelude.{◌≡◌, ◌+◌, ◌<◌, ◌≤◌, length, drop, take, true};
+ghost use Rattle.rpl_lexer.specs.Bytes.{is_letter, is_digit, in_class, run, has, past};
+
+/// A kind of bytes that stand side by side.
+#[derive(Clone, Copy)]
+pub(crate) enum Class {
+    /// What a name goes on with: letters, digits and `_`.
+    Word,
+    /// Decimal digits.
+    Digit,
+    /// Spaces and tabs.
+    Space,
+}
+
+/// Whether a name begins with the byte.
+pub(crate) fn is_letter(b: u8) -> bool
+    ensures { result ≡ is_letter b }
+{
+    b.is_ascii_alphabetic()
+}
+
+pub(crate) fn is_digit(b: u8) -> bool
+    ensures { result ≡ is_digit b }
+{
+    b.is_ascii_digit()
+}
+
+fn is_in(class: Class, b: u8) -> bool
+    ensures { result ≡ in_class class b }
+{
+    match class {
+        Class::Word => is_letter(b) || is_digit(b) || b == b'_',
+        Class::Digit => is_digit(b),
+        Class::Space => b == b' ' || b == b'\t',
+    }
+}
+
+/// How many bytes at the front are in the class.
+pub(crate) fn run_len(class: Class, bytes: &[u8]) -> usize
+    ensures value { result ≡ run (in_class class) bytes.now }
+    ensures inside { result ≤ length bytes.now }
+{
+    for i in 0..bytes.len() {
+        if !is_in(class, bytes[i]) {
+            return i;
+        }
+    }
+    bytes.len()
+}
+
+/// The bytes from a place on.
+pub(crate) fn behind(bytes: &[u8], place: usize) -> &[u8]
+    requires { place ≤ length bytes.now }
+    ensures { result.now ≡ drop place bytes.now }
+{
+    &bytes[place..]
+}
+
+/// The first bytes.
+pub(crate) fn front_of(bytes: &[u8], len: usize) -> &[u8]
+    requires { len ≤ length bytes.now }
+    ensures { result.now ≡ take len bytes.now }
+{
+    &bytes[..len]
+}
+
+/// Where a run ends that begins at a place.
+pub(crate) fn past(class: Class, bytes: &[u8], place: usize) -> usize
+    requires { place ≤ length bytes.now }
+    ensures value { result ≡ past (in_class class) bytes.now place }
+    ensures inside { result ≤ length bytes.now }
+{
+    place + run_len(class, behind(bytes, place))
+}
+
+/// Whether the byte stands at the place.
+pub(crate) fn has_at(bytes: &[u8], place: usize, b: u8) -> bool
+    ensures value { result ≡ has bytes.now place b }
+    ensures inside { result ≡ true → place < length bytes.now }
+{
+    place < bytes.len() && bytes[place] == b
+}

@@ -1,0 +1,62 @@
+// Why a text has no tokens.
+ghost use Rattle.std.specs.Prelude.{◌≡◌};
+ghost use Rattle.rpl_lexer.specs.declared.fault.LexKind.TheVariants.{NoMemory as OutOfMemory};
+
+use crate::NoMemory;
+use std::alloc::AllocFailed;
+use thiserror::Error;
+
+/// What is wrong where a text has no token.
+#[derive(Clone, Copy, Debug, PartialEq, Eq, Error)]
+pub enum LexKind {
+    /// Memory ran out.
+    #[error("out of memory")]
+    NoMemory,
+    /// No token begins with this character, or a `{` begins bounds that are not met.
+    #[error("bad character")]
+    BadChar,
+    /// A text or a bracket doesn't end before the line feed or the end.
+    #[error("text without end")]
+    OpenText,
+    /// A backslash in a text or a bracket begins no escape.
+    #[error("bad escape")]
+    BadEscape,
+    /// A number is above 2^64 - 1.
+    #[error("number too wide")]
+    NumberTooWide,
+    /// There are more than 262,144 tokens.
+    #[error("too many tokens")]
+    TooManyTokens,
+}
+
+/// The first fault of a text.
+#[derive(Clone, Copy, Debug, PartialEq, Eq, Error)]
+#[error("{kind} at byte {at}")]
+pub struct LexFault {
+    /// The byte place of the fault; 0 where memory ran out.
+    pub at: usize,
+    /// What is wrong there.
+    pub kind: LexKind,
+}
+
+impl From<NoMemory> for LexFault {
+    ghost from_gives = { λ _ fault. fault ≡ record { at = 0; kind = OutOfMemory } };
+
+    fn from(_cause: NoMemory) -> LexFault {
+        LexFault {
+            at: 0,
+            kind: LexKind::NoMemory,
+        }
+    }
+}
+
+impl<T: Drop> From<AllocFailed<T>> for LexFault {
+    ghost from_gives = { λ _ fault. fault ≡ record { at = 0; kind = OutOfMemory } };
+
+    fn from(_cause: AllocFailed<T>) -> LexFault {
+        LexFault {
+            at: 0,
+            kind: LexKind::NoMemory,
+        }
+    }
+}

@@ -1,0 +1,45 @@
+// Keywords.
+ghost use Rattle.std.specs.Prelude.{◌≡◌, ◌≢◌, MatchOption};
+ghost use Rattle.rpl_lexer.specs.Keywords.{word_of, keyword_named};
+ghost use Rattle.rpl_lexer.specs.declared.keyword.Keyword.{Keyword};
+
+/// A name that only the grammar may use.
+#[derive(Clone, Copy, Debug, PartialEq, Eq)]
+pub enum Keyword {
+    Rpl,
+    Package,
+    Import,
+    As,
+    Alias,
+    Local,
+    Grammar,
+    In,
+    End,
+}
+
+impl Keyword {
+    /// The keyword that a name is, where it is one.
+    pub(crate) fn from_name(name: &[u8]) -> Option<Keyword>
+        ensures { MatchOption result ((k : Keyword) → word_of k ≢ name.now) (λ k. word_of k ≡ name.now) }
+    {
+        match name {
+            b"rpl" => Some(Keyword::Rpl),
+            b"package" => Some(Keyword::Package),
+            b"import" => Some(Keyword::Import),
+            b"as" => Some(Keyword::As),
+            b"alias" => Some(Keyword::Alias),
+            b"local" => Some(Keyword::Local),
+            b"grammar" => Some(Keyword::Grammar),
+            b"in" => Some(Keyword::In),
+            b"end" => Some(Keyword::End),
+            _ => None,
+        }
+    }
+}
+
+/// The keyword that a name is, where it is one.
+pub(crate) fn keyword_named(name: &[u8]) -> Option<Keyword>
+    ensures { result ≡ keyword_named name.now }
+{
+    Keyword::from_name(name)
+}

@@ -1,0 +1,137 @@
+// What tokens say.
+ghost use Rattle.std.specs.Prelude.{◌≡◌, ◌+◌, ◌<◌, ◌≤◌, Some, IfOk, chars, string_bytes, length, slice_index, slice_range, drop};
+ghost use Rattle.rpl_text.specs.Places.{index, IsPlace, step_from};
+ghost use Rattle.rpl_lexer.specs.Bytes.{is_word, run};
+ghost use Rattle.rpl_lexer.specs.Keywords.{keyword_named};
+ghost use Rattle.rpl_lexer.specs.Signs.{punct};
+ghost use Rattle.rpl_lexer.specs.Payloads.{span, inner, decoded, text_of, prefix_of, name_of, keyword_of, punct_of, number_of, bounds_of, Decodes};
+ghost use Rattle.rpl_lexer.specs.Cut.{IsToken};
+
+use crate::NoMemory;
+use crate::bounds::{Bounds, bounds_in};
+use crate::bytes::{Class, run_len};
+use crate::keyword::{Keyword, keyword_named};
+use crate::number::number;
+use crate::punct::Punct;
+use crate::token::{Token, TokenKind};
+use rpl_text::{Chars, Text, read_escape};
+use std::alloc::Global;
+
+/// The text of a token, as it stands in the text that it is a token of.
+pub fn token_text(text: &str, token: Token) -> &str
+    requires { IsToken text.now token }
+    ensures { result.now ≡ span text.now token }
+{
+    &text[token.start..token.end]
+}
+
+/// The text of a token behind its first byte.
+fn inner(text: &str, token: Token) -> &str
+    requires { IsToken text.now token }
+    ensures { result.now ≡ inner text.now token }
+{
+    &text[token.start + 1..token.end]
+}
+
+/// The keyword that a Keyword is.
+pub fn keyword_of(text: &str, token: Token) -> Keyword
+    requires kind { token.kind ≡ TokenKind.Keyword }
+    requires stands { IsToken text.now token }
+    ensures { result ≡ keyword_of text.now token }
+{
+    keyword_named(token_text(text, token).as_bytes()).unwrap_or(Keyword::Rpl)
+}
+
+/// The byte at a place.
+fn byte_at(text: &str, place: usize) -> u8
+    requires { place < length text.now }
+    ensures { result ≡ slice_index text.now place }
+{
+    text.as_bytes()[place]
+}
+
+/// The sign that a Sign is.
+pub fn punct_of(text: &str, token: Token) -> Punct
+    requires kind { token.kind ≡ TokenKind.Sign }
+    requires stands { IsToken text.now token }
+    ensures { result ≡ punct_of text.now token }
+{
+    Punct::from_byte(byte_at(text, token.start)).unwrap_or(Punct::OpenBrace)
+}
+
+/// The number that a Number spells.
+pub fn number_of(text: &str, token: Token) -> u64
+    requires kind { token.kind ≡ TokenKind.Number }
+    requires stands { IsToken text.now token }
+    ensures { result ≡ number_of text.now token }
+{
+    number(token_text(text, token).as_bytes()).unwrap_or(0)
+}
+
+/// The two names of a Qualified: the one before the dot, and the one behind it.
+pub fn halves_of(text: &str, token: Token) -> (&str, &str)
+    requires kind { token.kind ≡ TokenKind.Qualified }
+    requires stands { IsToken text.now token }
+    ensures prefix { result.0.now ≡ prefix_of text.now token }
+    ensures name { result.1.now ≡ name_of text.now token }
+{
+    let whole = token_text(text, token);
+    let dot = run_len(Class::Word, whole.as_bytes());
+    (&whole[..dot], &whole[dot + 1..])
+}
+
+/// The bounds that a Bounds token spells.
+pub fn bounds_of(text: &str, token: Token) -> Bounds
+    requires kind { token.kind ≡ TokenKind.Bounds }
+    requires stands { IsToken text.now token }
+    ensures { result ≡ bounds_of text.now token }
+{
+    bounds_in(inner(text, token).as_bytes())
+}
+
+/// The character at a place, and the next place.
+fn step_at(text: &str, place: usize) -> Option<(char, usize)>
+    requires { IsPlace (chars text.now) place }
+    ensures { result ≡ step_from (chars text.now) (index (chars text.now) place) }
+{
+    Text::new(text).step(place)
+}
+
+/// The character at a place of a text behind its opening quote, by an escape or as it stands, and the
+/// place behind it; None at the closing quote.
+fn next_char(text: &str, place: usize) -> Option<(char, usize)>
+    requires { IsPlace (chars text.now) place }
+    ensures { Decodes (chars text.now) place result }
+{
+    let (c, next) = step_at(text, place)?;
+    if c == '"' {
+        return None;
+    }
+    if c == '\\' {
+        return read_escape(text, place);
+    }
+    Some((c, next))
+}
+
+/// The characters up to the closing quote, with their escapes read.
+fn decoded(alloc: Global, text: &str) -> Result<String, NoMemory>
+    ensures { IfOk result (λ s. chars (string_bytes s) ≡ decoded 0 (chars text.now)) }
+{
+    let mut out = String::new(alloc);
+    let mut place = 0;
+    while let Some((c, next)) = next_char(text, place) {
+        out.push(c)?;
+        place = next;
+    }
+    Ok(out)
+}
+
+/// The characters of a Text, with its escapes read.
+pub fn decode_text(alloc: Global, text: &str, token: Token) -> Result<Chars, NoMemory>
+    requires kind { token.kind ≡ TokenKind.Text }
+    requires stands { IsToken text.now token }
+    ensures { IfOk result (λ c. c ≡ text_of text.now token) }
+{
+    let characters = decoded(alloc, inner(text, token))?;
+    Chars::from_str(alloc, &characters)
+}
