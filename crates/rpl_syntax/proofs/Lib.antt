@@ -3,4 +3,6 @@ pub mod Sound
 pub mod Unique
 pub mod Rows
 pub mod Printing
+pub mod Grown
+pub mod Remaining
 mod Examples

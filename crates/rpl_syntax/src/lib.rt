@@ -10,11 +10,14 @@ mod build;
 mod expr;
 mod laws;
 mod name;
+mod print;
+mod printer;
 mod token;
 
 pub use build::{choose, join, wrap};
 pub use expr::{Expr, Exprs, Mark, Sign};
 pub use laws::{one_reading, reads_back};
 pub use name::QName;
+pub use print::print_expr;
 pub use rpl_text::NoMemory;
 pub use token::{Keyword, Symbol, Token};
