@@ -1,2 +1,4 @@
 pub mod Loops
 pub mod Readings
+pub mod Nests
+pub mod Deep

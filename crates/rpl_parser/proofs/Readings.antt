@@ -6,7 +6,7 @@ use Rattle.rpl_syntax.specs.declared.token.Token.{Token}
 use Rattle.rpl_syntax.specs.Reading.{item_of, joins, slash, ampersand, parts_of, seq_of, content_of, read_item, read_exp, read}
 use Rattle.rpl_syntax.specs.Grammar.{Reads}
 use Rattle.rpl_syntax.proofs.Unique.{again, sound}
-use Rattle.rpl_syntax.specs.declared.token.Symbol.TheVariants.{Slash, Ampersand}
+use Rattle.rpl_lexer.specs.declared.punct.Punct.TheVariants.{Slash, Ampersand}
 use Rattle.rpl_syntax.specs.declared.token.Token.TheVariants as T
 use Rattle.rpl_parser.specs.declared.refusal.Refusal.{Refusal}
 use Rattle.rpl_parser.specs.declared.refusal.Refusal.TheVariants as errors

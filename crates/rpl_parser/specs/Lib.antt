@@ -1,1 +1,4 @@
 pub mod Gives
+pub mod Levels
+pub mod Tokens
+pub mod Stacks

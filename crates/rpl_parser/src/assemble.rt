@@ -8,7 +8,8 @@ ghost use Rattle.rpl_syntax.specs.Reading.{quantified, closed};
 ghost use Rattle.rpl_syntax.specs.View.{expr_of, shown};
 
 use crate::refusal::Refusal;
-use rpl_syntax::{Expr, Exprs, QName, Sign, Symbol, Token, choose, wrap};
+use rpl_lexer::Punct;
+use rpl_syntax::{Expr, Exprs, QName, Sign, Token, choose, wrap};
 use rpl_text::Chars;
 use std::alloc::Global;
 
@@ -87,9 +88,9 @@ pub fn quantify(alloc: Global, body: Expr, tokens: &[Token]) -> Result<(Expr, &[
     ensures { Gives (λ x. (expr_of x.0, x.1.now)) result (Some (quantified (expr_of body) tokens.now)) }
 {
     match tokens {
-        [Token::Sign(Symbol::Star), rest @ ..] => Ok((repeated(alloc, body, 0, None)?, rest)),
-        [Token::Sign(Symbol::Plus), rest @ ..] => Ok((repeated(alloc, body, 1, None)?, rest)),
-        [Token::Sign(Symbol::Question), rest @ ..] => {
+        [Token::Sign(Punct::Star), rest @ ..] => Ok((repeated(alloc, body, 0, None)?, rest)),
+        [Token::Sign(Punct::Plus), rest @ ..] => Ok((repeated(alloc, body, 1, None)?, rest)),
+        [Token::Sign(Punct::Question), rest @ ..] => {
             Ok((repeated(alloc, body, 0, Some(1))?, rest))
         }
         [Token::Bounds { least, most }, rest @ ..] => {
@@ -109,10 +110,10 @@ pub fn close(
     ensures { Gives (λ x. (expr_of x.0, x.1.now)) result (closed raw (shown items) tokens.now) }
 {
     match tokens {
-        [Token::Sign(Symbol::CloseParen), rest @ ..] if !raw => {
+        [Token::Sign(Punct::CloseParen), rest @ ..] if !raw => {
             quantify(alloc, wrap(raw, items), rest)
         }
-        [Token::Sign(Symbol::CloseBrace), rest @ ..] if raw => {
+        [Token::Sign(Punct::CloseBrace), rest @ ..] if raw => {
             quantify(alloc, wrap(raw, items), rest)
         }
         _ => Err(Refusal::Syntax),

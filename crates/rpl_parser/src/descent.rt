@@ -11,7 +11,8 @@ use crate::assemble::{
 };
 use crate::refusal::Refusal;
 use crate::steps::{goes_on, item_begins, next, past_ampersand, past_colon, past_slash};
-use rpl_syntax::{Expr, Exprs, Sign, Symbol, Token, join};
+use rpl_lexer::Punct;
+use rpl_syntax::{Expr, Exprs, Sign, Token, join};
 use std::alloc::Global;
 
 /// An item.
@@ -71,7 +72,7 @@ fn item_from<'a>(
             let name = qualified_name(alloc, prefix, name, *at)?;
             quantify(alloc, Expr::Name(name), tokens)
         }
-        Token::Sign(symbol) => item_signed(alloc, *symbol, tokens, depth),
+        Token::Sign(sign) => item_signed(alloc, *sign, tokens, depth),
     }
 }
 
@@ -79,48 +80,48 @@ fn item_from<'a>(
 #[cycle(read)]
 fn item_signed<'a>(
     alloc: Global,
-    symbol: Symbol,
+    sign: Punct,
     tokens: &'a [Token],
     depth: usize,
 ) -> Result<(Expr, &'a [Token]), Refusal>
     ensures { Gives (λ x. (expr_of x.0, x.1.now)) result
-        (item_of (read_item depth) (read_exp depth) (T.Sign symbol ∷ tokens.now)) }
+        (item_of (read_item depth) (read_exp depth) (T.Sign sign ∷ tokens.now)) }
 {
-    match symbol {
-        Symbol::Bang => {
+    match sign {
+        Punct::Bang => {
             let (inner, rest) = item(alloc, tokens, depth)?;
             Ok((prefix(alloc, Sign::Not, inner)?, rest))
         }
-        Symbol::Greater => {
+        Punct::Greater => {
             let (inner, rest) = item(alloc, tokens, depth)?;
             Ok((prefix(alloc, Sign::Ahead, inner)?, rest))
         }
-        Symbol::Less => {
+        Punct::Less => {
             let (inner, rest) = item(alloc, tokens, depth)?;
             Ok((prefix(alloc, Sign::Behind, inner)?, rest))
         }
-        Symbol::Dot => quantify(alloc, Expr::Any, tokens),
-        Symbol::Caret => quantify(alloc, Expr::Start, tokens),
-        Symbol::Dollar => quantify(alloc, Expr::End, tokens),
-        Symbol::Tilde => quantify(alloc, Expr::Boundary, tokens),
-        Symbol::OpenParen => {
+        Punct::Dot => quantify(alloc, Expr::Any, tokens),
+        Punct::Caret => quantify(alloc, Expr::Start, tokens),
+        Punct::Dollar => quantify(alloc, Expr::End, tokens),
+        Punct::Tilde => quantify(alloc, Expr::Boundary, tokens),
+        Punct::OpenParen => {
             let (items, rest) = content(alloc, false, tokens, depth)?;
             close(alloc, false, items, rest)
         }
-        Symbol::OpenBrace => {
+        Punct::OpenBrace => {
             let (items, rest) = content(alloc, true, tokens, depth)?;
             close(alloc, true, items, rest)
         }
-        Symbol::CloseParen
-        | Symbol::CloseBrace
-        | Symbol::Slash
-        | Symbol::Ampersand
-        | Symbol::Star
-        | Symbol::Plus
-        | Symbol::Question
-        | Symbol::Equals
-        | Symbol::Comma
-        | Symbol::Colon => Err(Refusal::Syntax),
+        Punct::CloseParen
+        | Punct::CloseBrace
+        | Punct::Slash
+        | Punct::Ampersand
+        | Punct::Star
+        | Punct::Plus
+        | Punct::Question
+        | Punct::Equals
+        | Punct::Comma
+        | Punct::Colon => Err(Refusal::Syntax),
     }
 }
 

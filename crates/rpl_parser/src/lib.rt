@@ -8,5 +8,9 @@
 
 mod assemble;
 mod descent;
+mod fault;
+mod level;
 mod refusal;
 mod steps;
+
+pub use fault::{ParseFault, ParseKind};

@@ -1,10 +1,11 @@
 // One token ahead: what follows a sign, and what goes on.
 ghost use Rattle.std.specs.Prelude.{◌≡◌, [], ◌∷◌, false, IfSome, IfNone};
 ghost use Rattle.rpl_syntax.specs.Reading.{begins, joins, colon, slash, ampersand};
-ghost use Rattle.rpl_syntax.specs.declared.token.Symbol.TheVariants.{Colon, Slash, Ampersand};
+ghost use Rattle.rpl_lexer.specs.declared.punct.Punct.TheVariants.{Colon, Slash, Ampersand};
 ghost use Rattle.rpl_syntax.specs.declared.token.Token.TheVariants as T;
 
-use rpl_syntax::{Symbol, Token};
+use rpl_lexer::Punct;
+use rpl_syntax::Token;
 
 /// The first token and those behind it.
 pub fn next(tokens: &[Token]) -> Option<(&Token, &[Token])>
@@ -23,7 +24,7 @@ pub fn past_colon(tokens: &[Token]) -> Option<&[Token]>
     ensures none { IfNone result (colon tokens.now ≡ false) }
 {
     match tokens {
-        [Token::Sign(Symbol::Colon), rest @ ..] => Some(rest),
+        [Token::Sign(Punct::Colon), rest @ ..] => Some(rest),
         _ => None,
     }
 }
@@ -34,7 +35,7 @@ pub fn past_slash(tokens: &[Token]) -> Option<&[Token]>
     ensures none { IfNone result (slash tokens.now ≡ false) }
 {
     match tokens {
-        [Token::Sign(Symbol::Slash), rest @ ..] => Some(rest),
+        [Token::Sign(Punct::Slash), rest @ ..] => Some(rest),
         _ => None,
     }
 }
@@ -45,7 +46,7 @@ pub fn past_ampersand(tokens: &[Token]) -> Option<&[Token]>
     ensures none { IfNone result (ampersand tokens.now ≡ false) }
 {
     match tokens {
-        [Token::Sign(Symbol::Ampersand), rest @ ..] => Some(rest),
+        [Token::Sign(Punct::Ampersand), rest @ ..] => Some(rest),
         _ => None,
     }
 }
@@ -62,17 +63,17 @@ pub fn item_begins(tokens: &[Token]) -> bool
             Token::Keyword(_) | Token::Bounds { .. } | Token::Number(_),
             ..
         ] => false,
-        [Token::Sign(symbol), ..] => matches!(
-            symbol,
-            Symbol::Bang
-                | Symbol::Greater
-                | Symbol::Less
-                | Symbol::OpenParen
-                | Symbol::OpenBrace
-                | Symbol::Dot
-                | Symbol::Caret
-                | Symbol::Dollar
-                | Symbol::Tilde
+        [Token::Sign(sign), ..] => matches!(
+            sign,
+            Punct::Bang
+                | Punct::Greater
+                | Punct::Less
+                | Punct::OpenParen
+                | Punct::OpenBrace
+                | Punct::Dot
+                | Punct::Caret
+                | Punct::Dollar
+                | Punct::Tilde
         ),
     }
 }
@@ -83,6 +84,6 @@ pub fn goes_on(tokens: &[Token]) -> bool
 {
     matches!(
         tokens,
-        [Token::Sign(Symbol::Slash), ..] | [Token::Sign(Symbol::Ampersand), ..]
+        [Token::Sign(Punct::Slash), ..] | [Token::Sign(Punct::Ampersand), ..]
     )
 }

@@ -1,7 +1,7 @@
 -- What is spelled is read again.
 use Rattle.std.proofs.Common.{◌≡◌, ℕ, zero, suc, ◌+◌, ◌≤◌, List, ◌∷◌, length, Option, Some, refl, ap, ◌∙◌, arith}
 use Rattle.std.specs.Prelude.{Bool, true, false}
-use Rattle.rpl_syntax.specs.declared.token.Symbol.TheVariants.{Colon, Slash, Ampersand, CloseParen, CloseBrace, Star, Plus, Question}
+use Rattle.rpl_lexer.specs.declared.punct.Punct.TheVariants.{Colon, Slash, Ampersand, CloseParen, CloseBrace, Star, Plus, Question}
 use Rattle.rpl_syntax.specs.declared.token.Token.{Token}
 use Rattle.rpl_syntax.specs.declared.token.Token.TheVariants as T
 use Rattle.rpl_syntax.specs.declared.expr.Sign.TheVariants.{Not, Ahead, Behind}

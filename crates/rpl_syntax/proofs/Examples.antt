@@ -1,6 +1,6 @@
 -- The reading computes.
 use Rattle.std.proofs.Common.{◌≡◌, [], ◌∷◌, Some, None, refl}
-use Rattle.rpl_syntax.specs.declared.token.Symbol.TheVariants.{Slash, Ampersand, OpenBrace, CloseBrace, Star, Bang}
+use Rattle.rpl_lexer.specs.declared.punct.Punct.TheVariants.{Slash, Ampersand, OpenBrace, CloseBrace, Star, Bang}
 use Rattle.rpl_syntax.specs.declared.token.Token.TheVariants as T
 use Rattle.rpl_syntax.specs.declared.expr.Sign.TheVariants.{Not}
 use Rattle.rpl_syntax.specs.Expression.{Name, Raw, Choice, Both, Prefix, Repeat, Cons, one}

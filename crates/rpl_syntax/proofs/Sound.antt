@@ -1,7 +1,7 @@
 -- What is read is spelled so.
 use Rattle.std.proofs.Common.{◌≡◌, ℕ, zero, suc, List, ◌∷◌, length, Option, Some, None, refl, sym, ap, subst, ◌∙◌, ◌⊎◌, inl, inr}
 use Rattle.std.specs.Prelude.{Bool, true, false, if◌then◌else◌}
-use Rattle.rpl_syntax.specs.declared.token.Symbol.TheVariants.{Bang, Greater, Less, Colon, Slash, Ampersand, OpenParen, CloseParen, OpenBrace, CloseBrace, Star, Plus, Question, Dot, Caret, Dollar, Tilde}
+use Rattle.rpl_lexer.specs.declared.punct.Punct.TheVariants.{Bang, Greater, Less, Colon, Slash, Ampersand, OpenParen, CloseParen, OpenBrace, CloseBrace, Star, Plus, Question, Dot, Caret, Dollar, Tilde}
 use Rattle.rpl_syntax.specs.declared.token.Token.{Token}
 use Rattle.rpl_syntax.specs.declared.token.Token.TheVariants as T
 use Rattle.rpl_syntax.specs.declared.expr.Sign.{Sign}

@@ -7,8 +7,8 @@
 --   Quant := "*" | "+" | "?" | Bounds
 use Rattle.std.specs.Prelude.{◌≡◌, ℕ, Bool, true, false, List, [], ◌∷◌, Option, Some, None}
 use Rattle.regex_class.specs.Ranges.{Range}
-use Rattle.rpl_syntax.specs.declared.token.Symbol.{Symbol}
-use Rattle.rpl_syntax.specs.declared.token.Symbol.TheVariants.{Bang, Greater, Less, Colon, Slash, Ampersand, OpenParen, CloseParen, OpenBrace, CloseBrace, Star, Plus, Question, Dot, Caret, Dollar, Tilde}
+use Rattle.rpl_lexer.specs.declared.punct.Punct.{Punct}
+use Rattle.rpl_lexer.specs.declared.punct.Punct.TheVariants.{Bang, Greater, Less, Colon, Slash, Ampersand, OpenParen, CloseParen, OpenBrace, CloseBrace, Star, Plus, Question, Dot, Caret, Dollar, Tilde}
 use Rattle.rpl_syntax.specs.declared.token.Token.{Token}
 use Rattle.rpl_syntax.specs.declared.token.Token.TheVariants as T
 use Rattle.rpl_syntax.specs.declared.name.QName.{QName}
@@ -72,16 +72,16 @@ quant_token PlusQuant = T.Sign Plus
 quant_token QuestionQuant = T.Sign Question
 quant_token (BoundsQuant l m) = T.Bounds l m
 
-abbrev pub sign_mark : Sign → Symbol
+abbrev pub sign_mark : Sign → Punct
 sign_mark Not = Bang
 sign_mark Ahead = Greater
 sign_mark Behind = Less
 
-abbrev pub opener : (raw : Bool) → Symbol
+abbrev pub opener : (raw : Bool) → Punct
 opener true = OpenBrace
 opener false = OpenParen
 
-abbrev pub closer : (raw : Bool) → Symbol
+abbrev pub closer : (raw : Bool) → Punct
 closer true = CloseBrace
 closer false = CloseParen
 

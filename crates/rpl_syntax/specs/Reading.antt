@@ -1,8 +1,8 @@
 -- Reading from left to right with one token ahead: how the tokens that spell an expression are found to do so.
 -- The law `one_reading` says that this is the reading of the grammar.
 use Rattle.std.specs.Prelude.{ℕ, zero, suc, ◌+◌, Bool, true, false, List, [], ◌∷◌, length, Option, Some, None, if◌then◌else◌}
-use Rattle.rpl_syntax.specs.declared.token.Symbol.{Symbol}
-use Rattle.rpl_syntax.specs.declared.token.Symbol.TheVariants.{Bang, Greater, Less, Colon, Slash, Ampersand, OpenParen, CloseParen, OpenBrace, CloseBrace, Star, Plus, Question, Dot, Caret, Dollar, Tilde}
+use Rattle.rpl_lexer.specs.declared.punct.Punct.{Punct}
+use Rattle.rpl_lexer.specs.declared.punct.Punct.TheVariants.{Bang, Greater, Less, Colon, Slash, Ampersand, OpenParen, CloseParen, OpenBrace, CloseBrace, Star, Plus, Question, Dot, Caret, Dollar, Tilde}
 use Rattle.rpl_syntax.specs.declared.token.Token.{Token}
 use Rattle.rpl_syntax.specs.declared.token.Token.TheVariants as T
 use Rattle.rpl_syntax.specs.declared.expr.Sign.{Sign}
@@ -17,7 +17,7 @@ abbrev pub ◌>>=◌ : {A B : Type 0} → Option A → (A → Option B) → Opti
 None >>= f = None
 
 -- a token begins an item
-abbrev pub mark_begins : Symbol → Bool
+abbrev pub mark_begins : Punct → Bool
 mark_begins Bang = true
 mark_begins Greater = true
 mark_begins Less = true

@@ -20,4 +20,4 @@ pub use laws::{one_reading, reads_back};
 pub use name::QName;
 pub use print::print_expr;
 pub use rpl_text::NoMemory;
-pub use token::{Keyword, Symbol, Token};
+pub use token::Token;

@@ -1,44 +1,7 @@
 // Tokens with what they stand for, as the grammar sees them.
 use rpl_classes::Set;
+use rpl_lexer::{Keyword, Punct};
 use rpl_text::Chars;
-
-/// A sign of one character.
-#[derive(Clone, Copy, Debug)]
-pub enum Symbol {
-    OpenBrace,
-    CloseBrace,
-    OpenParen,
-    CloseParen,
-    Slash,
-    Ampersand,
-    Bang,
-    Greater,
-    Less,
-    Star,
-    Plus,
-    Question,
-    Dot,
-    Caret,
-    Dollar,
-    Tilde,
-    Equals,
-    Comma,
-    Colon,
-}
-
-/// A name that is a word of the language.
-#[derive(Clone, Copy, Debug)]
-pub enum Keyword {
-    Rpl,
-    Package,
-    Import,
-    As,
-    Alias,
-    Local,
-    Grammar,
-    In,
-    End,
-}
 
 /// A token with what it stands for: the characters of a text with its escapes read, the set of a bracket, the
 /// numbers of bounds. A name keeps its byte place, which an expression keeps too.
@@ -65,5 +28,5 @@ pub enum Token {
         most: Option<u32>,
     },
     Number(u64),
-    Sign(Symbol),
+    Sign(Punct),
 }
