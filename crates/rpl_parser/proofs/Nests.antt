@@ -1,5 +1,5 @@
 -- A bracket is gone through byte by byte.
-use Rattle.std.proofs.Common.{◌≡◌, ℕ, ◌+◌, ◌-◌, ◌≤◌, List, [], ◌∷◌, ◌++◌, refl, ap, subst, sym, arith}
+use Rattle.std.proofs.Common.{◌≡◌, ℕ, ◌+◌, ◌-◌, ◌≤◌, List, [], ◌∷◌, ◌++◌, refl, subst, sym, arith}
 use Rattle.std.specs.Prelude.{Bool, true, false, nat_eq, max, if◌then◌else◌}
 use Rattle.std.proofs.Math.Nat.{max-le}
 use Rattle.rpl_parser.specs.Levels.{Nest, nest_after, nest_all}

@@ -1,16 +1,16 @@
 -- Steps of the reading, and what a function returned for them.
-use Rattle.std.proofs.Common.{◌≡◌, ◌≢◌, ℕ, zero, suc, ◌-◌, List, ◌∷◌, length, Option, Some, None, Result, Ok, Err, refl, ap, subst, arith}
-use Rattle.std.specs.Prelude.{Bool, true, false, IfOk, IsErrOf}
+use Rattle.std.proofs.Common.{◌≡◌, ◌≢◌, ℕ, zero, suc, ◌-◌, List, ◌∷◌, length, Option, Some, None, refl, ap, arith}
+use Rattle.std.specs.Prelude.{Bool, true, false}
 use Rattle.rpl_syntax.specs.Expression.{Expr, Exprs, one, chosen}
 use Rattle.rpl_syntax.specs.declared.token.Token.{Token}
 use Rattle.rpl_syntax.specs.Reading.{item_of, joins, slash, ampersand, parts_of, seq_of, content_of, read_item, read_exp, read}
 use Rattle.rpl_syntax.specs.Grammar.{Reads}
-use Rattle.rpl_syntax.proofs.Unique.{again, sound}
+use Rattle.rpl_syntax.proofs.Unique.{again}
 use Rattle.rpl_lexer.specs.declared.punct.Punct.TheVariants.{Slash, Ampersand}
 use Rattle.rpl_syntax.specs.declared.token.Token.TheVariants as T
 use Rattle.rpl_parser.specs.declared.refusal.Refusal.{Refusal}
 use Rattle.rpl_parser.specs.declared.refusal.Refusal.TheVariants as errors
-use Rattle.rpl_parser.specs.Gives.{Fails, Gives}
+use Rattle.rpl_parser.specs.Gives.{Fails}
 
 pub item_is : (d : ℕ) (s : List Token) → d ≢ 0 → read_item d s ≡ item_of (read_item (d - 1)) (read_exp (d - 1)) s
 item_is zero s h = absurd (h refl)
@@ -43,15 +43,6 @@ some x = Some x
 pub some_is : {A : Type 0} (x y : A) → some x ≡ some y → x ≡ y
 some_is x y e = cc
 
--- the readings of a list of tokens are all found, and no others
-pub found_by : {X : Type 0} (view : X → Expr) (p : List Token) (r : Result X Refusal) → Gives view r (read p) → IfOk r (λ x. Reads p (view x))
-found_by view p (Ok x) h = sound p (view x) h
-found_by view p (Err e) h = tt
-
-pub only_by : {X : Type 0} (view : X → Expr) (p : List Token) (r : Result X Refusal) → Gives view r (read p) → (x : Expr) → Reads p x → Gives view r (Some x)
-only_by view p r h x k = subst (λ o. Gives view r o) (again p x k) h
-
-pub syntax_by : {X : Type 0} (view : X → Expr) (p : List Token) (r : Result X Refusal) → Gives view r (read p) → IsErrOf r errors.Syntax → (x : Expr) → Reads p x → ⊥
-syntax_by view p (Ok y) h e x k = absurd (cc e)
-syntax_by view p (Err errors.Memory) h e x k = absurd (cc e)
-syntax_by view p (Err errors.Syntax) h e x k = absurd (cc (h, again p x k))
+-- tokens that are not read spell nothing
+pub unreadable : (p : List Token) → read p ≡ None → (x : Expr) → Reads p x → ⊥
+unreadable p e x h = absurd (cc (e, again p x h))

@@ -3,7 +3,7 @@
 -- `!`, `>`, `<` and a name with a colon behind it raise the level by one. `(` and `{` push the base and raise the
 -- level and the base with it; `)` and `}` take the base off again. `&` raises the base. `/` and every atom of one
 -- token set the level back to the base. A bracket's own nesting counts on top of the level where it stands.
-use Rattle.std.specs.Prelude.{ℕ, ◌+◌, ◌-◌, ◌≤◌, Bool, true, false, not, ◌&&◌, nat_eq, nat_lt, List, [], ◌∷◌, reverse, Option, Some, None, if◌then◌else◌, max}
+use Rattle.std.specs.Prelude.{ℕ, ◌+◌, ◌-◌, ◌≤◌, Bool, true, false, nat_eq, nat_lt, List, [], ◌∷◌, Option, Some, None, if◌then◌else◌, max}
 use Rattle.rpl_lexer.specs.declared.punct.Punct.{Punct}
 use Rattle.rpl_lexer.specs.declared.punct.Punct.TheVariants.{OpenBrace, CloseBrace, OpenParen, CloseParen, Slash, Ampersand, Bang, Greater, Less, Dot, Caret, Dollar, Tilde, Colon}
 use Rattle.rpl_lexer.specs.declared.token.Token.{Token}

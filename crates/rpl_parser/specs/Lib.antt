@@ -2,3 +2,4 @@ pub mod Gives
 pub mod Levels
 pub mod Tokens
 pub mod Stacks
+pub mod Patterns

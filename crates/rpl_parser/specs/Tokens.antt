@@ -1,7 +1,7 @@
 -- What the tokens of a text are to the grammar. A payload is one whatever the token spells: a bracket without a set
 -- gives the empty set, and a number above 256 gives 256. So a text has its reading, or none, before its sets and
 -- numbers are looked at; where none of them is bad, they are those that the text spells.
-use Rattle.std.specs.Prelude.{◌≡◌, ℕ, ◌+◌, Bool, true, false, ◌||◌, nat_lt, List, [], ◌∷◌, Option, Some, None, Result, Ok, Err, if◌then◌else◌, chars, slice_get, min}
+use Rattle.std.specs.Prelude.{◌≡◌, ℕ, ◌+◌, ◌-◌, ◌^◌, Bool, false, ◌||◌, nat_lt, List, [], ◌∷◌, Option, Some, None, Result, Ok, Err, if◌then◌else◌, chars, slice_get, min}
 use Rattle.std.specs.Option.{unwrap_or}
 use Rattle.regex_class.specs.Ranges.{Range}
 use Rattle.rpl_classes.specs.Brackets.{bracket_of}
@@ -62,9 +62,13 @@ place_in (F.UnknownClass at) = at
 place_in (F.BadRange at) = at
 place_in (F.BadSet at) = at
 
+-- a place behind another; every place of a text fits in 64 bits
+abbrev pub place_behind : (at by : ℕ) → ℕ
+place_behind at by = min (at + by) (2 ^ 64 - 1)
+
 abbrev pub class_fault : (at : ℕ) → Result (List Range × Bool) SetFault → Option ParseFault
 class_fault at (Ok b) = None
-class_fault at (Err e) = Some (record { at = at + place_in e; kind = Class e })
+class_fault at (Err e) = Some (record { at = place_behind at (place_in e); kind = Class e })
 
 -- ---- tokens
 
@@ -92,6 +96,11 @@ fault_by _ s t = None
 abbrev pub or_then : Option ParseFault → Option ParseFault → Option ParseFault
 or_then (Some f) later = Some f
 or_then None later = later
+
+-- the place of the first token, or 0 where there is none
+abbrev pub first_place : List Token → ℕ
+first_place [] = 0
+first_place (t ∷ ts) = t.start
 
 -- the first bad bounds or bracket
 abbrev pub first_bad : List ℕ → List Token → Option ParseFault

@@ -189,11 +189,7 @@ fn reach(text: &str, token: Token, before: u64, behind: u64) -> u64
 }
 
 /// The place of the first token at which the level passes 100.
-pub fn first_deep(
-    alloc: Global,
-    text: &str,
-    tokens: &[Token],
-) -> Result<Option<usize>, AllocError>
+pub fn first_deep(alloc: Global, text: &str, tokens: &[Token]) -> Result<Option<usize>, AllocError>
     requires { AllStand text.now tokens.now }
     ensures { IfOk result (λ o. o ≡ too_deep text.now ground_level tokens.now) }
 {

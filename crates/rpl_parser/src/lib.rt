@@ -7,10 +7,14 @@
 #![tactic(auto)]
 
 mod assemble;
+mod convert;
 mod descent;
 mod fault;
 mod level;
+mod pattern;
 mod refusal;
 mod steps;
 
 pub use fault::{ParseFault, ParseKind};
+pub use pattern::parse_pattern;
+pub use rpl_text::NoMemory;

@@ -1,11 +1,11 @@
-use Rattle.std.proofs.Common.{◌≡◌, ◌+◌, ◌≤◌, get_or, drop, refl, sym, ap, ◌∙◌, arith}
-use Rattle.std.specs.Prelude.{nat_lt, true, false}
+use Rattle.std.proofs.Common.{◌≡◌, ◌≤◌, get_or, refl, sym, ap, ◌∙◌, arith}
+use Rattle.std.specs.Prelude.{nat_lt, false}
 use Rattle.std.proofs.lemmas.Bool.Decides.{nat_tests}
 use Rattle.rpl_lexer.specs.declared.token.Token.{Token}
 use Rattle.rpl_lexer.specs.declared.token.TokenKind.TheVariants as K
-use Rattle.rpl_parser.specs.Levels.{level_after, reach_by, too_deep, Low}
+use Rattle.rpl_parser.specs.Levels.{level_after, reach_by}
 use Rattle.rpl_parser.specs.Stacks.{level_of}
-use Rattle.rpl_parser.proofs.Deep.{stands_at, low_after, deep_on, deep_here}
+use Rattle.rpl_parser.proofs.Deep.{stands_at, low_after, deep_on}
 use Rattle.rpl_parser.proofs.level.first_deep.Goals as goal
 
 abbrev none : Token
@@ -29,6 +29,7 @@ loop-index-preserved c =
     let r = c.reach.ensures l u refl refl in
     let low : c.reach.result ≤ 100 = grind (arith, nat_tests) in
     let test : nat_lt 100 c.reach.result ≡ false = grind (arith, nat_tests) in
-    let le : reach_by t.kind s t l u ≤ 100 = rw (← r) low in
-    (low_after s t c.colon_at.result l u c.in_ok-past.ensures c.loop-index.invariant.0 le,
-    deep_on s l u ts i none c.loop-index-test.true e (ap (nat_lt 100) (sym r) ∙ test) ∙ c.loop-index.invariant.1)
+    let le : reach_by t.kind s t l u ≤ 100 = rw (← r) low in (
+      low_after s t c.colon_at.result l u c.in_ok-past.ensures c.loop-index.invariant.0 le,
+      deep_on s l u ts i none c.loop-index-test.true e (ap (nat_lt 100) (sym r) ∙ test) ∙ c.loop-index.invariant.1,
+    )
