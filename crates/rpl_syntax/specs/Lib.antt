@@ -4,3 +4,4 @@ pub mod Grammar
 pub mod Reading
 pub mod Printing
 pub mod Printed
+pub mod Modules

@@ -9,6 +9,7 @@
 mod build;
 mod expr;
 mod laws;
+mod module;
 mod name;
 mod print;
 mod printer;
@@ -17,7 +18,9 @@ mod token;
 pub use build::{choose, join, wrap};
 pub use expr::{Expr, Exprs, Mark, Sign};
 pub use laws::{one_reading, reads_back};
+pub use module::{Binding, Bindings, Import, ImportAs, Imports, Item, Items, Module};
 pub use name::QName;
 pub use print::print_expr;
+pub use printer::Printer;
 pub use rpl_text::NoMemory;
 pub use token::Token;
