@@ -4,3 +4,5 @@ pub mod Nests
 pub mod Deep
 pub mod Converted
 pub mod Faults
+pub mod Entries
+pub mod Pushed

@@ -3,3 +3,7 @@ pub mod Levels
 pub mod Tokens
 pub mod Stacks
 pub mod Patterns
+pub mod Lines
+pub mod Statements
+pub mod Walks
+pub mod Walked

@@ -11,9 +11,14 @@ mod convert;
 mod descent;
 mod fault;
 mod level;
+mod line;
 mod pattern;
+mod piece;
 mod refusal;
 mod steps;
+mod walk;
+#[cfg(test)]
+mod tests;
 
 pub use fault::{ParseFault, ParseKind};
 pub use pattern::parse_pattern;
