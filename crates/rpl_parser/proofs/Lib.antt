@@ -6,3 +6,4 @@ pub mod Converted
 pub mod Faults
 pub mod Entries
 pub mod Pushed
+pub mod Walking

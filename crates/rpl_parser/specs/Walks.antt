@@ -167,13 +167,17 @@ by_version m (Some v) = if is_known v then Ok m else Err (record { at = v.at; ki
 abbrev pub finish : Walk → Result Said ParseFault
 finish w = by_version (record { name = w.name; imports = w.imports; items = w.items }) w.version
 
+abbrev pub go_on : Result Walk ParseFault → (Walk → Result Said ParseFault) → Result Said ParseFault
+go_on (Ok w) rest = rest w
+go_on (Err f) rest = Err f
+
 -- at most n pieces
 abbrev pub walk : ℕ → List ℕ → Walk → List Lexeme → Result Said ParseFault
 walk zero s w ts = finish w
 walk (suc n) s w [] = finish w
 walk (suc n) s w (t ∷ ts) =
     let k = piece_len (tokens_of s (t ∷ ts)) in
-    elim (step s w (closes_later (tokens_of s (drop k (t ∷ ts)))) (take k (t ∷ ts))) [ Ok v ↦ walk n s v (drop k (t ∷ ts)) | Err f ↦ Err f ]
+    go_on (step s w (closes_later (tokens_of s (drop k (t ∷ ts)))) (take k (t ∷ ts))) (λ v. walk n s v (drop k (t ∷ ts)))
 
 -- the module that a text with these tokens spells, or its first fault
 abbrev pub module_of : List ℕ → List Lexeme → Result Said ParseFault

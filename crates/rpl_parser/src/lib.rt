@@ -15,6 +15,7 @@ mod line;
 mod pattern;
 mod piece;
 mod refusal;
+mod statements;
 mod steps;
 mod walk;
 #[cfg(test)]
@@ -23,3 +24,4 @@ mod tests;
 pub use fault::{ParseFault, ParseKind};
 pub use pattern::parse_pattern;
 pub use rpl_text::NoMemory;
+pub use statements::parse_module;

@@ -18,7 +18,7 @@ use rpl_syntax::Expr;
 use std::alloc::Global;
 
 /// The place of the first token, or 0 where there is none.
-fn start_of(lexemes: &[Lexeme]) -> usize
+pub fn start_of(lexemes: &[Lexeme]) -> usize
     ensures { result ≡ first_place lexemes.now }
 {
     match lexemes {
