@@ -17,9 +17,9 @@ mod piece;
 mod refusal;
 mod statements;
 mod steps;
-mod walk;
 #[cfg(test)]
 mod tests;
+mod walk;
 
 pub use fault::{ParseFault, ParseKind};
 pub use pattern::parse_pattern;

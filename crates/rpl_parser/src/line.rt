@@ -62,7 +62,11 @@ fn past_name(tokens: &[Token]) -> Option<(&Chars, &[Token])>
     ensures none { IfNone result (is_path_end tokens.now ≡ true) }
 {
     match tokens {
-        [Token::Sign(Punct::Slash), Token::Name { name, .. }, rest @ ..] => Some((name, rest)),
+        [
+            Token::Sign(Punct::Slash),
+            Token::Name { name, .. },
+            rest @ ..,
+        ] => Some((name, rest)),
         _ => None,
     }
 }
@@ -72,12 +76,16 @@ fn import_as(alloc: Global, tokens: &[Token]) -> Result<(ImportAs, &[Token]), Re
     ensures { Gives (λ x. (x.0, x.1.now)) result (as_of tokens.now) }
 {
     match tokens {
-        [Token::Keyword(Keyword::As), Token::Name { name, .. }, rest @ ..] => {
-            Ok((ImportAs::Named(name.copy(alloc)?), rest))
-        }
-        [Token::Keyword(Keyword::As), Token::Sign(Punct::Dot), rest @ ..] => {
-            Ok((ImportAs::Plain, rest))
-        }
+        [
+            Token::Keyword(Keyword::As),
+            Token::Name { name, .. },
+            rest @ ..,
+        ] => { Ok((ImportAs::Named(name.copy(alloc)?), rest)) }
+        [
+            Token::Keyword(Keyword::As),
+            Token::Sign(Punct::Dot),
+            rest @ ..,
+        ] => { Ok((ImportAs::Plain, rest)) }
         [Token::Keyword(Keyword::As), ..] => Err(Refusal::Syntax),
         _ => Ok((ImportAs::Last, tokens)),
     }
@@ -91,27 +99,29 @@ fn entry(alloc: Global, tokens: &[Token]) -> Result<(Import, &[Token]), Refusal>
         [Token::Name { name, at }, rest @ ..] => {
             let (path, rest) = path(alloc, name, rest)?;
             let (name, rest) = import_as(alloc, rest)?;
-            Ok((Import {
-                path,
-                at: *at,
-                name,
-            }, rest))
+            Ok((
+                Import {
+                    path,
+                    at: *at,
+                    name,
+                },
+                rest,
+            ))
         }
         _ => Err(Refusal::Syntax),
     }
 }
 
 /// The name, the sign `=` and the expression of a binding.
-fn binding(
-    alloc: Global,
-    local: bool,
-    alias: bool,
-    tokens: &[Token],
-) -> Result<Line, Refusal>
+fn binding(alloc: Global, local: bool, alias: bool, tokens: &[Token]) -> Result<Line, Refusal>
     ensures { Gives line_seen result (binds local alias tokens.now) }
 {
     match tokens {
-        [Token::Name { name, .. }, Token::Sign(Punct::Equals), rest @ ..] => {
+        [
+            Token::Name { name, .. },
+            Token::Sign(Punct::Equals),
+            rest @ ..,
+        ] => {
             let name = name.copy(alloc)?;
             Ok(Line::Binds {
                 local,
@@ -178,9 +188,11 @@ pub fn read_line(alloc: Global, tokens: &[Token]) -> Result<Line, Refusal>
 {
     match tokens {
         [Token::Keyword(word), rest @ ..] => line_from(alloc, *word, rest),
-        [Token::Sign(Punct::Tilde), Token::Sign(Punct::Equals), rest @ ..] => {
-            boundary(alloc, rest)
-        }
+        [
+            Token::Sign(Punct::Tilde),
+            Token::Sign(Punct::Equals),
+            rest @ ..,
+        ] => { boundary(alloc, rest) }
         _ => binding(alloc, false, false, tokens),
     }
 }

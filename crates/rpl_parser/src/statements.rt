@@ -21,12 +21,7 @@ use rpl_syntax::{Module, Token};
 use std::alloc::Global;
 
 /// Behind a statement that may stand there, unless some of its bounds or brackets are bad.
-fn checked(
-    alloc: Global,
-    text: &str,
-    walk: Walk,
-    piece: &[Lexeme],
-) -> Result<Walk, ParseFault>
+fn checked(alloc: Global, text: &str, walk: Walk, piece: &[Lexeme]) -> Result<Walk, ParseFault>
     requires { AllStand text.now piece.now }
     ensures { Answers walk_of result (by_bad (walk_of walk) (first_bad text.now piece.now)) }
 {

@@ -1,5 +1,5 @@
-// Patterns worked by hand, with their printed texts and their faults.
-use crate::{ParseFault, ParseKind, parse_pattern};
+// Patterns and modules worked by hand, with their printed texts and their faults.
+use crate::{ParseFault, ParseKind, parse_module, parse_pattern};
 use rpl_classes::SetFault;
 use rpl_lexer::lex;
 use rpl_syntax::print_expr;
@@ -25,7 +25,10 @@ static READ: [(&str, &str); 60] = [
     ("a_1", "a_1"),
     ("[a]", "[[\\U00000061-\\U00000061]]"),
     ("[^a]", "[^[\\U00000061-\\U00000061]]"),
-    ("[[a-c][x]]", "[[\\U00000061-\\U00000063][\\U00000078-\\U00000078]]"),
+    (
+        "[[a-c][x]]",
+        "[[\\U00000061-\\U00000063][\\U00000078-\\U00000078]]",
+    ),
     (
         "[[a] && [b]]",
         "[[^[\\U00000000-\\U0000D7FF][\\U0000E000-\\U0010FFFF]]]",
@@ -146,16 +149,8 @@ static REFUSED: [(&str, usize, ParseKind); 33] = [
         1,
         ParseKind::Class(SetFault::UnknownClass { at: 0 }),
     ),
-    (
-        "a [b-a]",
-        4,
-        ParseKind::Class(SetFault::BadRange { at: 2 }),
-    ),
-    (
-        "[[a] &&]",
-        7,
-        ParseKind::Class(SetFault::BadSet { at: 7 }),
-    ),
+    ("a [b-a]", 4, ParseKind::Class(SetFault::BadRange { at: 2 })),
+    ("[[a] &&]", 7, ParseKind::Class(SetFault::BadSet { at: 7 })),
     // the syntax comes before bounds and brackets
     ("a{3,2} /", 0, ParseKind::Syntax),
     ("[b-a] )", 0, ParseKind::Syntax),
@@ -169,7 +164,13 @@ fn expect_printed(rt: &impl Abort, alloc: Global, text: &str, want: &str) -> Res
     Ok(())
 }
 
-fn expect_fault(rt: &impl Abort, alloc: Global, text: &str, at: usize, kind: ParseKind) -> Result<(), Fail> {
+fn expect_fault(
+    rt: &impl Abort,
+    alloc: Global,
+    text: &str,
+    at: usize,
+    kind: ParseKind,
+) -> Result<(), Fail> {
     let tokens = lex(alloc, text)?;
     let fault = parse_pattern(alloc, text, &tokens).err();
     assert_eq!(rt; fault, Some(ParseFault { at, kind }), "{text}");
@@ -188,6 +189,125 @@ fn patterns_that_are_read(rt: HostRuntime) -> Result<(), Fail> {
 fn patterns_that_are_refused(rt: HostRuntime) -> Result<(), Fail> {
     for (text, at, kind) in &REFUSED {
         expect_fault(&rt, rt.alloc(), text, *at, *kind)?;
+    }
+    Ok(())
+}
+
+/// A module and its fault.
+static REFUSED_MODULES: [(&str, usize, ParseKind); 30] = [
+    ("a", 0, ParseKind::Syntax),
+    ("a = ", 0, ParseKind::Syntax),
+    ("a = b c = ", 6, ParseKind::Syntax),
+    ("rpl 1", 0, ParseKind::Syntax),
+    ("rpl 1.0 rpl 1.0", 8, ParseKind::Syntax),
+    ("package a rpl 1.0", 10, ParseKind::Syntax),
+    ("package a package b", 10, ParseKind::Syntax),
+    ("package", 0, ParseKind::Syntax),
+    ("import a package b", 9, ParseKind::Syntax),
+    ("import", 0, ParseKind::Syntax),
+    ("import a,", 0, ParseKind::Syntax),
+    ("import a as", 0, ParseKind::Syntax),
+    ("import a b", 0, ParseKind::Syntax),
+    ("a = b import c", 6, ParseKind::Syntax),
+    ("local import a", 0, ParseKind::Syntax),
+    ("grammar a = b", 0, ParseKind::Syntax),
+    ("grammar end end", 12, ParseKind::Syntax),
+    ("grammar in in end", 11, ParseKind::Syntax),
+    ("grammar grammar end end", 8, ParseKind::Syntax),
+    ("grammar local a = b end", 8, ParseKind::Syntax),
+    ("grammar ~ = b end", 8, ParseKind::Syntax),
+    ("grammar a = b end c", 14, ParseKind::Syntax),
+    ("in", 0, ParseKind::Syntax),
+    ("local ~ = a", 0, ParseKind::Syntax),
+    ("rpl 1.5", 0, ParseKind::Version),
+    ("rpl 1.10", 0, ParseKind::Version),
+    ("rpl 2.0 a = b", 0, ParseKind::Version),
+    // the first statement decides, and the version comes last
+    ("rpl 1.5 a = /", 8, ParseKind::Syntax),
+    (
+        "a = b{3,2} c = /",
+        5,
+        ParseKind::BadBounds { least: 3, most: 2 },
+    ),
+    ("a = b{3,2} / c = [b-a]", 0, ParseKind::Syntax),
+];
+
+fn expect_module_fault(
+    rt: &impl Abort,
+    alloc: Global,
+    text: &str,
+    at: usize,
+    kind: ParseKind,
+) -> Result<(), Fail> {
+    let tokens = lex(alloc, text)?;
+    let fault = parse_module(alloc, text, &tokens).err();
+    assert_eq!(rt; fault, Some(ParseFault { at, kind }), "{text}");
+    Ok(())
+}
+
+#[test]
+fn modules_that_are_refused(rt: HostRuntime) -> Result<(), Fail> {
+    for (text, at, kind) in &REFUSED_MODULES {
+        expect_module_fault(&rt, rt.alloc(), text, *at, *kind)?;
+    }
+    Ok(())
+}
+
+#[test]
+fn a_module(rt: HostRuntime) -> Result<(), Fail> {
+    let text =
+        "rpl 01.4 package p import x, a/b as c, d as . ~ = \"-\" alias e = f grammar g = h in i = g end";
+    let tokens = lex(rt.alloc(), text)?;
+    let module = parse_module(rt.alloc(), text, &tokens)?;
+    let name = module.package.as_ref().map(|name| name.at);
+    assert_eq!(rt; name, Some(9));
+    assert_eq!(rt; module.imports.len(), 3);
+    assert_eq!(rt; module.items.len(), 3);
+    let import = module.imports.get(1).map(|import| import.path.as_str());
+    assert_eq!(rt; import, Some("a/b"));
+    Ok(())
+}
+
+/// So many openings, an inner text, and as many closings.
+fn nested(
+    alloc: Global,
+    count: usize,
+    open: &str,
+    inner: &str,
+    close: &str,
+) -> Result<String, Fail> {
+    let mut text = String::new(alloc);
+    for _ in 0..count {
+        text.push_str(open)?;
+    }
+    text.push_str(inner)?;
+    for _ in 0..count {
+        text.push_str(close)?;
+    }
+    Ok(text)
+}
+
+/// What opens a level, what stands inside, and what closes it; how many levels are too many, and where the fault is.
+static LEVELS: [(&str, &str, &str, usize, usize); 9] = [
+    ("(", "a", ")", 101, 100),
+    ("{", "a", "}", 101, 100),
+    ("{", "[a]", "}", 100, 100),
+    ("{", "[[a]]", "}", 99, 99),
+    ("!", "a", "", 101, 100),
+    (">", "a", "", 101, 100),
+    ("<", "a", "", 101, 100),
+    ("f:", "a", "", 101, 200),
+    ("a&", "a", "", 101, 201),
+];
+
+#[test]
+fn levels(rt: HostRuntime) -> Result<(), Fail> {
+    for (open, inner, close, count, at) in &LEVELS {
+        let text = nested(rt.alloc(), *count - 1, open, inner, close)?;
+        let tokens = lex(rt.alloc(), &text)?;
+        assert!(rt; parse_pattern(rt.alloc(), &text, &tokens).is_ok(), "{open}");
+        let text = nested(rt.alloc(), *count, open, inner, close)?;
+        expect_fault(&rt, rt.alloc(), &text, *at, ParseKind::TooDeep)?;
     }
     Ok(())
 }

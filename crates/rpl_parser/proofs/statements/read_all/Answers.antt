@@ -71,10 +71,11 @@ loop-preserved c =
     let ne : length (tokens_of s ll) ≢ 0 = subst (λ x. length x ≢ 0) c.loop.invariant.1 some in
     let kk = c.first_piece-len.ensures.value ∙ ap piece_len c.loop.invariant.1 in
     let at = step_at s w ll tl c.split_at-in-loop.result.1.now c.split_at.result.0.now k c.loop.invariant.1 c.first_piece-len.ensures.value c.split_at.ensures.front c.split_at-in-loop.ensures.back in
-    let on = walk_on n m s w e v ll ne (at ∙ c.in_ok-walk.ensures) in
-    (subst (AllStand s) (sym c.split_at.ensures.back) (stands_drop s ll k c.loop.invariant.0),
-    c.split_at-in-loop.ensures.back ∙ (ap (drop k) c.loop.invariant.1 ∙ (sym (tokens_drop s k ll) ∙ ap (tokens_of s) (sym c.split_at.ensures.back))),
-    ap (walk m s v) (c.split_at.ensures.back ∙ ap (λ j. drop j ll) kk) ∙ (sym on ∙ c.loop.invariant.2))
+    let on = walk_on n m s w e v ll ne (at ∙ c.in_ok-walk.ensures) in (
+      subst (AllStand s) (sym c.split_at.ensures.back) (stands_drop s ll k c.loop.invariant.0),
+      c.split_at-in-loop.ensures.back ∙ (ap (drop k) c.loop.invariant.1 ∙ (sym (tokens_drop s k ll) ∙ ap (tokens_of s) (sym c.split_at.ensures.back))),
+      ap (walk m s v) (c.split_at.ensures.back ∙ ap (λ j. drop j ll) kk) ∙ (sym on ∙ c.loop.invariant.2),
+    )
 
 pub returns : goal.returns
 returns c =
