@@ -1,6 +1,6 @@
 -- Reading one entry after the other, as a loop does.
 use Rattle.std.proofs.Common.{◌≡◌, ℕ, zero, suc, lit<, List, [], ◌∷◌, ◌++◌, Option, Some, None, append_assoc, refl, sym, ap, ◌∙◌}
-use Rattle.std.specs.Prelude.{Bool, true, false, chars}
+use Rattle.std.specs.Prelude.{true, false, chars}
 use Rattle.std.specs.Str.{IsAscii}
 use Rattle.std.proofs.lemmas.Str.{chars-IsAscii}
 use Rattle.rpl_lexer.specs.declared.punct.Punct.TheVariants as P
@@ -9,7 +9,7 @@ use Rattle.rpl_syntax.specs.Reading.{◌>>=◌, read}
 use Rattle.rpl_syntax.specs.declared.module.Import.{Import}
 use Rattle.rpl_syntax.specs.declared.token.Token.{Token}
 use Rattle.rpl_syntax.specs.declared.token.Token.TheVariants as T
-use Rattle.rpl_parser.specs.Lines.{Line, Binds, path_of, is_path_end, entry_of, entries_of, comma, all_of, with_others, line_of}
+use Rattle.rpl_parser.specs.Lines.{Binds, path_of, is_path_end, entry_of, entries_of, comma, all_of, with_others, line_of}
 
 abbrev put : List Import → List Import → Option (List Import)
 put front es = Some (front ++ es)

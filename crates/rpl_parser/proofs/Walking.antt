@@ -1,10 +1,9 @@
 -- A module is walked over piece by piece.
-use Rattle.std.proofs.Common.{◌≡◌, ◌≢◌, ℕ, zero, suc, ◌+◌, ◌-◌, ◌<◌, ◌≤◌, List, [], ◌∷◌, length, get_or, take, drop, Result, Ok, Err, refl, sym, ap, subst, ◌∙◌, arith}
+use Rattle.std.proofs.Common.{◌≡◌, ◌≢◌, ℕ, zero, suc, ◌+◌, ◌<◌, ◌≤◌, List, [], ◌∷◌, length, take, drop, Ok, Err, refl, sym, ap, ◌∙◌, arith}
 use Rattle.std.proofs.lemmas.List.{length-drop, length-take-le, get_or-drop, get_or-take}
 use Rattle.std.proofs.lemmas.Option.{slice_get_read, slice_get_within, get_or_from_slice_get}
 use Rattle.rpl_lexer.specs.declared.token.Token.{Token as Lexeme}
 use Rattle.rpl_syntax.specs.declared.token.Token.{Token}
-use Rattle.rpl_syntax.specs.Modules.{Said}
 use Rattle.rpl_parser.specs.Tokens.{AllStand, token_by, tokens_of}
 use Rattle.rpl_parser.specs.Walks.{Walk, piece_len, closes_later, step, finish, go_on, walk}
 use Rattle.rpl_parser.specs.declared.fault.ParseFault.{ParseFault}

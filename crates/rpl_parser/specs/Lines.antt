@@ -5,7 +5,7 @@
 --   import    `import` Entry (`,` Entry)*, an Entry being Name (`/` Name)* and perhaps `as` Name or `as` `.`
 --   binding   `local`? `alias`? Name `=` Exp, or `~` `=` Exp
 --   block     `grammar`, `in` and `end`, each alone
-use Rattle.std.specs.Prelude.{◌≡◌, ℕ, zero, suc, Bool, true, false, List, [], ◌∷◌, ◌++◌, length, Option, Some, None}
+use Rattle.std.specs.Prelude.{ℕ, zero, suc, Bool, true, false, List, [], ◌∷◌, ◌++◌, length, Option, Some, None}
 use Rattle.rpl_lexer.specs.declared.keyword.Keyword.TheVariants as W
 use Rattle.rpl_lexer.specs.declared.punct.Punct.TheVariants as P
 use Rattle.rpl_syntax.specs.Expression.{Expr}

@@ -2,8 +2,8 @@
 //!
 //! For the parser, which makes expressions and modules of tokens, and for all that walk over them. The grammar
 //! (`specs/Grammar.antt`) is a relation with one case for each of its lines; the laws promise that no tokens are a
-//! spelling of two expressions, and that what an expression is printed as is read as that expression. Besides,
-//! only memory can run out.
+//! spelling of two expressions, and that the tree that an expression is printed as (`specs/Printing.antt`) is read as
+//! that expression. Besides, only memory can run out.
 #![tactic(auto)]
 
 mod build;

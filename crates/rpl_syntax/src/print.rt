@@ -174,9 +174,8 @@ impl Printer {
     }
 }
 
-/// The text of an expression. Its tokens spell the expression again, but for the places of names and for raw groups
-/// of one item, which are that item. What only macros make has no spelling: of `Marked` the body is printed, of
-/// `Note` the text.
+/// The text of an expression, as `specs/Printed.antt` defines it. What only macros make has no spelling: of `Marked` the
+/// body is printed, of `Note` the text.
 pub fn print_expr(alloc: Global, e: &Expr) -> Result<Chars, NoMemory>
     ensures { IfOk result (λ text. text ≡ printed (expr_of e.now)) }
 {

@@ -1,7 +1,5 @@
-use Rattle.std.proofs.Common.{◌≡◌, ◌∷◌, [], Some, sym, ap, ◌∙◌}
-use Rattle.rpl_syntax.specs.Reading.{◌>>=◌}
+use Rattle.std.proofs.Common.{◌∙◌}
 use Rattle.rpl_syntax.specs.View.{expr_of}
-use Rattle.rpl_parser.specs.Lines.{Line, Binds}
 use Rattle.rpl_parser.proofs.Entries.{tilde, boundary_is}
 use Rattle.rpl_parser.proofs.line.boundary.Goals as goal
 

@@ -1,5 +1,5 @@
-use Rattle.std.proofs.Common.{sym, ◌∙◌}
-use Rattle.rpl_parser.proofs.Entries.{path_step, path_end}
+use Rattle.std.proofs.Common.{◌∙◌}
+use Rattle.rpl_parser.proofs.Entries.{path_step}
 use Rattle.rpl_parser.proofs.line.path.Goals as goal
 
 pub loop-name-preserved : goal.loop-name-preserved

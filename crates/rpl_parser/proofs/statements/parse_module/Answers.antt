@@ -1,4 +1,4 @@
-use Rattle.std.proofs.Common.{◌≡◌, subst, sym}
+use Rattle.std.proofs.Common.{subst, sym}
 use Rattle.rpl_lexer.proofs.Cuts.{tokens_stand}
 use Rattle.rpl_parser.specs.Tokens.{AllStand}
 use Rattle.rpl_parser.proofs.statements.parse_module.Goals as goal
