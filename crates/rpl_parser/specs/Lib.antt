@@ -1,0 +1,9 @@
+pub mod Gives
+pub mod Levels
+pub mod Tokens
+pub mod Stacks
+pub mod Patterns
+pub mod Lines
+pub mod Statements
+pub mod Walks
+pub mod Walked

@@ -1,0 +1,189 @@
+-- A module, statement by statement: where each begins, which may stand where, and the first fault.
+use Rattle.std.specs.Prelude.{◌≡◌, ◌≢◌, ℕ, zero, suc, Bool, true, false, not, ◌&&◌, nat_eq, nat_le, List, [], ◌∷◌, ◌++◌, length, take, drop, Option, Some, None, Result, Ok, Err, if◌then◌else◌}
+use Rattle.rpl_lexer.specs.declared.keyword.Keyword.{Keyword}
+use Rattle.rpl_lexer.specs.declared.keyword.Keyword.TheVariants as W
+use Rattle.rpl_lexer.specs.declared.punct.Punct.TheVariants as P
+use Rattle.rpl_lexer.specs.declared.token.Token.{Token as Lexeme}
+use Rattle.rpl_syntax.specs.Grammar.{unprefixed}
+use Rattle.rpl_syntax.specs.Modules.{Rule, Entry, One, Block, Said}
+use Rattle.rpl_syntax.specs.declared.module.Import.{Import}
+use Rattle.rpl_syntax.specs.declared.name.QName.{QName}
+use Rattle.rpl_syntax.specs.declared.token.Token.{Token}
+use Rattle.rpl_syntax.specs.declared.token.Token.TheVariants as T
+use Rattle.rpl_parser.specs.Levels.{ground_level, too_deep}
+use Rattle.rpl_parser.specs.Lines as L
+use Rattle.rpl_parser.specs.Lines.{Line, line_of}
+use Rattle.rpl_parser.specs.Tokens.{tokens_of, first_place, first_bad}
+use Rattle.rpl_parser.specs.declared.walk.Numbered.{Numbered}
+use Rattle.rpl_parser.specs.declared.walk.Stage.{Stage}
+use Rattle.rpl_parser.specs.declared.walk.Stage.TheVariants.{Begun, Versioned, Packaged, Ruled, InBlock, BehindIn}
+use Rattle.rpl_parser.specs.declared.fault.ParseFault.{ParseFault}
+use Rattle.rpl_parser.specs.declared.fault.ParseKind.TheVariants.{NoMemory, TooDeep, Syntax, Version}
+
+-- ---- pieces: each begins at a keyword of statements, or at a binding's name
+
+abbrev pub word_begins : Keyword → Bool
+word_begins W.As = false
+word_begins W.Alias = false
+word_begins _ = true
+
+abbrev pub is_local : Token → Bool
+is_local (T.Keyword W.Local) = true
+is_local t = false
+
+abbrev pub is_local_or_alias : Token → Bool
+is_local_or_alias (T.Keyword W.Local) = true
+is_local_or_alias (T.Keyword W.Alias) = true
+is_local_or_alias t = false
+
+-- a piece begins behind this token
+abbrev pub begins_piece : Token → List Token → Bool
+begins_piece before (T.Keyword W.Alias ∷ r) = not (is_local before)
+begins_piece before (T.Keyword w ∷ r) = word_begins w
+begins_piece before (T.Name n at ∷ T.Sign P.Equals ∷ r) = not (is_local_or_alias before)
+begins_piece before (T.Sign P.Tilde ∷ T.Sign P.Equals ∷ r) = not (is_local_or_alias before)
+begins_piece before r = false
+
+-- how many tokens stand before the next piece, behind this token
+abbrev pub front : Token → List Token → ℕ
+front before [] = 0
+front before (t ∷ ts) = if begins_piece before (t ∷ ts) then 0 else suc (front t ts)
+
+-- how many tokens the first piece has
+abbrev pub piece_len : List Token → ℕ
+piece_len [] = 0
+piece_len (t ∷ ts) = suc (front t ts)
+
+-- a block is closed later
+abbrev pub closes_later : List Token → Bool
+closes_later [] = false
+closes_later (T.Keyword W.End ∷ r) = true
+closes_later (t ∷ r) = closes_later r
+
+-- ---- the order of statements
+
+pub record Walk : Type 0 where
+  pub stage : Stage
+  pub version : Option Numbered
+  pub name : Option QName
+  pub imports : List Import
+  pub items : List Entry
+  pub hidden : List Rule
+  pub rules : List Rule
+
+abbrev pub begun : Walk
+begun = record { stage = Begun; version = None; name = None; imports = []; items = []; hidden = []; rules = [] }
+
+abbrev pub versioned : Walk → Stage → Numbered → Option Walk
+versioned w Begun v = Some (record w { stage = Versioned; version = Some v })
+versioned w _ v = None
+
+abbrev pub packaged : Walk → Stage → QName → Option Walk
+packaged w Begun q = Some (record w { stage = Packaged; name = Some q })
+packaged w Versioned q = Some (record w { stage = Packaged; name = Some q })
+packaged w _ q = None
+
+abbrev pub imported : Walk → Stage → List Import → Option Walk
+imported w Ruled es = None
+imported w InBlock es = None
+imported w BehindIn es = None
+imported w _ es = Some (record w { stage = Packaged; imports = w.imports ++ es })
+
+abbrev pub in_block : Walk → Rule → Option Walk
+in_block w r = if r.local then None else Some (record w { rules = w.rules ++ r ∷ [] })
+
+abbrev pub ruled : Walk → Rule → Walk
+ruled w r = record w { stage = Ruled; items = w.items ++ One r ∷ [] }
+
+abbrev pub bound : Walk → Stage → Rule → Option Walk
+bound w InBlock r = in_block w r
+bound w BehindIn r = in_block w r
+bound w _ r = Some (ruled w r)
+
+abbrev pub block_begun : Walk → (closes : Bool) → Option Walk
+block_begun w true = Some (record w { stage = InBlock; hidden = []; rules = [] })
+block_begun w false = None
+
+abbrev pub opened : Walk → Stage → (closes : Bool) → Option Walk
+opened w InBlock c = None
+opened w BehindIn c = None
+opened w _ c = block_begun w c
+
+abbrev pub split : Walk → Stage → Option Walk
+split w InBlock = Some (record w { stage = BehindIn; hidden = w.rules; rules = [] })
+split w _ = None
+
+abbrev pub shut : Walk → Walk
+shut w = record w { stage = Ruled; items = w.items ++ Block w.hidden w.rules ∷ []; hidden = []; rules = [] }
+
+abbrev pub closed : Walk → Stage → Option Walk
+closed w InBlock = Some (shut w)
+closed w BehindIn = Some (shut w)
+closed w _ = None
+
+-- behind one more statement that begins at this place, where it may stand there
+abbrev pub place : Walk → (at : ℕ) → (closes : Bool) → Line → Option Walk
+place w at c (L.Version a b) = versioned w w.stage (record { at = at; major = a; minor = b })
+place w at c (L.Package n) = packaged w w.stage (unprefixed n at)
+place w at c (L.Imports es) = imported w w.stage es
+place w at c (L.Binds local alias n x) = bound w w.stage (record { name = n; at = at; local = local; alias = alias; body = x })
+place w at c L.Opens = opened w w.stage c
+place w at c L.Splits = split w w.stage
+place w at c L.Closes = closed w w.stage
+
+-- ---- faults
+
+abbrev pub syntax_at : {X : Type 0} → (at : ℕ) → Result X ParseFault
+syntax_at at = Err (record { at = at; kind = Syntax })
+
+abbrev pub by_bad : {X : Type 0} → X → Option ParseFault → Result X ParseFault
+by_bad w None = Ok w
+by_bad w (Some f) = Err f
+
+abbrev pub by_place : (at : ℕ) → Option ParseFault → Option Walk → Result Walk ParseFault
+by_place at bad None = syntax_at at
+by_place at bad (Some w) = by_bad w bad
+
+abbrev pub by_line : (at : ℕ) → Option ParseFault → Walk → (closes : Bool) → Option Line → Result Walk ParseFault
+by_line at bad w c None = syntax_at at
+by_line at bad w c (Some l) = by_place at bad (place w at c l)
+
+abbrev pub by_level : Option ℕ → Result Walk ParseFault → Result Walk ParseFault
+by_level None r = r
+by_level (Some at) r = Err (record { at = at; kind = TooDeep })
+
+-- behind one more piece, or its first fault: the level, the syntax, then the first bad bounds or bracket
+abbrev pub step : List ℕ → Walk → (closes : Bool) → List Lexeme → Result Walk ParseFault
+step s w c p = by_level (too_deep s ground_level p) (by_line (first_place p) (first_bad s p) w c (line_of (tokens_of s p)))
+
+-- 1.0 to 1.4
+abbrev pub is_known : Numbered → Bool
+is_known v = nat_eq v.major 1 && nat_le v.minor 4
+
+abbrev pub by_version : Said → Option Numbered → Result Said ParseFault
+by_version m None = Ok m
+by_version m (Some v) = if is_known v then Ok m else Err (record { at = v.at; kind = Version })
+
+abbrev pub finish : Walk → Result Said ParseFault
+finish w = by_version (record { name = w.name; imports = w.imports; items = w.items }) w.version
+
+abbrev pub go_on : Result Walk ParseFault → (Walk → Result Said ParseFault) → Result Said ParseFault
+go_on (Ok w) rest = rest w
+go_on (Err f) rest = Err f
+
+-- at most n pieces
+abbrev pub walk : ℕ → List ℕ → Walk → List Lexeme → Result Said ParseFault
+walk zero s w ts = finish w
+walk (suc n) s w [] = finish w
+walk (suc n) s w (t ∷ ts) =
+    let k = piece_len (tokens_of s (t ∷ ts)) in
+    go_on (step s w (closes_later (tokens_of s (drop k (t ∷ ts)))) (take k (t ∷ ts))) (λ v. walk n s v (drop k (t ∷ ts)))
+
+-- the module that a text with these tokens spells, or its first fault
+abbrev pub module_of : List ℕ → List Lexeme → Result Said ParseFault
+module_of s ts = walk (suc (length ts)) s begun ts
+
+-- what was returned, seen by view, is the answer, unless memory ran out
+abbrev pub Answers : {X Y : Type 0} → (X → Y) → Result X ParseFault → Result Y ParseFault → Type 0
+Answers view (Ok x) answer = answer ≡ Ok (view x)
+Answers view (Err f) answer = (f.kind ≢ NoMemory → answer ≡ Err f) × (f.kind ≡ NoMemory → f.at ≡ 0)

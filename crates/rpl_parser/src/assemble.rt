@@ -1,0 +1,121 @@
+// What is put together of expressions that are read.
+ghost use Rattle.std.specs.Prelude.{◌≡◌, Some};
+ghost use Rattle.rpl_parser.specs.Gives.{Gives};
+ghost use Rattle.rpl_syntax.specs.Expression as M;
+ghost use Rattle.rpl_syntax.specs.Expression.{one, chosen};
+ghost use Rattle.rpl_syntax.specs.Grammar.{unprefixed, prefixed};
+ghost use Rattle.rpl_syntax.specs.Reading.{quantified, closed};
+ghost use Rattle.rpl_syntax.specs.View.{expr_of, shown};
+
+use crate::refusal::Refusal;
+use rpl_lexer::Punct;
+use rpl_syntax::{Expr, Exprs, QName, Sign, Token, choose, wrap};
+use rpl_text::Chars;
+use std::alloc::Global;
+
+/// The name of a macro or of what a name without a prefix is bound to.
+pub fn simple_name(alloc: Global, name: &Chars, at: usize) -> Result<QName, Refusal>
+    ensures { Gives (λ q. q) result (Some (unprefixed name.now at)) }
+{
+    Ok(QName {
+        prefix: None,
+        name: name.copy(alloc)?,
+        at,
+    })
+}
+
+/// A name with its prefix.
+pub fn qualified_name(
+    alloc: Global,
+    prefix: &Chars,
+    name: &Chars,
+    at: usize,
+) -> Result<QName, Refusal>
+    ensures { Gives (λ q. q) result (Some (prefixed prefix.now name.now at)) }
+{
+    let prefix = prefix.copy(alloc)?;
+    Ok(QName {
+        prefix: Some(prefix),
+        name: name.copy(alloc)?,
+        at,
+    })
+}
+
+pub fn repeated(alloc: Global, body: Expr, least: u32, most: Option<u32>) -> Result<Expr, Refusal>
+    ensures { Gives expr_of result (Some (M.Repeat (expr_of body) least most)) }
+{
+    Ok(Expr::Repeat {
+        body: Box::new(alloc, body)?,
+        least,
+        most,
+    })
+}
+
+pub fn prefix(alloc: Global, sign: Sign, item: Expr) -> Result<Expr, Refusal>
+    ensures { Gives expr_of result (Some (M.Prefix sign (expr_of item))) }
+{
+    Ok(Expr::Prefix(sign, Box::new(alloc, item)?))
+}
+
+pub fn macro_use(alloc: Global, name: &Chars, at: usize, arg: Expr) -> Result<Expr, Refusal>
+    ensures { Gives expr_of result (Some (M.Macro (unprefixed name.now at) (expr_of arg))) }
+{
+    let name = simple_name(alloc, name, at)?;
+    Ok(Expr::Macro {
+        name,
+        arg: Box::new(alloc, arg)?,
+    })
+}
+
+pub fn both(alloc: Global, first: Expr, second: Expr) -> Result<Expr, Refusal>
+    ensures { Gives expr_of result (Some (M.Both (expr_of first) (expr_of second))) }
+{
+    let first = Box::new(alloc, first)?;
+    Ok(Expr::Both(first, Box::new(alloc, second)?))
+}
+
+/// A choice of these parts, alone.
+pub fn alone(alloc: Global, parts: Exprs) -> Result<Exprs, Refusal>
+    ensures { Gives shown result (Some (one (chosen (shown parts)))) }
+{
+    let mut whole = Exprs::new(alloc);
+    whole.push(choose(parts))?;
+    Ok(whole)
+}
+
+/// The expression, with the quantifier behind it if there is one.
+pub fn quantify(alloc: Global, body: Expr, tokens: &[Token]) -> Result<(Expr, &[Token]), Refusal>
+    ensures { Gives (λ x. (expr_of x.0, x.1.now)) result (Some (quantified (expr_of body) tokens.now)) }
+{
+    match tokens {
+        [Token::Sign(Punct::Star), rest @ ..] => Ok((repeated(alloc, body, 0, None)?, rest)),
+        [Token::Sign(Punct::Plus), rest @ ..] => Ok((repeated(alloc, body, 1, None)?, rest)),
+        [Token::Sign(Punct::Question), rest @ ..] => {
+            Ok((repeated(alloc, body, 0, Some(1))?, rest))
+        }
+        [Token::Bounds { least, most }, rest @ ..] => {
+            Ok((repeated(alloc, body, *least, *most)?, rest))
+        }
+        _ => Ok((body, tokens)),
+    }
+}
+
+/// The group of these items, behind which its closing sign stands, and then maybe a quantifier.
+pub fn close(
+    alloc: Global,
+    raw: bool,
+    items: Exprs,
+    tokens: &[Token],
+) -> Result<(Expr, &[Token]), Refusal>
+    ensures { Gives (λ x. (expr_of x.0, x.1.now)) result (closed raw (shown items) tokens.now) }
+{
+    match tokens {
+        [Token::Sign(Punct::CloseParen), rest @ ..] if !raw => {
+            quantify(alloc, wrap(raw, items), rest)
+        }
+        [Token::Sign(Punct::CloseBrace), rest @ ..] if raw => {
+            quantify(alloc, wrap(raw, items), rest)
+        }
+        _ => Err(Refusal::Syntax),
+    }
+}

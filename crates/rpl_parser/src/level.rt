@@ -1,0 +1,209 @@
+// How deep tokens are nested.
+ghost use Rattle.std.specs.Prelude.{◌≡◌, ◌<◌, ◌≤◌, ◌+◌, ◌^◌, IfOk, OnOk, length, drop};
+ghost use Rattle.rpl_lexer.specs.Cut.{IsToken};
+ghost use Rattle.rpl_lexer.specs.declared.punct.Punct.TheVariants.{Slash, Bang, OpenParen, CloseParen, Ampersand};
+ghost use Rattle.rpl_parser.specs.Levels.{ground_level, sign_level, level_after, nest_after, nesting, Level, reach_by, colon_by, colon_next, too_deep};
+ghost use Rattle.rpl_parser.specs.Stacks.{level_of, nest_of};
+ghost use Rattle.rpl_parser.specs.Tokens.{AllStand};
+
+use rpl_lexer::{Punct, Token, TokenKind, punct_of, token_text};
+use smallvec::SmallVec;
+use std::alloc::{AllocError, Global};
+
+/// The greatest level.
+const MOST_LEVEL: u64 = 100;
+
+/// A bracket so far.
+#[derive(Clone, Copy)]
+pub struct Brackets {
+    hidden: bool,
+    inside: u64,
+    most: u64,
+}
+
+impl Brackets {
+    /// Behind one more byte.
+    fn past(self, byte: u8) -> Brackets
+        requires { self.inside + 1 < 2 ^ 64 }
+        ensures { nest_of result ≡ nest_after (nest_of self) byte }
+    {
+        if self.hidden {
+            return Brackets {
+                hidden: false,
+                ..self
+            };
+        }
+        match byte {
+            b'\\' => Brackets {
+                hidden: true,
+                ..self
+            },
+            b'[' => Brackets {
+                hidden: false,
+                inside: self.inside + 1,
+                most: self.most.max(self.inside + 1),
+            },
+            b']' => Brackets {
+                inside: self.inside.saturating_sub(1),
+                ..self
+            },
+            _ => self,
+        }
+    }
+}
+
+/// How many brackets are open at once in a bracket.
+fn open_at_once(bytes: &[u8]) -> u64
+    ensures value { result ≡ nesting bytes.now }
+    ensures bound { result ≤ length bytes.now }
+{
+    let mut brackets = Brackets {
+        hidden: false,
+        inside: 0,
+        most: 0,
+    };
+    for byte in bytes {
+        brackets = brackets.past(*byte);
+    }
+    brackets.most
+}
+
+/// The level, the base to which it goes back, and the bases of the open groups.
+#[derive(Drop)]
+pub struct Depth {
+    base: u64,
+    level: u64,
+    bases: SmallVec<u64, 100>,
+}
+
+impl Depth {
+    fn settle(&mut self)
+        ensures { level_of self.new ≡ sign_level Slash (level_of self.old) }
+    {
+        self.level = self.base;
+    }
+
+    fn raise(&mut self)
+        requires { self.old.level < 1000 }
+        ensures { level_of self.new ≡ sign_level Bang (level_of self.old) }
+    {
+        self.level += 1;
+    }
+
+    fn open(&mut self) -> Result<(), AllocError>
+        requires { self.old.level < 1000 }
+        ensures { OnOk result (level_of self.new ≡ sign_level OpenParen (level_of self.old)) }
+    {
+        self.bases.push(self.base)?;
+        self.level += 1;
+        self.base = self.level;
+        Ok(())
+    }
+
+    fn close(&mut self)
+        ensures { level_of self.new ≡ sign_level CloseParen (level_of self.old) }
+    {
+        let base = self.bases.pop().unwrap_or(0);
+        self.base = base;
+        self.level = base;
+    }
+
+    fn join(&mut self)
+        requires { self.old.base < 1000 }
+        ensures { level_of self.new ≡ sign_level Ampersand (level_of self.old) }
+    {
+        self.base += 1;
+        self.level = self.base;
+    }
+
+    /// Behind a sign.
+    fn sign(&mut self, sign: Punct) -> Result<(), AllocError>
+        requires level { self.old.level < 1000 }
+        requires base { self.old.base < 1000 }
+        ensures { OnOk result (level_of self.new ≡ sign_level sign (level_of self.old)) }
+    {
+        match sign {
+            Punct::Bang | Punct::Greater | Punct::Less => self.raise(),
+            Punct::OpenParen | Punct::OpenBrace => self.open()?,
+            Punct::CloseParen | Punct::CloseBrace => self.close(),
+            Punct::Ampersand => self.join(),
+            Punct::Slash | Punct::Dot | Punct::Caret | Punct::Dollar | Punct::Tilde => {
+                self.settle();
+            }
+            Punct::Star | Punct::Plus | Punct::Question => {}
+            Punct::Equals | Punct::Comma | Punct::Colon => {}
+        }
+        Ok(())
+    }
+
+    /// Behind a token.
+    fn past(&mut self, text: &str, token: Token, colon: bool) -> Result<(), AllocError>
+        requires stands { IsToken text.now token }
+        requires level { self.old.level < 1000 }
+        requires base { self.old.base < 1000 }
+        ensures { OnOk result (level_of self.new ≡ level_after text.now token colon (level_of self.old)) }
+    {
+        match token.kind {
+            TokenKind::Name if colon => self.raise(),
+            TokenKind::Name | TokenKind::Qualified | TokenKind::Text | TokenKind::Bracket => {
+                self.settle();
+            }
+            TokenKind::Sign => self.sign(punct_of(text, token))?,
+            TokenKind::Keyword | TokenKind::Bounds | TokenKind::Number => {}
+        }
+        Ok(())
+    }
+}
+
+/// A colon is the token with this number.
+fn colon_at(text: &str, tokens: &[Token], index: usize) -> bool
+    requires { AllStand text.now tokens.now }
+    ensures { result ≡ colon_next text.now (drop index tokens.now) }
+{
+    match tokens.get(index) {
+        Some(token) => is_colon_token(text, *token),
+        None => false,
+    }
+}
+
+fn is_colon_token(text: &str, token: Token) -> bool
+    requires { IsToken text.now token }
+    ensures { result ≡ colon_by token.kind text.now token }
+{
+    match token.kind {
+        TokenKind::Sign => matches!(punct_of(text, token), Punct::Colon),
+        _ => false,
+    }
+}
+
+/// The level that a token reaches where it stands, of the levels before it and behind it.
+fn reach(text: &str, token: Token, before: u64, behind: u64) -> u64
+    requires stands { IsToken text.now token }
+    requires before { before < 1000 }
+    ensures { (b u : Level) → b.level ≡ before → u.level ≡ behind → result ≡ reach_by token.kind text.now token b u }
+{
+    match token.kind {
+        TokenKind::Bracket => before + open_at_once(token_text(text, token).as_bytes()),
+        _ => behind,
+    }
+}
+
+/// The place of the first token at which the level passes 100.
+pub fn first_deep(alloc: Global, text: &str, tokens: &[Token]) -> Result<Option<usize>, AllocError>
+    requires { AllStand text.now tokens.now }
+    ensures { IfOk result (λ o. o ≡ too_deep text.now ground_level tokens.now) }
+{
+    let mut depth = Depth {
+        base: 0,
+        level: 0,
+        bases: SmallVec::new(alloc),
+    };
+    for (index, token) in tokens.iter().enumerate() {
+        let before = depth.level;
+        depth.past(text, *token, colon_at(text, tokens, index + 1))?;
+        if reach(text, *token, before, depth.level) > MOST_LEVEL {
+            return Ok(Some(token.start));
+        }
+    }
+    Ok(None)
+}

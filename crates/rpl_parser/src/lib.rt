@@ -1,0 +1,27 @@
+//! Reads RPL: a pattern as an expression, a file as a module.
+//!
+//! For the loader of packages and for the commands, which hand over a text and its tokens. A text is read exactly as
+//! the grammar of `rpl_syntax` says, or refused with its first fault and the byte place of that fault; besides, only
+//! memory can run out. The time is linear in the tokens, and calls nest no deeper than the level that is counted
+//! first.
+#![tactic(auto)]
+
+mod assemble;
+mod convert;
+mod descent;
+mod fault;
+mod level;
+mod line;
+mod pattern;
+mod piece;
+mod refusal;
+mod statements;
+mod steps;
+#[cfg(test)]
+mod tests;
+mod walk;
+
+pub use fault::{ParseFault, ParseKind};
+pub use pattern::parse_pattern;
+pub use rpl_text::NoMemory;
+pub use statements::parse_module;

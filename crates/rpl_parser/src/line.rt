@@ -1,0 +1,266 @@
+// Statements, one by one.
+ghost use Rattle.std.specs.Prelude.{◌≡◌, ℕ, suc, ◌∷◌, length, Some, true, false, IfSome, IfNone};
+ghost use Rattle.rpl_parser.specs.Gives.{Gives};
+ghost use Rattle.rpl_parser.specs.Lines.{path_of, is_path_end, as_of, entry_of, entries_of, comma, all_of, binds, alias_of, alone_of, line_of};
+ghost use Rattle.rpl_parser.specs.Statements.{line_seen};
+ghost use Rattle.rpl_lexer.specs.declared.keyword.Keyword.TheVariants.{Rpl, Package};
+ghost use Rattle.rpl_lexer.specs.declared.punct.Punct.TheVariants.{Comma, Slash, Tilde, Equals};
+ghost use Rattle.rpl_syntax.specs.declared.token.Token.TheVariants as T;
+
+use crate::descent::expression;
+use crate::refusal::Refusal;
+use rpl_lexer::{Keyword, Punct};
+use rpl_syntax::{Expr, Import, ImportAs, Imports, Printer, Token};
+use rpl_text::Chars;
+use std::alloc::Global;
+
+/// A statement. Its place is kept elsewhere.
+#[derive(Drop)]
+pub enum Line {
+    Version {
+        major: u64,
+        minor: u64,
+    },
+    Package(Chars),
+    Imports(Imports),
+    Binds {
+        local: bool,
+        alias: bool,
+        name: Chars,
+        body: Expr,
+    },
+    /// `grammar`.
+    Opens,
+    /// `in`.
+    Splits,
+    /// `end`.
+    Closes,
+}
+
+/// The names of a path with `/` between them, the first of which is read, and what follows them.
+fn path<'a>(
+    alloc: Global,
+    first: &Chars,
+    tokens: &'a [Token],
+) -> Result<(Chars, &'a [Token]), Refusal>
+    ensures { Gives (λ x. (x.0, x.1.now)) result (Some (path_of first.now tokens.now)) }
+{
+    let mut text = Printer::new(alloc);
+    text.word(first)?;
+    let mut rest = tokens;
+    while let Some((name, after)) = past_name(rest) {
+        text.put('/')?;
+        text.word(name)?;
+        rest = after;
+    }
+    Ok((text.finish(alloc)?, rest))
+}
+
+/// The name behind a `/`, and what follows it.
+fn past_name(tokens: &[Token]) -> Option<(&Chars, &[Token])>
+    ensures some { IfSome result (λ x. (at : ℕ) × (tokens.now ≡ T.Sign Slash ∷ T.Name x.0.now at ∷ x.1.now)) }
+    ensures none { IfNone result (is_path_end tokens.now ≡ true) }
+{
+    match tokens {
+        [
+            Token::Sign(Punct::Slash),
+            Token::Name { name, .. },
+            rest @ ..,
+        ] => Some((name, rest)),
+        _ => None,
+    }
+}
+
+/// The prefix of an import.
+fn import_as(alloc: Global, tokens: &[Token]) -> Result<(ImportAs, &[Token]), Refusal>
+    ensures { Gives (λ x. (x.0, x.1.now)) result (as_of tokens.now) }
+{
+    match tokens {
+        [
+            Token::Keyword(Keyword::As),
+            Token::Name { name, .. },
+            rest @ ..,
+        ] => { Ok((ImportAs::Named(name.copy(alloc)?), rest)) }
+        [
+            Token::Keyword(Keyword::As),
+            Token::Sign(Punct::Dot),
+            rest @ ..,
+        ] => { Ok((ImportAs::Plain, rest)) }
+        [Token::Keyword(Keyword::As), ..] => Err(Refusal::Syntax),
+        _ => Ok((ImportAs::Last, tokens)),
+    }
+}
+
+/// An entry of an import statement.
+fn entry(alloc: Global, tokens: &[Token]) -> Result<(Import, &[Token]), Refusal>
+    ensures { Gives (λ x. (x.0, x.1.now)) result (entry_of tokens.now) }
+{
+    match tokens {
+        [Token::Name { name, at }, rest @ ..] => {
+            let (path, rest) = path(alloc, name, rest)?;
+            let (name, rest) = import_as(alloc, rest)?;
+            Ok((
+                Import {
+                    path,
+                    at: *at,
+                    name,
+                },
+                rest,
+            ))
+        }
+        _ => Err(Refusal::Syntax),
+    }
+}
+
+/// The name, the sign `=` and the expression of a binding.
+fn binding(alloc: Global, local: bool, alias: bool, tokens: &[Token]) -> Result<Line, Refusal>
+    ensures { Gives line_seen result (binds local alias tokens.now) }
+{
+    match tokens {
+        [
+            Token::Name { name, .. },
+            Token::Sign(Punct::Equals),
+            rest @ ..,
+        ] => {
+            let name = name.copy(alloc)?;
+            Ok(Line::Binds {
+                local,
+                alias,
+                name,
+                body: expression(alloc, rest)?,
+            })
+        }
+        _ => Err(Refusal::Syntax),
+    }
+}
+
+/// A binding behind its `local`, if it has one.
+fn binding_or_alias(alloc: Global, local: bool, tokens: &[Token]) -> Result<Line, Refusal>
+    ensures { Gives line_seen result (alias_of local tokens.now) }
+{
+    match tokens {
+        [Token::Keyword(Keyword::Alias), rest @ ..] => binding(alloc, local, true, rest),
+        _ => binding(alloc, local, false, tokens),
+    }
+}
+
+/// The entries of an import statement.
+fn entries(alloc: Global, tokens: &[Token]) -> Result<Imports, Refusal>
+    ensures { Gives (λ x. x) result (entries_of (suc (length tokens.now)) tokens.now) }
+{
+    let mut entries = Imports::new(alloc);
+    let mut rest = tokens;
+    for _ in 0..tokens.len() + 1 {
+        let (next, after) = entry(alloc, rest)?;
+        entries.push(next)?;
+        match past_comma(after) {
+            Some(others) => rest = others,
+            None => return ended(entries, after),
+        }
+    }
+    Err(Refusal::Syntax)
+}
+
+/// What follows a comma.
+fn past_comma(tokens: &[Token]) -> Option<&[Token]>
+    ensures some { IfSome result (λ r. tokens.now ≡ T.Sign Comma ∷ r.now) }
+    ensures none { IfNone result (comma tokens.now ≡ false) }
+{
+    match tokens {
+        [Token::Sign(Punct::Comma), rest @ ..] => Some(rest),
+        _ => None,
+    }
+}
+
+/// The entries, where nothing follows them.
+fn ended(entries: Imports, tokens: &[Token]) -> Result<Imports, Refusal>
+    ensures { Gives (λ x. x) result (all_of entries tokens.now) }
+{
+    match tokens {
+        [] => Ok(entries),
+        _ => Err(Refusal::Syntax),
+    }
+}
+
+/// The statement that the tokens spell.
+pub fn read_line(alloc: Global, tokens: &[Token]) -> Result<Line, Refusal>
+    ensures { Gives line_seen result (line_of tokens.now) }
+{
+    match tokens {
+        [Token::Keyword(word), rest @ ..] => line_from(alloc, *word, rest),
+        [
+            Token::Sign(Punct::Tilde),
+            Token::Sign(Punct::Equals),
+            rest @ ..,
+        ] => { boundary(alloc, rest) }
+        _ => binding(alloc, false, false, tokens),
+    }
+}
+
+/// The statement that begins with this keyword.
+fn line_from(alloc: Global, word: Keyword, tokens: &[Token]) -> Result<Line, Refusal>
+    ensures { Gives line_seen result (line_of (T.Keyword word ∷ tokens.now)) }
+{
+    match word {
+        Keyword::Rpl => version(tokens),
+        Keyword::Package => package(alloc, tokens),
+        Keyword::Import => Ok(Line::Imports(entries(alloc, tokens)?)),
+        Keyword::Grammar => alone(Line::Opens, tokens),
+        Keyword::In => alone(Line::Splits, tokens),
+        Keyword::End => alone(Line::Closes, tokens),
+        Keyword::Local => binding_or_alias(alloc, true, tokens),
+        Keyword::Alias => binding(alloc, false, true, tokens),
+        Keyword::As => Err(Refusal::Syntax),
+    }
+}
+
+/// The numbers of a version.
+fn version(tokens: &[Token]) -> Result<Line, Refusal>
+    ensures { Gives line_seen result (line_of (T.Keyword Rpl ∷ tokens.now)) }
+{
+    match tokens {
+        [
+            Token::Number(major),
+            Token::Sign(Punct::Dot),
+            Token::Number(minor),
+        ] => Ok(Line::Version {
+            major: *major,
+            minor: *minor,
+        }),
+        _ => Err(Refusal::Syntax),
+    }
+}
+
+/// The name of a package.
+fn package(alloc: Global, tokens: &[Token]) -> Result<Line, Refusal>
+    ensures { Gives line_seen result (line_of (T.Keyword Package ∷ tokens.now)) }
+{
+    match tokens {
+        [Token::Name { name, .. }] => Ok(Line::Package(name.copy(alloc)?)),
+        _ => Err(Refusal::Syntax),
+    }
+}
+
+/// A statement of one keyword.
+fn alone(line: Line, tokens: &[Token]) -> Result<Line, Refusal>
+    ensures { Gives line_seen result (alone_of (line_seen line) tokens.now) }
+{
+    if tokens.is_empty() {
+        Ok(line)
+    } else {
+        Err(Refusal::Syntax)
+    }
+}
+
+/// The module's own boundary, behind its `~` and `=`.
+fn boundary(alloc: Global, tokens: &[Token]) -> Result<Line, Refusal>
+    ensures { Gives line_seen result (line_of (T.Sign Tilde ∷ T.Sign Equals ∷ tokens.now)) }
+{
+    let name = Chars::from_str(alloc, "~")?;
+    Ok(Line::Binds {
+        local: true,
+        alias: true,
+        name,
+        body: expression(alloc, tokens)?,
+    })
+}

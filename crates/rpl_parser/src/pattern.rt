@@ -1,0 +1,93 @@
+// Patterns.
+ghost use Rattle.std.specs.Prelude.{◌≡◌, ◌≢◌, None, IfOk, IfErr};
+ghost use Rattle.rpl_lexer.specs.Cut.{IsCut};
+ghost use Rattle.rpl_parser.specs.Patterns.{IsPattern, IsPatternFault};
+ghost use Rattle.rpl_parser.specs.Tokens.{AllStand, tokens_of, first_place};
+ghost use Rattle.rpl_parser.specs.Levels.{ground_level, too_deep};
+ghost use Rattle.rpl_syntax.specs.Grammar.{Reads};
+ghost use Rattle.rpl_parser.specs.declared.fault.ParseKind.TheVariants.{NoMemory as OutOfMemory};
+ghost use Rattle.rpl_syntax.specs.View.{expr_of};
+
+use crate::convert::{convert_all, find_bad};
+use crate::descent::expression;
+use crate::fault::{ParseFault, ParseKind};
+use crate::level::first_deep;
+use crate::refusal::Refusal;
+use rpl_lexer::{Token as Lexeme, Tokens};
+use rpl_syntax::Expr;
+use std::alloc::Global;
+
+/// The place of the first token, or 0 where there is none.
+pub fn start_of(lexemes: &[Lexeme]) -> usize
+    ensures { result ≡ first_place lexemes.now }
+{
+    match lexemes {
+        [] => 0,
+        [first, ..] => first.start,
+    }
+}
+
+/// The expression that is read, unless some of its bounds or brackets are bad.
+fn checked(alloc: Global, text: &str, lexemes: &[Lexeme], read: Expr) -> Result<Expr, ParseFault>
+    requires stands { AllStand text.now lexemes.now }
+    requires shallow { too_deep text.now ground_level lexemes.now ≡ None }
+    requires reads { Reads (tokens_of text.now lexemes.now) (expr_of read) }
+    ensures ok { IfOk result (λ x. IsPattern text.now lexemes.now (expr_of x)) }
+    ensures err { IfErr result (λ f. f.kind ≢ OutOfMemory → IsPatternFault text.now lexemes.now f) }
+    ensures memory { IfErr result (λ f. f.kind ≡ OutOfMemory → f.at ≡ 0) }
+{
+    match find_bad(alloc, text, lexemes)? {
+        Some(fault) => Err(fault),
+        None => Ok(read),
+    }
+}
+
+/// Reads tokens that are not nested too deep.
+fn read_shallow(alloc: Global, text: &str, lexemes: &[Lexeme]) -> Result<Expr, ParseFault>
+    requires stands { AllStand text.now lexemes.now }
+    requires shallow { too_deep text.now ground_level lexemes.now ≡ None }
+    ensures ok { IfOk result (λ x. IsPattern text.now lexemes.now (expr_of x)) }
+    ensures err { IfErr result (λ f. f.kind ≢ OutOfMemory → IsPatternFault text.now lexemes.now f) }
+    ensures memory { IfErr result (λ f. f.kind ≡ OutOfMemory → f.at ≡ 0) }
+{
+    let tokens = convert_all(alloc, text, lexemes)?;
+    match expression(alloc, &tokens) {
+        Ok(read) => checked(alloc, text, lexemes, read),
+        Err(Refusal::Memory) => Err(ParseFault {
+            at: 0,
+            kind: ParseKind::NoMemory,
+        }),
+        Err(Refusal::Syntax) => Err(ParseFault {
+            at: start_of(lexemes),
+            kind: ParseKind::Syntax,
+        }),
+    }
+}
+
+/// Reads the tokens of a pattern.
+fn read_pattern(alloc: Global, text: &str, lexemes: &[Lexeme]) -> Result<Expr, ParseFault>
+    requires { AllStand text.now lexemes.now }
+    ensures ok { IfOk result (λ x. IsPattern text.now lexemes.now (expr_of x)) }
+    ensures err { IfErr result (λ f. f.kind ≢ OutOfMemory → IsPatternFault text.now lexemes.now f) }
+    ensures memory { IfErr result (λ f. f.kind ≡ OutOfMemory → f.at ≡ 0) }
+{
+    match first_deep(alloc, text, lexemes)? {
+        Some(at) => Err(ParseFault {
+            at,
+            kind: ParseKind::TooDeep,
+        }),
+        None => read_shallow(alloc, text, lexemes),
+    }
+}
+
+/// Reads a text with its tokens as a pattern. The first fault is answered: TooDeep, where the level of nesting passes
+/// 100; else Syntax at the first token, or at 0 where there is none, where the tokens spell no expression; else the
+/// first by place of BadBounds and Class.
+pub fn parse_pattern(alloc: Global, text: &str, tokens: &Tokens) -> Result<Expr, ParseFault>
+    requires { IsCut text.now tokens.now }
+    ensures ok { IfOk result (λ x. IsPattern text.now tokens.now (expr_of x)) }
+    ensures err { IfErr result (λ f. f.kind ≢ OutOfMemory → IsPatternFault text.now tokens.now f) }
+    ensures memory { IfErr result (λ f. f.kind ≡ OutOfMemory → f.at ≡ 0) }
+{
+    read_pattern(alloc, text, tokens.as_slice())
+}

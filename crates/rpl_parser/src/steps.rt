@@ -1,0 +1,89 @@
+// One token ahead: what follows a sign, and what goes on.
+ghost use Rattle.std.specs.Prelude.{◌≡◌, [], ◌∷◌, false, IfSome, IfNone};
+ghost use Rattle.rpl_syntax.specs.Reading.{begins, joins, colon, slash, ampersand};
+ghost use Rattle.rpl_lexer.specs.declared.punct.Punct.TheVariants.{Colon, Slash, Ampersand};
+ghost use Rattle.rpl_syntax.specs.declared.token.Token.TheVariants as T;
+
+use rpl_lexer::Punct;
+use rpl_syntax::Token;
+
+/// The first token and those behind it.
+pub fn next(tokens: &[Token]) -> Option<(&Token, &[Token])>
+    ensures some { IfSome result (λ x. tokens.now ≡ x.0.now ∷ x.1.now) }
+    ensures none { IfNone result (tokens.now ≡ []) }
+{
+    match tokens {
+        [] => None,
+        [first, rest @ ..] => Some((first, rest)),
+    }
+}
+
+/// What follows a `:`.
+pub fn past_colon(tokens: &[Token]) -> Option<&[Token]>
+    ensures some { IfSome result (λ r. tokens.now ≡ T.Sign Colon ∷ r.now) }
+    ensures none { IfNone result (colon tokens.now ≡ false) }
+{
+    match tokens {
+        [Token::Sign(Punct::Colon), rest @ ..] => Some(rest),
+        _ => None,
+    }
+}
+
+/// What follows a `/`.
+pub fn past_slash(tokens: &[Token]) -> Option<&[Token]>
+    ensures some { IfSome result (λ r. tokens.now ≡ T.Sign Slash ∷ r.now) }
+    ensures none { IfNone result (slash tokens.now ≡ false) }
+{
+    match tokens {
+        [Token::Sign(Punct::Slash), rest @ ..] => Some(rest),
+        _ => None,
+    }
+}
+
+/// What follows an `&`.
+pub fn past_ampersand(tokens: &[Token]) -> Option<&[Token]>
+    ensures some { IfSome result (λ r. tokens.now ≡ T.Sign Ampersand ∷ r.now) }
+    ensures none { IfNone result (ampersand tokens.now ≡ false) }
+{
+    match tokens {
+        [Token::Sign(Punct::Ampersand), rest @ ..] => Some(rest),
+        _ => None,
+    }
+}
+
+/// The next token begins an item.
+pub fn item_begins(tokens: &[Token]) -> bool
+    ensures { result ≡ begins tokens.now }
+{
+    match tokens {
+        [] => false,
+        [Token::Text(_) | Token::Class { .. }, ..] => true,
+        [Token::Name { .. } | Token::Qualified { .. }, ..] => true,
+        [
+            Token::Keyword(_) | Token::Bounds { .. } | Token::Number(_),
+            ..
+        ] => false,
+        [Token::Sign(sign), ..] => matches!(
+            sign,
+            Punct::Bang
+                | Punct::Greater
+                | Punct::Less
+                | Punct::OpenParen
+                | Punct::OpenBrace
+                | Punct::Dot
+                | Punct::Caret
+                | Punct::Dollar
+                | Punct::Tilde
+        ),
+    }
+}
+
+/// A choice or an `&` goes on.
+pub fn goes_on(tokens: &[Token]) -> bool
+    ensures { result ≡ joins tokens.now }
+{
+    matches!(
+        tokens,
+        [Token::Sign(Punct::Slash), ..] | [Token::Sign(Punct::Ampersand), ..]
+    )
+}

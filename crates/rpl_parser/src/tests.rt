@@ -1,0 +1,313 @@
+// Patterns and modules worked by hand, with their printed texts and their faults.
+use crate::{ParseFault, ParseKind, parse_module, parse_pattern};
+use rpl_classes::SetFault;
+use rpl_lexer::lex;
+use rpl_syntax::print_expr;
+use std::alloc::Global;
+use std::process::Abort;
+use std::test::Fail;
+
+/// A pattern and the text that it prints as.
+static READ: [(&str, &str); 60] = [
+    // atoms
+    ("\"a\"", "\"a\""),
+    ("\"\"", "\"\""),
+    ("\"a\\\"b\\\\\"", "\"a\\\"b\\\\\""),
+    ("\"\\x01\\x7f\\t\\n\\r\"", "\"\\x01\\x7f\\t\\n\\r\""),
+    ("\"\\u00e9\"", "\"\u{e9}\""),
+    ("\"[-^:\"", "\"[-^:\""),
+    (".", "."),
+    ("^", "^"),
+    ("$", "$"),
+    ("~", "~"),
+    ("a", "a"),
+    ("a.b", "a.b"),
+    ("a_1", "a_1"),
+    ("[a]", "[[\\U00000061-\\U00000061]]"),
+    ("[^a]", "[^[\\U00000061-\\U00000061]]"),
+    (
+        "[[a-c][x]]",
+        "[[\\U00000061-\\U00000063][\\U00000078-\\U00000078]]",
+    ),
+    (
+        "[[a] && [b]]",
+        "[[^[\\U00000000-\\U0000D7FF][\\U0000E000-\\U0010FFFF]]]",
+    ),
+    ("[:digit:]", "[[\\U00000030-\\U00000039]]"),
+    // sequences and groups
+    ("a b", "(a b)"),
+    ("a b c", "(a b c)"),
+    ("(a b)", "(a b)"),
+    ("{a b}", "{a b}"),
+    ("(a)", "(a)"),
+    ("{a}", "{a}"),
+    ("({a})", "({a})"),
+    ("((a))", "((a))"),
+    ("(a b) c", "((a b) c)"),
+    ("{a b (c d)}", "{a b (c d)}"),
+    ("-- a comment\n a -- one more", "a"),
+    // choices and both
+    ("a / b", "a / b"),
+    ("a / b / c", "a / b / c"),
+    ("a & b", "a & b"),
+    ("a / b & c", "a / b & c"),
+    ("a & b / c", "a & b / c"),
+    ("a & b & c", "a & b & c"),
+    ("a b / c d", "(a b) / (c d)"),
+    ("{a b / c d}", "{{{a b} / {c d}}}"),
+    ("(a / b)", "({a / b})"),
+    ("{a / b} & c", "{{a / b}} & c"),
+    ("(a & b) c", "(({a & b}) c)"),
+    // predicates and macros
+    ("!a", "!a"),
+    (">a", ">a"),
+    ("<a", "<a"),
+    ("!>a", "!>a"),
+    ("!a b", "(!a b)"),
+    ("!(a / b)", "!({a / b})"),
+    ("find:a", "find:a"),
+    ("find : a", "find:a"),
+    ("ci:find:a b", "(ci:find:a b)"),
+    ("!f:a*", "!f:a*"),
+    // quantifiers
+    ("a*", "a*"),
+    ("a+", "a+"),
+    ("a?", "a?"),
+    ("a{2}", "a{2}"),
+    ("a{2,5}", "a{2,5}"),
+    ("a{,}", "a*"),
+    ("a{1,}", "a+"),
+    ("a{,1}", "a?"),
+    ("{!a}*", "{!a}*"),
+    ("(a b){3,}", "(a b){3,}"),
+];
+
+/// A pattern without a reading, and its fault.
+static REFUSED: [(&str, usize, ParseKind); 33] = [
+    ("", 0, ParseKind::Syntax),
+    ("  -- nothing", 0, ParseKind::Syntax),
+    ("a /", 0, ParseKind::Syntax),
+    (" / a", 1, ParseKind::Syntax),
+    ("a & ", 0, ParseKind::Syntax),
+    ("(a", 0, ParseKind::Syntax),
+    ("a)", 0, ParseKind::Syntax),
+    ("(a}", 0, ParseKind::Syntax),
+    ("{a)", 0, ParseKind::Syntax),
+    ("()", 0, ParseKind::Syntax),
+    ("{}", 0, ParseKind::Syntax),
+    ("  !", 2, ParseKind::Syntax),
+    ("*", 0, ParseKind::Syntax),
+    ("a**", 0, ParseKind::Syntax),
+    ("!a !", 0, ParseKind::Syntax),
+    ("a.b:c", 0, ParseKind::Syntax),
+    ("\"a\":c", 0, ParseKind::Syntax),
+    ("f:", 0, ParseKind::Syntax),
+    ("a = b", 0, ParseKind::Syntax),
+    ("end", 0, ParseKind::Syntax),
+    ("3", 0, ParseKind::Syntax),
+    ("{2} a", 0, ParseKind::Syntax),
+    ("a{3,2}", 1, ParseKind::BadBounds { least: 3, most: 2 }),
+    (
+        "a{256}",
+        1,
+        ParseKind::BadBounds {
+            least: 256,
+            most: 256,
+        },
+    ),
+    (
+        "a{256,}",
+        1,
+        ParseKind::BadBounds {
+            least: 256,
+            most: 256,
+        },
+    ),
+    (
+        "a{,300}",
+        1,
+        ParseKind::BadBounds {
+            least: 0,
+            most: 300,
+        },
+    ),
+    (
+        "a{18446744073709551615}",
+        1,
+        ParseKind::BadBounds {
+            least: 18_446_744_073_709_551_615,
+            most: 18_446_744_073_709_551_615,
+        },
+    ),
+    (
+        "a{3,2} [b-a]",
+        1,
+        ParseKind::BadBounds { least: 3, most: 2 },
+    ),
+    (
+        " [:no:] a{3,2}",
+        1,
+        ParseKind::Class(SetFault::UnknownClass { at: 0 }),
+    ),
+    ("a [b-a]", 4, ParseKind::Class(SetFault::BadRange { at: 2 })),
+    ("[[a] &&]", 7, ParseKind::Class(SetFault::BadSet { at: 7 })),
+    // the syntax comes before bounds and brackets
+    ("a{3,2} /", 0, ParseKind::Syntax),
+    ("[b-a] )", 0, ParseKind::Syntax),
+];
+
+fn expect_printed(rt: &impl Abort, alloc: Global, text: &str, want: &str) -> Result<(), Fail> {
+    let tokens = lex(alloc, text)?;
+    let read = parse_pattern(alloc, text, &tokens)?;
+    let printed = print_expr(alloc, &read)?;
+    assert_eq!(rt; printed.as_str(), want, "{text}");
+    Ok(())
+}
+
+fn expect_fault(
+    rt: &impl Abort,
+    alloc: Global,
+    text: &str,
+    at: usize,
+    kind: ParseKind,
+) -> Result<(), Fail> {
+    let tokens = lex(alloc, text)?;
+    let fault = parse_pattern(alloc, text, &tokens).err();
+    assert_eq!(rt; fault, Some(ParseFault { at, kind }), "{text}");
+    Ok(())
+}
+
+#[test]
+fn patterns_that_are_read(rt: HostRuntime) -> Result<(), Fail> {
+    for (text, want) in &READ {
+        expect_printed(&rt, rt.alloc(), text, want)?;
+    }
+    Ok(())
+}
+
+#[test]
+fn patterns_that_are_refused(rt: HostRuntime) -> Result<(), Fail> {
+    for (text, at, kind) in &REFUSED {
+        expect_fault(&rt, rt.alloc(), text, *at, *kind)?;
+    }
+    Ok(())
+}
+
+/// A module and its fault.
+static REFUSED_MODULES: [(&str, usize, ParseKind); 30] = [
+    ("a", 0, ParseKind::Syntax),
+    ("a = ", 0, ParseKind::Syntax),
+    ("a = b c = ", 6, ParseKind::Syntax),
+    ("rpl 1", 0, ParseKind::Syntax),
+    ("rpl 1.0 rpl 1.0", 8, ParseKind::Syntax),
+    ("package a rpl 1.0", 10, ParseKind::Syntax),
+    ("package a package b", 10, ParseKind::Syntax),
+    ("package", 0, ParseKind::Syntax),
+    ("import a package b", 9, ParseKind::Syntax),
+    ("import", 0, ParseKind::Syntax),
+    ("import a,", 0, ParseKind::Syntax),
+    ("import a as", 0, ParseKind::Syntax),
+    ("import a b", 0, ParseKind::Syntax),
+    ("a = b import c", 6, ParseKind::Syntax),
+    ("local import a", 0, ParseKind::Syntax),
+    ("grammar a = b", 0, ParseKind::Syntax),
+    ("grammar end end", 12, ParseKind::Syntax),
+    ("grammar in in end", 11, ParseKind::Syntax),
+    ("grammar grammar end end", 8, ParseKind::Syntax),
+    ("grammar local a = b end", 8, ParseKind::Syntax),
+    ("grammar ~ = b end", 8, ParseKind::Syntax),
+    ("grammar a = b end c", 14, ParseKind::Syntax),
+    ("in", 0, ParseKind::Syntax),
+    ("local ~ = a", 0, ParseKind::Syntax),
+    ("rpl 1.5", 0, ParseKind::Version),
+    ("rpl 1.10", 0, ParseKind::Version),
+    ("rpl 2.0 a = b", 0, ParseKind::Version),
+    // the first statement decides, and the version comes last
+    ("rpl 1.5 a = /", 8, ParseKind::Syntax),
+    (
+        "a = b{3,2} c = /",
+        5,
+        ParseKind::BadBounds { least: 3, most: 2 },
+    ),
+    ("a = b{3,2} / c = [b-a]", 0, ParseKind::Syntax),
+];
+
+fn expect_module_fault(
+    rt: &impl Abort,
+    alloc: Global,
+    text: &str,
+    at: usize,
+    kind: ParseKind,
+) -> Result<(), Fail> {
+    let tokens = lex(alloc, text)?;
+    let fault = parse_module(alloc, text, &tokens).err();
+    assert_eq!(rt; fault, Some(ParseFault { at, kind }), "{text}");
+    Ok(())
+}
+
+#[test]
+fn modules_that_are_refused(rt: HostRuntime) -> Result<(), Fail> {
+    for (text, at, kind) in &REFUSED_MODULES {
+        expect_module_fault(&rt, rt.alloc(), text, *at, *kind)?;
+    }
+    Ok(())
+}
+
+#[test]
+fn a_module(rt: HostRuntime) -> Result<(), Fail> {
+    let text =
+        "rpl 01.4 package p import x, a/b as c, d as . ~ = \"-\" alias e = f grammar g = h in i = g end";
+    let tokens = lex(rt.alloc(), text)?;
+    let module = parse_module(rt.alloc(), text, &tokens)?;
+    let name = module.package.as_ref().map(|name| name.at);
+    assert_eq!(rt; name, Some(9));
+    assert_eq!(rt; module.imports.len(), 3);
+    assert_eq!(rt; module.items.len(), 3);
+    let import = module.imports.get(1).map(|import| import.path.as_str());
+    assert_eq!(rt; import, Some("a/b"));
+    Ok(())
+}
+
+/// So many openings, an inner text, and as many closings.
+fn nested(
+    alloc: Global,
+    count: usize,
+    open: &str,
+    inner: &str,
+    close: &str,
+) -> Result<String, Fail> {
+    let mut text = String::new(alloc);
+    for _ in 0..count {
+        text.push_str(open)?;
+    }
+    text.push_str(inner)?;
+    for _ in 0..count {
+        text.push_str(close)?;
+    }
+    Ok(text)
+}
+
+/// What opens a level, what stands inside, and what closes it; how many levels are too many, and where the fault is.
+static LEVELS: [(&str, &str, &str, usize, usize); 9] = [
+    ("(", "a", ")", 101, 100),
+    ("{", "a", "}", 101, 100),
+    ("{", "[a]", "}", 100, 100),
+    ("{", "[[a]]", "}", 99, 99),
+    ("!", "a", "", 101, 100),
+    (">", "a", "", 101, 100),
+    ("<", "a", "", 101, 100),
+    ("f:", "a", "", 101, 200),
+    ("a&", "a", "", 101, 201),
+];
+
+#[test]
+fn levels(rt: HostRuntime) -> Result<(), Fail> {
+    for (open, inner, close, count, at) in &LEVELS {
+        let text = nested(rt.alloc(), *count - 1, open, inner, close)?;
+        let tokens = lex(rt.alloc(), &text)?;
+        assert!(rt; parse_pattern(rt.alloc(), &text, &tokens).is_ok(), "{open}");
+        let text = nested(rt.alloc(), *count, open, inner, close)?;
+        expect_fault(&rt, rt.alloc(), &text, *at, ParseKind::TooDeep)?;
+    }
+    Ok(())
+}

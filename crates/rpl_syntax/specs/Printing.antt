@@ -1,0 +1,156 @@
+-- The tree that an expression is printed as, and when two expressions are the same up to the places of names and
+-- up to a raw group of one item.
+use Rattle.std.specs.Prelude.{◌≡◌, ℕ, zero, suc, List, Bool, true, false, Option, Some, None}
+use Rattle.rpl_syntax.specs.declared.name.QName.{QName}
+use Rattle.rpl_syntax.specs.Expression.{Expr, Text, Class, Any, Start, End, Boundary, Name, Cooked, Raw, Choice, Both, Prefix, Repeat, Macro, Marked, Note, Exprs, Nil, Cons}
+use Rattle.rpl_syntax.specs.Grammar.{Leaf, TextLeaf, ClassLeaf, AnyLeaf, StartLeaf, EndLeaf, BoundaryLeaf, NameLeaf, QualifiedLeaf, Quant, StarQuant, PlusQuant, QuestionQuant, BoundsQuant, Exp, Last, Or, And, Seq, Single, More, Item, Signed, Applied, Plain, Times, Atom, One, Group}
+
+abbrev pub alone : Item → Exp
+alone i = Last (Single i)
+
+abbrev pub braced : Exp → Atom
+braced e = Group true e
+
+abbrev pub leaf : Leaf → Item
+leaf l = Plain (One l)
+
+-- a name, with or without its prefix; on paper it has no place
+abbrev pub named : (prefix : Option (List ℕ)) (name : List ℕ) → Leaf
+named None n = NameLeaf n 0
+named (Some p) n = QualifiedLeaf p n 0
+
+-- an item as the body of a quantifier: in braces where it isn't an atom
+abbrev pub body_of : Item → Atom
+body_of (Plain a) = a
+body_of i = braced (alone i)
+
+abbrev pub quant_of : (least : ℕ) (most : Option ℕ) → Quant
+quant_of zero None = StarQuant
+quant_of (suc zero) None = PlusQuant
+quant_of zero (Some (suc zero)) = QuestionQuant
+quant_of l m = BoundsQuant l m
+
+abbrev mutual
+  -- where it stands as an item
+  pub item_tree : Expr → Item
+  item_tree (Text s) = leaf (TextLeaf s)
+  item_tree (Class s negated) = leaf (ClassLeaf s negated)
+  item_tree Any = leaf AnyLeaf
+  item_tree Start = leaf StartLeaf
+  item_tree End = leaf EndLeaf
+  item_tree Boundary = leaf BoundaryLeaf
+  item_tree (Name q) = leaf (named q.prefix q.name)
+  item_tree (Cooked ps) = Plain (Group false (Last (seq_tree ps)))
+  item_tree (Raw ps) = Plain (Group true (Last (seq_tree ps)))
+  item_tree (Choice ps) = Plain (braced (choice_tree ps))
+  item_tree (Both p q) = Plain (braced (And (Single (item_tree p)) (exp_tree q)))
+  item_tree (Prefix s p) = Signed s (item_tree p)
+  item_tree (Repeat p l m) = Times (body_of (item_tree p)) (quant_of l m)
+  item_tree (Macro q p) = Applied q.name 0 (item_tree p)
+  item_tree (Marked m p) = item_tree p
+  item_tree (Note s) = leaf (TextLeaf s)
+
+  -- where it stands alone, or as the last part of a choice or of an `&`
+  pub exp_tree : Expr → Exp
+  exp_tree (Choice ps) = choice_tree ps
+  exp_tree (Both p q) = And (Single (item_tree p)) (exp_tree q)
+  exp_tree (Text s) = alone (leaf (TextLeaf s))
+  exp_tree (Class s negated) = alone (leaf (ClassLeaf s negated))
+  exp_tree Any = alone (leaf AnyLeaf)
+  exp_tree Start = alone (leaf StartLeaf)
+  exp_tree End = alone (leaf EndLeaf)
+  exp_tree Boundary = alone (leaf BoundaryLeaf)
+  exp_tree (Name q) = alone (leaf (named q.prefix q.name))
+  exp_tree (Cooked ps) = alone (Plain (Group false (Last (seq_tree ps))))
+  exp_tree (Raw ps) = alone (Plain (Group true (Last (seq_tree ps))))
+  exp_tree (Prefix s p) = alone (Signed s (item_tree p))
+  exp_tree (Repeat p l m) = alone (Times (body_of (item_tree p)) (quant_of l m))
+  exp_tree (Macro q p) = alone (Applied q.name 0 (item_tree p))
+  exp_tree (Marked m p) = alone (item_tree p)
+  exp_tree (Note s) = alone (leaf (TextLeaf s))
+
+  pub seq_tree : Exprs → Seq
+  seq_tree Nil = Single (leaf AnyLeaf)
+  seq_tree (Cons p Nil) = Single (item_tree p)
+  seq_tree (Cons p (Cons q rest)) = More (item_tree p) (seq_tree (Cons q rest))
+
+  -- the parts of a choice, of which each but the last stands as an item
+  pub choice_tree : Exprs → Exp
+  choice_tree Nil = alone (leaf AnyLeaf)
+  choice_tree (Cons p Nil) = exp_tree p
+  choice_tree (Cons p (Cons q rest)) = Or (Single (item_tree p)) (choice_tree (Cons q rest))
+
+-- ---- sameness
+
+-- a raw group of one item is that item
+abbrev pub raw_of : Exprs → Expr
+raw_of (Cons p Nil) = p
+raw_of Nil = Raw Nil
+raw_of (Cons p (Cons q rest)) = Raw (Cons p (Cons q rest))
+
+abbrev pub unplaced : QName → QName
+unplaced q = record { prefix = q.prefix; name = q.name; at = 0 }
+
+abbrev mutual
+  pub plain : Expr → Expr
+  plain (Text s) = Text s
+  plain (Class s negated) = Class s negated
+  plain Any = Any
+  plain Start = Start
+  plain End = End
+  plain Boundary = Boundary
+  plain (Name q) = Name (unplaced q)
+  plain (Cooked ps) = Cooked (plain_all ps)
+  plain (Raw ps) = raw_of (plain_all ps)
+  plain (Choice ps) = Choice (plain_all ps)
+  plain (Both p q) = Both (plain p) (plain q)
+  plain (Prefix s p) = Prefix s (plain p)
+  plain (Repeat p l m) = Repeat (plain p) l m
+  plain (Macro q p) = Macro (unplaced q) (plain p)
+  plain (Marked m p) = Marked m (plain p)
+  plain (Note s) = Note s
+
+  pub plain_all : Exprs → Exprs
+  plain_all Nil = Nil
+  plain_all (Cons p rest) = Cons (plain p) (plain_all rest)
+
+-- ---- what a reading is
+
+abbrev pub is_choice : Expr → Bool
+is_choice (Choice ps) = true
+is_choice _ = false
+
+-- a group has an item; a choice has two parts, and the last isn't a choice itself; a macro has no prefix
+abbrev mutual
+  pub Good : Expr → Type 0
+  Good (Text s) = Unit {0}
+  Good (Class s negated) = Unit {0}
+  Good Any = Unit {0}
+  Good Start = Unit {0}
+  Good End = Unit {0}
+  Good Boundary = Unit {0}
+  Good (Name q) = Unit {0}
+  Good (Cooked ps) = Good_items ps
+  Good (Raw ps) = Good_items ps
+  Good (Choice ps) = Good_choice ps
+  Good (Both p q) = Good p × Good q
+  Good (Prefix s p) = Good p
+  Good (Repeat p l m) = Good p
+  Good (Macro q p) = (q.prefix ≡ None) × Good p
+  Good (Marked m p) = ⊥
+  Good (Note s) = ⊥
+
+  pub Good_items : Exprs → Type 0
+  Good_items Nil = ⊥
+  Good_items (Cons p Nil) = Good p
+  Good_items (Cons p (Cons q rest)) = Good p × Good_items (Cons q rest)
+
+  pub Good_choice : Exprs → Type 0
+  Good_choice Nil = ⊥
+  Good_choice (Cons p Nil) = ⊥
+  Good_choice (Cons p (Cons q rest)) = Good p × Good_parts (Cons q rest)
+
+  pub Good_parts : Exprs → Type 0
+  Good_parts Nil = ⊥
+  Good_parts (Cons p Nil) = Good p × (is_choice p ≡ false)
+  Good_parts (Cons p (Cons q rest)) = Good p × Good_parts (Cons q rest)

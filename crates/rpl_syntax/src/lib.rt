@@ -1,0 +1,26 @@
+//! The syntax of RPL: tokens with what they stand for, expressions, modules, the grammar, and printing.
+//!
+//! For the parser, which makes expressions and modules of tokens, and for all that walk over them. The grammar
+//! (`specs/Grammar.antt`) is a relation with one case for each of its lines; the laws promise that no tokens are a
+//! spelling of two expressions, and that the tree that an expression is printed as (`specs/Printing.antt`) is read as
+//! that expression. Besides, only memory can run out.
+#![tactic(auto)]
+
+mod build;
+mod expr;
+mod laws;
+mod module;
+mod name;
+mod print;
+mod printer;
+mod token;
+
+pub use build::{choose, join, wrap};
+pub use expr::{Expr, Exprs, Mark, Sign};
+pub use laws::{one_reading, reads_back};
+pub use module::{Binding, Bindings, Import, ImportAs, Imports, Item, Items, Module};
+pub use name::QName;
+pub use print::print_expr;
+pub use printer::Printer;
+pub use rpl_text::NoMemory;
+pub use token::Token;
