@@ -1,0 +1,12 @@
+//! Tests of reading and printing together: patterns with the expressions that they stand for, worked by hand, and twenty thousand made-up
+//! texts, each of which is refused, or read and printed and read again. Nothing stands on this crate.
+#![tactic(auto)]
+
+#[cfg(test)]
+mod form;
+#[cfg(test)]
+mod made;
+#[cfg(test)]
+mod printed;
+#[cfg(test)]
+mod readings;
