@@ -12,3 +12,5 @@ pub mod BoundsFit
 pub mod Longest
 pub mod Told
 pub mod Quotes
+pub mod Stood
+pub mod Bounded

@@ -222,11 +222,11 @@ record Walked (u : List ℕ) : Type 0 where
   closes : (x : List ℕ) → close Quotes 0 false (u ++ x) ≡ plus (length u) (close Quotes 0 false x)
   fine : (x : List ℕ) → bad false x ≡ None → bad false (u ++ x) ≡ None
 
-one_plus : (n : ℕ) (o : Option ℕ) → plus 1 (plus n o) ≡ plus (suc n) o
+pub one_plus : (n : ℕ) (o : Option ℕ) → plus 1 (plus n o) ≡ plus (suc n) o
 one_plus n None = refl
 one_plus n (Some k) = let e : 1 + (n + k) ≡ suc n + k = omega arith in ap (λ x. Some x) e
 
-plus_more : (m n k : ℕ) (o : Option ℕ) → m + n ≡ k → plus m (plus n o) ≡ plus k o
+pub plus_more : (m n k : ℕ) (o : Option ℕ) → m + n ≡ k → plus m (plus n o) ≡ plus k o
 plus_more m n k None e = refl
 plus_more m n k (Some i) e = let f : m + (n + i) ≡ k + i = omega arith in ap (λ x. Some x) f
 
@@ -288,7 +288,7 @@ walked u us (escaped c e w cs h k) =
     let s = shape c e h in
     subst Walked (sym (escape_bytes c e w s)) (walked_on (92 ∷ e) (encode_utf8_all w) (walked_escape c e s) (walked w cs k))
 
-take_one : (b : ℕ) (bs : List ℕ) → take 1 (b ∷ bs) ≡ b ∷ []
+pub take_one : (b : ℕ) (bs : List ℕ) → take 1 (b ∷ bs) ≡ b ∷ []
 take_one b [] = refl
 take_one b (c ∷ cs) = refl
 

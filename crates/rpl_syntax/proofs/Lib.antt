@@ -5,4 +5,17 @@ pub mod Rows
 pub mod Printing
 pub mod Grown
 pub mod Remaining
+pub mod Written
+pub mod Placing
+pub mod Cutting
+pub mod Encoded
+pub mod Fronts
+pub mod Hexes
+pub mod Numbers
+pub mod Classes
+pub mod Lexing
+pub mod Back
+pub mod Sets
+pub mod Said
+pub mod Held
 mod Examples

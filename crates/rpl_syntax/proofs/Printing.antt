@@ -210,8 +210,11 @@ mutual
   good_atom (One BoundaryLeaf) = tt
   good_atom (Group raw e) = good_wrapped raw (content raw e) (good_content raw e)
 
+pub reads_good : (p : List Token) (x : Expr) → Reads p x → Good x
+reads_good p x h = subst Good (sym h.stands_for) (good_joined false (content false h.tree) (good_content false h.tree))
+
 -- an expression that some tokens spell is spelled by the tokens of its print, up to raw groups of one item
 pub reads_back : (p : List Token) (x : Expr) → Reads p x → (y : Expr) × Reads (spell_exp (exp_tree x) []) y × (plain y ≡ plain x)
 reads_back p x h =
-    let g = subst Good (sym h.stands_for) (good_joined false (content false h.tree) (good_content false h.tree)) in
+    let g = reads_good p x h in
     (joined false (content false (exp_tree x)), record { tree = exp_tree x; spelled = refl; stands_for = refl }, (same x g false).whole)

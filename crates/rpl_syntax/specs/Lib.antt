@@ -4,4 +4,6 @@ pub mod Grammar
 pub mod Reading
 pub mod Printing
 pub mod Printed
+pub mod Writing
+pub mod Texts
 pub mod Modules

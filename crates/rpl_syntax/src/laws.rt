@@ -1,9 +1,12 @@
-// What holds of the grammar and of printing.
-ghost use Rattle.std.specs.Prelude.{◌≡◌, List, [], Some};
+// What holds of the grammar, of texts and of printing.
+ghost use Rattle.std.specs.Prelude.{◌≡◌, ℕ, List, [], Some, IsUtf8};
 ghost use Rattle.rpl_syntax.specs.Expression as M;
 ghost use Rattle.rpl_syntax.specs.Grammar.{Reads, spell_exp};
-ghost use Rattle.rpl_syntax.specs.Printing.{exp_tree, plain};
+ghost use Rattle.rpl_syntax.specs.Printed.{printed};
+ghost use Rattle.rpl_syntax.specs.Printing.{exp_tree, plain, Good};
 ghost use Rattle.rpl_syntax.specs.Reading.{read};
+ghost use Rattle.rpl_syntax.specs.Texts.{IsReadAs, ReadsBack, HasFewTokens, Writable};
+ghost use Rattle.rpl_syntax.specs.Writing.{write_exp};
 ghost use Rattle.rpl_syntax.specs.declared.token.Token.{Token};
 
 /// No tokens are a spelling of two expressions, and reading from left to right finds what they spell.
@@ -17,4 +20,21 @@ pub fn one_reading()
 /// taking a raw group of one item as that item.
 pub fn reads_back()
     ensures { (p : List Token) (x : M.Expr) → Reads p x → (y : M.Expr) × Reads (spell_exp (exp_tree x) []) y × (plain y ≡ plain x) }
+{}
+
+/// The printed text of an expression is its tree as it is written: the text of each token in turn, with spaces between.
+pub fn prints_tree()
+    ensures { (x : M.Expr) → Good x → printed x ≡ write_exp (exp_tree x) [] }
+{}
+
+/// A text is read as one expression, and what a text is read as can be written.
+pub fn readings_of_texts()
+    ensures only { (s : List ℕ) (x y : M.Expr) → IsReadAs s x → IsReadAs s y → x ≡ y }
+    ensures writable { (s : List ℕ) (x : M.Expr) → IsUtf8 s → IsReadAs s x → Good x × Writable x }
+{}
+
+/// The printed text of an expression is read as that expression, up to the places of names and up to taking a raw group
+/// of one item as that item.
+pub fn printed_reads_back()
+    ensures { (x : M.Expr) → Good x → Writable x → HasFewTokens x → ReadsBack x }
 {}

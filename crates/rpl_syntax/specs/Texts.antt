@@ -1,0 +1,98 @@
+-- When a text is read as an expression: it is cut into tokens without a fault, and what they say is a spelling of it.
+-- Which expressions can be written: those that hold nothing but what a text can say. And when what is printed of one is
+-- read as that expression. How deep anything is nested isn't asked.
+use Rattle.std.specs.Prelude.{◌≡◌, ◌≤◌, ℕ, Bool, true, false, List, [], ◌∷◌, length, Option, Some, None, Ok, if◌then◌else◌, encode_utf8_all}
+use Rattle.std.specs.Option.{unwrap_or}
+use Rattle.std.specs.Str.{all_scalars}
+use Rattle.regex_class.specs.Ranges.{Range}
+use Rattle.rpl_classes.specs.Sets.{IsNormal}
+use Rattle.rpl_classes.specs.Brackets.{bracket_of}
+use Rattle.rpl_lexer.specs.Cut.{IsCut}
+use Rattle.rpl_lexer.specs.Forms.{IsName}
+use Rattle.rpl_lexer.specs.Payloads.{Payload, payload}
+use Rattle.rpl_lexer.specs.Payloads as P
+use Rattle.rpl_lexer.specs.declared.bounds.Bounds.{Bounds as Numbers}
+use Rattle.rpl_lexer.specs.declared.token.Token.{Token as Lexeme}
+use Rattle.rpl_syntax.specs.declared.token.Token.{Token}
+use Rattle.rpl_syntax.specs.declared.token.Token.TheVariants as T
+use Rattle.rpl_syntax.specs.Expression.{Expr, Text, Class, Any, Start, End, Boundary, Name, Cooked, Raw, Choice, Both, Prefix, Repeat, Macro, Marked, Note, Exprs, Nil, Cons}
+use Rattle.rpl_syntax.specs.Grammar.{Reads, spell_exp}
+use Rattle.rpl_syntax.specs.Printed.{printed}
+use Rattle.rpl_syntax.specs.Printing.{exp_tree, plain}
+
+-- ---- what a token says, where it isn't at fault
+
+-- from so many times up, or up to so many: at most 255
+abbrev pub Allowed : (least : ℕ) (most : Option ℕ) → Type 0
+Allowed l None = l ≤ 255
+Allowed l (Some m) = (l ≤ m) × (m ≤ 255)
+
+-- `{n}` is n and n, `{n,m}` n and m, `{n,}` n and none; a first number that isn't there is 0
+abbrev pub least_of : Numbers → ℕ
+least_of b = unwrap_or b.least 0
+
+abbrev pub most_of : Numbers → Option ℕ
+most_of b = if b.comma then b.most else Some (least_of b)
+
+-- a token that begins at the place says t
+abbrev pub Says : (at : ℕ) → Payload → Token → Type 0
+Says at (P.Name n) t = t ≡ T.Name n at
+Says at (P.Qualified p n) t = t ≡ T.Qualified p n at
+Says at (P.Keyword w) t = t ≡ T.Keyword w
+Says at (P.Text s) t = t ≡ T.Text s
+Says at (P.Bracket s) t = (ranges : List Range) × (negated : Bool) × (bracket_of s ≡ Ok (ranges, negated)) × (t ≡ T.Class ranges negated)
+Says at (P.Bounds b) t = Allowed (least_of b) (most_of b) × (t ≡ T.Bounds (least_of b) (most_of b))
+Says at (P.Number n) t = t ≡ T.Number n
+Says at (P.Sign k) t = t ≡ T.Sign k
+
+-- the tokens of the text s say these, one by one
+abbrev pub Say : List ℕ → List Lexeme → List Token → Type 0
+Say s [] ts = ts ≡ []
+Say s (l ∷ ls) ts = (t : Token) × (rest : List Token) × (ts ≡ t ∷ rest) × Says l.start (payload s l) t × Say s ls rest
+
+-- the text s is read as the expression x
+pub record IsReadAs (s : List ℕ) (x : Expr) : Type 0 where
+  pub lexemes : List Lexeme
+  pub tokens : List Token
+  pub cut : IsCut s lexemes
+  pub say : Say s lexemes tokens
+  pub reads : Reads tokens x
+
+-- what is printed of x is read as x, up to the places of names and up to taking a raw group of one item as that item
+abbrev pub ReadsBack : Expr → Type 0
+ReadsBack x = (y : Expr) × IsReadAs (encode_utf8_all (printed x)) y × (plain y ≡ plain x)
+
+-- ---- what can be written
+
+-- x is printed with no more tokens than a text may have
+abbrev pub HasFewTokens : Expr → Type 0
+HasFewTokens x = length (spell_exp (exp_tree x) []) ≤ 262144
+
+-- names that are no keywords
+abbrev pub AreNames : (prefix : Option (List ℕ)) (name : List ℕ) → Type 0
+AreNames None n = IsName n false
+AreNames (Some p) n = IsName p false × IsName n false
+
+abbrev mutual
+  -- its texts are of characters, its classes are sets, its names are names and its numbers are allowed
+  pub Writable : Expr → Type 0
+  Writable (Text s) = all_scalars s ≡ true
+  Writable (Class ranges negated) = IsNormal ranges
+  Writable Any = Unit {0}
+  Writable Start = Unit {0}
+  Writable End = Unit {0}
+  Writable Boundary = Unit {0}
+  Writable (Name q) = AreNames q.prefix q.name
+  Writable (Cooked ps) = Writable_all ps
+  Writable (Raw ps) = Writable_all ps
+  Writable (Choice ps) = Writable_all ps
+  Writable (Both p q) = Writable p × Writable q
+  Writable (Prefix s p) = Writable p
+  Writable (Repeat p l m) = Writable p × Allowed l m
+  Writable (Macro q p) = IsName q.name false × Writable p
+  Writable (Marked m p) = ⊥
+  Writable (Note s) = ⊥
+
+  pub Writable_all : Exprs → Type 0
+  Writable_all Nil = Unit {0}
+  Writable_all (Cons p rest) = Writable p × Writable_all rest
