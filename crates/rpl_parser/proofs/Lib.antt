@@ -4,6 +4,14 @@ pub mod Nests
 pub mod Deep
 pub mod Converted
 pub mod Faults
+pub mod Answered
 pub mod Entries
 pub mod Pushed
 pub mod Walking
+pub mod Spelled
+pub mod Cutting
+pub mod Ordered
+pub mod Outlined
+pub mod Reached
+pub mod Modules
+pub mod Told

@@ -5,7 +5,8 @@ use Rattle.std.proofs.lemmas.Option.{slice_get_read, slice_get_within, get_or_fr
 use Rattle.rpl_lexer.specs.declared.token.Token.{Token as Lexeme}
 use Rattle.rpl_syntax.specs.declared.token.Token.{Token}
 use Rattle.rpl_parser.specs.Tokens.{AllStand, token_by, tokens_of}
-use Rattle.rpl_parser.specs.Walks.{Walk, piece_len, closes_later, step, finish, go_on, walk}
+use Rattle.rpl_parser.specs.Pieces.{piece_len, closes_later}
+use Rattle.rpl_parser.specs.Walks.{Walk, step, finish, go_on, walk}
 use Rattle.rpl_parser.specs.declared.fault.ParseFault.{ParseFault}
 
 pub stands_drop : (s : List ℕ) (ts : List Lexeme) (k : ℕ) → AllStand s ts → AllStand s (drop k ts)

@@ -1,30 +1,15 @@
--- The statements of a module: one case for each form, with the tokens that spell it.
---
---   version   `rpl` Number `.` Number
---   package   `package` Name
---   import    `import` Entry (`,` Entry)*, an Entry being Name (`/` Name)* and perhaps `as` Name or `as` `.`
---   binding   `local`? `alias`? Name `=` Exp, or `~` `=` Exp
---   block     `grammar`, `in` and `end`, each alone
+-- Reading a statement from left to right: how the tokens that spell it are found to do so. The law `one_line` says that
+-- this is the reading of the grammar.
 use Rattle.std.specs.Prelude.{ℕ, zero, suc, Bool, true, false, List, [], ◌∷◌, ◌++◌, length, Option, Some, None}
 use Rattle.rpl_lexer.specs.declared.keyword.Keyword.TheVariants as W
 use Rattle.rpl_lexer.specs.declared.punct.Punct.TheVariants as P
-use Rattle.rpl_syntax.specs.Expression.{Expr}
 use Rattle.rpl_syntax.specs.Reading.{◌>>=◌, read}
 use Rattle.rpl_syntax.specs.declared.module.Import.{Import}
 use Rattle.rpl_syntax.specs.declared.module.ImportAs.{ImportAs}
 use Rattle.rpl_syntax.specs.declared.module.ImportAs.TheVariants as A
 use Rattle.rpl_syntax.specs.declared.token.Token.{Token}
 use Rattle.rpl_syntax.specs.declared.token.Token.TheVariants as T
-
-pub data Line : Type 0 where
-  Version : (major minor : ℕ) → Line
-  Package : (name : List ℕ) → Line
-  Imports : (entries : List Import) → Line
-  -- the module's own boundary is a local alias with the name `~`
-  Binds : (local alias : Bool) (name : List ℕ) (body : Expr) → Line
-  Opens : Line
-  Splits : Line
-  Closes : Line
+use Rattle.rpl_parser.specs.Spelling.{Line, Version, Package, Imports, Binds, Opens, Splits, Closes}
 
 -- ---- entries of an import
 

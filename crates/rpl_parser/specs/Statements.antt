@@ -1,6 +1,6 @@
 -- What the parser's statements stand for.
 use Rattle.rpl_syntax.specs.View.{expr_of}
-use Rattle.rpl_parser.specs.Lines as L
+use Rattle.rpl_parser.specs.Spelling as L
 use Rattle.rpl_parser.specs.declared.line.Line.{Line}
 use Rattle.rpl_parser.specs.declared.line.Line.TheVariants.{Version, Package, Imports, Binds, Opens, Splits, Closes}
 

@@ -1,64 +1,23 @@
--- A module, statement by statement: where each begins, which may stand where, and the first fault.
-use Rattle.std.specs.Prelude.{◌≡◌, ◌≢◌, ℕ, zero, suc, Bool, true, false, not, ◌&&◌, nat_eq, nat_le, List, [], ◌∷◌, ◌++◌, length, take, drop, Option, Some, None, Result, Ok, Err, if◌then◌else◌}
-use Rattle.rpl_lexer.specs.declared.keyword.Keyword.{Keyword}
-use Rattle.rpl_lexer.specs.declared.keyword.Keyword.TheVariants as W
-use Rattle.rpl_lexer.specs.declared.punct.Punct.TheVariants as P
+-- Reading a module statement by statement: which may stand where, and the first fault. The law `one_module` says that
+-- this gives just the modules of `Order`, and the first faults of `ModuleFaults`.
+use Rattle.std.specs.Prelude.{◌≡◌, ◌≢◌, ℕ, zero, suc, Bool, true, false, List, [], ◌∷◌, ◌++◌, length, take, drop, Option, Some, None, Result, Ok, Err, if◌then◌else◌}
 use Rattle.rpl_lexer.specs.declared.token.Token.{Token as Lexeme}
 use Rattle.rpl_syntax.specs.Grammar.{unprefixed}
 use Rattle.rpl_syntax.specs.Modules.{Rule, Entry, One, Block, Said}
 use Rattle.rpl_syntax.specs.declared.module.Import.{Import}
 use Rattle.rpl_syntax.specs.declared.name.QName.{QName}
-use Rattle.rpl_syntax.specs.declared.token.Token.{Token}
-use Rattle.rpl_syntax.specs.declared.token.Token.TheVariants as T
 use Rattle.rpl_parser.specs.Levels.{ground_level, too_deep}
-use Rattle.rpl_parser.specs.Lines as L
-use Rattle.rpl_parser.specs.Lines.{Line, line_of}
+use Rattle.rpl_parser.specs.Lines.{line_of}
+use Rattle.rpl_parser.specs.Order.{is_known}
+use Rattle.rpl_parser.specs.Pieces.{piece_len, closes_later}
+use Rattle.rpl_parser.specs.Spelling as L
+use Rattle.rpl_parser.specs.Spelling.{Line}
 use Rattle.rpl_parser.specs.Tokens.{tokens_of, first_place, first_bad}
 use Rattle.rpl_parser.specs.declared.walk.Numbered.{Numbered}
 use Rattle.rpl_parser.specs.declared.walk.Stage.{Stage}
 use Rattle.rpl_parser.specs.declared.walk.Stage.TheVariants.{Begun, Versioned, Packaged, Ruled, InBlock, BehindIn}
 use Rattle.rpl_parser.specs.declared.fault.ParseFault.{ParseFault}
 use Rattle.rpl_parser.specs.declared.fault.ParseKind.TheVariants.{NoMemory, TooDeep, Syntax, Version}
-
--- ---- pieces: each begins at a keyword of statements, or at a binding's name
-
-abbrev pub word_begins : Keyword → Bool
-word_begins W.As = false
-word_begins W.Alias = false
-word_begins _ = true
-
-abbrev pub is_local : Token → Bool
-is_local (T.Keyword W.Local) = true
-is_local t = false
-
-abbrev pub is_local_or_alias : Token → Bool
-is_local_or_alias (T.Keyword W.Local) = true
-is_local_or_alias (T.Keyword W.Alias) = true
-is_local_or_alias t = false
-
--- a piece begins behind this token
-abbrev pub begins_piece : Token → List Token → Bool
-begins_piece before (T.Keyword W.Alias ∷ r) = not (is_local before)
-begins_piece before (T.Keyword w ∷ r) = word_begins w
-begins_piece before (T.Name n at ∷ T.Sign P.Equals ∷ r) = not (is_local_or_alias before)
-begins_piece before (T.Sign P.Tilde ∷ T.Sign P.Equals ∷ r) = not (is_local_or_alias before)
-begins_piece before r = false
-
--- how many tokens stand before the next piece, behind this token
-abbrev pub front : Token → List Token → ℕ
-front before [] = 0
-front before (t ∷ ts) = if begins_piece before (t ∷ ts) then 0 else suc (front t ts)
-
--- how many tokens the first piece has
-abbrev pub piece_len : List Token → ℕ
-piece_len [] = 0
-piece_len (t ∷ ts) = suc (front t ts)
-
--- a block is closed later
-abbrev pub closes_later : List Token → Bool
-closes_later [] = false
-closes_later (T.Keyword W.End ∷ r) = true
-closes_later (t ∷ r) = closes_later r
 
 -- ---- the order of statements
 
@@ -155,10 +114,6 @@ by_level (Some at) r = Err (record { at = at; kind = TooDeep })
 -- behind one more piece, or its first fault: the level, the syntax, then the first bad bounds or bracket
 abbrev pub step : List ℕ → Walk → (closes : Bool) → List Lexeme → Result Walk ParseFault
 step s w c p = by_level (too_deep s ground_level p) (by_line (first_place p) (first_bad s p) w c (line_of (tokens_of s p)))
-
--- 1.0 to 1.4
-abbrev pub is_known : Numbered → Bool
-is_known v = nat_eq v.major 1 && nat_le v.minor 4
 
 abbrev pub by_version : Said → Option Numbered → Result Said ParseFault
 by_version m None = Ok m

@@ -202,8 +202,8 @@ pub fn find_bad(
     requires { AllStand text.now lexemes.now }
     ensures { IfOk result (λ o. o ≡ first_bad text.now lexemes.now) }
 {
-    for lexeme in lexemes {
-        if let Some(fault) = token_bad(alloc, text, *lexeme)? {
+    for &lexeme in lexemes {
+        if let Some(fault) = token_bad(alloc, text, lexeme)? {
             return Ok(Some(fault));
         }
     }

@@ -1,6 +1,6 @@
 // The pieces of a module: each is a statement's tokens.
 ghost use Rattle.std.specs.Prelude.{◌≡◌, ◌≤◌, length, drop};
-ghost use Rattle.rpl_parser.specs.Walks.{is_local_or_alias, begins_piece, front, piece_len};
+ghost use Rattle.rpl_parser.specs.Pieces.{is_local_or_alias, begins_piece, front, piece_len};
 
 use crate::steps::next;
 use rpl_lexer::{Keyword, Punct};

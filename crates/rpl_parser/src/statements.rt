@@ -2,10 +2,14 @@
 ghost use Rattle.std.specs.Prelude.{◌≡◌, ◌≢◌, IfOk, IfErr, Ok, Err};
 ghost use Rattle.rpl_lexer.specs.Cut.{IsCut};
 ghost use Rattle.rpl_parser.specs.Lines.{line_of};
+ghost use Rattle.rpl_parser.specs.ModuleFaults.{IsModuleFault};
+ghost use Rattle.rpl_parser.specs.Order.{IsModule};
 ghost use Rattle.rpl_parser.specs.Statements.{line_seen};
 ghost use Rattle.rpl_parser.specs.Tokens.{AllStand, tokens_of, first_place, first_bad};
 ghost use Rattle.rpl_parser.specs.Walked.{walk_of};
-ghost use Rattle.rpl_parser.specs.Walks.{closes_later, place, by_bad, by_place, by_line, step, module_of, Answers};
+ghost use Rattle.rpl_parser.specs.Pieces.{closes_later};
+ghost use Rattle.rpl_parser.specs.Walks.{place, by_bad, by_place, by_line, step, module_of, Answers};
+ghost use Rattle.rpl_parser.specs.declared.fault.ParseKind.TheVariants.{NoMemory as OutOfMemory};
 ghost use Rattle.rpl_syntax.specs.Modules.{said};
 
 use crate::convert::{convert_all, find_bad};
@@ -138,7 +142,9 @@ fn read_all(
 /// version is not 1.0 to 1.4.
 pub fn parse_module(alloc: Global, text: &str, tokens: &Tokens) -> Result<Module, ParseFault>
     requires { IsCut text.now tokens.now }
-    ensures { Answers said result (module_of text.now tokens.now) }
+    ensures ok { IfOk result (λ m. IsModule text.now tokens.now (said m)) }
+    ensures err { IfErr result (λ f. f.kind ≢ OutOfMemory → IsModuleFault text.now tokens.now f) }
+    ensures memory { IfErr result (λ f. f.kind ≡ OutOfMemory → f.at ≡ 0) }
 {
     let lexemes = tokens.as_slice();
     let seen = convert_all(alloc, text, lexemes)?;

@@ -1,86 +1,10 @@
-// Patterns and modules worked by hand, with their printed texts and their faults.
+// Patterns and modules worked by hand, with their faults. What patterns stand for is tried in `rpl_parser_rows`.
 use crate::{ParseFault, ParseKind, parse_module, parse_pattern};
 use rpl_classes::SetFault;
 use rpl_lexer::lex;
-use rpl_syntax::print_expr;
 use std::alloc::Global;
 use std::process::Abort;
 use std::test::Fail;
-
-/// A pattern and the text that it prints as.
-static READ: [(&str, &str); 60] = [
-    // atoms
-    ("\"a\"", "\"a\""),
-    ("\"\"", "\"\""),
-    ("\"a\\\"b\\\\\"", "\"a\\\"b\\\\\""),
-    ("\"\\x01\\x7f\\t\\n\\r\"", "\"\\x01\\x7f\\t\\n\\r\""),
-    ("\"\\u00e9\"", "\"\u{e9}\""),
-    ("\"[-^:\"", "\"[-^:\""),
-    (".", "."),
-    ("^", "^"),
-    ("$", "$"),
-    ("~", "~"),
-    ("a", "a"),
-    ("a.b", "a.b"),
-    ("a_1", "a_1"),
-    ("[a]", "[[\\U00000061-\\U00000061]]"),
-    ("[^a]", "[^[\\U00000061-\\U00000061]]"),
-    (
-        "[[a-c][x]]",
-        "[[\\U00000061-\\U00000063][\\U00000078-\\U00000078]]",
-    ),
-    (
-        "[[a] && [b]]",
-        "[[^[\\U00000000-\\U0000D7FF][\\U0000E000-\\U0010FFFF]]]",
-    ),
-    ("[:digit:]", "[[\\U00000030-\\U00000039]]"),
-    // sequences and groups
-    ("a b", "(a b)"),
-    ("a b c", "(a b c)"),
-    ("(a b)", "(a b)"),
-    ("{a b}", "{a b}"),
-    ("(a)", "(a)"),
-    ("{a}", "{a}"),
-    ("({a})", "({a})"),
-    ("((a))", "((a))"),
-    ("(a b) c", "((a b) c)"),
-    ("{a b (c d)}", "{a b (c d)}"),
-    ("-- a comment\n a -- one more", "a"),
-    // choices and both
-    ("a / b", "a / b"),
-    ("a / b / c", "a / b / c"),
-    ("a & b", "a & b"),
-    ("a / b & c", "a / b & c"),
-    ("a & b / c", "a & b / c"),
-    ("a & b & c", "a & b & c"),
-    ("a b / c d", "(a b) / (c d)"),
-    ("{a b / c d}", "{{{a b} / {c d}}}"),
-    ("(a / b)", "({a / b})"),
-    ("{a / b} & c", "{{a / b}} & c"),
-    ("(a & b) c", "(({a & b}) c)"),
-    // predicates and macros
-    ("!a", "!a"),
-    (">a", ">a"),
-    ("<a", "<a"),
-    ("!>a", "!>a"),
-    ("!a b", "(!a b)"),
-    ("!(a / b)", "!({a / b})"),
-    ("find:a", "find:a"),
-    ("find : a", "find:a"),
-    ("ci:find:a b", "(ci:find:a b)"),
-    ("!f:a*", "!f:a*"),
-    // quantifiers
-    ("a*", "a*"),
-    ("a+", "a+"),
-    ("a?", "a?"),
-    ("a{2}", "a{2}"),
-    ("a{2,5}", "a{2,5}"),
-    ("a{,}", "a*"),
-    ("a{1,}", "a+"),
-    ("a{,1}", "a?"),
-    ("{!a}*", "{!a}*"),
-    ("(a b){3,}", "(a b){3,}"),
-];
 
 /// A pattern without a reading, and its fault.
 static REFUSED: [(&str, usize, ParseKind); 33] = [
@@ -156,14 +80,6 @@ static REFUSED: [(&str, usize, ParseKind); 33] = [
     ("[b-a] )", 0, ParseKind::Syntax),
 ];
 
-fn expect_printed(rt: &impl Abort, alloc: Global, text: &str, want: &str) -> Result<(), Fail> {
-    let tokens = lex(alloc, text)?;
-    let read = parse_pattern(alloc, text, &tokens)?;
-    let printed = print_expr(alloc, &read)?;
-    assert_eq!(rt; printed.as_str(), want, "{text}");
-    Ok(())
-}
-
 fn expect_fault(
     rt: &impl Abort,
     alloc: Global,
@@ -178,14 +94,6 @@ fn expect_fault(
 }
 
 #[test]
-fn patterns_that_are_read(rt: HostRuntime) -> Result<(), Fail> {
-    for (text, want) in &READ {
-        expect_printed(&rt, rt.alloc(), text, want)?;
-    }
-    Ok(())
-}
-
-#[test]
 fn patterns_that_are_refused(rt: HostRuntime) -> Result<(), Fail> {
     for (text, at, kind) in &REFUSED {
         expect_fault(&rt, rt.alloc(), text, *at, *kind)?;
@@ -194,7 +102,7 @@ fn patterns_that_are_refused(rt: HostRuntime) -> Result<(), Fail> {
 }
 
 /// A module and its fault.
-static REFUSED_MODULES: [(&str, usize, ParseKind); 30] = [
+static REFUSED_MODULES: [(&str, usize, ParseKind); 51] = [
     ("a", 0, ParseKind::Syntax),
     ("a = ", 0, ParseKind::Syntax),
     ("a = b c = ", 6, ParseKind::Syntax),
@@ -217,8 +125,43 @@ static REFUSED_MODULES: [(&str, usize, ParseKind); 30] = [
     ("grammar local a = b end", 8, ParseKind::Syntax),
     ("grammar ~ = b end", 8, ParseKind::Syntax),
     ("grammar a = b end c", 14, ParseKind::Syntax),
+    ("grammar in a end", 8, ParseKind::Syntax),
+    ("grammar a = b in ~ = c end", 17, ParseKind::Syntax),
+    ("grammar a = b in local c = d end", 17, ParseKind::Syntax),
+    ("grammar a = b rpl 1.0 end", 14, ParseKind::Syntax),
+    ("grammar a = b package c end", 14, ParseKind::Syntax),
+    ("grammar a = b import c end", 14, ParseKind::Syntax),
     ("in", 0, ParseKind::Syntax),
+    ("end", 0, ParseKind::Syntax),
+    ("a = b in", 6, ParseKind::Syntax),
+    ("a = b rpl 1.0", 6, ParseKind::Syntax),
+    ("a = b package c", 6, ParseKind::Syntax),
+    ("import a rpl 1.0", 9, ParseKind::Syntax),
+    ("grammar end import a", 12, ParseKind::Syntax),
     ("local ~ = a", 0, ParseKind::Syntax),
+    ("alias ~ = a", 0, ParseKind::Syntax),
+    ("alias local a = b", 0, ParseKind::Syntax),
+    // a block without its close, before what stands in it
+    ("a = b grammar c = d in e = f", 6, ParseKind::Syntax),
+    ("grammar a = /", 0, ParseKind::Syntax),
+    ("grammar a = [b-a]", 0, ParseKind::Syntax),
+    // bounds and brackets at their places in the whole text
+    (
+        "grammar a = b{9,8} in c = d end",
+        13,
+        ParseKind::BadBounds { least: 9, most: 8 },
+    ),
+    (
+        "a = b c = [x] / [b-a]",
+        18,
+        ParseKind::Class(SetFault::BadRange { at: 2 }),
+    ),
+    (
+        "a = [:no:] c = d{2,1}",
+        4,
+        ParseKind::Class(SetFault::UnknownClass { at: 0 }),
+    ),
+    ("-- a comment\nrpl 1.5", 13, ParseKind::Version),
     ("rpl 1.5", 0, ParseKind::Version),
     ("rpl 1.10", 0, ParseKind::Version),
     ("rpl 2.0 a = b", 0, ParseKind::Version),
@@ -250,6 +193,22 @@ fn modules_that_are_refused(rt: HostRuntime) -> Result<(), Fail> {
     for (text, at, kind) in &REFUSED_MODULES {
         expect_module_fault(&rt, rt.alloc(), text, *at, *kind)?;
     }
+    Ok(())
+}
+
+/// Each statement has a level of its own, which is looked at before its syntax and behind the statements before it.
+#[test]
+fn levels_of_statements(rt: HostRuntime) -> Result<(), Fail> {
+    let alloc = rt.alloc();
+    let low = nested(alloc, 100, "(", "x", ")")?;
+    let deep = nested(alloc, 101, "(", "x", ")")?;
+    let both = format!(in alloc; "a = {low} b = {low}")?;
+    let tokens = lex(alloc, &both)?;
+    assert!(rt; parse_module(alloc, &both, &tokens).is_ok());
+    let second = format!(in alloc; "a = {low} b = {deep} /")?;
+    expect_module_fault(&rt, alloc, &second, 310, ParseKind::TooDeep)?;
+    let earlier = format!(in alloc; "a = b / c = {deep}")?;
+    expect_module_fault(&rt, alloc, &earlier, 0, ParseKind::Syntax)?;
     Ok(())
 }
 

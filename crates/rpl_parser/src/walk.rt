@@ -1,7 +1,8 @@
 // The order of statements: what a module says so far, and which statement may come next.
 ghost use Rattle.std.specs.Prelude.{◌≡◌, Some};
 ghost use Rattle.rpl_parser.specs.Gives.{Gives};
-ghost use Rattle.rpl_parser.specs.Walks.{begun, versioned, packaged, imported, in_block, ruled, bound, opened, split, shut, closed, closes_later, place, by_version, finish, Answers};
+ghost use Rattle.rpl_parser.specs.Pieces.{closes_later};
+ghost use Rattle.rpl_parser.specs.Walks.{begun, versioned, packaged, imported, in_block, ruled, bound, opened, split, shut, closed, place, by_version, finish, Answers};
 ghost use Rattle.rpl_parser.specs.Walked.{walk_of};
 ghost use Rattle.rpl_parser.specs.Statements.{line_seen};
 ghost use Rattle.rpl_syntax.specs.Modules.{rule_of, said};

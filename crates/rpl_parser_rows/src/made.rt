@@ -1,7 +1,8 @@
 // Made-up texts: a pattern is built by templates, `P` being what was built before, `L` an atom and `W` any word; so some are patterns, and
 // some are not.
-ghost use Rattle.std.specs.Prelude.{◌<◌};
-
+use rand::RngExt;
+use rand::seq::IndexedRandom;
+use rand_pcg::Pcg32;
 use std::alloc::{AllocError, Global};
 
 /// Atoms.
@@ -61,42 +62,20 @@ static TEMPLATES: [&str; 27] = [
     "P W",
 ];
 
-/// Numbers that look random: a linear congruential generator of 64 bits, with the multiplier and the increment of Knuth's MMIX.
-#[derive(Drop)]
-pub(crate) struct Random {
-    state: u64,
+/// The generator of the made-up texts: begun with a made-up number, so that each run makes the same.
+pub(crate) fn generator() -> Pcg32 {
+    Pcg32::new(20_261_127, 0)
 }
 
-impl Random {
-    pub(crate) fn new(seed: u64) -> Random {
-        Random { state: seed }
-    }
-
-    /// A number below this one.
-    fn below(&mut self, count: u64) -> u64
-        requires { 0 < count }
-        ensures { result < count }
-    {
-        self.state = self
-            .state
-            .wrapping_mul(6_364_136_223_846_793_005)
-            .wrapping_add(1_442_695_040_888_963_407);
-        (self.state >> 33) % count
-    }
-
-    /// One of the words; none where there are none.
-    fn pick(&mut self, words: &[&'static str]) -> &'static str {
-        if words.is_empty() {
-            return "";
-        }
-        words[self.below(words.len() as u64) as usize]
-    }
+/// One of the words; none where there are none.
+fn pick(random: &mut Pcg32, words: &[&'static str]) -> &'static str {
+    words.choose(random).copied().unwrap_or("")
 }
 
 /// The template over what was built before.
 fn fill(
     alloc: Global,
-    random: &mut Random,
+    random: &mut Pcg32,
     template: &str,
     before: &str,
 ) -> Result<String, AllocError> {
@@ -104,8 +83,8 @@ fn fill(
     for word in template.split_whitespace() {
         match word {
             "P" => filled.push_str(before)?,
-            "L" => filled.push_str(random.pick(&LEAVES))?,
-            "W" => filled.push_str(random.pick(&WORDS))?,
+            "L" => filled.push_str(pick(random, &LEAVES))?,
+            "W" => filled.push_str(pick(random, &WORDS))?,
             _ => filled.push_str(word)?,
         }
         filled.push_str(" ")?;
@@ -114,11 +93,11 @@ fn fill(
 }
 
 /// The next text.
-pub(crate) fn make(alloc: Global, random: &mut Random) -> Result<String, AllocError> {
-    let leaf = random.pick(&LEAVES);
+pub(crate) fn make(alloc: Global, random: &mut Pcg32) -> Result<String, AllocError> {
+    let leaf = pick(random, &LEAVES);
     let mut text = String::from_str(alloc, leaf)?;
-    for _ in 0..random.below(9) {
-        let template = random.pick(&TEMPLATES);
+    for _ in 0..random.random_range(0..9) {
+        let template = pick(random, &TEMPLATES);
         text = fill(alloc, random, template, text.as_str())?;
     }
     Ok(text)

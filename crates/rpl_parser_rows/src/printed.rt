@@ -1,6 +1,6 @@
 // Twenty thousand made-up texts: each is refused, or read; and what is read reads back from its printed text.
 use crate::form::form_of;
-use crate::made::{Random, make};
+use crate::made::{generator, make};
 use rpl_lexer::lex;
 use rpl_parser::parse_pattern;
 use rpl_syntax::{Expr, print_expr};
@@ -8,8 +8,6 @@ use std::alloc::Global;
 use std::test::Fail;
 
 const COUNT: u32 = 20_000;
-
-const SEED: u64 = 20_261_127;
 
 /// The expression of a text, if it has one.
 pub(crate) fn read(alloc: Global, text: &str) -> Option<Expr> {
@@ -20,7 +18,7 @@ pub(crate) fn read(alloc: Global, text: &str) -> Option<Expr> {
 #[test]
 fn what_is_read_reads_back(rt: HostRuntime) -> Result<(), Fail> {
     let alloc = rt.alloc();
-    let mut random = Random::new(SEED);
+    let mut random = generator();
     let (mut refused, mut accepted) = (0u32, 0u32);
     for number in 0..COUNT {
         let text = make(alloc, &mut random)?;

@@ -1,5 +1,5 @@
 use Rattle.std.proofs.Common.{◌≡◌, ◌+◌, drop}
-use Rattle.rpl_parser.specs.Walks.{front}
+use Rattle.rpl_parser.specs.Pieces.{front}
 use Rattle.rpl_parser.proofs.piece.front_len.Given as goal
 
 abbrev pub invariant-loop-index : goal.invariant-loop-index

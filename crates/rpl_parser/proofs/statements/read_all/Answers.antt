@@ -4,7 +4,8 @@ use Rattle.std.proofs.lemmas.Result.{err_from_is_err_and}
 use Rattle.rpl_syntax.specs.Modules.{said}
 use Rattle.rpl_parser.specs.Tokens.{AllStand, tokens_of}
 use Rattle.rpl_parser.specs.Walked.{walk_of}
-use Rattle.rpl_parser.specs.Walks.{walk, piece_len, begun, Answers}
+use Rattle.rpl_parser.specs.Pieces.{piece_len}
+use Rattle.rpl_parser.specs.Walks.{walk, begun, Answers}
 use Rattle.rpl_parser.proofs.Walking.{stands_drop, stands_take, tokens_take, tokens_drop, tokens_len, walk_end, walk_zero, walk_on, walk_stop, step_at}
 use Rattle.rpl_parser.proofs.statements.read_all.Goals as goal
 

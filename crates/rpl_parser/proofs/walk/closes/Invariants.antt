@@ -1,5 +1,5 @@
 use Rattle.std.proofs.Common.{◌≡◌, length}
-use Rattle.rpl_parser.specs.Walks.{closes_later}
+use Rattle.rpl_parser.specs.Pieces.{closes_later}
 use Rattle.rpl_parser.proofs.walk.closes.Given as goal
 
 abbrev pub invariant-loop-first : goal.invariant-loop-first

@@ -1,0 +1,57 @@
+// What holds of patterns, of the grammar of statements and of modules.
+ghost use Rattle.std.specs.Prelude.{◌≡◌, ◌⊎◌, ℕ, List, Some, None, Ok, Err, IsUtf8, encode_utf8_all};
+ghost use Rattle.rpl_lexer.specs.Cut.{IsCut};
+ghost use Rattle.rpl_lexer.specs.declared.token.Token.{Token as Lexeme};
+ghost use Rattle.rpl_syntax.specs.Expression.{Expr};
+ghost use Rattle.rpl_syntax.specs.Modules.{Said};
+ghost use Rattle.rpl_syntax.specs.Printed.{printed};
+ghost use Rattle.rpl_syntax.specs.Printing.{plain};
+ghost use Rattle.rpl_syntax.specs.Texts.{IsReadAs, HasFewTokens};
+ghost use Rattle.rpl_syntax.specs.declared.token.Token.{Token};
+ghost use Rattle.rpl_parser.specs.Levels.{ground_level, too_deep};
+ghost use Rattle.rpl_parser.specs.Lines.{line_of};
+ghost use Rattle.rpl_parser.specs.ModuleFaults.{IsModuleFault};
+ghost use Rattle.rpl_parser.specs.Order.{ReadsModule, IsModule};
+ghost use Rattle.rpl_parser.specs.Patterns.{IsPattern, IsPatternFault};
+ghost use Rattle.rpl_parser.specs.Spelling as S;
+ghost use Rattle.rpl_parser.specs.Spelling.{Spells};
+ghost use Rattle.rpl_parser.specs.Walks.{module_of};
+ghost use Rattle.rpl_parser.specs.declared.fault.ParseFault.{ParseFault};
+
+/// The tokens of a text have one answer as a pattern: an expression, or a first fault.
+pub fn one_pattern()
+    ensures either { (s : List ℕ) (ts : List Lexeme) → ((x : Expr) × IsPattern s ts x) ⊎ ((f : ParseFault) × IsPatternFault s ts f) }
+    ensures only { (s : List ℕ) (ts : List Lexeme) (x y : Expr) → IsPattern s ts x → IsPattern s ts y → x ≡ y }
+    ensures apart { (s : List ℕ) (ts : List Lexeme) (x : Expr) (f : ParseFault) → IsPattern s ts x → IsPatternFault s ts f → ⊥ }
+    ensures first { (s : List ℕ) (ts : List Lexeme) (f g : ParseFault) → IsPatternFault s ts f → IsPatternFault s ts g → f ≡ g }
+{}
+
+/// A pattern is what its text is read as; and a text that isn't nested too deep is the pattern that it is read as.
+pub fn patterns_are_readings()
+    ensures read { (s : List ℕ) (ts : List Lexeme) (x : Expr) → IsCut s ts → IsPattern s ts x → IsReadAs s x }
+    ensures pattern { (s : List ℕ) (ts : List Lexeme) (x : Expr) → IsCut s ts → too_deep s ground_level ts ≡ None → IsReadAs s x → IsPattern s ts x }
+{}
+
+/// What is printed of a pattern is that pattern again, where it isn't nested too deep: up to the places of names and up to
+/// taking a raw group of one item as that item.
+pub fn printed_again()
+    ensures { (s : List ℕ) (ts us : List Lexeme) (x : Expr) → IsUtf8 s → IsCut s ts → IsPattern s ts x → HasFewTokens x → IsCut (encode_utf8_all (printed x)) us → too_deep (encode_utf8_all (printed x)) ground_level us ≡ None → (y : Expr) × IsPattern (encode_utf8_all (printed x)) us y × (plain y ≡ plain x) }
+{}
+
+/// No tokens are a spelling of two statements, and reading from left to right finds what they spell.
+pub fn one_line()
+    ensures only { (p : List Token) (l m : S.Line) → Spells p l → Spells p m → l ≡ m }
+    ensures read { (p : List Token) (l : S.Line) → Spells p l → line_of p ≡ Some l }
+    ensures spelled { (p : List Token) (l : S.Line) → line_of p ≡ Some l → Spells p l }
+{}
+
+/// No tokens of a text are a spelling of two modules. What is read statement by statement is just the module that they
+/// spell, where none of them is at fault, and what is refused just their first fault.
+pub fn one_module()
+    ensures only { (s : List ℕ) (ts : List Lexeme) (m n : Said) → ReadsModule s ts m → ReadsModule s ts n → m ≡ n }
+    ensures reads { (s : List ℕ) (ts : List Lexeme) (m : Said) → IsModule s ts m → ReadsModule s ts m }
+    ensures read { (s : List ℕ) (ts : List Lexeme) (m : Said) → IsModule s ts m → module_of s ts ≡ Ok m }
+    ensures spelled { (s : List ℕ) (ts : List Lexeme) (m : Said) → module_of s ts ≡ Ok m → IsModule s ts m }
+    ensures refused { (s : List ℕ) (ts : List Lexeme) (f : ParseFault) → IsModuleFault s ts f → module_of s ts ≡ Err f }
+    ensures faulty { (s : List ℕ) (ts : List Lexeme) (f : ParseFault) → module_of s ts ≡ Err f → IsModuleFault s ts f }
+{}
