@@ -1,15 +1,23 @@
 -- The core of a literal, and that it calls no rule.
-use Rattle.std.proofs.Common.{◌≡◌, ◌≢◌, ℕ, List, [], ◌∷◌, ◌++◌, length, refl, sym, ap, ◌∙◌, true, false, arith}
+use Rattle.std.proofs.Common.{◌≡◌, ◌≢◌, ◌<◌, ℕ, Bool, List, [], ◌∷◌, ◌++◌, length, refl, sym, ap, subst, ◌∙◌, true, false, not, arith}
 use Rattle.std.proofs.lemmas.Bool.{false≢true}
-use Rattle.std.specs.Prelude.{Some, slice_get}
+use Rattle.std.specs.Prelude.{Option, Some, None, is_some, slice_get}
+use Rattle.rpl_check.specs.Answers.{IsDue, fault_named}
+use Rattle.rpl_check.specs.Facts.{Facts}
+use Rattle.rpl_check.specs.Faults.{Fault, EmptyLoop, HaltInside, behind_fault, fault_from, group_fault, fault_if, first_cause, first_cause_in, goal_fault, has_empty_loop, any_has_empty_loop, or_then, table_fault}
+use Rattle.rpl_check.specs.declared.fault.CheckFault.{CheckFault}
+use Rattle.rpl_check.specs.declared.fault.CheckFault.TheVariants as W
+use Rattle.rpl_check.proofs.Exists.{facts_of}
 use Rattle.rpl_core.specs.Core.{Core, Cores, NoMore, Then}
 use Rattle.rpl_core.specs.Meaning.{Open}
 use Rattle.rpl_core.specs.Outcome.{outcome}
 use Rattle.rpl_core.specs.Programs.{calls, calls_any, Reaches, by_goal, by_rule, IsCode, program}
 use Rattle.rpl_core.specs.declared.peg.Peg.{Peg}
+use Rattle.rpl_core.specs.declared.rules.Rule.{Rule}
+use Rattle.rpl_core.specs.Table.{blocks_of, bodies_of}
 use Rattle.rpl_core.specs.View.{core_of, cores}
 use Rattle.rpl_simulation.specs.Ending.{IsTidy, AreTidy}
-use Rattle.rpl_simulation.specs.Static.{NoPredicateHalts, may_halt, any_may_halt}
+use Rattle.rpl_simulation.specs.Static.{NoPredicateHalts, may_halt, any_may_halt, predicates_stay, all_predicates_stay}
 use Rattle.rpl_simulation.proofs.Ending.{ends_holds}
 use Rattle.rpl_simulation.proofs.NoHalt.{no_halt_holds}
 use Rattle.rosie_cli.specs.Literals.{char_core, char_cores, sequence_core, literal_core, literal_goal}
@@ -71,6 +79,70 @@ literal_whole cs t = ends_holds (λ r. false) (λ r. 0) [] (literal_goal cs) t (
   rules = λ r p e. absurd (none r p e);
   goal = is_tidy cs;
 })
+
+-- it has no look-behind, no repetition and no predicate
+no_cause : (cs : List ℕ) → first_cause_in (char_cores cs) ≡ None
+no_cause [] = refl
+no_cause (c ∷ cs) = no_cause cs
+
+literal_cause : (cs : List ℕ) → first_cause (literal_goal cs) ≡ None
+literal_cause [] = refl
+literal_cause (c ∷ []) = refl
+literal_cause (c ∷ (d ∷ cs)) = no_cause (c ∷ (d ∷ cs))
+
+no_loop : (m : ℕ → Bool) (cs : List ℕ) → any_has_empty_loop m (char_cores cs) ≡ false
+no_loop m [] = refl
+no_loop m (c ∷ cs) = no_loop m cs
+
+literal_loop : (m : ℕ → Bool) (cs : List ℕ) → has_empty_loop m (literal_goal cs) ≡ false
+literal_loop m [] = refl
+literal_loop m (c ∷ []) = refl
+literal_loop m (c ∷ (d ∷ cs)) = no_loop m (c ∷ (d ∷ cs))
+
+no_predicate : (h : ℕ → Bool) (cs : List ℕ) → all_predicates_stay h (char_cores cs) ≡ true
+no_predicate h [] = refl
+no_predicate h (c ∷ cs) = no_predicate h cs
+
+literal_predicates : (h : ℕ → Bool) (cs : List ℕ) → predicates_stay h (literal_goal cs) ≡ true
+literal_predicates h [] = refl
+literal_predicates h (c ∷ []) = refl
+literal_predicates h (c ∷ (d ∷ cs)) = no_predicate h (c ∷ (d ∷ cs))
+
+-- so it has no fault
+literal_fault : (m h : ℕ → Bool) (cs : List ℕ) → goal_fault m h (literal_goal cs) ≡ None
+literal_fault m h cs =
+    ap (λ o. or_then (behind_fault None o) (or_then (fault_if (has_empty_loop m (literal_goal cs)) (EmptyLoop None)) (fault_if (not (predicates_stay h (literal_goal cs))) (HaltInside None)))) (literal_cause cs)
+    ∙ ap (λ b. or_then (fault_if b (EmptyLoop None)) (fault_if (not (predicates_stay h (literal_goal cs))) (HaltInside None))) (literal_loop m cs)
+    ∙ ap (λ b. fault_if (not b) (HaltInside None)) (literal_predicates h cs)
+
+-- the static facts of no rules
+pub no_facts : (R : List Core) → R ≡ [] → Facts R
+no_facts R e = facts_of R (λ r s p is c. absurd (none r p (subst (λ x. slice_get x r ≡ Some p) e is)))
+
+-- where no fault is due, none is named
+pub none_due : (f : CheckFault) → IsDue None (fault_named f) → f ≡ W.NoMemory
+none_due W.NoMemory h = refl
+none_due (W.LookBehind rule cause) h = absurd (cc)
+none_due (W.LeftRecursion rules) h = absurd (cc)
+none_due (W.EmptyLoop rule) h = absurd (cc)
+none_due (W.HaltInside rule) h = absurd (cc)
+
+-- no rules have no fault
+pub empty_fault : (rs : List Rule) → rs ≡ [] → (o : Option Fault) → ((d : Facts (bodies_of rs)) → IsDue (table_fault d.empties d.halting d.reach (bodies_of rs) (blocks_of rs)) o) → IsDue None o
+empty_fault rs e o due =
+    let d = no_facts (bodies_of rs) (ap bodies_of e) in
+    subst (λ x. IsDue x o) (ap (λ bs. fault_from (group_fault d.empties d.halting d.reach (bodies_of rs)) bs 0 0 (length bs)) (ap blocks_of e)) (due d)
+
+-- a literal over no rules has none
+pub is_faultless : (R : List Core) (g : Core) (cs : List ℕ) → R ≡ [] → g ≡ literal_goal cs → (f : CheckFault) → is_some (fault_named f) ≡ true → ((d : Facts R) → IsDue (goal_fault d.empties d.halting g) (fault_named f)) → ⊥
+is_faultless R g cs r e f some due =
+    let d = no_facts R r in
+    let no : goal_fault d.empties d.halting g ≡ None = ap (goal_fault d.empties d.halting) e ∙ literal_fault d.empties d.halting cs in
+    let memory = none_due f (subst (λ x. IsDue x (fault_named f)) no (due d)) in
+    false≢true (sym (ap (λ x. is_some (fault_named x)) memory) ∙ some)
+
+pub no_calls_in : (g : Core) (cs : List ℕ) → g ≡ literal_goal cs → (n r : ℕ) → calls g r ≡ true → r < n
+no_calls_in g cs e n r h = absurd (false≢true (sym (literal_calls cs r) ∙ sym (ap (λ x. calls x r) e) ∙ h))
 
 -- it reaches no rule
 unreached : (cs : List ℕ) (r : ℕ) → Reaches [] (literal_goal cs) r → ⊥

@@ -15,15 +15,11 @@ use Rattle.rosie_words.specs.Printed.{fault_line, usage}
 use Rattle.rosie_words.specs.Reading.{reading}
 use Rattle.rpl_core.specs.Core.{Core}
 use Rattle.rpl_core.specs.Instr.{Instr}
-use Rattle.rpl_core.specs.Meaning.{Open}
-use Rattle.rpl_core.specs.Outcome.{outcome}
 use Rattle.rpl_core.specs.Programs.{IsCode, program, calls}
 use Rattle.rpl_core.specs.View.{core_of}
 use Rattle.rpl_core.specs.declared.peg.Peg.{Peg}
 use Rattle.rpl_core.proofs.Codes.{code_holds}
-use Rattle.rpl_codegen.specs.Calls.{CallsAreRules}
 use Rattle.rpl_codegen.specs.Compiled.{HasLongCode}
-use Rattle.rpl_simulation.specs.Static.{NoPredicateHalts}
 use Rattle.rosie_cli.specs.Jobs.{IsJobOf}
 use Rattle.rosie_cli.specs.Lines.{Job, plain}
 use Rattle.rosie_cli.specs.Literals.{literal_goal, literal_of, between_quotes}
@@ -34,7 +30,7 @@ use Rattle.rosie_cli.specs.ReadLiteral.{finished, Goes, IsGoalOf}
 use Rattle.rosie_cli.specs.declared.pattern.Reading.{Reading}
 use Rattle.rosie_cli.specs.declared.plan.Plan.{Plan}
 use Rattle.rosie_cli.proofs.OneLine.{spelled}
-use Rattle.rosie_cli.proofs.Literal.{literal_calls, literal_stays, literal_whole, literal_is_code, none}
+use Rattle.rosie_cli.proofs.Literal.{literal_is_code}
 
 -- the next character of a pattern
 next_char : (cs : List ℕ) (n c : ℕ) → (n < length cs) × (c ≡ get_or cs n c) → drop n cs ≡ c ∷ drop (n + 1) cs
@@ -68,21 +64,6 @@ job_with R g code = record { rules = R; goal = g; code = code }
 
 -- the goal of a literal, over no rules
 module _ (R : List Core) (g : Core) (cs : List ℕ) (r : R ≡ []) (e : g ≡ literal_goal cs) where
-  alone : CallsAreRules [] (literal_goal cs)
-  alone = record {
-    goal = λ q h. absurd (false≢true (sym (literal_calls cs q) ∙ h));
-    rules = λ q p h. absurd (none q p h);
-  }
-
-  pub any_calls : CallsAreRules R g
-  any_calls = subst (λ x. CallsAreRules x g) (sym r) (subst (CallsAreRules []) (sym e) alone)
-
-  pub any_stays : (h : ℕ → Bool) × NoPredicateHalts h R g
-  any_stays = (λ q. false, subst (λ x. NoPredicateHalts (λ q. false) x g) (sym r) (subst (NoPredicateHalts (λ q. false) []) (sym e) (literal_stays cs)))
-
-  pub any_whole : (t : List ℕ) → outcome R g t ≢ Open
-  any_whole = subst (λ x. (t : List ℕ) → outcome x g t ≢ Open) (sym r) (subst (λ x. (t : List ℕ) → outcome [] x t ≢ Open) (sym e) (literal_whole cs))
-
   code_same : (code : List Instr) → IsCode R g code → code ≡ program (λ q. false) [] (literal_goal cs)
   code_same code is =
       code_holds [] (literal_goal cs) code (program (λ q. false) [] (literal_goal cs)) (subst (λ x. IsCode x (literal_goal cs) code) r (subst (λ x. IsCode R x code) e is)) (literal_is_code cs)

@@ -1,5 +1,8 @@
 // What the words ask for.
-ghost use Rattle.std.specs.Prelude.{◌≡◌, ◌≢◌, ◌++◌, ℕ, List, Ok, IfOk, chars, codes};
+ghost use Rattle.std.specs.Prelude.{◌≡◌, ◌≢◌, ◌++◌, [], ℕ, List, Ok, IfOk, chars, codes};
+ghost use Rattle.rpl_check.specs.Checked.{IsWhole};
+ghost use Rattle.rpl_check.specs.Goal.{peg_of};
+ghost use Rattle.rpl_core.specs.Table.{bodies_of};
 ghost use Rattle.rpl_core.specs.View.{core_of};
 ghost use Rattle.rosie_words.specs.NotYet.{IsPlainMatch};
 ghost use Rattle.rosie_words.specs.declared.fault.UsageFault.TheVariants as E;
@@ -13,6 +16,7 @@ ghost use Rattle.rosie_cli.specs.Planned.{planned, HasMeaning, IsLiteralGoal};
 use crate::job::Job;
 use crate::pattern::read_pattern;
 use rosie_words::{Command, UsageFault, What, fault_line, not_yet, read_words, usage};
+use rpl_check::{CheckFault, Checked, CheckedPeg, check, check_pattern};
 use rpl_codegen::CompileFault;
 use rpl_core::{NoMemory, Peg, Rules};
 use std::alloc::{AllocError, Global};
@@ -55,13 +59,41 @@ fn word_refusal(alloc: Global, word: &str) -> Result<Plan, NoMemory>
     Ok(Plan::Refuse(format!(in alloc; "rosie: not yet: {word}\n")?))
 }
 
-/// The run of a goal without rules.
-fn goal_plan(alloc: Global, goal: Peg) -> Result<Plan, NoMemory>
+/// The table without rules, which has no fault.
+fn no_rules(alloc: Global) -> Result<Checked, NoMemory>
+    ensures { IfOk result (λ rules. rules ≡ []) }
+{
+    match check(alloc, Rules::new(alloc)) {
+        Ok(rules) => Ok(rules),
+        Err(fault) => match fault {
+            CheckFault::NoMemory => Err(AllocError),
+            _ => unreachable!(),
+        },
+    }
+}
+
+/// A literal over no rules, which has no fault.
+fn checked_literal(alloc: Global, rules: &Checked, goal: Peg) -> CheckedPeg
+    requires rules { rules.now ≡ [] }
+    requires literal { IsLiteralGoal (core_of goal) }
+    ensures same { peg_of result ≡ goal }
+    ensures whole { IsWhole (bodies_of rules.now) (core_of (peg_of result)) }
+{
+    match check_pattern(alloc, rules, goal) {
+        Ok(goal) => goal,
+        Err(_) => unreachable!(),
+    }
+}
+
+/// The run of a literal.
+fn literal_plan(alloc: Global, goal: Peg) -> Result<Plan, NoMemory>
     requires { IsLiteralGoal (core_of goal) }
     ensures plan { IfOk result (λ plan. (cs : List ℕ) → core_of goal ≡ literal_goal cs → planned plan ≡ P.job_plan plain (P.literal_job cs)) }
     ensures meant { IfOk result HasMeaning }
 {
-    match Job::new(alloc, Rules::new(alloc), goal) {
+    let rules = no_rules(alloc)?;
+    let goal = checked_literal(alloc, &rules, goal);
+    match Job::new(alloc, rules, goal) {
         Ok(job) => Ok(Plan::Run(job)),
         Err(fault) => match fault {
             CompileFault::CodeTooLong => refusal(alloc, "rosie: (pattern):0: code too long\n"),
@@ -76,7 +108,7 @@ fn pattern_plan(alloc: Global, pattern: &str) -> Result<Plan, NoMemory>
     ensures meant { IfOk result HasMeaning }
 {
     match read_pattern(alloc, pattern)? {
-        Some(goal) => goal_plan(alloc, goal),
+        Some(goal) => literal_plan(alloc, goal),
         None => refusal(alloc, "rosie: (pattern):0: not yet\n"),
     }
 }

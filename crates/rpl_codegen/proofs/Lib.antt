@@ -9,4 +9,5 @@ pub mod Weights
 pub mod Layouts
 pub mod Jumps
 pub mod Finish
-pub mod Within
+pub mod Taking
+pub mod Gathering

@@ -1,6 +1,6 @@
 -- The parts of a sequence or a choice, one after the other.
 use Rattle.std.proofs.Common.{◌≡◌, ℕ, suc, ◌+◌, ◌<◌, List, [], ◌∷◌, length, drop, get_or, refl, sym, ap, ◌∙◌, arith, length-drop}
-use Rattle.std.specs.Prelude.{Bool, true, false, ◌&&◌, if◌then◌else◌, Option, Some, None, is_some, option_map}
+use Rattle.std.specs.Prelude.{Bool, true, false, ◌&&◌, if◌then◌else◌, Option, Some, None, is_some}
 use Rattle.std.proofs.Math.Seq.{drop-cons}
 use Rattle.std.proofs.lemmas.List.{drop_all, nil_from_length}
 use Rattle.rpl_core.specs.Code.{code, code_first, tested_choice}
@@ -8,7 +8,7 @@ use Rattle.rpl_core.specs.Core.{Choice, Seq, NoMore}
 use Rattle.rpl_core.specs.declared.peg.Peg.{Peg}
 use Rattle.rpl_core.specs.declared.peg.Peg.TheViews as V
 use Rattle.rpl_core.specs.declared.peg.Pegs.{Pegs}
-use Rattle.rpl_core.specs.Head.{head, all_heads, both_heads}
+use Rattle.rpl_core.specs.Head.{head}
 use Rattle.regex_class.specs.Ranges.{Range}
 use Rattle.rpl_core.specs.View.{core_of, cores, listed}
 use Rattle.rpl_core.proofs.Rows.{seq_view, choice_view}
@@ -55,15 +55,7 @@ no_parts ps none = choice_view ps ∙ ap (λ l. Choice (cores l)) (nil_from_leng
 pub part_of : (row ps : List Peg) (k : ℕ) (p : Peg) → row ≡ ps → p ≡ get_or row k p → p ≡ get_or ps k p
 part_of row ps k p e is = is ∙ ap (λ l. get_or l k p) e
 
--- whether there are heads
-both_some : (a b : Option (List Range)) → is_some (both_heads a b) ≡ (is_some a && is_some b)
-both_some None b = refl
-both_some (Some r) None = refl
-both_some (Some r) (Some s) = refl
-
-pub heads_here : (ps : List Peg) (k : ℕ) (p : Peg) → k < length ps → p ≡ get_or ps k p → is_some (all_heads (cores (drop k ps))) ≡ (is_some (head (core_of p)) && is_some (all_heads (cores (drop (k + 1) ps))))
-heads_here ps k p lt is = ap (λ l. is_some (all_heads (cores l))) (drop_here ps k p lt is) ∙ both_some (head (core_of p)) (all_heads (cores (drop (k + 1) ps)))
-
+-- a part with its test, if it has a head
 pub tried_is : (o : Option (List Range)) (b : Bool) (n a : ℕ) → b ≡ is_some o → a ≡ (if b then 3 else 2) → tried_len o n ≡ n + a
 tried_is None b n a e f = let g : a ≡ 2 = f ∙ ap (λ x. if x then 3 else 2) e in omega (arith, g)
 tried_is (Some s) b n a e f = let g : a ≡ 3 = f ∙ ap (λ x. if x then 3 else 2) e in omega (arith, g)
@@ -71,7 +63,3 @@ tried_is (Some s) b n a e f = let g : a ≡ 3 = f ∙ ap (λ x. if x then 3 else
 pub and_assoc : (a b c : Bool) → ((a && b) && c) ≡ (a && (b && c))
 and_assoc true b c = refl
 and_assoc false b c = refl
-
-pub some_mapped : {A B : Type 0} (f : A → B) (o : Option A) → is_some o ≡ is_some (option_map f o)
-some_mapped f None = refl
-some_mapped f (Some a) = refl

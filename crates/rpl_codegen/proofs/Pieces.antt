@@ -1,5 +1,5 @@
 -- The instructions of each kind of pattern, from those of its parts. A fragment p has the length n wherever it stands.
-use Rattle.std.proofs.Common.{◌≡◌, ◌∙◌, ℕ, zero, suc, min, ◌+◌, ◌-◌, ◌*◌, ◌<◌, ◌≤◌, List, [], ◌∷◌, ◌++◌, length, Some, None, Option, refl, ap, subst, arith}
+use Rattle.std.proofs.Common.{◌≡◌, ℕ, suc, ◌+◌, ◌-◌, ◌*◌, ◌<◌, ◌≤◌, List, [], ◌∷◌, ◌++◌, length, Some, None, Option, refl, ap, subst, arith}
 use Rattle.std.specs.Prelude.{Result, Ok, Err, OnOk}
 use Rattle.regex_class.specs.Ranges.{Range}
 use Rattle.rpl_core.specs.Instr.{Instr}
@@ -112,12 +112,3 @@ room_turn most k n a b lt h e =
 
 pub room_here : (most k n a : ℕ) → k < most + 1 → a + ((most + 1 - k) * (n + 3) + 1) ≤ 1048576 → a + (n + 3) ≤ 1048576
 room_here most k n a lt h = let e = room_turn most k n a (a + (n + 3)) lt h refl in omega arith
-
--- the address behind a look-behind, as it is counted
-pub sized : (a n m next size all : ℕ) → a + (n * (m + 3) + 1) ≤ 1048576 → next ≡ a → size ≡ min 1048577 m → all ≡ min 1048577 (n * (size + 3) + 1) → next + all ≡ a + (n * (m + 3) + 1)
-sized a zero m next size all room e1 e2 e3 = omega arith
-sized a (suc n) m next size all room e1 e2 e3 =
-    let x : suc n * (m + 3) ≡ n * (m + 3) + (m + 3) = omega arith in
-    let e4 : size ≡ m = omega arith in
-    let e5 : all ≡ min 1048577 (suc n * (m + 3) + 1) = e3 ∙ ap (λ k. min 1048577 (suc n * (k + 3) + 1)) e4 in
-    omega arith

@@ -10,14 +10,14 @@ use Rattle.rpl_core.proofs.Rows.{seq_view, choice_view}
 abbrev mutual
   pub weight : Core → ℕ
   weight (Set s) = 1
-  weight (Seq ps) = weights ps + 3
-  weight (Choice ps) = weights ps + 3
-  weight (Many p) = weight p + 3
-  weight (Not p) = weight p + 3
-  weight (And p) = weight p + 3
-  weight (Behind least most p) = weight p + 3
+  weight (Seq ps) = weights ps + 5
+  weight (Choice ps) = weights ps + 5
+  weight (Many p) = weight p + 5
+  weight (Not p) = weight p + 5
+  weight (And p) = weight p + 5
+  weight (Behind least most p) = weight p + 5
   weight (Call r) = 1
-  weight (Capture c p) = weight p + 3
+  weight (Capture c p) = weight p + 5
   weight (Note x) = 1
   weight Start = 1
   weight End = 1
@@ -32,8 +32,8 @@ part_weight [] k p lt is = absurd (omega arith)
 part_weight (q ∷ ps) zero p lt is = let e = ap (λ x. weight (core_of x)) is in omega arith
 part_weight (q ∷ ps) (suc k) p lt is = let h = part_weight ps k p (omega arith) is in omega arith
 
-pub seq_part : (ps : Pegs) (k : ℕ) (p : Peg) → k < length (listed ps) → p ≡ get_or (listed ps) k p → weight (core_of p) + 2 < weight (core_of (V.Seq ps))
+pub seq_part : (ps : Pegs) (k : ℕ) (p : Peg) → k < length (listed ps) → p ≡ get_or (listed ps) k p → weight (core_of p) + 4 < weight (core_of (V.Seq ps))
 seq_part ps k p lt is = let e = ap weight (seq_view ps) in let h = part_weight (listed ps) k p lt is in omega arith
 
-pub choice_part : (ps : Pegs) (k : ℕ) (p : Peg) → k < length (listed ps) → p ≡ get_or (listed ps) k p → weight (core_of p) + 2 < weight (core_of (V.Choice ps))
+pub choice_part : (ps : Pegs) (k : ℕ) (p : Peg) → k < length (listed ps) → p ≡ get_or (listed ps) k p → weight (core_of p) + 4 < weight (core_of (V.Choice ps))
 choice_part ps k p lt is = let e = ap weight (choice_view ps) in let h = part_weight (listed ps) k p lt is in omega arith

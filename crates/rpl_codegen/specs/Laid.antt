@@ -5,6 +5,8 @@ use Rattle.rpl_core.specs.Core.{Core}
 use Rattle.rpl_core.specs.Instr as I
 use Rattle.rpl_core.specs.Programs.{address}
 use Rattle.rpl_codegen.specs.Sizes.{len}
+use Rattle.rpl_codegen.specs.Nodes.{nodes_in}
+use Rattle.rpl_codegen.specs.declared.size.Node.{Node}
 use Rattle.rpl_codegen.specs.Written.{address_of}
 use Rattle.rpl_codegen.specs.declared.layout.Layout.{Layout}
 
@@ -32,3 +34,14 @@ abbrev pub rule_code : Bool → (ℕ → ℕ) → Option Core → Placed
 rule_code false at o a = []
 rule_code true at None a = []
 rule_code true at (Some p) a = code at p a ++ I.Return ∷ []
+
+-- the nodes of the body of one rule, if it is marked and there is such a rule
+abbrev pub rule_nodes : Bool → Option Core → List Node
+rule_nodes false o = []
+rule_nodes true None = []
+rule_nodes true (Some p) = nodes_in p
+
+-- the nodes of the bodies of the marked rules; the first rule has the number k
+abbrev pub bodies_nodes : (ℕ → Bool) → List Core → ℕ → List Node
+bodies_nodes marks [] k = []
+bodies_nodes marks (p ∷ ps) k = rule_nodes (marks k) (Some p) ++ bodies_nodes marks ps (k + 1)

@@ -1,5 +1,5 @@
 -- How many instructions each kind of pattern has, by its parts.
-use Rattle.std.specs.Prelude.{ℕ, ◌+◌, ◌-◌, ◌*◌, List, Option, Some, None}
+use Rattle.std.specs.Prelude.{ℕ, ◌+◌, ◌-◌, ◌*◌, min, List, Option, Some, None}
 use Rattle.regex_class.specs.Ranges.{Range}
 use Rattle.rpl_core.specs.Core.{Core, Set, Seq, Choice, Many, Not, And, Behind, Call, Capture, Note, Start, End, Halt, Cores, NoMore, Then}
 use Rattle.rpl_core.specs.Head.{head, lone_set}
@@ -46,3 +46,7 @@ abbrev mutual
   len_first NoMore = 1
   len_first (Then p NoMore) = len p
   len_first (Then p (Then q ps)) = tried_len (head p) (len p) + len_first (Then q ps)
+
+-- how many it has up to the limit of 1,048,576, or the first number past that
+abbrev pub capped_len : Core → ℕ
+capped_len p = min 1048577 (len p)

@@ -1,13 +1,14 @@
 // Where the rules begin.
-ghost use Rattle.std.specs.Prelude.{◌≡◌, ◌<◌, if◌then◌else◌, IfOk, length, min, slice_get};
+ghost use Rattle.std.specs.Prelude.{◌≡◌, ◌<◌, ◌++◌, if◌then◌else◌, IfOk, OnOk, length, min, slice_get};
 ghost use Rattle.rpl_core.specs.Listed.{rules_of};
 ghost use Rattle.rpl_core.specs.Table.{bodies_of};
 ghost use Rattle.rpl_core.specs.View.{core_of};
-ghost use Rattle.rpl_codegen.specs.Laid.{LaysOut, body_len};
+ghost use Rattle.rpl_codegen.specs.Laid.{LaysOut, bodies_nodes, body_len, rule_nodes};
 ghost use Rattle.rpl_codegen.specs.Marked.{marked};
+ghost use Rattle.rpl_codegen.specs.Nodes.{nodes_in};
 
 use crate::NoMemory;
-use crate::size::{capped, size_of};
+use crate::size::{Plan, capped, measure};
 use rpl_core::{Peg, Rules};
 use std::alloc::Global;
 
@@ -21,21 +22,26 @@ pub(crate) struct Layout {
 impl Layout {
     ghost use Rattle.rpl_codegen.specs.Written.{address_of};
 
-    /// The addresses of the rules behind the goal. Only marked rules take room.
+    /// The addresses of the rules behind the goal. Only marked rules take room. The nodes of the goal and of the marked rules are added to
+    /// the plan in the order in which the code is written.
     pub(crate) fn new(
         alloc: Global,
         rules: &Rules,
         goal: &Peg,
         marks: &[bool],
+        plan: &mut Plan,
     ) -> Result<Layout, NoMemory>
         requires { length marks.now ≡ length (rules_of rules.now) }
-        ensures { IfOk result (λ l. LaysOut (marked marks.now) (bodies_of (rules_of rules.now)) (core_of goal.now) l) }
+        ensures layout { IfOk result (λ l. LaysOut (marked marks.now) (bodies_of (rules_of rules.now)) (core_of goal.now) l) }
+        ensures nodes { OnOk result (plan.new.nodes.items ≡ plan.old.nodes.items ++ (nodes_in (core_of goal.now) ++ bodies_nodes (marked marks.now) (bodies_of (rules_of rules.now)) 0)) }
     {
         let mut addresses = Vec::new(alloc);
-        let mut next = capped(size_of(goal), 1);
+        let shape = measure(alloc, plan, goal)?;
+        let mut next = capped(shape.size, 1);
         for number in 0..rules.len() {
             addresses.push(next)?;
-            next = capped(next, marked_size(rules, marks, number as u32));
+            let size = marked_size(alloc, plan, rules, marks, number as u32)?;
+            next = capped(next, size);
         }
         Ok(Layout {
             addresses,
@@ -61,16 +67,27 @@ impl Layout {
     }
 }
 
-/// The number of instructions of a rule with its return, or the first number past the limit; none, if the rule isn't marked.
-fn marked_size(rules: &Rules, marks: &[bool], number: u32) -> u32
+/// The number of instructions of a rule with its return, or the first number past the limit; none, if the rule isn't marked. The nodes of a
+/// marked rule are added to the plan.
+fn marked_size(
+    alloc: Global,
+    plan: &mut Plan,
+    rules: &Rules,
+    marks: &[bool],
+    number: u32,
+) -> Result<u32, NoMemory>
     requires { number < length marks.now }
-    ensures { result ≡ min 1048577 (if marked marks.now number then body_len (slice_get (bodies_of (rules_of rules.now)) number) else 0) }
+    ensures size { IfOk result (λ n. n ≡ min 1048577 (if marked marks.now number then body_len (slice_get (bodies_of (rules_of rules.now)) number) else 0)) }
+    ensures nodes { OnOk result (plan.new.nodes.items ≡ plan.old.nodes.items ++ rule_nodes (marked marks.now number) (slice_get (bodies_of (rules_of rules.now)) number)) }
 {
     if !marks[number as usize] {
-        return 0;
+        return Ok(0);
     }
     match rules.get(number) {
-        Some(rule) => capped(size_of(&rule.body), 1),
-        None => 0,
+        Some(rule) => {
+            let shape = measure(alloc, plan, &rule.body)?;
+            Ok(capped(shape.size, 1))
+        }
+        None => Ok(0),
     }
 }

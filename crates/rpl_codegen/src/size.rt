@@ -1,11 +1,20 @@
-// How many instructions a pattern has, before any of them is written.
-ghost use Rattle.std.specs.Prelude.{◌≡◌, ◌+◌, ◌-◌, ◌*◌, ◌≤◌, false, is_some, min};
-ghost use Rattle.rpl_core.specs.Head.{head, first_head, all_heads};
+// What is known of a pattern, and of each pattern in it, before any code is written: how many instructions it has, and the head that is tested
+// before it.
+ghost use Rattle.std.specs.Option.{option_copied};
+ghost use Rattle.std.specs.Prelude.{◌≡◌, ◌+◌, ◌-◌, ◌*◌, ◌<◌, ◌≤◌, [], ◌++◌, IfOk, OnOk, None, Some, drop, false, if◌then◌else◌, length, min, option_map, take};
+ghost use Rattle.rpl_classes.specs.Norm.{norm};
+ghost use Rattle.rpl_core.specs.Head as H;
 ghost use Rattle.rpl_core.specs.View.{core_of, cores};
+ghost use Rattle.rpl_codegen.specs.Gathered.{Gathers};
+ghost use Rattle.rpl_codegen.specs.Nodes.{behind_nodes, choice_nodes, inner_nodes, nodes_in, parts_nodes, tested_nodes};
 ghost use Rattle.rpl_codegen.specs.Sizes.{len, len_all, len_first};
 
+use crate::NoMemory;
 use crate::head::lone_set;
+use regex_class::ClassRange;
+use rpl_classes::Set;
 use rpl_core::Peg;
+use std::alloc::Global;
 
 /// The greatest number of instructions that a program may have.
 pub(crate) const MAX_CODE: u32 = 1_048_576;
@@ -28,25 +37,82 @@ pub(crate) fn behind_size(size: u32, least: u32, most: u32) -> u32
     (lengths * (size as u64 + 3) + 1).min(MAX_CODE as u64 + 1) as u32
 }
 
-/// The number of instructions of a pattern, or the first number past the limit.
-pub(crate) fn size_of(peg: &Peg) -> u32
-    ensures { result ≡ min 1048577 (len (core_of peg.now)) }
-{
-    measure(peg).size
+/// The number of instructions of a pattern, or the first number past the limit; and its head, if others follow it in a choice and it has one.
+#[derive(Drop)]
+pub(crate) struct Node {
+    size: u32,
+    head: Option<Set>,
 }
 
-/// The number of instructions of a choice of these parts, or the first number past the limit.
-pub(crate) fn choice_size(parts: &[Peg]) -> u32
-    ensures { result ≡ min 1048577 (len_first (cores parts.now)) }
-{
-    measure_first(parts).size
+/// Nodes in the order in which the code is written, and which of them comes next.
+#[derive(Drop)]
+pub(crate) struct Nodes {
+    list: Vec<Node>,
+    pub(crate) next: usize,
+}
+
+impl Nodes {
+    ghost use Rattle.rpl_codegen.specs.Taken.{Takes, head_at, left, size_at};
+
+    /// The nodes from the first on.
+    pub(crate) fn new(list: Vec<Node>) -> Nodes
+        ensures { left result ≡ list.items }
+    {
+        Nodes { list, next: 0 }
+    }
+
+    /// The size of the next node.
+    pub(crate) fn size(&self) -> u32
+        requires { 0 < length (left self.now) }
+        ensures { result ≡ size_at (left self.now) }
+    {
+        self.list[self.next].size
+    }
+
+    /// The head of the next node, if one is tested.
+    pub(crate) fn head(&self) -> Option<&Set>
+        requires { 0 < length (left self.now) }
+        ensures { option_copied result ≡ head_at (left self.now) }
+    {
+        self.list[self.next].head.as_ref()
+    }
+
+    /// Takes the next node, and gives its size.
+    pub(crate) fn take(&mut self) -> u32
+        requires { 0 < length (left self.old) }
+        ensures size { result ≡ size_at (left self.old) }
+        ensures taken { Takes self.old self.new (take 1 (left self.old)) }
+    {
+        let size = self.size();
+        self.next += 1;
+        size
+    }
+}
+
+/// What is gathered while patterns are measured: their nodes, and the ranges of those heads that are part of a greater one.
+#[derive(Drop)]
+pub(crate) struct Plan {
+    pub(crate) nodes: Vec<Node>,
+    ranges: Vec<ClassRange>,
+}
+
+impl Plan {
+    /// Nothing yet.
+    pub(crate) fn new(alloc: Global) -> Plan
+        ensures { result.nodes.items ≡ [] }
+    {
+        Plan {
+            nodes: Vec::new(alloc),
+            ranges: Vec::new(alloc),
+        }
+    }
 }
 
 /// The number of instructions of a pattern, or the first number past the limit, and whether it has a head. Both are had in one walk, since each
 /// level needs both of the one below.
 #[derive(Clone, Copy)]
-struct Shape {
-    size: u32,
+pub(crate) struct Shape {
+    pub(crate) size: u32,
     has_head: bool,
 }
 
@@ -61,91 +127,189 @@ fn headless(size: u32) -> Shape
     }
 }
 
+/// Adds the nodes of the pattern and of all patterns in it. The ranges of its head are added, if it has one; else there may be more ranges of no
+/// use.
 #[cycle(measure)]
-fn measure(peg: &Peg) -> Shape
-    ensures size { result.size ≡ min 1048577 (len (core_of peg.now)) }
-    ensures head { result.has_head ≡ is_some (head (core_of peg.now)) }
+pub(crate) fn measure(alloc: Global, plan: &mut Plan, peg: &Peg) -> Result<Shape, NoMemory>
+    ensures nodes { OnOk result (plan.new.nodes.items ≡ plan.old.nodes.items ++ nodes_in (core_of peg.now)) }
+    ensures size { IfOk result (λ s. s.size ≡ min 1048577 (len (core_of peg.now))) }
+    ensures head { IfOk result (λ s. Gathers plan.old.ranges.items plan.new.ranges.items (H.head (core_of peg.now)) s.has_head) }
+{
+    let place = plan.nodes.len();
+    plan.nodes.push(Node {
+        size: 0,
+        head: None,
+    })?;
+    let shape = measure_inner(alloc, plan, peg)?;
+    plan.nodes[place] = Node {
+        size: shape.size,
+        head: None,
+    };
+    Ok(shape)
+}
+
+/// The same of a part of a choice that others follow: its node has its head.
+#[cycle(measure)]
+fn measure_tried(alloc: Global, plan: &mut Plan, part: &Peg) -> Result<Shape, NoMemory>
+    ensures nodes { OnOk result (plan.new.nodes.items ≡ plan.old.nodes.items ++ tested_nodes (core_of part.now)) }
+    ensures size { IfOk result (λ s. s.size ≡ min 1048577 (len (core_of part.now))) }
+    ensures head { IfOk result (λ s. Gathers plan.old.ranges.items plan.new.ranges.items (H.head (core_of part.now)) s.has_head) }
+{
+    let place = plan.nodes.len();
+    let start = plan.ranges.len();
+    plan.nodes.push(Node {
+        size: 0,
+        head: None,
+    })?;
+    let shape = measure_inner(alloc, plan, part)?;
+    let head = join(alloc, &mut plan.ranges, start, shape.has_head)?;
+    plan.nodes[place] = Node {
+        size: shape.size,
+        head,
+    };
+    Ok(shape)
+}
+
+/// Puts the normal form of the ranges from `start` on in their place, and gives the set that they are; no set and no ranges, if no head was found.
+fn join(
+    alloc: Global,
+    ranges: &mut Vec<ClassRange>,
+    start: usize,
+    found: bool,
+) -> Result<Option<Set>, NoMemory>
+    requires { start ≤ length ranges.old.items }
+    ensures set { IfOk result (λ h. h ≡ (if found then Some (norm (drop start ranges.old.items)) else None)) }
+    ensures ranges { OnOk result (ranges.new.items ≡ take start ranges.old.items ++ (if found then norm (drop start ranges.old.items) else [])) }
+{
+    if !found {
+        ranges.truncate(start);
+        return Ok(None);
+    }
+    let set = Set::from_ranges(alloc, &ranges[start..])?;
+    ranges.truncate(start);
+    ranges.extend_from_slice(set.ranges())?;
+    Ok(Some(set))
+}
+
+/// Adds the nodes of the patterns in this one, and its ranges.
+#[cycle(measure)]
+fn measure_inner(alloc: Global, plan: &mut Plan, peg: &Peg) -> Result<Shape, NoMemory>
+    ensures nodes { OnOk result (plan.new.nodes.items ≡ plan.old.nodes.items ++ inner_nodes (core_of peg.now)) }
+    ensures size { IfOk result (λ s. s.size ≡ min 1048577 (len (core_of peg.now))) }
+    ensures head { IfOk result (λ s. Gathers plan.old.ranges.items plan.new.ranges.items (H.head (core_of peg.now)) s.has_head) }
 {
     match peg {
-        Peg::Set(_) => Shape {
-            size: 1,
-            has_head: true,
-        },
-        Peg::Call(_) | Peg::Note(_) | Peg::Start | Peg::End | Peg::Halt => headless(1),
-        Peg::Seq(parts) => measure_all(parts.as_slice()),
-        Peg::Choice(parts) => measure_first(parts.as_slice()),
+        Peg::Set(set) => {
+            plan.ranges.extend_from_slice(set.ranges())?;
+            Ok(Shape {
+                size: 1,
+                has_head: true,
+            })
+        }
+        Peg::Call(_) | Peg::Note(_) | Peg::Start | Peg::End | Peg::Halt => Ok(headless(1)),
+        Peg::Seq(parts) => measure_all(alloc, plan, parts.as_slice()),
+        Peg::Choice(parts) => measure_first(alloc, plan, parts.as_slice()),
         Peg::Many(body) => {
+            let inner = measure(alloc, plan, body)?;
             if lone_set(body).is_some() {
-                headless(1)
+                Ok(headless(1))
             } else {
-                headless(capped(measure(body).size, 2))
+                Ok(headless(capped(inner.size, 2)))
             }
         }
         Peg::Not(body) => {
+            let inner = measure(alloc, plan, body)?;
             if lone_set(body).is_some() {
-                headless(2)
+                Ok(headless(2))
             } else {
-                headless(capped(measure(body).size, 2))
+                Ok(headless(capped(inner.size, 2)))
             }
         }
-        Peg::And(body) => headless(capped(measure(body).size, 3)),
-        Peg::Behind { least, most, body } => {
-            headless(behind_size(measure(body).size, *least, *most))
+        Peg::And(body) => {
+            let inner = measure(alloc, plan, body)?;
+            Ok(headless(capped(inner.size, 3)))
         }
+        Peg::Behind { least, most, body } => measure_behind(alloc, plan, *least, *most, body),
         Peg::Capture(_, body) => {
-            let inner = measure(body);
-            Shape {
+            let inner = measure(alloc, plan, body)?;
+            Ok(Shape {
                 size: capped(inner.size, 2),
                 has_head: inner.has_head,
-            }
+            })
         }
     }
+}
+
+/// A look-behind, whose body counts only where there is a length to try.
+#[cycle(measure)]
+fn measure_behind(
+    alloc: Global,
+    plan: &mut Plan,
+    least: u32,
+    most: u32,
+    body: &Peg,
+) -> Result<Shape, NoMemory>
+    ensures nodes { OnOk result (plan.new.nodes.items ≡ plan.old.nodes.items ++ behind_nodes (most + 1 - least) (nodes_in (core_of body.now))) }
+    ensures size { IfOk result (λ s. s.size ≡ min 1048577 ((most + 1 - least) * (len (core_of body.now) + 3) + 1)) }
+    ensures head { IfOk result (λ s. Gathers plan.old.ranges.items plan.new.ranges.items None s.has_head) }
+{
+    if least > most {
+        return Ok(headless(1));
+    }
+    let inner = measure(alloc, plan, body)?;
+    Ok(headless(behind_size(inner.size, least, most)))
 }
 
 /// All parts in turn, whose head is that of the first.
 #[cycle(measure)]
-fn measure_all(parts: &[Peg]) -> Shape
-    ensures size { result.size ≡ min 1048577 (len_all (cores parts.now)) }
-    ensures head { result.has_head ≡ is_some (first_head (cores parts.now)) }
+fn measure_all(alloc: Global, plan: &mut Plan, parts: &[Peg]) -> Result<Shape, NoMemory>
+    ensures nodes { OnOk result (plan.new.nodes.items ≡ plan.old.nodes.items ++ parts_nodes (cores parts.now)) }
+    ensures size { IfOk result (λ s. s.size ≡ min 1048577 (len_all (cores parts.now))) }
+    ensures head { IfOk result (λ s. Gathers plan.old.ranges.items plan.new.ranges.items (H.first_head (cores parts.now)) s.has_head) }
 {
     if parts.is_empty() {
-        return headless(0);
+        return Ok(headless(0));
     }
-    let first = measure(&parts[0]);
+    let first = measure(alloc, plan, &parts[0])?;
+    let kept = plan.ranges.len();
     let mut total = first.size;
     for number in 1..parts.len() {
-        total = capped(total, measure(&parts[number]).size);
+        let part = measure(alloc, plan, &parts[number])?;
+        plan.ranges.truncate(kept);
+        total = capped(total, part.size);
     }
-    Shape {
+    Ok(Shape {
         size: total,
         has_head: first.has_head,
-    }
+    })
 }
 
 /// A choice of these parts, which has a head where each part has one.
 #[cycle(measure)]
-fn measure_first(parts: &[Peg]) -> Shape
-    ensures size { result.size ≡ min 1048577 (len_first (cores parts.now)) }
-    ensures head { result.has_head ≡ is_some (all_heads (cores parts.now)) }
+fn measure_first(alloc: Global, plan: &mut Plan, parts: &[Peg]) -> Result<Shape, NoMemory>
+    ensures nodes { OnOk result (plan.new.nodes.items ≡ plan.old.nodes.items ++ choice_nodes (cores parts.now)) }
+    ensures size { IfOk result (λ s. s.size ≡ min 1048577 (len_first (cores parts.now))) }
+    ensures head { IfOk result (λ s. Gathers plan.old.ranges.items plan.new.ranges.items (option_map norm (H.all_heads (cores parts.now))) s.has_head) }
 {
     if parts.is_empty() {
-        return Shape {
+        return Ok(Shape {
             size: 1,
             has_head: true,
-        };
+        });
     }
     let last = parts.len() - 1;
     let mut total = 0;
     let mut all = true;
     for number in 0..last {
-        let tried = measure(&parts[number]);
+        let tried = measure_tried(alloc, plan, &parts[number])?;
         let around = if tried.has_head { 3 } else { 2 };
         total = capped(total, capped(tried.size, around));
         all = all && tried.has_head;
     }
-    let end = measure(&parts[last]);
-    Shape {
+    let end = measure(alloc, plan, &parts[last])?;
+    all = all && end.has_head;
+    Ok(Shape {
         size: capped(total, end.size),
-        has_head: all && end.has_head,
-    }
+        has_head: all,
+    })
 }

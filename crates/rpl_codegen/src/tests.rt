@@ -1,9 +1,11 @@
 // Codes that were worked out by hand.
-use crate::{CompileFault, calls_are_rules, compile};
+use crate::{CompileFault, compile};
+use rpl_check::{Checked, calls_are_rules, check, check_pattern, is_in_order};
 use rpl_classes::Set;
 use rpl_core::{Instr, Peg, Pegs, Program, Rule, Rules};
 use rpl_text::Chars;
 use std::alloc::{AllocError, Global};
+use std::test::Fail;
 
 fn letter(alloc: Global, c: char) -> Result<Peg, AllocError> {
     let set = Set::from_ranges(alloc, &[(c as u32, c as u32)])?;
@@ -92,20 +94,39 @@ fn all_kinds(alloc: Global) -> Result<Peg, AllocError> {
     Ok(Peg::Seq(all))
 }
 
+/// The table, which has no fault.
+fn checked(alloc: Global, rules: Rules) -> Result<Checked, Fail> {
+    if !is_in_order(&rules) {
+        Err("rules out of order")?;
+    }
+    Ok(check(alloc, rules)?)
+}
+
+/// What the compiler answers for a goal without faults.
+fn compiled(
+    alloc: Global,
+    checked: &Checked,
+    goal: Peg,
+) -> Result<Result<Program, CompileFault>, Fail> {
+    if !calls_are_rules(checked.rules(), &goal) {
+        Err("a call of no rule")?;
+    }
+    let goal = check_pattern(alloc, checked, goal)?;
+    Ok(compile(alloc, checked, &goal))
+}
+
 #[test]
-fn codes_are_as_worked_out(rt: HostRuntime) -> Result<(), AllocError> {
+fn codes_are_as_worked_out(rt: HostRuntime) -> Result<(), Fail> {
     let alloc = rt.alloc();
-    let none = Rules::new(alloc);
+    let none = checked(alloc, Rules::new(alloc))?;
     let goal = capture(alloc, "*", letter(alloc, '7')?)?;
-    assert!(rt; calls_are_rules(&none, &goal));
-    let program = compile(alloc, &none, &goal).expect(&rt, "one literal");
+    let program = compiled(alloc, &none, goal)??;
     assert_eq!(rt;
         printed(alloc, &program)?.as_str(),
         "open 0; set 0; close; finish; "
     );
     let goal = capture(alloc, "*", all_kinds(alloc)?)?;
-    assert!(rt; calls_are_rules(&none, &goal));
-    let program = compile(alloc, &none, &goal).expect(&rt, "all kinds");
+    let program = compiled(alloc, &none, goal)??;
     let want =
         "open 0; start; testset 4 0; fail; choice 8; set 0; start; failtwice; choice 11; set 0; backcommit 12; fail; choice 16; back 1; set 0; meet 21; choice 20; back 2; set 0; meet 21; fail; note 1; choice 26; set 0; set 1; partialcommit 23; choice 29; end; commit 30; set 1; halt; close; finish; ";
     assert_eq!(rt; printed(alloc, &program)?.as_str(), want);
@@ -115,7 +136,7 @@ fn codes_are_as_worked_out(rt: HostRuntime) -> Result<(), AllocError> {
 }
 
 #[test]
-fn only_reached_rules_are_written(rt: HostRuntime) -> Result<(), AllocError> {
+fn only_reached_rules_are_written(rt: HostRuntime) -> Result<(), Fail> {
     let alloc = rt.alloc();
     let mut rules = Rules::new(alloc);
     let words = Peg::Choice(parts(alloc, letter(alloc, 'a')?, letter(alloc, 'b')?)?);
@@ -126,34 +147,29 @@ fn only_reached_rules_are_written(rt: HostRuntime) -> Result<(), AllocError> {
         block: None,
         body,
     })?;
-    let goal = Peg::Call(0);
-    assert!(rt; calls_are_rules(&rules, &goal));
-    let program = compile(alloc, &rules, &goal).expect(&rt, "the worked program");
+    let table = checked(alloc, rules)?;
+    let program = compiled(alloc, &table, Peg::Call(0))??;
     let want =
         "call 2; finish; open 0; testset 7 0; choice 7; set 0; commit 8; set 1; span 2; close; return; ";
     assert_eq!(rt; printed(alloc, &program)?.as_str(), want);
-    let goal = letter(alloc, 'a')?;
-    assert!(rt; calls_are_rules(&rules, &goal));
-    let program = compile(alloc, &rules, &goal).expect(&rt, "a goal that calls nothing");
+    let program = compiled(alloc, &table, letter(alloc, 'a')?)??;
     assert_eq!(rt; printed(alloc, &program)?.as_str(), "set 0; finish; ");
-    assert!(rt; !calls_are_rules(&rules, &Peg::Call(1)));
     Ok(())
 }
 
 #[test]
-fn the_longest_code_fits(rt: HostRuntime) -> Result<(), AllocError> {
+fn the_longest_code_fits(rt: HostRuntime) -> Result<(), Fail> {
     let alloc = rt.alloc();
-    let none = Rules::new(alloc);
+    let none = checked(alloc, Rules::new(alloc))?;
     let goal = capture(alloc, "*", behind(alloc, 0, 262_142)?)?;
-    assert!(rt; calls_are_rules(&none, &goal));
-    let program = compile(alloc, &none, &goal).expect(&rt, "the longest code");
+    let program = compiled(alloc, &none, goal)??;
     assert_eq!(rt; program.code().len(), 1_048_576);
     let goal = capture(
         alloc,
         "*",
         seq(alloc, behind(alloc, 0, 262_142)?, Peg::Start)?,
     )?;
-    assert!(rt; calls_are_rules(&none, &goal));
-    assert!(rt; matches!(compile(alloc, &none, &goal), Err(CompileFault::CodeTooLong)));
+    let answer = compiled(alloc, &none, goal)?;
+    assert!(rt; matches!(answer, Err(CompileFault::CodeTooLong)));
     Ok(())
 }

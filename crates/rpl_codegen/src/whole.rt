@@ -6,9 +6,10 @@ ghost use Rattle.rpl_core.specs.Programs.{IsCode, bodies};
 ghost use Rattle.rpl_core.specs.Table.{bodies_of};
 ghost use Rattle.rpl_core.specs.View.{core_of};
 ghost use Rattle.rpl_codegen.specs.Calls.{CallsAreRules};
-ghost use Rattle.rpl_codegen.specs.Compiled.{DoesAsMeant, HasLongCode};
-ghost use Rattle.rpl_codegen.specs.Laid.{bodies_len, body_len, rule_code};
+ghost use Rattle.rpl_codegen.specs.Compiled.{HasLongCode};
+ghost use Rattle.rpl_codegen.specs.Laid.{bodies_len, bodies_nodes, body_len, rule_code, rule_nodes};
 ghost use Rattle.rpl_codegen.specs.Marked.{marked};
+ghost use Rattle.rpl_codegen.specs.Taken.{Begins, Takes, left};
 ghost use Rattle.rpl_codegen.specs.Uses.{KeepsOnce, labels_in, sets_in};
 ghost use Rattle.rpl_codegen.specs.Written.{Adds, address_of};
 ghost use Rattle.rpl_codegen.specs.declared.whole.CompileFault.TheVariants.{NoMemory};
@@ -17,7 +18,7 @@ use crate::NoMemory;
 use crate::draft::Draft;
 use crate::layout::Layout;
 use crate::reach::reached;
-use crate::size::MAX_CODE;
+use crate::size::{MAX_CODE, Nodes, Plan};
 use crate::writing::emit;
 use rpl_core::{Instr, Peg, Program, Rules};
 use std::alloc::Global;
@@ -44,24 +45,29 @@ impl From<NoMemory> for CompileFault {
 
 /// The code of the goal over the table of rules: the goal's own code, `finish`, and each rule that it reaches in the order of the
 /// table. Equal sets, and equal texts, are kept once, in the order of their first uses.
-pub fn compile(alloc: Global, rules: &Rules, goal: &Peg) -> Result<Program, CompileFault>
+pub(crate) fn compile_goal(
+    alloc: Global,
+    rules: &Rules,
+    goal: &Peg,
+) -> Result<Program, CompileFault>
     requires { CallsAreRules (bodies_of (rules_of rules.now)) (core_of goal.now) }
     ensures code { IfOk result (λ p. IsCode (bodies_of (rules_of rules.now)) (core_of goal.now) (instructions p)) }
-    ensures meant { IfOk result (λ p. DoesAsMeant (bodies_of (rules_of rules.now)) (core_of goal.now) (instructions p)) }
     ensures fits { IfOk result (λ p. length (code_of p) ≤ 1048576) }
     ensures sets { IfOk result (λ p. KeepsOnce (sets_in (instructions p)) (sets_of p)) }
     ensures labels { IfOk result (λ p. KeepsOnce (labels_in (instructions p)) (labels_of p)) }
     ensures too_long { IfErr result (λ e. e ≡ CompileFault.CodeTooLong → HasLongCode (bodies_of (rules_of rules.now)) (core_of goal.now)) }
 {
     let marks = reached(alloc, rules, goal)?;
-    let layout = Layout::new(alloc, rules, goal, &marks)?;
+    let mut plan = Plan::new(alloc);
+    let layout = Layout::new(alloc, rules, goal, &marks, &mut plan)?;
     if layout.size() > MAX_CODE {
         return Err(CompileFault::CodeTooLong);
     }
     let mut draft = Draft::new(alloc);
-    emit(alloc, &mut draft, &layout, goal)?;
+    let mut nodes = Nodes::new(plan.nodes);
+    emit(alloc, &mut draft, &layout, &mut nodes, goal)?;
     draft.put(Instr::Finish)?;
-    emit_rules(alloc, &mut draft, &layout, rules, &marks)?;
+    emit_rules(alloc, &mut draft, &layout, &mut nodes, rules, &marks)?;
     let Draft { code, sets, labels } = draft;
     Ok(Program::new(code, sets.sets(alloc)?, labels.labels(alloc)?))
 }
@@ -71,15 +77,17 @@ fn emit_rules(
     alloc: Global,
     draft: &mut Draft,
     layout: &Layout,
+    nodes: &mut Nodes,
     rules: &Rules,
     marks: &[bool],
 ) -> Result<(), NoMemory>
     requires long { length marks.now ≡ length (rules_of rules.now) }
     requires room { length draft.old.code + bodies_len (marked marks.now) (bodies_of (rules_of rules.now)) 0 ≤ 1048576 }
+    requires nodes { Begins (left nodes.old) (bodies_nodes (marked marks.now) (bodies_of (rules_of rules.now)) 0) }
     ensures { OnOk result (Adds draft.old draft.new (bodies (marked marks.now) (address_of layout.now) (bodies_of (rules_of rules.now)) 0 (length draft.old.code))) }
 {
     for number in 0..rules.len() {
-        emit_rule(alloc, draft, layout, rules, marks, number as u32)?;
+        emit_rule(alloc, draft, layout, nodes, rules, marks, number as u32)?;
     }
     Ok(())
 }
@@ -89,19 +97,22 @@ fn emit_rule(
     alloc: Global,
     draft: &mut Draft,
     layout: &Layout,
+    nodes: &mut Nodes,
     rules: &Rules,
     marks: &[bool],
     number: u32,
 ) -> Result<(), NoMemory>
     requires inside { number < length marks.now }
     requires room { length draft.old.code + (if marked marks.now number then body_len (slice_get (bodies_of (rules_of rules.now)) number) else 0) ≤ 1048576 }
-    ensures { OnOk result (Adds draft.old draft.new (rule_code (marked marks.now number) (address_of layout.now) (slice_get (bodies_of (rules_of rules.now)) number) (length draft.old.code))) }
+    requires nodes { Begins (left nodes.old) (rule_nodes (marked marks.now number) (slice_get (bodies_of (rules_of rules.now)) number)) }
+    ensures code { OnOk result (Adds draft.old draft.new (rule_code (marked marks.now number) (address_of layout.now) (slice_get (bodies_of (rules_of rules.now)) number) (length draft.old.code))) }
+    ensures nodes { OnOk result (Takes nodes.old nodes.new (rule_nodes (marked marks.now number) (slice_get (bodies_of (rules_of rules.now)) number))) }
 {
     if !marks[number as usize] {
         return Ok(());
     }
     if let Some(rule) = rules.get(number) {
-        emit(alloc, draft, layout, &rule.body)?;
+        emit(alloc, draft, layout, nodes, &rule.body)?;
         draft.put(Instr::Return)?;
     }
     Ok(())

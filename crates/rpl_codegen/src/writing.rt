@@ -1,4 +1,5 @@
-// The code of each kind of pattern. Sizes are known before, so that each jump is written with its address.
+// The code of each kind of pattern. Sizes are known before, so that each jump is written with its address. Each writer takes the nodes of the
+// pattern that it writes, and of all patterns in it.
 ghost use Rattle.std.specs.Prelude.{◌≡◌, ℕ, suc, ◌<◌, ◌+◌, ◌-◌, ◌*◌, ◌≤◌, List, [], ◌∷◌, ◌++◌, OnOk, length};
 ghost use Rattle.rpl_core.specs.Code as C;
 ghost use Rattle.rpl_core.specs.Head as H;
@@ -6,13 +7,15 @@ ghost use Rattle.rpl_core.specs.Instr as I;
 ghost use Rattle.rpl_core.specs.View.{core_of};
 ghost use Rattle.rpl_codegen.specs.declared.draft.Draft as D;
 ghost use Rattle.rpl_codegen.specs.Sizes.{len, many_len, not_len, tried_len};
+ghost use Rattle.rpl_codegen.specs.Nodes.{behind_nodes, inner_nodes, nodes_in, tested_nodes};
+ghost use Rattle.rpl_codegen.specs.Taken.{Begins, Takes, head_at, left};
 ghost use Rattle.rpl_codegen.specs.Written.{Adds, address_of, test_code};
 
 use crate::NoMemory;
 use crate::draft::Draft;
-use crate::head::{head_of, lone_set};
+use crate::head::lone_set;
 use crate::layout::Layout;
-use crate::size::{behind_size, choice_size, size_of};
+use crate::size::Nodes;
 use rpl_core::{Instr, Peg, Pegs};
 use rpl_text::Chars;
 use std::alloc::Global;
@@ -23,23 +26,46 @@ pub(crate) fn emit(
     alloc: Global,
     draft: &mut Draft,
     layout: &Layout,
+    nodes: &mut Nodes,
     peg: &Peg,
 ) -> Result<(), NoMemory>
-    requires { length draft.old.code + len (core_of peg.now) ≤ 1048576 }
-    ensures { OnOk result (Adds draft.old draft.new (C.code (address_of layout.now) (core_of peg.now) (length draft.old.code))) }
+    requires room { length draft.old.code + len (core_of peg.now) ≤ 1048576 }
+    requires nodes { Begins (left nodes.old) (nodes_in (core_of peg.now)) }
+    ensures code { OnOk result (Adds draft.old draft.new (C.code (address_of layout.now) (core_of peg.now) (length draft.old.code))) }
+    ensures nodes { OnOk result (Takes nodes.old nodes.new (nodes_in (core_of peg.now))) }
+{
+    let end = draft.next() + nodes.take();
+    emit_inner(alloc, draft, layout, nodes, peg, end)
+}
+
+/// Writes the code of the pattern up to `end`. Its own node is taken already.
+#[cycle(emit)]
+fn emit_inner(
+    alloc: Global,
+    draft: &mut Draft,
+    layout: &Layout,
+    nodes: &mut Nodes,
+    peg: &Peg,
+    end: u32,
+) -> Result<(), NoMemory>
+    requires room { length draft.old.code + len (core_of peg.now) ≤ 1048576 }
+    requires nodes { Begins (left nodes.old) (inner_nodes (core_of peg.now)) }
+    requires end { end ≡ length draft.old.code + len (core_of peg.now) }
+    ensures code { OnOk result (Adds draft.old draft.new (C.code (address_of layout.now) (core_of peg.now) (length draft.old.code))) }
+    ensures nodes { OnOk result (Takes nodes.old nodes.new (inner_nodes (core_of peg.now))) }
 {
     match peg {
         Peg::Set(set) => draft.put_set(alloc, set),
-        Peg::Seq(parts) => emit_all(alloc, draft, layout, parts),
-        Peg::Choice(parts) => emit_first(alloc, draft, layout, parts),
-        Peg::Many(body) => emit_many(alloc, draft, layout, body),
-        Peg::Not(body) => emit_not(alloc, draft, layout, body),
-        Peg::And(body) => emit_and(alloc, draft, layout, body),
+        Peg::Seq(parts) => emit_all(alloc, draft, layout, nodes, parts),
+        Peg::Choice(parts) => emit_first(alloc, draft, layout, nodes, parts, end),
+        Peg::Many(body) => emit_many(alloc, draft, layout, nodes, body),
+        Peg::Not(body) => emit_not(alloc, draft, layout, nodes, body),
+        Peg::And(body) => emit_and(alloc, draft, layout, nodes, body),
         Peg::Behind { least, most, body } => {
-            emit_behind(alloc, draft, layout, *least, *most, body)
+            emit_behind(alloc, draft, layout, nodes, *least, *most, body, end)
         }
         Peg::Call(rule) => draft.put(Instr::Call(layout.address(*rule))),
-        Peg::Capture(label, body) => emit_capture(alloc, draft, layout, label, body),
+        Peg::Capture(label, body) => emit_capture(alloc, draft, layout, nodes, label, body),
         Peg::Note(text) => draft.put_note(alloc, text),
         Peg::Start => draft.put(Instr::Start),
         Peg::End => draft.put(Instr::End),
@@ -49,12 +75,20 @@ pub(crate) fn emit(
 
 /// Writes the parts in turn.
 #[cycle(emit)]
-fn emit_all(alloc: Global, draft: &mut Draft, layout: &Layout, parts: &Pegs) -> Result<(), NoMemory>
-    requires { length draft.old.code + len (core_of (Peg.Seq parts.now)) ≤ 1048576 }
-    ensures { OnOk result (Adds draft.old draft.new (C.code (address_of layout.now) (core_of (Peg.Seq parts.now)) (length draft.old.code))) }
+fn emit_all(
+    alloc: Global,
+    draft: &mut Draft,
+    layout: &Layout,
+    nodes: &mut Nodes,
+    parts: &Pegs,
+) -> Result<(), NoMemory>
+    requires room { length draft.old.code + len (core_of (Peg.Seq parts.now)) ≤ 1048576 }
+    requires nodes { Begins (left nodes.old) (inner_nodes (core_of (Peg.Seq parts.now))) }
+    ensures code { OnOk result (Adds draft.old draft.new (C.code (address_of layout.now) (core_of (Peg.Seq parts.now)) (length draft.old.code))) }
+    ensures nodes { OnOk result (Takes nodes.old nodes.new (inner_nodes (core_of (Peg.Seq parts.now)))) }
 {
     for part in parts.as_slice() {
-        emit(alloc, draft, layout, part)?;
+        emit(alloc, draft, layout, nodes, part)?;
     }
     Ok(())
 }
@@ -65,21 +99,25 @@ fn emit_first(
     alloc: Global,
     draft: &mut Draft,
     layout: &Layout,
+    nodes: &mut Nodes,
     parts: &Pegs,
+    end: u32,
 ) -> Result<(), NoMemory>
-    requires { length draft.old.code + len (core_of (Peg.Choice parts.now)) ≤ 1048576 }
-    ensures { OnOk result (Adds draft.old draft.new (C.code (address_of layout.now) (core_of (Peg.Choice parts.now)) (length draft.old.code))) }
+    requires room { length draft.old.code + len (core_of (Peg.Choice parts.now)) ≤ 1048576 }
+    requires nodes { Begins (left nodes.old) (inner_nodes (core_of (Peg.Choice parts.now))) }
+    requires end { end ≡ length draft.old.code + len (core_of (Peg.Choice parts.now)) }
+    ensures code { OnOk result (Adds draft.old draft.new (C.code (address_of layout.now) (core_of (Peg.Choice parts.now)) (length draft.old.code))) }
+    ensures nodes { OnOk result (Takes nodes.old nodes.new (inner_nodes (core_of (Peg.Choice parts.now)))) }
 {
     let parts = parts.as_slice();
     if parts.is_empty() {
         return draft.put(Instr::Fail);
     }
-    let end = draft.next() + choice_size(parts);
     let last = parts.len() - 1;
     for number in 0..last {
-        emit_tried(alloc, draft, layout, &parts[number], end)?;
+        emit_tried(alloc, draft, layout, nodes, &parts[number], end)?;
     }
-    emit(alloc, draft, layout, &parts[last])
+    emit(alloc, draft, layout, nodes, &parts[last])
 }
 
 /// Writes a part that others follow, with the test of its head if it has one.
@@ -88,93 +126,130 @@ fn emit_tried(
     alloc: Global,
     draft: &mut Draft,
     layout: &Layout,
+    nodes: &mut Nodes,
     part: &Peg,
     end: u32,
 ) -> Result<(), NoMemory>
-    requires { length draft.old.code + tried_len (H.head (core_of part.now)) (len (core_of part.now)) ≤ 1048576 }
+    requires room { length draft.old.code + tried_len (H.head (core_of part.now)) (len (core_of part.now)) ≤ 1048576 }
+    requires nodes { Begins (left nodes.old) (tested_nodes (core_of part.now)) }
     ensures goes_on { OnOk result ((q : C.Placed) (x : D.Draft) → end ≡ length draft.new.code + length (q (length draft.new.code)) → Adds draft.new x (q (length draft.new.code)) → Adds draft.old x (C.tested_choice (H.head (core_of part.now)) (C.code (address_of layout.now) (core_of part.now)) q (length draft.old.code))) }
     ensures long { OnOk result (length draft.new.code ≡ length draft.old.code + tried_len (H.head (core_of part.now)) (len (core_of part.now))) }
+    ensures nodes { OnOk result (Takes nodes.old nodes.new (tested_nodes (core_of part.now))) }
 {
-    let size = size_of(part);
+    let size = nodes.size();
     let tested = draft.next() + 2 + size + 1;
-    emit_test(alloc, draft, part, tested)?;
+    emit_test(alloc, draft, nodes, tested)?;
     let other = draft.next() + 1 + size + 1;
     draft.put(Instr::Choice(other))?;
-    emit(alloc, draft, layout, part)?;
+    let behind = draft.next() + nodes.take();
+    emit_inner(alloc, draft, layout, nodes, part, behind)?;
     draft.put(Instr::Commit(end))
 }
 
-/// Writes the test of the part's head, if it has one.
-fn emit_test(alloc: Global, draft: &mut Draft, part: &Peg, other: u32) -> Result<(), NoMemory>
-    requires { length draft.old.code < 1048576 }
-    ensures { OnOk result (Adds draft.old draft.new (test_code (H.head (core_of part.now)) other)) }
+/// Writes the test of the next node's head, if it has one.
+fn emit_test(alloc: Global, draft: &mut Draft, nodes: &Nodes, other: u32) -> Result<(), NoMemory>
+    requires room { length draft.old.code < 1048576 }
+    requires nodes { 0 < length (left nodes.now) }
+    ensures { OnOk result (Adds draft.old draft.new (test_code (head_at (left nodes.now)) other)) }
 {
-    if let Some(head) = head_of(alloc, part)? {
-        draft.put_test(alloc, other, &head)?;
+    if let Some(head) = nodes.head() {
+        draft.put_test(alloc, other, head)?;
     }
     Ok(())
 }
 
 /// Writes a loop.
 #[cycle(emit)]
-fn emit_many(alloc: Global, draft: &mut Draft, layout: &Layout, body: &Peg) -> Result<(), NoMemory>
-    requires { length draft.old.code + many_len (H.lone_set (core_of body.now)) (len (core_of body.now)) ≤ 1048576 }
-    ensures { OnOk result (Adds draft.old draft.new (C.many_code (H.lone_set (core_of body.now)) (C.code (address_of layout.now) (core_of body.now)) (length draft.old.code))) }
+fn emit_many(
+    alloc: Global,
+    draft: &mut Draft,
+    layout: &Layout,
+    nodes: &mut Nodes,
+    body: &Peg,
+) -> Result<(), NoMemory>
+    requires room { length draft.old.code + many_len (H.lone_set (core_of body.now)) (len (core_of body.now)) ≤ 1048576 }
+    requires nodes { Begins (left nodes.old) (nodes_in (core_of body.now)) }
+    ensures code { OnOk result (Adds draft.old draft.new (C.many_code (H.lone_set (core_of body.now)) (C.code (address_of layout.now) (core_of body.now)) (length draft.old.code))) }
+    ensures nodes { OnOk result (Takes nodes.old nodes.new (nodes_in (core_of body.now))) }
 {
     if let Some(set) = lone_set(body) {
+        nodes.take();
         return draft.put_span(alloc, set);
     }
     let start = draft.next();
-    draft.put(Instr::Choice(start + 1 + size_of(body) + 1))?;
-    emit(alloc, draft, layout, body)?;
+    draft.put(Instr::Choice(start + 1 + nodes.size() + 1))?;
+    emit(alloc, draft, layout, nodes, body)?;
     draft.put(Instr::PartialCommit(start + 1))
 }
 
 /// Writes a test that the body fails.
 #[cycle(emit)]
-fn emit_not(alloc: Global, draft: &mut Draft, layout: &Layout, body: &Peg) -> Result<(), NoMemory>
-    requires { length draft.old.code + not_len (H.lone_set (core_of body.now)) (len (core_of body.now)) ≤ 1048576 }
-    ensures { OnOk result (Adds draft.old draft.new (C.not_code (H.lone_set (core_of body.now)) (C.code (address_of layout.now) (core_of body.now)) (length draft.old.code))) }
+fn emit_not(
+    alloc: Global,
+    draft: &mut Draft,
+    layout: &Layout,
+    nodes: &mut Nodes,
+    body: &Peg,
+) -> Result<(), NoMemory>
+    requires room { length draft.old.code + not_len (H.lone_set (core_of body.now)) (len (core_of body.now)) ≤ 1048576 }
+    requires nodes { Begins (left nodes.old) (nodes_in (core_of body.now)) }
+    ensures code { OnOk result (Adds draft.old draft.new (C.not_code (H.lone_set (core_of body.now)) (C.code (address_of layout.now) (core_of body.now)) (length draft.old.code))) }
+    ensures nodes { OnOk result (Takes nodes.old nodes.new (nodes_in (core_of body.now))) }
 {
     let start = draft.next();
     if let Some(set) = lone_set(body) {
+        nodes.take();
         draft.put_test(alloc, start + 2, set)?;
         return draft.put(Instr::Fail);
     }
-    draft.put(Instr::Choice(start + 1 + size_of(body) + 1))?;
-    emit(alloc, draft, layout, body)?;
+    draft.put(Instr::Choice(start + 1 + nodes.size() + 1))?;
+    emit(alloc, draft, layout, nodes, body)?;
     draft.put(Instr::FailTwice)
 }
 
 /// Writes a test that the body succeeds.
 #[cycle(emit)]
-fn emit_and(alloc: Global, draft: &mut Draft, layout: &Layout, body: &Peg) -> Result<(), NoMemory>
-    requires { length draft.old.code + (len (core_of body.now) + 3) ≤ 1048576 }
-    ensures { OnOk result (Adds draft.old draft.new (C.and_code (C.code (address_of layout.now) (core_of body.now)) (length draft.old.code))) }
+fn emit_and(
+    alloc: Global,
+    draft: &mut Draft,
+    layout: &Layout,
+    nodes: &mut Nodes,
+    body: &Peg,
+) -> Result<(), NoMemory>
+    requires room { length draft.old.code + (len (core_of body.now) + 3) ≤ 1048576 }
+    requires nodes { Begins (left nodes.old) (nodes_in (core_of body.now)) }
+    ensures code { OnOk result (Adds draft.old draft.new (C.and_code (C.code (address_of layout.now) (core_of body.now)) (length draft.old.code))) }
+    ensures nodes { OnOk result (Takes nodes.old nodes.new (nodes_in (core_of body.now))) }
 {
-    let fail = draft.next() + 1 + size_of(body) + 1;
+    let fail = draft.next() + 1 + nodes.size() + 1;
     draft.put(Instr::Choice(fail))?;
-    emit(alloc, draft, layout, body)?;
+    emit(alloc, draft, layout, nodes, body)?;
     draft.put(Instr::BackCommit(fail + 1))?;
     draft.put(Instr::Fail)
 }
 
-/// Writes a look-behind: each length in turn, and then that none fits.
+/// Writes a look-behind: each length in turn, for which the nodes of the body are taken anew, and then that none fits.
 #[cycle(emit)]
 fn emit_behind(
     alloc: Global,
     draft: &mut Draft,
     layout: &Layout,
+    nodes: &mut Nodes,
     least: u32,
     most: u32,
     body: &Peg,
+    end: u32,
 ) -> Result<(), NoMemory>
-    requires { length draft.old.code + ((most + 1 - least) * (len (core_of body.now) + 3) + 1) ≤ 1048576 }
-    ensures { OnOk result (Adds draft.old draft.new (C.behind_code (C.code (address_of layout.now) (core_of body.now)) (most + 1 - least) least (length draft.old.code))) }
+    requires room { length draft.old.code + ((most + 1 - least) * (len (core_of body.now) + 3) + 1) ≤ 1048576 }
+    requires nodes { Begins (left nodes.old) (behind_nodes (most + 1 - least) (nodes_in (core_of body.now))) }
+    requires end { end ≡ length draft.old.code + ((most + 1 - least) * (len (core_of body.now) + 3) + 1) }
+    ensures code { OnOk result (Adds draft.old draft.new (C.behind_code (C.code (address_of layout.now) (core_of body.now)) (most + 1 - least) least (length draft.old.code))) }
+    ensures nodes { OnOk result (Takes nodes.old nodes.new (behind_nodes (most + 1 - least) (nodes_in (core_of body.now)))) }
 {
-    let end = draft.next() + behind_size(size_of(body), least, most);
+    let start = nodes.next;
     for back in least as u64..most as u64 + 1 {
-        emit_length(alloc, draft, layout, back as u32, body, end)?;
+        nodes.next = start;
+        emit_length(alloc, draft, layout, nodes, back as u32, body, end)?;
     }
     draft.put(Instr::Fail)
 }
@@ -185,18 +260,21 @@ fn emit_length(
     alloc: Global,
     draft: &mut Draft,
     layout: &Layout,
+    nodes: &mut Nodes,
     back: u32,
     body: &Peg,
     end: u32,
 ) -> Result<(), NoMemory>
-    requires { length draft.old.code + (len (core_of body.now) + 3) ≤ 1048576 }
+    requires room { length draft.old.code + (len (core_of body.now) + 3) ≤ 1048576 }
+    requires nodes { Begins (left nodes.old) (nodes_in (core_of body.now)) }
     ensures goes_on { OnOk result ((left : ℕ) (x : D.Draft) → Adds draft.new x (C.lengths_code (C.code (address_of layout.now) (core_of body.now)) end left (back + 1) (length draft.new.code)) → Adds draft.old x (C.lengths_code (C.code (address_of layout.now) (core_of body.now)) end (suc left) back (length draft.old.code))) }
     ensures long { OnOk result (length draft.new.code ≡ length draft.old.code + (len (core_of body.now) + 3)) }
+    ensures nodes { OnOk result (Takes nodes.old nodes.new (nodes_in (core_of body.now))) }
 {
-    let next = draft.next() + 2 + size_of(body) + 1;
+    let next = draft.next() + 2 + nodes.size() + 1;
     draft.put(Instr::Choice(next))?;
     draft.put(Instr::Back(back))?;
-    emit(alloc, draft, layout, body)?;
+    emit(alloc, draft, layout, nodes, body)?;
     draft.put(Instr::Meet(end))
 }
 
@@ -206,13 +284,16 @@ fn emit_capture(
     alloc: Global,
     draft: &mut Draft,
     layout: &Layout,
+    nodes: &mut Nodes,
     label: &Chars,
     body: &Peg,
 ) -> Result<(), NoMemory>
-    requires { length draft.old.code + (len (core_of body.now) + 2) ≤ 1048576 }
-    ensures { OnOk result (Adds draft.old draft.new (I.Open label.now ∷ (C.code (address_of layout.now) (core_of body.now) (length draft.old.code + 1) ++ I.Close ∷ []))) }
+    requires room { length draft.old.code + (len (core_of body.now) + 2) ≤ 1048576 }
+    requires nodes { Begins (left nodes.old) (nodes_in (core_of body.now)) }
+    ensures code { OnOk result (Adds draft.old draft.new (I.Open label.now ∷ (C.code (address_of layout.now) (core_of body.now) (length draft.old.code + 1) ++ I.Close ∷ []))) }
+    ensures nodes { OnOk result (Takes nodes.old nodes.new (nodes_in (core_of body.now))) }
 {
     draft.put_open(alloc, label)?;
-    emit(alloc, draft, layout, body)?;
+    emit(alloc, draft, layout, nodes, body)?;
     draft.put(Instr::Close)
 }

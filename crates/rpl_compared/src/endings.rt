@@ -2,7 +2,8 @@
 ghost use Rattle.std.specs.Prelude.{◌≡◌, ◌<◌};
 
 use crate::shown::{show_match, show_outcome, show_plain};
-use rpl_codegen::{calls_are_rules, compile};
+use rpl_check::{calls_are_rules, check, check_pattern, is_in_order};
+use rpl_codegen::compile;
 use rpl_core::{Peg, Program, Rules};
 use rpl_machine::{Answer, RunFault, Scratch, Steps, run};
 use rpl_plain::{Outcome, evaluate};
@@ -57,12 +58,19 @@ pub(crate) fn meant(
     Ok(Ending { shown, cost })
 }
 
-/// The goal's code.
-pub(crate) fn compiled(alloc: Global, rules: &Rules, goal: &Peg) -> Result<Program, Fail> {
-    if !calls_are_rules(rules, goal) {
-        Err("calls are of rules")?;
+/// The goal's code; none where the check refuses the goal.
+pub(crate) fn compiled(alloc: Global, rules: Rules, goal: Peg) -> Result<Option<Program>, Fail> {
+    if !is_in_order(&rules) {
+        Err("rules out of order")?;
     }
-    Ok(compile(alloc, rules, goal)?)
+    let checked = check(alloc, rules)?;
+    if !calls_are_rules(checked.rules(), &goal) {
+        Err("a call of no rule")?;
+    }
+    let Ok(goal) = check_pattern(alloc, &checked, goal) else {
+        return Ok(None);
+    };
+    Ok(Some(compile(alloc, &checked, &goal)?))
 }
 
 /// The ending of the plain machine, with its steps.

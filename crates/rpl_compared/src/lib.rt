@@ -1,5 +1,5 @@
-//! Tests that compare the compiler and the machine with the plain programs, which compute what the definitions say: on cases worked by
-//! hand, and on thousands of generated patterns and texts. Nothing stands on this crate.
+//! Tests of the check, the compiler and the machine on patterns in words: faults, meanings and runs that were worked by hand, and thousands
+//! of generated patterns and texts, on which the plain programs that compute the definitions answer the same. Nothing stands on this crate.
 #![tactic(auto)]
 
 #[cfg(test)]
@@ -9,9 +9,15 @@ mod code_words;
 #[cfg(test)]
 mod endings;
 #[cfg(test)]
+mod faults;
+#[cfg(test)]
 mod generated;
 #[cfg(test)]
 mod made;
+#[cfg(test)]
+mod names;
+#[cfg(test)]
+mod plain_check;
 #[cfg(test)]
 mod shown;
 #[cfg(test)]

@@ -1,8 +1,9 @@
 // Made-up goals, rules and texts. A pattern is made of templates in words: `S` stands for a set, `P` for the pattern made last, and `C`
 // for a call of a rule. What stands twice in a table is taken more often. A repeated body begins with a set, so that each turn takes a
 // character, and so does a rule, so that calls end. No halt stands under a predicate: where there are halts, all predicates are leaves.
-ghost use Rattle.std.specs.Prelude.{◌<◌};
-
+use rand::RngExt;
+use rand::seq::IndexedRandom;
+use rand_pcg::Pcg32;
 use std::alloc::{AllocError, Global};
 
 /// The sets.
@@ -71,69 +72,77 @@ static RULES: [&str; 3] = ["S P seq2", "S P seq2 S choice2", "S P seq2 cap:r"];
 /// The whole of a goal.
 static GOALS: [&str; 4] = ["P", "P cap:*", "C P choice2 cap:*", "P C seq2 cap:*"];
 
-/// Numbers that look random: a linear congruential generator of 64 bits, with the multiplier and the increment of Knuth's MMIX.
-#[derive(Drop)]
-pub(crate) struct Random {
-    state: u64,
+/// Patterns of which the check may refuse what is made.
+static WILD: [&str; 14] = [
+    "P many",
+    "S P seq2 many",
+    "C P seq2",
+    "C",
+    "P C seq2",
+    "P C choice2",
+    "seq0 P choice2",
+    "S many P seq2",
+    "P S choice2",
+    "P behind:0:2",
+    "P not",
+    "P and P choice2",
+    "P halt seq2",
+    "S P seq2 cap:x",
+];
+
+/// The blocks of three rules, of which the second may not stand in one with the others.
+static BLOCKS: [[&str; 3]; 8] = [
+    ["", "", ""],
+    ["0|", "0|", "0|"],
+    ["0|", "0|", "0|"],
+    ["0|", "0|", ""],
+    ["", "0|", "0|"],
+    ["0|", "1|", "1|"],
+    ["0|", "", "0|"],
+    ["0|", "1|", "0|"],
+];
+
+/// The generator of the made-up goals: begun with a made-up number, so that each run makes the same.
+pub(crate) fn generator() -> Pcg32 {
+    Pcg32::new(20_261_127, 0)
 }
 
-impl Random {
-    pub(crate) fn new(seed: u64) -> Random {
-        Random { state: seed }
-    }
-
-    /// A number below this one.
-    fn below(&mut self, count: u64) -> u64
-        requires { 0 < count }
-        ensures { result < count }
-    {
-        self.state = self
-            .state
-            .wrapping_mul(6_364_136_223_846_793_005)
-            .wrapping_add(1_442_695_040_888_963_407);
-        (self.state >> 33) % count
-    }
-
-    /// One of the words; none where there are none.
-    fn pick(&mut self, words: &[&'static str]) -> &'static str {
-        if words.is_empty() {
-            return "";
-        }
-        words[self.below(words.len() as u64) as usize]
-    }
+/// One of the words; none where there are none.
+fn pick(random: &mut Pcg32, words: &[&'static str]) -> &'static str {
+    words.choose(random).copied().unwrap_or("")
 }
 
 /// What a goal may use: how many rules there are, and whether it and they may halt.
 #[derive(Clone, Copy)]
 struct Limits {
-    rules: u64,
+    rules: u32,
     may_halt: bool,
 }
 
 /// A goal with its rules, in words, and a text.
 #[derive(Drop)]
 pub(crate) struct Made {
-    pub(crate) first: String,
-    pub(crate) second: String,
+    pub(crate) rules: String,
     pub(crate) goal: String,
     pub(crate) text: String,
 }
 
 /// A call of a rule, or a set where there is none.
-fn call(random: &mut Random, limits: Limits) -> &'static str {
+fn call(random: &mut Pcg32, limits: Limits) -> &'static str {
     if limits.rules == 0 {
-        return random.pick(&SETS);
+        return pick(random, &SETS);
     }
-    match random.below(limits.rules) {
+    match random.random_range(0..limits.rules) {
         0 => "call:0",
-        _ => "call:1",
+        1 => "call:1",
+        _ => "call:2",
     }
 }
 
 /// The template's pattern. Where no pattern is left for a `P`, it is a set.
 fn fill(
     alloc: Global,
-    random: &mut Random,
+    random: &mut Pcg32,
     limits: Limits,
     template: &str,
     parts: &mut Vec<String>,
@@ -141,11 +150,11 @@ fn fill(
     let mut filled = String::new(alloc);
     for word in template.split_whitespace() {
         match word {
-            "S" => filled.push_str(random.pick(&SETS))?,
+            "S" => filled.push_str(pick(random, &SETS))?,
             "C" => filled.push_str(call(random, limits))?,
             "P" => match parts.pop() {
                 Some(part) => filled.push_str(part.as_str())?,
-                None => filled.push_str(random.pick(&SETS))?,
+                None => filled.push_str(pick(random, &SETS))?,
             },
             _ => filled.push_str(word)?,
         }
@@ -155,16 +164,16 @@ fn fill(
 }
 
 /// A template for the next part.
-fn template(random: &mut Random, limits: Limits) -> &'static str {
-    match random.below(10) {
-        0..=3 => random.pick(&LEAVES),
-        4..=6 => random.pick(&WRAPS),
-        7..=8 => random.pick(&JOINS),
+fn template(random: &mut Pcg32, limits: Limits) -> &'static str {
+    match random.random_range(0..10) {
+        0..=3 => pick(random, &LEAVES),
+        4..=6 => pick(random, &WRAPS),
+        7..=8 => pick(random, &JOINS),
         _ => {
             if limits.may_halt {
-                random.pick(&HALTS)
+                pick(random, &HALTS)
             } else {
-                random.pick(&PREDICATES)
+                pick(random, &PREDICATES)
             }
         }
     }
@@ -173,62 +182,84 @@ fn template(random: &mut Random, limits: Limits) -> &'static str {
 /// A pattern: some parts, and the last template over them.
 fn pattern(
     alloc: Global,
-    random: &mut Random,
+    random: &mut Pcg32,
     limits: Limits,
     last: &str,
 ) -> Result<String, AllocError> {
     let mut parts = Vec::new(alloc);
-    for _ in 0..2 + random.below(7) {
+    for _ in 0..random.random_range(2..9) {
         let template = template(random, limits);
         let part = fill(alloc, random, limits, template, &mut parts)?;
         parts.push(part)?;
     }
     for _ in 1..parts.len() {
-        let join = random.pick(&JOINS);
+        let join = pick(random, &JOINS);
         let part = fill(alloc, random, limits, join, &mut parts)?;
         parts.push(part)?;
     }
     fill(alloc, random, limits, last, &mut parts)
 }
 
-/// The body of a rule; no words where the table ends before it.
-fn rule(
-    alloc: Global,
-    random: &mut Random,
-    limits: Limits,
-    number: u64,
-) -> Result<String, AllocError> {
-    if number >= limits.rules {
-        return Ok(String::new(alloc));
+/// The table of the rules, which stand in one block, so that each may call all.
+fn rules(alloc: Global, random: &mut Pcg32, limits: Limits) -> Result<String, AllocError> {
+    let mut table = String::new(alloc);
+    for _ in 0..limits.rules {
+        let last = pick(random, &RULES);
+        table.push_str("0| ")?;
+        table.push_str(&pattern(alloc, random, limits, last)?)?;
+        table.push_str(";")?;
     }
-    let last = random.pick(&RULES);
-    pattern(alloc, random, limits, last)
+    Ok(table)
 }
 
 /// A text of up to six letters.
-fn text(alloc: Global, random: &mut Random) -> Result<String, AllocError> {
+fn text(alloc: Global, random: &mut Pcg32) -> Result<String, AllocError> {
     let mut text = String::new(alloc);
-    for _ in 0..random.below(7) {
-        text.push_str(random.pick(&LETTERS))?;
+    for _ in 0..random.random_range(0..7) {
+        text.push_str(pick(random, &LETTERS))?;
     }
     Ok(text)
 }
 
 /// The next goal, with its rules and a text.
-pub(crate) fn make(alloc: Global, random: &mut Random) -> Result<Made, AllocError> {
+pub(crate) fn make(alloc: Global, random: &mut Pcg32) -> Result<Made, AllocError> {
     let limits = Limits {
-        rules: random.below(3),
-        may_halt: random.below(3) == 0,
+        rules: random.random_range(0..3),
+        may_halt: random.random_range(0..3) == 0,
     };
-    let first = rule(alloc, random, limits, 0)?;
-    let second = rule(alloc, random, limits, 1)?;
-    let last = random.pick(&GOALS);
+    let rules = rules(alloc, random, limits)?;
+    let last = pick(random, &GOALS);
     let goal = pattern(alloc, random, limits, last)?;
     let text = text(alloc, random)?;
-    Ok(Made {
-        first,
-        second,
-        goal,
-        text,
-    })
+    Ok(Made { rules, goal, text })
+}
+
+/// A pattern of which anything may be wrong.
+fn wild_pattern(alloc: Global, random: &mut Pcg32, limits: Limits) -> Result<String, AllocError> {
+    let mut parts = Vec::new(alloc);
+    for _ in 0..random.random_range(0..4) {
+        let template = pick(random, &WILD);
+        let part = fill(alloc, random, limits, template, &mut parts)?;
+        parts.push(part)?;
+    }
+    let last = pick(random, &WILD);
+    fill(alloc, random, limits, last, &mut parts)
+}
+
+/// The next goal of which anything may be wrong, over up to three rules, which may be out of order.
+pub(crate) fn make_wild(alloc: Global, random: &mut Pcg32) -> Result<Made, AllocError> {
+    let limits = Limits {
+        rules: random.random_range(0..4),
+        may_halt: true,
+    };
+    let blocks = BLOCKS.choose(random).unwrap_or(&BLOCKS[0]);
+    let mut rules = String::new(alloc);
+    for number in 0..limits.rules.min(3) {
+        rules.push_str(blocks[number as usize])?;
+        rules.push_str(&wild_pattern(alloc, random, limits)?)?;
+        rules.push_str(";")?;
+    }
+    let goal = wild_pattern(alloc, random, limits)?;
+    let text = text(alloc, random)?;
+    Ok(Made { rules, goal, text })
 }

@@ -1,4 +1,5 @@
-// Patterns and rules in words: the parts of a pattern stand before it.
+// Patterns and tables in words: the parts of a pattern stand before it.
+use crate::names::is_new;
 use rpl_classes::Set;
 use rpl_core::{Peg, Pegs, Rule, Rules};
 use rpl_text::Chars;
@@ -79,35 +80,47 @@ fn read_peg(alloc: Global, stack: &mut Vec<Peg>, word: &str) -> Result<Peg, Fail
     }
 }
 
-/// The pattern of these words, if there are any.
-pub(crate) fn read_pattern(alloc: Global, words: &str) -> Result<Option<Peg>, Fail> {
+/// The pattern of these words.
+pub(crate) fn read_pattern(alloc: Global, words: &str) -> Result<Peg, Fail> {
     let mut stack = Vec::new(alloc);
     for word in words.split_whitespace() {
         let peg = read_peg(alloc, &mut stack, word)?;
         stack.push(peg)?;
     }
-    Ok(stack.pop())
+    Ok(stack.pop().ok_or("a pattern")?)
 }
 
-/// The table of the rules with these bodies; no words, no rule.
-#[tactic(auto, using(crate::proofs::Names::second_is_new))]
-pub(crate) fn read_rules(alloc: Global, first: &str, second: &str) -> Result<Rules, Fail> {
+/// Adds a rule: the number of its block and `|`, if it stands in one, and its body.
+fn push_rule(alloc: Global, rules: &mut Rules, line: &str) -> Result<(), Fail> {
+    let number = rules.len();
+    let name = format!(in alloc; "r{number}")?;
+    let name = Chars::from_str(alloc, name.as_str())?;
+    let rule = match line.split_once('|') {
+        Some((block, words)) => Rule {
+            name,
+            block: Some(block.trim().parse::<u32>()?),
+            body: read_pattern(alloc, words)?,
+        },
+        None => Rule {
+            name,
+            block: None,
+            body: read_pattern(alloc, line)?,
+        },
+    };
+    if number > 99 || !is_new(rules, &rule.name) {
+        Err("a new rule")?;
+    }
+    rules.push(rule)?;
+    Ok(())
+}
+
+/// The table of the rules between `;`, where there is any.
+pub(crate) fn read_rules(alloc: Global, table: &str) -> Result<Rules, Fail> {
     let mut rules = Rules::new(alloc);
-    let Some(body) = read_pattern(alloc, first)? else {
-        return Ok(rules);
-    };
-    rules.push(Rule {
-        name: Chars::from_str(alloc, "p")?,
-        block: None,
-        body,
-    })?;
-    let Some(body) = read_pattern(alloc, second)? else {
-        return Ok(rules);
-    };
-    rules.push(Rule {
-        name: Chars::from_str(alloc, "p2")?,
-        block: None,
-        body,
-    })?;
+    for line in table.split(';') {
+        if !line.is_empty() {
+            push_rule(alloc, &mut rules, line)?;
+        }
+    }
     Ok(rules)
 }

@@ -1,15 +1,23 @@
-use Rattle.std.proofs.Common.{◌≡◌, ◌+◌, ◌≤◌, drop}
-use Rattle.std.specs.Prelude.{◌&&◌, is_some, min}
+use Rattle.std.proofs.Common.{◌≡◌, ◌+◌, ◌++◌, ◌≤◌, List, drop, length}
+use Rattle.std.specs.Prelude.{Bool, ◌&&◌, min, option_map}
+use Rattle.regex_class.specs.Ranges.{Range}
+use Rattle.rpl_classes.specs.Norm.{norm}
 use Rattle.rpl_core.specs.Head as H
 use Rattle.rpl_core.specs.View.{cores}
+use Rattle.rpl_codegen.specs.Gathered.{Gathers}
+use Rattle.rpl_codegen.specs.Nodes.{choice_nodes, parts_nodes}
 use Rattle.rpl_codegen.specs.Sizes.{len_all, len_first}
 use Rattle.rpl_codegen.proofs.size.+measure.Given as goal
 
 abbrev pub invariant-measure_all-loop-number : goal.invariant-measure_all-loop-number
 invariant-measure_all-loop-number l =
     (l.total ≤ 1048577) × (min 1048577 (l.total + len_all (cores (drop l.number l.parts))) ≡ min 1048577 (len_all (cores l.parts)))
+    × (l.plan.nodes.items ++ parts_nodes (cores (drop l.number l.parts)) ≡ l.fn.plan.nodes.items ++ parts_nodes (cores l.parts))
+    × (l.kept ≡ length l.plan.ranges.items)
+    × Gathers l.fn.plan.ranges.items l.plan.ranges.items (H.first_head (cores l.parts)) l.first.has_head
 
 abbrev pub invariant-measure_first-loop-number : goal.invariant-measure_first-loop-number
 invariant-measure_first-loop-number l =
     (l.total ≤ 1048577) × (min 1048577 (l.total + len_first (cores (drop l.number l.parts))) ≡ min 1048577 (len_first (cores l.parts)))
-    × ((l.all && is_some (H.all_heads (cores (drop l.number l.parts)))) ≡ is_some (H.all_heads (cores l.parts)))
+    × (l.plan.nodes.items ++ choice_nodes (cores (drop l.number l.parts)) ≡ l.fn.plan.nodes.items ++ choice_nodes (cores l.parts))
+    × ((new : List Range) (found : Bool) → Gathers l.plan.ranges.items new (option_map norm (H.all_heads (cores (drop l.number l.parts)))) found → Gathers l.fn.plan.ranges.items new (option_map norm (H.all_heads (cores l.parts))) (l.all && found))

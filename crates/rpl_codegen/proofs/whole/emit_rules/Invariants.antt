@@ -3,8 +3,9 @@ use Rattle.rpl_core.specs.Listed.{rules_of}
 use Rattle.rpl_core.specs.Programs.{bodies}
 use Rattle.rpl_core.specs.Table.{bodies_of}
 use Rattle.rpl_codegen.specs.declared.draft.Draft.{Draft}
-use Rattle.rpl_codegen.specs.Laid.{bodies_len}
+use Rattle.rpl_codegen.specs.Laid.{bodies_len, bodies_nodes}
 use Rattle.rpl_codegen.specs.Marked.{marked}
+use Rattle.rpl_codegen.specs.Taken.{Begins, left}
 use Rattle.rpl_codegen.specs.Written.{Adds, address_of}
 use Rattle.rpl_codegen.proofs.whole.emit_rules.Given as goal
 
@@ -12,3 +13,4 @@ abbrev pub invariant-loop-number : goal.invariant-loop-number
 invariant-loop-number l =
     (length l.draft.code + bodies_len (marked l.marks) (drop l.number (bodies_of (rules_of l.rules))) l.number ≤ 1048576)
     × ((x : Draft) → Adds l.draft x (bodies (marked l.marks) (address_of l.layout) (drop l.number (bodies_of (rules_of l.rules))) l.number (length l.draft.code)) → Adds l.fn.draft x (bodies (marked l.marks) (address_of l.layout) (bodies_of (rules_of l.rules)) 0 (length l.fn.draft.code)))
+    × Begins (left l.nodes) (bodies_nodes (marked l.marks) (drop l.number (bodies_of (rules_of l.rules))) l.number)

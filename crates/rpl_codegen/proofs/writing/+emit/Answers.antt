@@ -1,25 +1,35 @@
-use Rattle.std.proofs.Common.{◌≡◌, ◌<◌, ◌≤◌, ◌+◌, ◌-◌, ◌*◌, ◌∙◌, suc, length, drop, get_or, refl, sym, ap, subst, arith, [], ◌∷◌}
+use Rattle.std.proofs.Common.{◌≡◌, ℕ, List, ◌<◌, ◌+◌, ◌-◌, ◌∙◌, suc, length, drop, get_or, refl, sym, ap, subst, arith, [], ◌∷◌}
 use Rattle.std.proofs.lemmas.Bool.{eqb-true, eqb-false}
 use Rattle.std.specs.Prelude.{OnOk}
 use Rattle.rpl_core.specs.Code as C
+use Rattle.rpl_core.specs.Core.{Behind, Core}
 use Rattle.rpl_core.specs.Head as H
 use Rattle.rpl_core.specs.Instr as I
 use Rattle.rpl_core.specs.View.{core_of, cores, listed}
 use Rattle.rpl_core.proofs.Rows.{seq_view, choice_view}
 use Rattle.rpl_codegen.specs.Sizes.{len, len_all, len_first, many_len, not_len}
-use Rattle.rpl_codegen.specs.Written.{Adds, address_of}
+use Rattle.rpl_codegen.specs.Nodes.{behind_nodes, choice_nodes, inner_nodes, nodes_in, parts_nodes, tested_nodes}
+use Rattle.rpl_codegen.specs.Taken.{Begins, head_at, left, size_at}
+use Rattle.rpl_codegen.specs.Written.{Adds, address_of, test_code}
+use Rattle.rpl_codegen.specs.declared.draft.Draft.{Draft}
+use Rattle.rpl_codegen.specs.declared.size.Node.{Node}
 use Rattle.rpl_codegen.proofs.Adding.{adds_then}
 use Rattle.rpl_codegen.proofs.Lengths.{code_length, first_length}
 use Rattle.rpl_codegen.proofs.Parts.{drop_here, len_first_here, code_first_here, drop_last, no_parts, part_of}
-use Rattle.rpl_codegen.proofs.Pieces.{on_ok, piece_loop, piece_refuse, piece_and, piece_capture, piece_choice, piece_length, piece_tried, test_length, behind_end, sized, room_turn}
+use Rattle.rpl_codegen.proofs.Pieces.{on_ok, piece_loop, piece_refuse, piece_and, piece_capture, piece_choice, piece_length, piece_tried, test_length, behind_end, room_turn}
+use Rattle.rpl_codegen.proofs.Taking.{as_begins, as_taken, begins_behind, begins_front, last_here, more_lengths, parts_here, takes_anew, takes_none, takes_then, tried_here}
 use Rattle.rpl_codegen.proofs.Weights.{seq_part, choice_part}
 use Rattle.rpl_codegen.proofs.writing.+emit.Goals as goal
 
 pub emit_all-loop-part-init : goal.emit_all-loop-part-init
 emit_all-loop-part-init t c =
     let ps = c.args.parts.now in
-    let n = length c.args.draft.now.code in
-    (omega (arith, ap len (seq_view ps), c.requires), λ x a. subst (λ e. Adds c.args.draft.now x (C.code (address_of c.args.layout.now) e n)) (sym (seq_view ps)) a)
+    let n = length c.args.draft.now.code in (
+      omega (arith, ap len (seq_view ps), c.requires.room),
+      λ x a. subst (λ e. Adds c.args.draft.now x (C.code (address_of c.args.layout.now) e n)) (sym (seq_view ps)) a,
+      as_begins (left c.args.nodes.now) _ _ (ap inner_nodes (seq_view ps)) c.requires.nodes,
+      λ x t. as_taken c.args.nodes.now x _ _ (sym (ap inner_nodes (seq_view ps))) t,
+    )
 
 pub emit_all-emit-requires : goal.emit_all-emit-requires
 emit_all-emit-requires t c =
@@ -29,7 +39,8 @@ emit_all-emit-requires t c =
     let lt : k < length (listed ps) = omega (arith, ap length c.as_slice-part-items.ensures, c.loop-part-test.true) in
     let is = part_of c.as_slice-part-items.result.now (listed ps) k p c.as_slice-part-items.ensures c.part-item.is in
     let here = ap (λ l. len_all (cores l)) (drop_here (listed ps) k p lt is) in
-    (omega (arith, c.decreases, seq_part ps k p lt is), (omega (arith, here, c.loop-part.invariant.0)))
+    let more = parts_here (listed ps) k p lt is in
+    (omega (arith, c.decreases, seq_part ps k p lt is), (omega (arith, here, c.loop-part.invariant.0), begins_front (left c.loop-part.nodes) (nodes_in (core_of p)) (parts_nodes (cores (drop (k + 1) (listed ps)))) (as_begins (left c.loop-part.nodes) _ _ more c.loop-part.invariant.2)))
 
 pub emit_all-loop-part-preserved : goal.emit_all-loop-part-preserved
 emit_all-loop-part-preserved t c =
@@ -45,34 +56,40 @@ emit_all-loop-part-preserved t c =
     let here = drop_here ps k p lt is in
     let rest = cores (drop (k + 1) ps) in
     let x = C.code at (core_of p) n in
-    let e = c.in_ok-emit.ensures in (
+    let more_nodes = parts_here ps k p lt is in
+    let s = c.loop-part.nodes in
+    let s1 = c.emit.new.nodes in
+    let rest_nodes = parts_nodes rest in
+    let e = c.in_ok-emit.ensures.code in (
       omega (arith, ap (λ l. len_all (cores l)) here, c.loop-part.invariant.0, e.long, code_length at (core_of p) n),
       λ y more.
           c.loop-part.invariant.1 y (subst (λ l. Adds d y (C.code_all at (cores l) n)) (sym here) (adds_then d d1 y x (C.code_all at rest (n + length x)) e (subst (λ m. Adds d1 y (C.code_all at rest m)) e.long more))),
+      begins_behind s s1 (nodes_in (core_of p)) rest_nodes c.in_ok-emit.ensures.nodes (as_begins (left s) _ _ more_nodes c.loop-part.invariant.2),
+      λ y more. c.loop-part.invariant.3 y (as_taken s y _ _ (sym more_nodes) (takes_then s s1 y (nodes_in (core_of p)) rest_nodes c.in_ok-emit.ensures.nodes more)),
     )
 
 pub emit_and-put-requires-2 : goal.emit_and-put-requires-2
 emit_and-put-requires-2 t c =
     let at = address_of c.args.layout.now in
     let a = c.in_ok-put.ensures in
-    let b = c.in_ok-emit.ensures in
+    let b = c.in_ok-emit.ensures.code in
     omega (arith, a.long, b.long, code_length at (core_of c.args.body.now) (length c.put.new.self.code))
 
 pub emit_and-put-requires-3 : goal.emit_and-put-requires-3
 emit_and-put-requires-3 t c =
     let at = address_of c.args.layout.now in
     let a = c.in_ok-put.ensures in
-    let b = c.in_ok-emit.ensures in
+    let b = c.in_ok-emit.ensures.code in
     let d = c.in_ok-put-2.ensures in
     omega (arith, a.long, b.long, d.long, code_length at (core_of c.args.body.now) (length c.put.new.self.code))
 
-pub emit_and-returns : goal.emit_and-returns
-emit_and-returns t c =
+pub emit_and-returns-clause-code : goal.emit_and-returns-clause-code
+emit_and-returns-clause-code t c =
     let at = address_of c.args.layout.now in
     let p = core_of c.args.body.now in
-    let l = c.next.result + 1 + c.size_of.result + 1 in
-    let is : l ≡ length c.args.draft.now.code + 1 + len p + 1 = omega (arith, c.next.ensures, c.size_of.ensures, c.requires) in
-    on_ok c.put-3.result _ _ (piece_and c.args.draft.now c.put.new.self c.emit.new.draft c.put-2.new.self c.put-3.new.self (C.code at p) (len p) l (l + 1) (code_length at p) is refl c.in_ok-put.ensures c.in_ok-emit.ensures c.in_ok-put-2.ensures) c.put-3.ensures
+    let l = c.next.result + 1 + c.size.result + 1 in
+    let is : l ≡ length c.args.draft.now.code + 1 + len p + 1 = omega (arith, c.next.ensures, (c.size.ensures ∙ ap size_at c.requires.nodes.is), c.requires.room) in
+    on_ok c.put-3.result _ _ (piece_and c.args.draft.now c.put.new.self c.emit.new.draft c.put-2.new.self c.put-3.new.self (C.code at p) (len p) l (l + 1) (code_length at p) is refl c.in_ok-put.ensures c.in_ok-emit.ensures.code c.in_ok-put-2.ensures) c.put-3.ensures
 
 pub emit_behind-loop-back-preserved : goal.emit_behind-loop-back-preserved
 emit_behind-loop-back-preserved t c =
@@ -82,24 +99,24 @@ emit_behind-loop-back-preserved t c =
     let k = c.loop-back.back in
     let d = c.loop-back.draft in
     let left = most + 1 - (k + 1) in
-    let end = c.next.result + c.behind_size.result in
+    let end = c.args.end in
     let one : suc left ≡ most + 1 - k = omega arith in (
       room_turn most k (len p) (length d.code) (length c.emit_length.new.draft.code) (omega arith) c.loop-back.invariant.0 c.in_ok-emit_length.ensures.long,
       λ x rest.
           c.loop-back.invariant.1 x (subst (λ n. Adds d x (C.lengths_code (C.code at p) end n k (length d.code))) one (c.in_ok-emit_length.ensures.goes_on left x rest)),
+      as_taken c.args.nodes.now c.emit_length.new.nodes _ _ (sym (more_lengths (k + 1 - c.args.least) (k - c.args.least) (nodes_in p) (omega arith))) (takes_anew c.args.nodes.now c.loop-back.nodes _ c.emit_length.new.nodes (behind_nodes (k - c.args.least) (nodes_in p)) (nodes_in p) c.loop-back.invariant.2 refl refl c.in_ok-emit_length.ensures.nodes),
+      omega arith,
     )
 
-pub emit_behind-returns : goal.emit_behind-returns
-emit_behind-returns t c =
+pub emit_behind-returns-clause-code : goal.emit_behind-returns-clause-code
+emit_behind-returns-clause-code t c =
     let at = address_of c.args.layout.now in
     let p = core_of c.args.body.now in
     let d = c.loop-back.draft in
     let n = c.args.most + 1 - c.args.least in
     let a = length c.args.draft.now.code in
-    let end = c.next.result + c.behind_size.result in
-    let room : a + (n * (len p + 3) + 1) ≤ 1048576 = c.requires in
-    let is : end ≡ a + (n * (len p + 3) + 1) = sized a n (len p) c.next.result c.size_of.result c.behind_size.result room c.next.ensures c.size_of.ensures c.behind_size.ensures in
-    let same = behind_end (C.code at p) n c.args.least a (len p) end (code_length at p) is in
+    let end = c.args.end in
+    let same = behind_end (C.code at p) n c.args.least a (len p) end (code_length at p) c.requires.end in
     let none : 0 ≡ c.args.most + 1 - c.loop-back.back = omega arith in
     on_ok c.put.result _ _ (λ w.
     subst (λ l. Adds c.args.draft.now c.put.new.self l) (sym same) (c.loop-back.invariant.1 c.put.new.self (subst (λ m. Adds d c.put.new.self (C.lengths_code (C.code at p) end m c.loop-back.back (length d.code))) none w))) c.put.ensures
@@ -108,29 +125,32 @@ pub emit_capture-put-requires : goal.emit_capture-put-requires
 emit_capture-put-requires t c =
     let at = address_of c.args.layout.now in
     let a = c.in_ok-put_open.ensures in
-    let b = c.in_ok-emit.ensures in
+    let b = c.in_ok-emit.ensures.code in
     omega (arith, a.long, b.long, code_length at (core_of c.args.body.now) (length c.put_open.new.self.code))
 
-pub emit_capture-returns : goal.emit_capture-returns
-emit_capture-returns t c =
-    on_ok c.put.result _ _ (piece_capture c.args.draft.now c.put_open.new.self c.emit.new.draft c.put.new.self (C.code (address_of c.args.layout.now) (core_of c.args.body.now)) c.args.label.now c.in_ok-put_open.ensures c.in_ok-emit.ensures) c.put.ensures
+pub emit_capture-returns-clause-code : goal.emit_capture-returns-clause-code
+emit_capture-returns-clause-code t c =
+    on_ok c.put.result _ _ (piece_capture c.args.draft.now c.put_open.new.self c.emit.new.draft c.put.new.self (C.code (address_of c.args.layout.now) (core_of c.args.body.now)) c.args.label.now c.in_ok-put_open.ensures c.in_ok-emit.ensures.code) c.put.ensures
 
 pub emit_first-put-requires : goal.emit_first-put-requires
 emit_first-put-requires t c =
     let e = ap len (no_parts c.args.parts.now (sym (ap length c.as_slice-parts.ensures) ∙ eqb-true (length c.as_slice-parts.result.now) 0 (sym c.is_empty.ensures ∙ c.if-is_empty.true))) in
-    omega (arith, e, c.requires)
+    omega (arith, e, c.requires.room)
 
-pub emit_first-returns-then-is_empty : goal.emit_first-returns-then-is_empty
-emit_first-returns-then-is_empty t c =
+pub emit_first-returns-then-is_empty-clause-code : goal.emit_first-returns-then-is_empty-clause-code
+emit_first-returns-then-is_empty-clause-code t c =
     let e = no_parts c.args.parts.now (sym (ap length c.as_slice-parts.ensures) ∙ eqb-true (length c.as_slice-parts.result.now) 0 (sym c.is_empty.ensures ∙ c.if-is_empty.true)) in
     subst (λ x. OnOk c.put.result (Adds c.args.draft.now c.put.new.self (C.code (address_of c.args.layout.now) x (length c.args.draft.now.code)))) (sym e) c.put.ensures
 
 pub emit_first-loop-number-init : goal.emit_first-loop-number-init
 emit_first-loop-number-init t c =
     let ps = c.args.parts.now in
-    let n = length c.args.draft.now.code in
-    let same = ap (λ l. len_first (cores l)) c.as_slice-parts.ensures in
-    (omega (arith, ap len (choice_view ps), c.requires, same, c.next.ensures, c.choice_size.ensures), λ x a. subst (λ e. Adds c.args.draft.now x (C.code (address_of c.args.layout.now) e n)) (sym (choice_view ps)) a)
+    let n = length c.args.draft.now.code in (
+      omega (arith, ap len (choice_view ps), c.requires.end),
+      λ x a. subst (λ e. Adds c.args.draft.now x (C.code (address_of c.args.layout.now) e n)) (sym (choice_view ps)) a,
+      as_begins (left c.args.nodes.now) _ _ (ap inner_nodes (choice_view ps)) c.requires.nodes,
+      λ x t. as_taken c.args.nodes.now x _ _ (sym (ap inner_nodes (choice_view ps))) t,
+    )
 
 pub emit_first-emit_tried-requires : goal.emit_first-emit_tried-requires
 emit_first-emit_tried-requires t c =
@@ -140,8 +160,8 @@ emit_first-emit_tried-requires t c =
     let lt : k + 1 < length ps = omega (arith, ap length c.as_slice-parts.ensures) in
     let is = part_of c.as_slice-parts.result.now ps k p c.as_slice-parts.ensures c.index-parts-number.is in
     let here = len_first_here ps k p lt is in
-    let same = ap (λ l. len_first (cores l)) c.as_slice-parts.ensures in
-    (omega (arith, c.decreases, choice_part c.args.parts.now k p (omega arith) is), (omega (arith, here, same, ap len (choice_view c.args.parts.now), c.requires, c.next.ensures, c.choice_size.ensures, c.loop-number.invariant.0)))
+    let more = tried_here ps k p lt is in
+    (omega (arith, c.decreases, choice_part c.args.parts.now k p (omega arith) is), (omega (arith, here, ap len (choice_view c.args.parts.now), c.requires.room, c.requires.end, c.loop-number.invariant.0), begins_front (left c.loop-number.nodes) (tested_nodes (core_of p)) (choice_nodes (cores (drop (k + 1) ps))) (as_begins (left c.loop-number.nodes) _ _ more c.loop-number.invariant.2)))
 
 pub emit_first-loop-number-preserved : goal.emit_first-loop-number-preserved
 emit_first-loop-number-preserved t c =
@@ -155,10 +175,16 @@ emit_first-loop-number-preserved t c =
     let is = part_of c.as_slice-parts.result.now ps k p c.as_slice-parts.ensures c.index-parts-number.is in
     let rest = cores (drop (k + 1) ps) in
     let q = C.code_first at rest in
-    let end : c.next.result + c.choice_size.result ≡ length d1.code + len_first rest = omega (arith, len_first_here ps k p lt is, c.loop-number.invariant.0, c.in_ok-emit_tried.ensures.long) in (
+    let more_nodes = tried_here ps k p lt is in
+    let s = c.loop-number.nodes in
+    let s1 = c.emit_tried.new.nodes in
+    let rest_nodes = choice_nodes rest in
+    let end : c.args.end ≡ length d1.code + len_first rest = omega (arith, len_first_here ps k p lt is, c.loop-number.invariant.0, c.in_ok-emit_tried.ensures.long) in (
       end,
       λ x more.
           c.loop-number.invariant.1 x (subst (λ l. Adds d x l) (sym (code_first_here at ps k p (length d.code) lt is)) (c.in_ok-emit_tried.ensures.goes_on q x (omega (arith, end, first_length at rest (length d1.code))) more)),
+      begins_behind s s1 (tested_nodes (core_of p)) rest_nodes c.in_ok-emit_tried.ensures.nodes (as_begins (left s) _ _ more_nodes c.loop-number.invariant.2),
+      λ y more. c.loop-number.invariant.3 y (as_taken s y _ _ (sym more_nodes) (takes_then s s1 y (tested_nodes (core_of p)) rest_nodes c.in_ok-emit_tried.ensures.nodes more)),
     )
 
 pub emit_first-emit-requires : goal.emit_first-emit-requires
@@ -175,25 +201,24 @@ emit_first-emit-requires t c =
     let at_last : length row - 1 ≡ k = omega arith in
     let is = part_of row ps k p same (x ∙ ap (λ i. get_or row i p) at_last) in
     let here = ap (λ l. len_first (cores l)) (drop_last ps k p last is) in
-    let all = ap (λ l. len_first (cores l)) same in
-    (omega (arith, c.decreases, choice_part c.args.parts.now k p (omega arith) is), (omega (arith, here, all, ap len (choice_view c.args.parts.now), c.requires, c.next.ensures, c.choice_size.ensures, c.loop-number.invariant.0)))
+    (omega (arith, c.decreases, choice_part c.args.parts.now k p (omega arith) is), (omega (arith, here, ap len (choice_view c.args.parts.now), c.requires.room, c.requires.end, c.loop-number.invariant.0), as_begins (left c.loop-number.nodes) _ _ (last_here ps k p last is) c.loop-number.invariant.2))
 
 pub emit_length-put-requires-3 : goal.emit_length-put-requires-3
 emit_length-put-requires-3 t c =
     let at = address_of c.args.layout.now in
     let a = c.in_ok-put.ensures in
     let b = c.in_ok-put-2.ensures in
-    let e = c.in_ok-emit.ensures in
+    let e = c.in_ok-emit.ensures.code in
     omega (arith, a.long, b.long, e.long, code_length at (core_of c.args.body.now) (length c.put-2.new.self.code))
 
 pub emit_length-returns-clause-goes_on : goal.emit_length-returns-clause-goes_on
 emit_length-returns-clause-goes_on t c =
     let at = address_of c.args.layout.now in
     let p = core_of c.args.body.now in
-    let to = c.next.result + 2 + c.size_of.result + 1 in
-    let is : to ≡ length c.args.draft.now.code + 1 + 1 + len p + 1 = omega (arith, c.next.ensures, c.size_of.ensures, c.requires) in
+    let to = c.next.result + 2 + c.size.result + 1 in
+    let is : to ≡ length c.args.draft.now.code + 1 + 1 + len p + 1 = omega (arith, c.next.ensures, (c.size.ensures ∙ ap size_at c.requires.nodes.is), c.requires.room) in
     on_ok c.put-3.result _ _ (λ w left x rest.
-    piece_length c.args.draft.now c.put.new.self c.put-2.new.self c.emit.new.draft c.put-3.new.self x (C.code at p) (len p) to c.args.end c.args.back left (code_length at p) is c.in_ok-put.ensures c.in_ok-put-2.ensures c.in_ok-emit.ensures w rest) c.put-3.ensures
+    piece_length c.args.draft.now c.put.new.self c.put-2.new.self c.emit.new.draft c.put-3.new.self x (C.code at p) (len p) to c.args.end c.args.back left (code_length at p) is c.in_ok-put.ensures c.in_ok-put-2.ensures c.in_ok-emit.ensures.code w rest) c.put-3.ensures
 
 pub emit_length-returns-clause-long : goal.emit_length-returns-clause-long
 emit_length-returns-clause-long t c =
@@ -201,78 +226,118 @@ emit_length-returns-clause-long t c =
     let p = core_of c.args.body.now in
     let a = c.in_ok-put.ensures in
     let b = c.in_ok-put-2.ensures in
-    let e = c.in_ok-emit.ensures in
+    let e = c.in_ok-emit.ensures.code in
     on_ok c.put-3.result (Adds c.emit.new.draft c.put-3.new.self (I.Meet c.args.end ∷ [])) _ (λ w. omega (arith, a.long, b.long, e.long, w.long, code_length at p (length c.put-2.new.self.code))) c.put-3.ensures
 
 pub emit_many-put-requires-2 : goal.emit_many-put-requires-2
 emit_many-put-requires-2 t c =
     let at = address_of c.args.layout.now in
     let a = c.in_ok-put.ensures in
-    let b = c.in_ok-emit.ensures in
+    let b = c.in_ok-emit.ensures.code in
     let none = sym c.in_default.ensures in
     let room = ap (λ o. many_len o (len (core_of c.args.body.now))) none in
-    omega (arith, a.long, b.long, room, c.requires, code_length at (core_of c.args.body.now) (length c.put.new.self.code))
+    omega (arith, a.long, b.long, room, c.requires.room, code_length at (core_of c.args.body.now) (length c.put.new.self.code))
 
-pub emit_many-returns : goal.emit_many-returns
-emit_many-returns t c =
+pub emit_many-returns-clause-code : goal.emit_many-returns-clause-code
+emit_many-returns-clause-code t c =
     let at = address_of c.args.layout.now in
     let p = core_of c.args.body.now in
-    let l = c.next-start.result + 1 + c.size_of.result + 1 in
+    let l = c.next-start.result + 1 + c.size.result + 1 in
     let none = sym c.in_default.ensures in
     let room = ap (λ o. many_len o (len p)) none in
-    let is : l ≡ length c.args.draft.now.code + 1 + len p + 1 = omega (arith, c.next-start.ensures, c.size_of.ensures, room, c.requires) in
+    let is : l ≡ length c.args.draft.now.code + 1 + len p + 1 = omega (arith, c.next-start.ensures, (c.size.ensures ∙ ap size_at c.requires.nodes.is), room, c.requires.room) in
     let start : c.next-start.result + 1 ≡ length c.args.draft.now.code + 1 = omega (arith, c.next-start.ensures) in
     on_ok c.put-2.result _ _ (λ w.
-    subst (λ o. Adds c.args.draft.now c.put-2.new.self (C.many_code o (C.code at p) (length c.args.draft.now.code))) (sym none) (piece_loop c.args.draft.now c.put.new.self c.emit.new.draft c.put-2.new.self (C.code at p) (len p) (c.next-start.result + 1) l (code_length at p) start is c.in_ok-put.ensures c.in_ok-emit.ensures w)) c.put-2.ensures
+    subst (λ o. Adds c.args.draft.now c.put-2.new.self (C.many_code o (C.code at p) (length c.args.draft.now.code))) (sym none) (piece_loop c.args.draft.now c.put.new.self c.emit.new.draft c.put-2.new.self (C.code at p) (len p) (c.next-start.result + 1) l (code_length at p) start is c.in_ok-put.ensures c.in_ok-emit.ensures.code w)) c.put-2.ensures
 
 pub emit_not-put-requires-3 : goal.emit_not-put-requires-3
 emit_not-put-requires-3 t c =
     let at = address_of c.args.layout.now in
     let a = c.in_ok-put.ensures in
-    let b = c.in_ok-emit.ensures in
+    let b = c.in_ok-emit.ensures.code in
     let none = sym c.in_default.ensures in
     let room = ap (λ o. not_len o (len (core_of c.args.body.now))) none in
-    omega (arith, a.long, b.long, room, c.requires, code_length at (core_of c.args.body.now) (length c.put-2.new.self.code))
+    omega (arith, a.long, b.long, room, c.requires.room, code_length at (core_of c.args.body.now) (length c.put-2.new.self.code))
 
-pub emit_not-returns : goal.emit_not-returns
-emit_not-returns t c =
+pub emit_not-returns-clause-code : goal.emit_not-returns-clause-code
+emit_not-returns-clause-code t c =
     let at = address_of c.args.layout.now in
     let p = core_of c.args.body.now in
-    let l = c.next-start.result + 1 + c.size_of.result + 1 in
+    let l = c.next-start.result + 1 + c.size.result + 1 in
     let none = sym c.in_default.ensures in
     let room = ap (λ o. not_len o (len p)) none in
-    let is : l ≡ length c.args.draft.now.code + 1 + len p + 1 = omega (arith, c.next-start.ensures, c.size_of.ensures, room, c.requires) in
+    let is : l ≡ length c.args.draft.now.code + 1 + len p + 1 = omega (arith, c.next-start.ensures, (c.size.ensures ∙ ap size_at c.requires.nodes.is), room, c.requires.room) in
     on_ok c.put-3.result _ _ (λ w.
-    subst (λ o. Adds c.args.draft.now c.put-3.new.self (C.not_code o (C.code at p) (length c.args.draft.now.code))) (sym none) (piece_refuse c.args.draft.now c.put-2.new.self c.emit.new.draft c.put-3.new.self (C.code at p) (len p) l (code_length at p) is c.in_ok-put.ensures c.in_ok-emit.ensures w)) c.put-3.ensures
+    subst (λ o. Adds c.args.draft.now c.put-3.new.self (C.not_code o (C.code at p) (length c.args.draft.now.code))) (sym none) (piece_refuse c.args.draft.now c.put-2.new.self c.emit.new.draft c.put-3.new.self (C.code at p) (len p) l (code_length at p) is c.in_ok-put.ensures c.in_ok-emit.ensures.code w)) c.put-3.ensures
+
+test_of : (ns : List Node) (p : Core) (d d1 : Draft) (l : ℕ) → Begins ns (tested_nodes p) → Adds d d1 (test_code (head_at ns) l) → Adds d d1 (test_code (H.head p) l)
+test_of ns p d d1 l b a = subst (λ h. Adds d d1 (test_code h l)) (ap head_at b.is) a
 
 pub emit_tried-put-requires-2 : goal.emit_tried-put-requires-2
 emit_tried-put-requires-2 t c =
     let at = address_of c.args.layout.now in
-    let x = c.in_ok-emit_test.ensures in
+    let x = test_of (left c.args.nodes.now) (core_of c.args.part.now) c.args.draft.now c.emit_test.new.draft (c.next.result + 2 + c.size-size.result + 1) c.requires.nodes c.in_ok-emit_test.ensures in
     let a = c.in_ok-put.ensures in
-    let b = c.in_ok-emit.ensures in
+    let b = c.in_ok-emit_inner.ensures.code in
     let p = core_of c.args.part.now in
-    omega (arith, x.long, a.long, b.long, test_length (H.head p) (c.next.result + 2 + c.size_of-size.result + 1) (len p), c.requires, code_length at p (length c.put.new.self.code))
+    omega (arith, x.long, a.long, b.long, test_length (H.head p) (c.next.result + 2 + c.size-size.result + 1) (len p), c.requires.room, code_length at p (length c.put.new.self.code))
 
 pub emit_tried-returns-clause-goes_on : goal.emit_tried-returns-clause-goes_on
 emit_tried-returns-clause-goes_on t c =
     let at = address_of c.args.layout.now in
     let p = core_of c.args.part.now in
     let h = H.head p in
-    let l = c.next.result + 2 + c.size_of-size.result + 1 in
-    let m = c.next-2.result + 1 + c.size_of-size.result + 1 in
+    let l = c.next.result + 2 + c.size-size.result + 1 in
+    let m = c.next-2.result + 1 + c.size-size.result + 1 in
     let d1 = c.emit_test.new.draft in
-    let size : c.size_of-size.result ≡ len p = omega (arith, c.size_of-size.ensures, test_length h l (len p), c.requires) in
+    let size : c.size-size.result ≡ len p = omega (arith, (c.size-size.ensures ∙ ap size_at c.requires.nodes.is), test_length h l (len p), c.requires.room) in
     let is : l ≡ length c.args.draft.now.code + 1 + 1 + len p + 1 = omega (arith, c.next.ensures, size) in
     let is1 : m ≡ length d1.code + 1 + len p + 1 = omega (arith, c.next-2.ensures, size) in
     on_ok c.put-2.result _ _ (λ w q x end rest.
-    piece_tried h c.args.draft.now d1 x (C.code at p) q (len p) l (code_length at p) is c.in_ok-emit_test.ensures (piece_choice d1 c.put.new.self c.emit.new.draft c.put-2.new.self x (C.code at p) q (len p) m c.args.end (code_length at p) is1 end c.in_ok-put.ensures c.in_ok-emit.ensures w rest)) c.put-2.ensures
+    piece_tried h c.args.draft.now d1 x (C.code at p) q (len p) l (code_length at p) is (test_of (left c.args.nodes.now) p c.args.draft.now d1 l c.requires.nodes c.in_ok-emit_test.ensures) (piece_choice d1 c.put.new.self c.emit_inner.new.draft c.put-2.new.self x (C.code at p) q (len p) m c.args.end (code_length at p) is1 end c.in_ok-put.ensures c.in_ok-emit_inner.ensures.code w rest)) c.put-2.ensures
 
 pub emit_tried-returns-clause-long : goal.emit_tried-returns-clause-long
 emit_tried-returns-clause-long t c =
     let at = address_of c.args.layout.now in
     let p = core_of c.args.part.now in
-    let x = c.in_ok-emit_test.ensures in
+    let x = test_of (left c.args.nodes.now) (core_of c.args.part.now) c.args.draft.now c.emit_test.new.draft (c.next.result + 2 + c.size-size.result + 1) c.requires.nodes c.in_ok-emit_test.ensures in
     let a = c.in_ok-put.ensures in
-    let b = c.in_ok-emit.ensures in
-    on_ok c.put-2.result (Adds c.emit.new.draft c.put-2.new.self (I.Commit c.args.end ∷ [])) _ (λ w. omega (arith, x.long, a.long, b.long, w.long, test_length (H.head p) (c.next.result + 2 + c.size_of-size.result + 1) (len p), code_length at p (length c.put.new.self.code))) c.put-2.ensures
+    let b = c.in_ok-emit_inner.ensures.code in
+    on_ok c.put-2.result (Adds c.emit_inner.new.draft c.put-2.new.self (I.Commit c.args.end ∷ [])) _ (λ w. omega (arith, x.long, a.long, b.long, w.long, test_length (H.head p) (c.next.result + 2 + c.size-size.result + 1) (len p), code_length at p (length c.put.new.self.code))) c.put-2.ensures
+
+pub emit_inner-returns-in-Behind-clause-code : goal.emit_inner-returns-in-Behind-clause-code
+emit_inner-returns-in-Behind-clause-code t c =
+    let at = address_of c.args.layout.now in
+    let is = ap (λ q. Behind c.in-Behind.least c.in-Behind.most (core_of q)) c.deref-in-Behind.ensures ∙ sym (ap core_of c.in-Behind.is) in
+    subst (λ e. OnOk c.emit_behind.result (Adds c.args.draft.now c.emit_behind.new.draft (C.code at e (length c.args.draft.now.code)))) is c.emit_behind.ensures.code
+
+pub emit_behind-returns-clause-nodes : goal.emit_behind-returns-clause-nodes
+emit_behind-returns-clause-nodes t c =
+    let k = c.loop-back.back in
+    let n = c.args.most + 1 - c.args.least in
+    let all : k - c.args.least ≡ n = omega (arith, c.loop-back.invariant.3) in
+    on_ok c.put.result _ _ (λ w.
+    as_taken c.args.nodes.now c.loop-back.nodes _ _ (ap (λ n. behind_nodes n (nodes_in (core_of c.args.body.now))) all) c.loop-back.invariant.2) c.put.ensures
+
+pub emit_first-returns-then-is_empty-clause-nodes : goal.emit_first-returns-then-is_empty-clause-nodes
+emit_first-returns-then-is_empty-clause-nodes t c =
+    let e = no_parts c.args.parts.now (sym (ap length c.as_slice-parts.ensures) ∙ eqb-true (length c.as_slice-parts.result.now) 0 (sym c.is_empty.ensures ∙ c.if-is_empty.true)) in
+    let s = c.args.nodes.now in
+    on_ok c.put.result _ _ (λ w. as_taken s s _ _ (sym (ap inner_nodes e)) (takes_none s)) c.put.ensures
+
+pub emit_first-returns-clause-nodes : goal.emit_first-returns-clause-nodes
+emit_first-returns-clause-nodes t c =
+    let row = c.as_slice-parts.result.now in
+    let ps = listed c.args.parts.now in
+    let k = c.loop-number.number in
+    let p = c.index-parts-last.result in
+    let some = eqb-false (length row) 0 (sym c.is_empty.ensures ∙ c.if-is_empty.false) in
+    let full : 0 < length row = omega (arith, some) in
+    let same = c.as_slice-parts.ensures in
+    let x = c.index-parts-last.is in
+    let last : k + 1 ≡ length ps = omega (arith, full, ap length same) in
+    let at_last : length row - 1 ≡ k = omega arith in
+    let is = part_of row ps k p same (x ∙ ap (λ i. get_or row i p) at_last) in
+    let alone = last_here ps k p last is in
+    let s = c.loop-number.nodes in
+    on_ok c.emit.result _ _ (λ w. c.loop-number.invariant.3 c.emit.new.nodes (as_taken s c.emit.new.nodes _ _ (sym alone) w)) c.emit.ensures.nodes

@@ -4,6 +4,9 @@ use Rattle.rpl_core.specs.View.{core_of, cores, listed}
 use Rattle.rpl_core.specs.declared.peg.Peg.TheViews as V
 use Rattle.rpl_codegen.specs.declared.draft.Draft.{Draft}
 use Rattle.rpl_codegen.specs.Sizes.{len, len_all, len_first}
+use Rattle.rpl_codegen.specs.Nodes.{choice_nodes, inner_nodes, parts_nodes, behind_nodes, nodes_in}
+use Rattle.rpl_codegen.specs.Taken.{Begins, Takes, left}
+use Rattle.rpl_codegen.specs.declared.size.Nodes.{Nodes}
 use Rattle.rpl_codegen.specs.Written.{Adds, address_of}
 use Rattle.rpl_codegen.proofs.Weights.{weight}
 use Rattle.rpl_codegen.proofs.writing.+emit.Given as goal
@@ -12,19 +15,28 @@ abbrev pub invariant-emit_all-loop-part : goal.invariant-emit_all-loop-part
 invariant-emit_all-loop-part l =
     (length l.draft.code + len_all (cores (drop l.part-index (listed l.parts))) ≤ 1048576)
     × ((x : Draft) → Adds l.draft x (C.code_all (address_of l.layout) (cores (drop l.part-index (listed l.parts))) (length l.draft.code)) → Adds l.fn.draft x (C.code (address_of l.layout) (core_of (V.Seq l.parts)) (length l.fn.draft.code)))
+    × Begins (left l.nodes) (parts_nodes (cores (drop l.part-index (listed l.parts))))
+    × ((x : Nodes) → Takes l.nodes x (parts_nodes (cores (drop l.part-index (listed l.parts)))) → Takes l.fn.nodes x (inner_nodes (core_of (V.Seq l.parts))))
 
 abbrev pub invariant-emit_first-loop-number : goal.invariant-emit_first-loop-number
 invariant-emit_first-loop-number l =
     (l.end ≡ length l.draft.code + len_first (cores (drop l.number (listed l.fn.parts))))
     × ((x : Draft) → Adds l.draft x (C.code_first (address_of l.layout) (cores (drop l.number (listed l.fn.parts))) (length l.draft.code)) → Adds l.fn.draft x (C.code (address_of l.layout) (core_of (V.Choice l.fn.parts)) (length l.fn.draft.code)))
+    × Begins (left l.nodes) (choice_nodes (cores (drop l.number (listed l.fn.parts))))
+    × ((x : Nodes) → Takes l.nodes x (choice_nodes (cores (drop l.number (listed l.fn.parts)))) → Takes l.fn.nodes x (inner_nodes (core_of (V.Choice l.fn.parts))))
 
 abbrev pub invariant-emit_behind-loop-back : goal.invariant-emit_behind-loop-back
 invariant-emit_behind-loop-back l =
     (length l.draft.code + ((l.most + 1 - l.back) * (len (core_of l.body) + 3) + 1) ≤ 1048576)
     × ((x : Draft) → Adds l.draft x (C.lengths_code (C.code (address_of l.layout) (core_of l.body)) l.end (l.most + 1 - l.back) l.back (length l.draft.code)) → Adds l.fn.draft x (C.lengths_code (C.code (address_of l.layout) (core_of l.body)) l.end (l.most + 1 - l.least) l.least (length l.fn.draft.code)))
+    × Takes l.fn.nodes l.nodes (behind_nodes (l.back - l.least) (nodes_in (core_of l.body)))
+    × (l.back ≤ l.least + (l.most + 1 - l.least))
 
 abbrev pub decreases-emit : goal.decreases-emit
-decreases-emit l = weight (core_of l.peg.now) + 1
+decreases-emit l = weight (core_of l.peg.now) + 2
+
+abbrev pub decreases-emit_inner : goal.decreases-emit_inner
+decreases-emit_inner l = weight (core_of l.peg.now) + 1
 
 abbrev pub decreases-emit_all : goal.decreases-emit_all
 decreases-emit_all l = weight (core_of (V.Seq l.parts.now))
@@ -33,22 +45,22 @@ abbrev pub decreases-emit_first : goal.decreases-emit_first
 decreases-emit_first l = weight (core_of (V.Choice l.parts.now))
 
 abbrev pub decreases-emit_tried : goal.decreases-emit_tried
-decreases-emit_tried l = weight (core_of l.part.now) + 2
+decreases-emit_tried l = weight (core_of l.part.now) + 3
 
 abbrev pub decreases-emit_many : goal.decreases-emit_many
-decreases-emit_many l = weight (core_of l.body.now) + 2
+decreases-emit_many l = weight (core_of l.body.now) + 3
 
 abbrev pub decreases-emit_not : goal.decreases-emit_not
-decreases-emit_not l = weight (core_of l.body.now) + 2
+decreases-emit_not l = weight (core_of l.body.now) + 3
 
 abbrev pub decreases-emit_and : goal.decreases-emit_and
-decreases-emit_and l = weight (core_of l.body.now) + 2
+decreases-emit_and l = weight (core_of l.body.now) + 3
 
 abbrev pub decreases-emit_behind : goal.decreases-emit_behind
-decreases-emit_behind l = weight (core_of l.body.now) + 3
+decreases-emit_behind l = weight (core_of l.body.now) + 4
 
 abbrev pub decreases-emit_length : goal.decreases-emit_length
-decreases-emit_length l = weight (core_of l.body.now) + 2
+decreases-emit_length l = weight (core_of l.body.now) + 3
 
 abbrev pub decreases-emit_capture : goal.decreases-emit_capture
-decreases-emit_capture l = weight (core_of l.body.now) + 2
+decreases-emit_capture l = weight (core_of l.body.now) + 3

@@ -1,21 +1,28 @@
-use Rattle.std.proofs.Common.{◌≡◌, ◌+◌, ◌<◌, ◌∙◌, ℕ, sym, ap, arith, length, min, get_or, length-append, [], ◌∷◌}
+use Rattle.std.proofs.Common.{◌≡◌, ◌+◌, ◌<◌, ◌∙◌, ◌++◌, ℕ, sym, ap, arith, append_assoc, drop, length, min, get_or, length-append, [], ◌∷◌}
 use Rattle.std.proofs.Math.Path.{fun_ext}
-use Rattle.std.proofs.lemmas.List.{length-map}
+use Rattle.std.proofs.lemmas.List.{drop_all, length-map}
+use Rattle.std.specs.Prelude.{slice_get}
 use Rattle.rpl_core.specs.Listed.{rules_of}
 use Rattle.rpl_core.specs.Programs.{place_of}
 use Rattle.rpl_core.specs.Table.{bodies_of}
 use Rattle.rpl_core.specs.View.{core_of}
-use Rattle.rpl_codegen.specs.Laid.{whole_len}
+use Rattle.rpl_codegen.specs.Laid.{bodies_nodes, rule_nodes, whole_len}
 use Rattle.rpl_codegen.specs.Marked.{marked}
 use Rattle.rpl_codegen.specs.Sizes.{len}
+use Rattle.rpl_codegen.specs.Nodes.{nodes_in}
 use Rattle.rpl_codegen.proofs.Layouts.{place_zero, place_turn, place_end, place_past, place_within, addresses_are, addresses_more}
 use Rattle.rpl_codegen.proofs.Lengths.{size_is}
+use Rattle.rpl_codegen.proofs.Taking.{append_nil, nodes_here, listed_turn}
 use Rattle.rpl_codegen.proofs.layout.Layout.new.Goals as goal
 
 pub loop-number-init : goal.loop-number-init
 loop-number-init c =
-    let zero = place_zero (marked c.args.marks.now) (bodies_of (rules_of c.args.rules.now)) 0 (len (core_of c.args.goal.now) + 1) in
-    (omega (arith, zero), ap length c.new-addresses.ensures.items, λ r lt. absurd (omega arith))
+    let m = marked c.args.marks.now in
+    let R = bodies_of (rules_of c.args.rules.now) in
+    let g = core_of c.args.goal.now in
+    let bodies = bodies_nodes m R 0 in
+    let zero = place_zero m R 0 (len g + 1) in
+    (omega (arith, zero, c.in_ok-shape.ensures.size), ap length c.new-addresses.ensures.items, (λ r lt. absurd (omega arith)), ap (λ l. l ++ bodies) c.in_ok-shape.ensures.nodes ∙ append_assoc c.args.plan.now.nodes.items (nodes_in g) bodies)
 
 pub loop-number-preserved : goal.loop-number-preserved
 loop-number-preserved c =
@@ -30,10 +37,24 @@ loop-number-preserved c =
     let turn = place_turn m R a n lt in
     let inv = c.loop-number.invariant in
     let grown = c.in_ok-push.ensures.items in
-    (omega (arith, turn, inv.0, c.marked_size.ensures, c.capped-next-in-loop-number.ensures), ap length grown ∙ length-append items (c.loop-number.next ∷ []) ∙ ap (λ k. k + 1) inv.1, λ r below. ap (λ l. get_or l r 0) grown ∙ addresses_more items n c.loop-number.next place inv.1 inv.2 inv.0 r below)
+    let here = nodes_here m R n lt in (
+      omega (arith, turn, inv.0, c.in_ok-size.ensures.size, c.capped-next-in-loop-number.ensures),
+      ap length grown ∙ length-append items (c.loop-number.next ∷ []) ∙ ap (λ k. k + 1) inv.1,
+      λ r below. ap (λ l. get_or l r 0) grown ∙ addresses_more items n c.loop-number.next place inv.1 inv.2 inv.0 r below,
+      listed_turn c.loop-number.plan.nodes.items _ (rule_nodes (m n) (slice_get R n)) _ (bodies_nodes m (drop (n + 1) R) (n + 1)) _ c.in_ok-size.ensures.nodes here inv.3,
+    )
 
-pub returns : goal.returns
-returns c =
+pub returns-clause-nodes : goal.returns-clause-nodes
+returns-clause-nodes c =
+    let rules = rules_of c.args.rules.now in
+    let R = bodies_of rules in
+    let m = marked c.args.marks.now in
+    let n = c.loop-number.number in
+    let none = drop_all n R (omega (arith, length-map rules (λ r. core_of r.body))) in
+    sym (ap (λ l. c.loop-number.plan.nodes.items ++ bodies_nodes m l n) none ∙ append_nil c.loop-number.plan.nodes.items) ∙ c.loop-number.invariant.3
+
+pub returns-clause-layout : goal.returns-clause-layout
+returns-clause-layout c =
     let rules = rules_of c.args.rules.now in
     let R = bodies_of rules in
     let g = core_of c.args.goal.now in

@@ -1,4 +1,6 @@
 // Tables and patterns with their faults.
+use crate::made::{Made, generator, make_wild};
+use crate::plain_check;
 use crate::words::{read_pattern, read_rules};
 use rpl_check::{BehindCause, CheckFault, calls_are_rules, check, check_pattern, is_in_order};
 use rpl_core::Rules;
@@ -246,5 +248,69 @@ fn faults_are_those_worked_by_hand(rt: HostRuntime) -> Result<(), Fail> {
         let found = verdict(alloc, table, pattern)?;
         assert_eq!(&rt; found.as_str(), due, "{table} {pattern}");
     }
+    Ok(())
+}
+
+/// Counts of verdicts by their first letter: faults of look-behinds, of left recursion, of empty loops and of halts, and none.
+#[derive(Drop)]
+struct Seen {
+    behind: u32,
+    left: u32,
+    empty_loop: u32,
+    halt: u32,
+    none: u32,
+}
+
+impl Seen {
+    fn add(&mut self, verdict: &str) {
+        let count = if verdict.starts_with("behind") {
+            &mut self.behind
+        } else if verdict.starts_with("left") {
+            &mut self.left
+        } else if verdict.starts_with("loop") {
+            &mut self.empty_loop
+        } else if verdict.starts_with("halt") {
+            &mut self.halt
+        } else {
+            &mut self.none
+        };
+        *count = count.saturating_add(1);
+    }
+}
+
+/// On four thousand made-up tables and patterns the check finds what the plain check finds, which tries all sets of rules.
+#[test]
+fn faults_are_those_of_the_plain_check(rt: HostRuntime) -> Result<(), Fail> {
+    let alloc = rt.alloc();
+    let mut random = generator();
+    let mut out_of_order = 0u32;
+    let mut seen = Seen {
+        behind: 0,
+        left: 0,
+        empty_loop: 0,
+        halt: 0,
+        none: 0,
+    };
+    for _ in 0..4_000 {
+        let Made { rules, goal, .. } = make_wild(alloc, &mut random)?;
+        let table = read_rules(alloc, rules.as_str())?;
+        let in_order = plain_check::is_in_order(alloc, &table)?;
+        assert_eq!(&rt; is_in_order(&table), in_order, "{rules}");
+        if in_order {
+            let peg = read_pattern(alloc, goal.as_str())?;
+            let due = plain_check::verdict(alloc, &table, &peg)?;
+            let found = verdict(alloc, rules.as_str(), goal.as_str())?;
+            assert_eq!(&rt; found.as_str(), due.as_str(), "{rules} {goal}");
+            seen.add(found.as_str());
+        } else {
+            out_of_order = out_of_order.saturating_add(1);
+        }
+    }
+    assert!(&rt; out_of_order > 300);
+    assert!(&rt; seen.behind > 100);
+    assert!(&rt; seen.left > 100);
+    assert!(&rt; seen.empty_loop > 100);
+    assert!(&rt; seen.halt > 100);
+    assert!(&rt; seen.none > 300);
     Ok(())
 }

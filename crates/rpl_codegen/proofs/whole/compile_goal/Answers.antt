@@ -1,18 +1,20 @@
-use Rattle.std.proofs.Common.{◌∙◌, sym, ap, subst, arith, length, refl}
+use Rattle.std.proofs.Common.{◌∙◌, ◌++◌, sym, ap, subst, arith, length, refl}
 use Rattle.rpl_core.specs.Listed.{rules_of}
 use Rattle.rpl_core.specs.Numbers.{AreInRange}
 use Rattle.rpl_core.specs.Programs.{program}
 use Rattle.rpl_core.specs.Table.{bodies_of}
 use Rattle.rpl_core.specs.View.{core_of}
-use Rattle.rpl_codegen.specs.Laid.{LaysOut}
+use Rattle.rpl_codegen.specs.Laid.{LaysOut, bodies_nodes}
 use Rattle.rpl_codegen.specs.Marked.{marked}
+use Rattle.rpl_codegen.specs.Nodes.{nodes_in}
+use Rattle.rpl_codegen.specs.Taken.{left}
 use Rattle.rpl_codegen.specs.Uses.{sets_in, labels_in}
 use Rattle.rpl_codegen.specs.Written.{address_of}
 use Rattle.rpl_codegen.proofs.Finish.{compiled, finished, is_code, program_means, kept}
 use Rattle.rpl_codegen.proofs.Jumps.{program_length}
 use Rattle.rpl_codegen.proofs.Lengths.{code_length}
-use Rattle.rpl_simulation.proofs.Whole.{simulation_holds}
-use Rattle.rpl_codegen.proofs.whole.compile.Goals as goal
+use Rattle.rpl_codegen.proofs.Taking.{as_begins, begins_all, begins_behind, begins_front}
+use Rattle.rpl_codegen.proofs.whole.compile_goal.Goals as goal
 
 pub returns-then-size-gt-MAX_CODE-clause-too_long : goal.returns-then-size-gt-MAX_CODE-clause-too_long
 returns-then-size-gt-MAX_CODE-clause-too_long c =
@@ -20,15 +22,15 @@ returns-then-size-gt-MAX_CODE-clause-too_long c =
     let g = core_of c.args.goal.now in
     let bs = c.in_ok-marks.marks.items in
     let m = marked bs in
-    let out = subst (λ b. LaysOut (marked b) R g c.in_ok-layout.layout) c.deref.ensures.value c.in_ok-layout.ensures in
+    let out = subst (λ b. LaysOut (marked b) R g c.in_ok-layout.layout) c.deref.ensures.value c.in_ok-layout.ensures.layout in
     λ e. (program m R g, is_code bs R g (program m R g) c.in_ok-marks.ensures refl, omega (arith, out.whole, program_length m R g, c.size.ensures, c.if-size-gt-MAX_CODE.true))
 
 pub put-requires : goal.put-requires
 put-requires c =
     let R = bodies_of (rules_of c.args.rules.now) in
     let g = core_of c.args.goal.now in
-    let out = c.in_ok-layout.ensures in
-    let e = c.in_ok-emit.ensures in
+    let out = c.in_ok-layout.ensures.layout in
+    let e = c.in_ok-emit.ensures.code in
     let none = ap length c.new-draft.ensures.code in
     omega (arith, out.whole, c.size.ensures, c.if-size-gt-MAX_CODE.false, e.long, none, code_length (address_of c.in_ok-layout.layout) g (length c.new-draft.result.code))
 
@@ -37,8 +39,8 @@ emit_rules-requires-clause-room c =
     let R = bodies_of (rules_of c.args.rules.now) in
     let g = core_of c.args.goal.now in
     let same = c.deref.ensures.value ∙ sym c.deref-2.ensures.value in
-    let out = subst (λ b. LaysOut (marked b) R g c.in_ok-layout.layout) same c.in_ok-layout.ensures in
-    let e = c.in_ok-emit.ensures in
+    let out = subst (λ b. LaysOut (marked b) R g c.in_ok-layout.layout) same c.in_ok-layout.ensures.layout in
+    let e = c.in_ok-emit.ensures.code in
     let f = c.in_ok-put.ensures in
     let none = ap length c.new-draft.ensures.code in
     omega (arith, out.whole, c.size.ensures, c.if-size-gt-MAX_CODE.false, e.long, f.long, none, code_length (address_of c.in_ok-layout.layout) g (length c.new-draft.result.code))
@@ -49,7 +51,7 @@ new-requires-2 c =
     let g = core_of c.args.goal.now in
     let bs = c.in_ok-marks.marks.items in
     let d = c.new-draft.result in
-    let all = compiled d c.emit.new.draft c.put.new.self c.emit_rules.new.draft c.in_ok-layout.layout bs c.deref.result.now c.deref-2.result.now R g c.deref.ensures.value c.deref-2.ensures.value c.in_ok-layout.ensures (omega (arith, c.size.ensures, c.if-size-gt-MAX_CODE.false)) c.new-draft.ensures.code c.in_ok-emit.ensures c.in_ok-put.ensures c.in_ok-emit_rules.ensures in
+    let all = compiled d c.emit.new.draft c.put.new.self c.emit_rules.new.draft c.in_ok-layout.layout bs c.deref.result.now c.deref-2.result.now R g c.deref.ensures.value c.deref-2.ensures.value c.in_ok-layout.ensures.layout (omega (arith, c.size.ensures, c.if-size-gt-MAX_CODE.false)) c.new-draft.ensures.code c.in_ok-emit.ensures.code c.in_ok-put.ensures c.in_ok-emit_rules.ensures in
     let d3 = c.emit_rules.new.draft in
     subst (λ s. AreInRange d3.code s c.in_ok-labels.field-0) (sym c.in_ok-sets.ensures)
     (subst (λ l. AreInRange d3.code d3.sets l) (sym c.in_ok-labels.ensures)
@@ -63,22 +65,9 @@ returns-clause-code c =
     let d = c.new-draft.result in
     let d3 = c.emit_rules.new.draft in
     let p = c.new-2.result in
-    let all = compiled d c.emit.new.draft c.put.new.self d3 c.in_ok-layout.layout bs c.deref.result.now c.deref-2.result.now R g c.deref.ensures.value c.deref-2.ensures.value c.in_ok-layout.ensures (omega (arith, c.size.ensures, c.if-size-gt-MAX_CODE.false)) c.new-draft.ensures.code c.in_ok-emit.ensures c.in_ok-put.ensures c.in_ok-emit_rules.ensures in
+    let all = compiled d c.emit.new.draft c.put.new.self d3 c.in_ok-layout.layout bs c.deref.result.now c.deref-2.result.now R g c.deref.ensures.value c.deref-2.ensures.value c.in_ok-layout.ensures.layout (omega (arith, c.size.ensures, c.if-size-gt-MAX_CODE.false)) c.new-draft.ensures.code c.in_ok-emit.ensures.code c.in_ok-put.ensures c.in_ok-emit_rules.ensures in
     let is = finished d d3 bs R g c.requires c.in_ok-marks.ensures c.new-draft.ensures.code all in
     is_code bs R g _ c.in_ok-marks.ensures (program_means p d3.code d3.sets d3.labels (program (marked bs) R g) c.new-2.ensures.code (c.new-2.ensures.sets ∙ c.in_ok-sets.ensures) (c.new-2.ensures.labels ∙ c.in_ok-labels.ensures) is.0)
-
-pub returns-clause-meant : goal.returns-clause-meant
-returns-clause-meant c =
-    let R = bodies_of (rules_of c.args.rules.now) in
-    let g = core_of c.args.goal.now in
-    let bs = c.in_ok-marks.marks.items in
-    let d = c.new-draft.result in
-    let d3 = c.emit_rules.new.draft in
-    let p = c.new-2.result in
-    let all = compiled d c.emit.new.draft c.put.new.self d3 c.in_ok-layout.layout bs c.deref.result.now c.deref-2.result.now R g c.deref.ensures.value c.deref-2.ensures.value c.in_ok-layout.ensures (omega (arith, c.size.ensures, c.if-size-gt-MAX_CODE.false)) c.new-draft.ensures.code c.in_ok-emit.ensures c.in_ok-put.ensures c.in_ok-emit_rules.ensures in
-    let is = finished d d3 bs R g c.requires c.in_ok-marks.ensures c.new-draft.ensures.code all in
-    let code = is_code bs R g _ c.in_ok-marks.ensures (program_means p d3.code d3.sets d3.labels (program (marked bs) R g) c.new-2.ensures.code (c.new-2.ensures.sets ∙ c.in_ok-sets.ensures) (c.new-2.ensures.labels ∙ c.in_ok-labels.ensures) is.0) in
-    λ h still. simulation_holds h R g _ still code
 
 pub returns-clause-sets : goal.returns-clause-sets
 returns-clause-sets c =
@@ -88,7 +77,7 @@ returns-clause-sets c =
     let d = c.new-draft.result in
     let d3 = c.emit_rules.new.draft in
     let p = c.new-2.result in
-    let all = compiled d c.emit.new.draft c.put.new.self d3 c.in_ok-layout.layout bs c.deref.result.now c.deref-2.result.now R g c.deref.ensures.value c.deref-2.ensures.value c.in_ok-layout.ensures (omega (arith, c.size.ensures, c.if-size-gt-MAX_CODE.false)) c.new-draft.ensures.code c.in_ok-emit.ensures c.in_ok-put.ensures c.in_ok-emit_rules.ensures in
+    let all = compiled d c.emit.new.draft c.put.new.self d3 c.in_ok-layout.layout bs c.deref.result.now c.deref-2.result.now R g c.deref.ensures.value c.deref-2.ensures.value c.in_ok-layout.ensures.layout (omega (arith, c.size.ensures, c.if-size-gt-MAX_CODE.false)) c.new-draft.ensures.code c.in_ok-emit.ensures.code c.in_ok-put.ensures c.in_ok-emit_rules.ensures in
     let is = finished d d3 bs R g c.requires c.in_ok-marks.ensures c.new-draft.ensures.code all in
     let same = program_means p d3.code d3.sets d3.labels (program (marked bs) R g) c.new-2.ensures.code (c.new-2.ensures.sets ∙ c.in_ok-sets.ensures) (c.new-2.ensures.labels ∙ c.in_ok-labels.ensures) is.0 in
     kept (sets_in (program (marked bs) R g)) _ d.sets d3.sets p.sets (ap sets_in (sym same)) c.new-draft.ensures.sets (sym (c.new-2.ensures.sets ∙ c.in_ok-sets.ensures)) all.sets
@@ -101,7 +90,25 @@ returns-clause-labels c =
     let d = c.new-draft.result in
     let d3 = c.emit_rules.new.draft in
     let p = c.new-2.result in
-    let all = compiled d c.emit.new.draft c.put.new.self d3 c.in_ok-layout.layout bs c.deref.result.now c.deref-2.result.now R g c.deref.ensures.value c.deref-2.ensures.value c.in_ok-layout.ensures (omega (arith, c.size.ensures, c.if-size-gt-MAX_CODE.false)) c.new-draft.ensures.code c.in_ok-emit.ensures c.in_ok-put.ensures c.in_ok-emit_rules.ensures in
+    let all = compiled d c.emit.new.draft c.put.new.self d3 c.in_ok-layout.layout bs c.deref.result.now c.deref-2.result.now R g c.deref.ensures.value c.deref-2.ensures.value c.in_ok-layout.ensures.layout (omega (arith, c.size.ensures, c.if-size-gt-MAX_CODE.false)) c.new-draft.ensures.code c.in_ok-emit.ensures.code c.in_ok-put.ensures c.in_ok-emit_rules.ensures in
     let is = finished d d3 bs R g c.requires c.in_ok-marks.ensures c.new-draft.ensures.code all in
     let same = program_means p d3.code d3.sets d3.labels (program (marked bs) R g) c.new-2.ensures.code (c.new-2.ensures.sets ∙ c.in_ok-sets.ensures) (c.new-2.ensures.labels ∙ c.in_ok-labels.ensures) is.0 in
     kept (labels_in (program (marked bs) R g)) _ d.labels d3.labels p.labels (ap labels_in (sym same)) c.new-draft.ensures.labels (sym (c.new-2.ensures.labels ∙ c.in_ok-labels.ensures)) all.labels
+
+pub emit-requires-clause-nodes : goal.emit-requires-clause-nodes
+emit-requires-clause-nodes c =
+    let g = core_of c.args.goal.now in
+    let bodies = bodies_nodes (marked c.deref.result.now) (bodies_of (rules_of c.args.rules.now)) 0 in
+    let all = c.new-nodes.ensures ∙ c.in_ok-layout.ensures.nodes ∙ ap (λ l. l ++ (nodes_in g ++ bodies)) c.new-plan.ensures in
+    begins_front (left c.new-nodes.result) (nodes_in g) bodies (begins_all _ _ all)
+
+pub emit_rules-requires-clause-nodes : goal.emit_rules-requires-clause-nodes
+emit_rules-requires-clause-nodes c =
+    let R = bodies_of (rules_of c.args.rules.now) in
+    let g = core_of c.args.goal.now in
+    let bodies = bodies_nodes (marked c.deref.result.now) R 0 in
+    let all = c.new-nodes.ensures ∙ c.in_ok-layout.ensures.nodes ∙ ap (λ l. l ++ (nodes_in g ++ bodies)) c.new-plan.ensures in
+    let same = c.deref.ensures.value ∙ sym c.deref-2.ensures.value in
+    let s = c.emit.new.nodes in
+    let rest = begins_behind c.new-nodes.result s (nodes_in g) bodies c.in_ok-emit.ensures.nodes (begins_all _ _ all) in
+    as_begins (left s) _ _ (ap (λ b. bodies_nodes (marked b) R 0) same) rest
