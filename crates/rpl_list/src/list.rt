@@ -1,5 +1,5 @@
 // The list, and its calls.
-ghost use Rattle.std.specs.Prelude.{◌≡◌, [], ◌∷◌, ◌++◌, ◌↔◌, length, slice_get, IsTrue, OnOk, OnErr};
+ghost use Rattle.std.specs.Prelude.{◌≡◌, [], ◌∷◌, ◌++◌, ◌↔◌, length, slice_get, IsTrue, IfOk, OnOk, OnErr};
 ghost use Rattle.std.specs.Option.{option_copied};
 
 use crate::NoMemory;
@@ -28,6 +28,17 @@ impl<T> List<T> {
         List {
             items: Vec::new(alloc),
         }
+    }
+
+    /// A copy of these members.
+    pub fn from_slice(alloc: Global, items: &[T]) -> Result<List<T>, NoMemory>
+    where
+        T: Copy,
+        ensures { IfOk result (λ copy. copy ≡ items.now) }
+    {
+        Ok(List {
+            items: Vec::from_slice(alloc, items)?,
+        })
     }
 
     /// Takes over the members of a `Vec`, with no copy.
@@ -64,6 +75,16 @@ impl<T> List<T> {
     {
         let mut others = others;
         self.items.append(&mut others.items)
+    }
+
+    /// Adds copies of these members at the end. Where memory is wanting, nothing changes.
+    pub fn extend_from_slice(&mut self, items: &[T]) -> Result<(), NoMemory>
+    where
+        T: Copy,
+        ensures ok { OnOk result (self.new ≡ self.old ++ items.now) }
+        ensures err { OnErr result (self.new ≡ self.old) }
+    {
+        self.items.extend_from_slice(items)
     }
 
     /// The number of members.
