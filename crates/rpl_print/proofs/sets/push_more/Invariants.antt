@@ -1,0 +1,10 @@
+use Rattle.std.proofs.Common.{◌≡◌, ◌∷◌, ◌++◌, drop, string_bytes}
+use Rattle.std.specs.Prelude.{flat_map}
+use Rattle.rpl_print.specs.Sets.{range_text}
+use Rattle.rpl_print.proofs.sets.push_more.Given as goal
+
+-- what is written, with the ranges that are left, is the whole
+abbrev pub invariant-loop-range : goal.invariant-loop-range
+invariant-loop-range l =
+    string_bytes l.out ++ flat_map (λ r. 32 ∷ range_text r) (drop l.range-index l.ranges)
+    ≡ string_bytes l.initial.out ++ flat_map (λ r. 32 ∷ range_text r) l.ranges

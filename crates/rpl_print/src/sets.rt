@@ -1,0 +1,43 @@
+// Sets of characters.
+ghost use Rattle.std.specs.Prelude.{◌≡◌, ◌++◌, ◌∷◌, OnOk, flat_map, string_bytes};
+ghost use Rattle.rpl_print.specs.Sets.{range_text, set_text};
+
+use crate::words::push_hexadecimal;
+use rpl_classes::Set;
+use rpl_text::NoMemory;
+
+/// Adds a set: its ranges in hexadecimal, one space apart, or `none` where it has no character.
+pub fn push_set(out: &mut String, set: &Set) -> Result<(), NoMemory>
+    ensures { OnOk result (string_bytes out.new ≡ string_bytes out.old ++ set_text set.now) }
+{
+    match set.ranges() {
+        [] => out.push_str("none"),
+        [first, rest @ ..] => {
+            push_range(out, *first)?;
+            push_more(out, rest)
+        }
+    }
+}
+
+/// Adds ranges, with a space before each.
+fn push_more(out: &mut String, ranges: &[(u32, u32)]) -> Result<(), NoMemory>
+    ensures { OnOk result (string_bytes out.new ≡ string_bytes out.old ++ flat_map (λ r. 32 ∷ range_text r) ranges.now) }
+{
+    for range in ranges {
+        out.push(' ')?;
+        push_range(out, *range)?;
+    }
+    Ok(())
+}
+
+/// Adds a range by its first and its last character, or by its only one.
+fn push_range(out: &mut String, range: (u32, u32)) -> Result<(), NoMemory>
+    ensures { OnOk result (string_bytes out.new ≡ string_bytes out.old ++ range_text range) }
+{
+    push_hexadecimal(out, range.0)?;
+    if range.0 != range.1 {
+        out.push('-')?;
+        push_hexadecimal(out, range.1)?;
+    }
+    Ok(())
+}
