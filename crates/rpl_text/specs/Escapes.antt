@@ -1,5 +1,7 @@
--- The escapes of quoted texts and brackets. All that decides is ASCII, so they are the same over bytes and over characters.
-use Rattle.std.specs.Prelude.{ℕ, zero, suc, ◌+◌, ◌*◌, Bool, ◌&&◌, ◌||◌, nat_lt, nat_le, nat_eq, if◌then◌else◌, List, [], ◌∷◌, Option, Some, None, drop}
+-- The escapes of quoted texts and brackets. All that decides is ASCII, so they are the same over bytes and over
+-- characters.
+use Rattle.std.specs.Prelude.{ℕ, zero, suc, ◌+◌, ◌*◌, Bool, ◌&&◌, ◌||◌, nat_lt, nat_le, nat_eq, if◌then◌else◌}
+use Rattle.std.specs.Prelude.{List, [], ◌∷◌, Option, Some, None, drop}
 use Rattle.std.specs.Char.{digit_value}
 use Rattle.rpl_text.specs.Characters.{is_char}
 use Rattle.rpl_text.specs.Places.{at}
@@ -17,7 +19,8 @@ numbered n last (Some v) = if is_char v && nat_le v last then Some (v, 1 + n) el
 
 -- the characters that a backslash leaves as they are: \ " [ ] - ^ :
 abbrev pub is_kept : ℕ → Bool
-is_kept c = nat_eq c 92 || (nat_eq c 34 || (nat_eq c 91 || (nat_eq c 93 || (nat_eq c 45 || (nat_eq c 94 || nat_eq c 58)))))
+is_kept c =
+    nat_eq c 92 || (nat_eq c 34 || (nat_eq c 91 || (nat_eq c 93 || (nat_eq c 45 || (nat_eq c 94 || nat_eq c 58)))))
 
 -- what stands behind a backslash: the character that it means, and how many characters it takes
 unfoldable pub escape : List ℕ → Option (ℕ × ℕ)

@@ -1,5 +1,5 @@
 // A text of its own.
-ghost use Rattle.std.specs.Prelude.{◌≡◌, IfOk, chars};
+ghost use Rattle.std.specs.Prelude.{◌≡◌, [], IfOk, chars};
 
 use crate::NoMemory;
 use std::alloc::Global;
@@ -20,6 +20,14 @@ impl Model for Chars {
 }
 
 impl Chars {
+    /// The empty text. It takes no memory.
+    pub fn empty(alloc: Global) -> Chars
+        ensures { result ≡ [] }
+    {
+        let text = String::new(alloc);
+        Chars { text }
+    }
+
     /// A copy of the text.
     pub fn from_str(alloc: Global, text: &str) -> Result<Chars, NoMemory>
         ensures { IfOk result (λ c. c ≡ chars text.now) }

@@ -1,5 +1,5 @@
-// Texts worked by hand, and the escapes with their values.
-use crate::{Chars, Text, escape, read_escape};
+// Texts worked by hand, the escapes with their values, and numbers about the limit of 64 bits.
+use crate::{Chars, Text, escape, read_escape, read_number};
 use std::test::Fail;
 
 // One character of each length at each border of the lengths.
@@ -90,5 +90,28 @@ fn escapes(rt: HostRuntime) {
 fn texts_of_their_own(rt: HostRuntime) -> Result<(), Fail> {
     let text = Chars::from_str(rt.alloc(), BORDERS)?;
     assert_eq!(rt; text.copy(rt.alloc())?.as_str(), BORDERS);
+    assert_eq!(rt; Chars::empty(rt.alloc()).as_str(), "");
     Ok(())
+}
+
+#[test]
+fn numbers(rt: HostRuntime) {
+    let cases = [
+        ("0", Some(0)),
+        ("0000000000000000000000017", Some(17)),
+        ("18446744073709551615", Some(u64::MAX)),
+        ("18446744073709551616", None),
+        ("99999999999999999999999", None),
+        ("", None),
+        ("-1", None),
+        ("+1", None),
+        (" 1", None),
+        ("1a", None),
+        ("1:", None),
+        ("1/", None),
+        ("\u{661}", None),
+    ];
+    for (text, want) in cases {
+        assert_eq!(rt; read_number(text.as_bytes()), want, "{text}");
+    }
 }

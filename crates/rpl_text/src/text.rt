@@ -43,7 +43,7 @@ impl<'a> Text<'a> {
     #[inline]
     pub fn step(self, place: usize) -> Option<(char, usize)>
         requires { IsPlace (text_of self) place }
-        ensures { result ≡ step_from (text_of self.entry) (index (text_of self.entry) place) }
+        ensures { let t = text_of self.entry in result ≡ step_from t (index t place) }
     {
         step_in(self.line, place)
     }
@@ -52,7 +52,7 @@ impl<'a> Text<'a> {
     #[inline]
     pub fn back(self, place: usize, count: u32) -> Option<usize>
         requires { IsPlace (text_of self) place }
-        ensures { result ≡ back_from (text_of self.entry) (index (text_of self.entry) place) count }
+        ensures { let t = text_of self.entry in result ≡ back_from t (index t place) count }
     {
         back_in(self.line, place, count)
     }
@@ -71,7 +71,7 @@ impl<'a> Text<'a> {
         requires from { IsPlace (text_of self) from }
         requires to { IsPlace (text_of self) to }
         requires order { from ≤ to }
-        ensures { chars result.now ≡ slice_range (text_of self.entry) (index (text_of self.entry) from) (index (text_of self.entry) to) }
+        ensures { let t = text_of self.entry in chars result.now ≡ slice_range t (index t from) (index t to) }
     {
         slice_in(self.line, from, to)
     }
