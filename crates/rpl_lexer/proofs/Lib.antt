@@ -14,3 +14,4 @@ pub mod Told
 pub mod Quotes
 pub mod Stood
 pub mod Bounded
+pub mod Computing

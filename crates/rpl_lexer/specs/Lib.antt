@@ -11,3 +11,4 @@ pub mod Payloads
 pub mod Forms
 pub mod Written
 pub mod Laws
+pub mod Cutting

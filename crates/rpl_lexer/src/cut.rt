@@ -30,7 +30,7 @@ pub fn lex(alloc: Global, text: &str) -> Result<Tokens, LexFault>
     loop {
         let start = at + gap_len(behind(bytes, at));
         if start == bytes.len() {
-            return Ok(Tokens { items });
+            return Ok(Tokens::from_vec(items));
         }
         match front(behind(bytes, start)) {
             Stand::Fault { kind, skip } => {

@@ -1,9 +1,11 @@
 // What holds of the definitions alone.
+ghost use Rattle.rpl_lexer.specs.Cutting.{CutOrFault, CutComputes, FaultComputes, CutFound, FaultFound};
 ghost use Rattle.rpl_lexer.specs.Laws.{OneCut, TokensStand, BetweenCharacters, LongestForm, NoForm, KeywordsTold, SignsTold, WrittenReadsBack};
 
-/// Each text has one cut: its tokens, or those before its first fault, and that fault.
+/// Each text has one cut: its tokens, or those before its first fault, and that fault. One of the two there always is.
 pub fn one_cut()
-    ensures { OneCut }
+    ensures one { OneCut }
+    ensures either { CutOrFault }
 {}
 
 /// Each token of a cut stands in the text where it says.
@@ -36,4 +38,12 @@ pub fn words_and_signs()
 /// read as what it stands for.
 pub fn written_reads_back()
     ensures { WrittenReadsBack }
+{}
+
+/// The cut of a text as a function gives its tokens exactly where it has a cut, and else its first fault.
+pub fn cut_computes()
+    ensures cuts { CutComputes }
+    ensures fails { FaultComputes }
+    ensures cut { CutFound }
+    ensures fault { FaultFound }
 {}

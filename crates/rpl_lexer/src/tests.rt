@@ -279,7 +279,7 @@ fn expect_tokens(rt: &impl Abort, tokens: &Tokens, want: &[(K, usize, usize)], t
     for i in 0..want.len() {
         let (kind, start, end) = want[i];
         assert_eq!(rt;
-            tokens.get(i),
+            tokens.get(i).copied(),
             Some(Token { kind, start, end }),
             "{i} of {text}"
         );
@@ -323,7 +323,7 @@ fn as_many_tokens_as_there_may_be(rt: HostRuntime) -> Result<(), Fail> {
         start: 524_286,
         end: 524_287,
     };
-    assert_eq!(rt; tokens.get(262_143), Some(last));
+    assert_eq!(rt; tokens.get(262_143).copied(), Some(last));
     assert_eq!(rt; tokens.get(262_144), None);
     text.push_str("]")?;
     let bad = LexFault {
@@ -360,7 +360,7 @@ fn first(alloc: Global, text: &str) -> Result<Token, Fail>
     ensures { IfOk result (λ t. IsToken text.now t) }
 {
     let tokens = lex(alloc, text)?;
-    Ok(tokens.get(0).ok_or("no token")?)
+    Ok(*tokens.get(0).ok_or("no token")?)
 }
 
 #[test]

@@ -10,7 +10,7 @@ returns-then-start-bytes-clause-tokens c =
     let s = c.args.text.now in
     let e = start_is s c.as_bytes-bytes.result.now c.loop-bytes.at c.gap_len.result c.behind.result.now c.as_bytes-bytes.ensures.value c.behind.ensures c.gap_len.ensures.value in
     let k : start s c.loop-bytes.at ≡ length s = grind (arith, nat_tests, e) in
-    whole s c.loop-bytes.items.items Done (c.loop-bytes.invariant.so_far [] Done k)
+    rw c.from_vec.ensures (whole s c.loop-bytes.items.items Done (c.loop-bytes.invariant.so_far [] Done k))
 
 pub returns-in-Fault-clause-fault : goal.returns-in-Fault-clause-fault
 returns-in-Fault-clause-fault c =
