@@ -9,10 +9,11 @@ use Rattle.rpl_simulation.specs.Static.{may_halt, predicates_stay}
 use Rattle.rpl_simulation.proofs.Ending.{ends_holds}
 use Rattle.rpl_check.specs.Checked.{IsAccepted, IsWhole}
 use Rattle.rpl_check.specs.Facts.{IsLeast, Solves, Follows, Facts, passes, calls_here, front_calls_here, any_calls_here}
-use Rattle.rpl_check.specs.Faults.{Cause, Recursive, Repetition, TooLong, Fault, EmptyLoop, HaltInside, has_call, any_has_call, has_repetition, any_has_repetition, greatest, cause_of, first_cause, first_cause_in, body_cause, behind_fault, fault_if, has_empty_loop, any_has_empty_loop, has_halt_inside, behind_at, loop_at, halt_at, first_from, or_then, selves, recursion_of, group_fault, table_fault, goal_fault}
+use Rattle.rpl_core.specs.Lengths.{has_call, any_has_call, has_repetition, any_has_repetition, greatest}
+use Rattle.rpl_check.specs.Faults.{Cause, Recursive, Repetition, TooLong, Fault, EmptyLoop, HaltInside, cause_of, first_cause, first_cause_in, body_cause, behind_fault, fault_if, has_empty_loop, any_has_empty_loop, has_halt_inside, behind_at, loop_at, halt_at, first_from, or_then, selves, recursion_of, group_fault, table_fault, goal_fault}
 use Rattle.rpl_check.specs.Laws.{CallsStay}
 use Rattle.rpl_check.specs.Marked.{count}
-use Rattle.rpl_check.specs.Order.{IsInOrder}
+use Rattle.rpl_core.specs.Order.{IsInOrder}
 use Rattle.rpl_check.specs.Rounds.{Reach}
 use Rattle.rpl_check.proofs.Counts.{count_lt, count_below}
 use Rattle.rpl_check.proofs.Exists.{facts_of}
@@ -20,7 +21,7 @@ use Rattle.rpl_check.proofs.Firsts.{or_none, first_none, selves_none, group_of}
 use Rattle.rpl_check.proofs.Following.{reach_on}
 use Rattle.rpl_check.proofs.Least.{least_unique, here_called}
 use Rattle.rpl_check.proofs.Ordering.{calls_end, last_ends}
-use Rattle.rpl_check.proofs.Tests.{neither, left, right, paired, not_off, off_with, eq_self}
+use Rattle.rpl_core.proofs.Bools.{neither, left, right, paired, not_off, off_with, eq_self}
 
 mutual
   plain_of : (e : Core) → has_call e ≡ false → has_repetition e ≡ false → IsPlain e

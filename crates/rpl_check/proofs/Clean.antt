@@ -14,7 +14,7 @@ use Rattle.rpl_check.specs.Rounds.{CallsBefore}
 use Rattle.rpl_check.specs.Search.{AreClean, calls_within, front_calls_within, each_calls_within, within_or_none}
 use Rattle.rpl_check.proofs.Following.{no_self, from_cases}
 use Rattle.rpl_check.proofs.Settling.{set_cases}
-use Rattle.rpl_check.proofs.Tests.{clash, either, both, eq_of}
+use Rattle.rpl_core.proofs.Bools.{clash, either, both, eq_of}
 
 after : (a b : Bool) → (not a || b) ≡ true → a ≡ true → b ≡ true
 after true b e f = e

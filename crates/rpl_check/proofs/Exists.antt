@@ -13,7 +13,8 @@ use Rattle.rpl_check.specs.Laws.{CallsStay, AreSame}
 use Rattle.rpl_check.specs.Marked.{count}
 use Rattle.rpl_check.proofs.Counts.{count_lt, count_all_le}
 use Rattle.rpl_check.proofs.Least.{least_unique, empty_grows, halt_grows, here_called}
-use Rattle.rpl_check.proofs.Tests.{right, both, paired, not_on, not_off, eq_of, eq_self, passing, pass_at}
+use Rattle.rpl_core.proofs.Bools.{right, both, paired, not_on, not_off, eq_of, eq_self}
+use Rattle.rpl_check.proofs.Tests.{passing, pass_at}
 
 -- a test of the numbers below n holds of one of them, or of none
 pub some_below : (f : ℕ → Bool) (n : ℕ) → ((r : ℕ) × (r < n) × (f r ≡ true)) ⊎ ((r : ℕ) → r < n → f r ≡ false)

@@ -5,14 +5,16 @@ use Rattle.std.specs.Prelude.{Bool, true, false, if◌then◌else◌, slice_get,
 use Rattle.rpl_core.specs.Core.{Core}
 use Rattle.rpl_check.specs.Answers.{IsDue}
 use Rattle.rpl_check.specs.Facts.{calls_at}
-use Rattle.rpl_check.specs.Faults.{Fault, Cause, or_then, first_from, behind_fault, fault_if, selves, recursion_of, joins_next, fault_from}
-use Rattle.rpl_check.specs.Order.{IsInOrder, block_at}
+use Rattle.rpl_core.specs.Order.{joins_next}
+use Rattle.rpl_check.specs.Faults.{Fault, Cause, or_then, first_from, behind_fault, fault_if, selves, recursion_of, fault_from}
+use Rattle.rpl_core.specs.Order.{IsInOrder, block_at}
 use Rattle.rpl_check.specs.Rounds.{CallsBefore, Reach}
 use Rattle.rpl_check.proofs.Following.{no_self}
 use Rattle.rpl_check.proofs.Least.{here_called}
 use Rattle.rpl_check.proofs.Ordering.{last_ends}
 use Rattle.rpl_check.proofs.Selves.{minus_step}
-use Rattle.rpl_check.proofs.Tests.{clash, passing}
+use Rattle.rpl_core.proofs.Bools.{clash}
+use Rattle.rpl_check.proofs.Tests.{passing}
 
 pub or_none : {A : Type 0} (a b : Option A) → or_then a b ≡ None → (a ≡ None) × (b ≡ None)
 or_none (Some x) b e = absurd (cc)

@@ -12,7 +12,8 @@ use Rattle.rpl_check.specs.Search.{found, in_block, waits, Finds}
 use Rattle.rpl_check.specs.declared.recursion.Search.{Search}
 use Rattle.rpl_check.proofs.Finding.{waits_more}
 use Rattle.rpl_check.proofs.Least.{here_called}
-use Rattle.rpl_check.proofs.Tests.{clash, either, left, right, both, paired, not_on, passing, eq_self, eq_of, same_tests}
+use Rattle.rpl_core.proofs.Bools.{clash, either, left, right, both, paired, not_on, eq_self, eq_of, same_tests}
+use Rattle.rpl_check.proofs.Tests.{passing}
 
 -- a rule before b calls rules before b alone
 pub called_before : (R : List Core) (m : ℕ → Bool) (b q t : ℕ) → CallsBefore R b → q < b → calls_at m R q t ≡ true → t < b

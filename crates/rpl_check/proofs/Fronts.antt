@@ -7,7 +7,7 @@ use Rattle.rpl_core.specs.declared.peg.Peg.{Peg}
 use Rattle.rpl_core.specs.View.{core_of, cores}
 use Rattle.rpl_simulation.specs.Ending.{may_be_empty, any_may_be_empty}
 use Rattle.rpl_check.specs.Facts.{calls_here, front_calls_here, any_calls_here}
-use Rattle.rpl_check.proofs.Walk.{drop_here}
+use Rattle.rpl_core.proofs.Walk.{drop_here}
 
 module _ (m : ℕ → Bool) (ps : List Peg) (k : ℕ) where
   module _ (p : Peg) (lt : k < length ps) (is : p ≡ get_or ps k p) where

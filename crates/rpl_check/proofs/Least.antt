@@ -7,7 +7,7 @@ use Rattle.rpl_core.specs.Programs.{calls, calls_any}
 use Rattle.rpl_simulation.specs.Ending.{may_be_empty, all_may_be_empty, any_may_be_empty}
 use Rattle.rpl_simulation.specs.Static.{may_halt, any_may_halt}
 use Rattle.rpl_check.specs.Facts.{IsLeast, calls_here, front_calls_here, any_calls_here}
-use Rattle.rpl_check.proofs.Tests.{same_tests, either, left, right, both, paired, eq_self}
+use Rattle.rpl_core.proofs.Bools.{same_tests, either, left, right, both, paired, eq_self}
 
 -- there is one at most
 pub least_unique : (closed : (ℕ → Bool) → Type 0) (m k : ℕ → Bool) → IsLeast closed m → IsLeast closed k → m ≡ k

@@ -2,7 +2,6 @@ pub mod Tests
 pub mod Counts
 pub mod Least
 pub mod Exists
-pub mod Walk
 pub mod Stay
 pub mod Settling
 pub mod Ordering
@@ -13,4 +12,3 @@ pub mod Clean
 pub mod Selves
 pub mod Firsts
 pub mod Accepting
-pub mod Standings

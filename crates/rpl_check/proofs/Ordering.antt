@@ -10,16 +10,12 @@ use Rattle.rpl_core.specs.View.{core_of}
 use Rattle.rpl_core.specs.declared.rules.Rule.{Rule}
 use Rattle.rpl_check.specs.declared.facts.Fact as F
 use Rattle.rpl_check.specs.Facts.{IsLeast, Solves, passes}
-use Rattle.rpl_check.specs.Faults.{joins_next, same_block}
 use Rattle.rpl_check.specs.Marked.{marked}
-use Rattle.rpl_check.specs.Order.{IsInOrder, AreTogether, block_at}
+use Rattle.rpl_core.specs.Order.{IsInOrder, AreTogether, block_at, joins_next, same_block}
 use Rattle.rpl_check.specs.Rounds.{test_of, CallsBefore, AreKnown}
-use Rattle.rpl_check.proofs.Tests.{clash, passing}
-
-pub same_of : (x y : Option ℕ) (b : ℕ) → x ≡ Some b → y ≡ Some b → same_block x y ≡ true
-same_of None y b e f = absurd (cc)
-same_of (Some c) None b e f = absurd (cc)
-same_of (Some c) (Some d) b e f = let x : c ≡ b = cc in let y : d ≡ b = cc in grind arith
+use Rattle.rpl_core.proofs.Bools.{clash}
+use Rattle.rpl_core.proofs.Standings.{same_of}
+use Rattle.rpl_check.proofs.Tests.{passing}
 
 pub calls_end : (R : List Core) (bs : List (Option ℕ)) (k : ℕ) → IsInOrder R bs → joins_next bs k ≡ false → CallsBefore R (k + 1)
 calls_end R bs k o j r s p lt is c = ⊎_elim (λ l. omega arith) (λ t. inside t (cases_lt s (k + 1))) (o.earlier r s p is c)

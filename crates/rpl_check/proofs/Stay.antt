@@ -3,7 +3,7 @@ use Rattle.std.proofs.Common.{◌≡◌, ℕ, refl, ap}
 use Rattle.std.specs.Prelude.{Bool, true, false, not, ◌&&◌}
 use Rattle.rpl_core.specs.Core.{Core, Set, Seq, Choice, Many, Not, And, Behind, Call, Capture, Note, Start, End, Halt, Cores, NoMore, Then}
 use Rattle.rpl_simulation.specs.Static.{may_halt, any_may_halt, predicates_stay, all_predicates_stay}
-use Rattle.rpl_check.proofs.Tests.{neither, paired}
+use Rattle.rpl_core.proofs.Bools.{neither, paired}
 
 module _ (h : ℕ → Bool) where
   mutual

@@ -1,60 +1,8 @@
--- Bools, and a rule that passes a test.
-use Rattle.std.proofs.Common.{◌≡◌, ℕ, List, Option, Some, None, refl, sym, ap, ◌∙◌, arith}
-use Rattle.std.specs.Prelude.{Bool, true, false, ◌||◌, ◌&&◌, not, nat_eq, slice_get}
+-- A rule that passes a test.
+use Rattle.std.proofs.Common.{◌≡◌, ℕ, List, Option, Some, None, refl, ap, ◌∙◌}
+use Rattle.std.specs.Prelude.{Bool, true, slice_get}
 use Rattle.rpl_core.specs.Core.{Core}
 use Rattle.rpl_check.specs.Facts.{passes}
-
-pub clash : {A : Type 0} (b : Bool) → b ≡ true → b ≡ false → A
-clash true t f = absurd (cc)
-clash false t f = absurd (cc)
-
-pub either : {X : Type 0} (a b : Bool) → (a ≡ true → X) → (b ≡ true → X) → (a || b) ≡ true → X
-either true b f g e = f refl
-either false b f g e = g e
-
-pub left : (a b : Bool) → a ≡ true → (a || b) ≡ true
-left a b e = ap (λ c. c || b) e
-
-pub right : (a b : Bool) → b ≡ true → (a || b) ≡ true
-right true b e = refl
-right false b e = e
-
-pub neither : (a b : Bool) → (a || b) ≡ false → (a ≡ false) × (b ≡ false)
-neither true b e = absurd (cc)
-neither false b e = (refl, e)
-
-pub both : (a b : Bool) → (a && b) ≡ true → (a ≡ true) × (b ≡ true)
-both true b e = (refl, e)
-both false b e = absurd (cc)
-
-pub paired : (a b : Bool) → a ≡ true → b ≡ true → (a && b) ≡ true
-paired true b e f = f
-paired false b e f = absurd (cc)
-
-pub not_on : (b : Bool) → not b ≡ true → b ≡ false
-not_on true e = absurd (cc)
-not_on false e = refl
-
-pub not_off : (b : Bool) → not b ≡ false → b ≡ true
-not_off true e = refl
-not_off false e = absurd (cc)
-
--- what is true with another is false with it
-pub off_with : (a b : Bool) → (b ≡ true → a ≡ true) → a ≡ false → b ≡ false
-off_with a true f e = clash a (f refl) e
-off_with a false f e = refl
-
--- two tests that are true together are one
-pub same_tests : (a b : Bool) → (a ≡ true → b ≡ true) → (b ≡ true → a ≡ true) → a ≡ b
-same_tests true b f g = sym (f refl)
-same_tests false true f g = g refl
-same_tests false false f g = refl
-
-pub eq_of : (a b : ℕ) → nat_eq a b ≡ true → a ≡ b
-eq_of a b e = grind arith
-
-pub eq_self : (q : ℕ) → nat_eq q q ≡ true
-eq_self q = grind arith
 
 -- a rule that passes is in the table, and so does its body
 pub passing : (f : Core → Bool) (R : List Core) (r : ℕ) → passes f (slice_get R r) ≡ true → (p : Core) × (slice_get R r ≡ Some p) × (f p ≡ true)

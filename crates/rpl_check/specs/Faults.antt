@@ -1,10 +1,11 @@
 -- The first fault of a table of rules, and that of a pattern.
-use Rattle.std.specs.Prelude.{ℕ, zero, suc, ◌+◌, ◌-◌, Bool, true, false, ◌||◌, not, nat_eq, nat_lt, if◌then◌else◌, max, List, [], ◌∷◌, Option, Some, None, length, slice_get}
+use Rattle.std.specs.Prelude.{ℕ, zero, suc, ◌+◌, ◌-◌, Bool, true, false, ◌||◌, not, nat_lt, if◌then◌else◌, List, [], ◌∷◌, Option, Some, None, length, slice_get}
 use Rattle.rpl_core.specs.Core.{Core, Set, Seq, Choice, Many, Not, And, Behind, Call, Capture, Note, Start, End, Halt, Cores, NoMore, Then}
 use Rattle.rpl_simulation.specs.Ending.{may_be_empty}
 use Rattle.rpl_simulation.specs.Static.{predicates_stay}
+use Rattle.rpl_core.specs.Lengths.{has_call, has_repetition, greatest}
+use Rattle.rpl_core.specs.Order.{joins_next}
 use Rattle.rpl_check.specs.Facts.{passes}
-use Rattle.rpl_check.specs.Order.{block_at}
 
 -- what is wrong with a look-behind: it calls a rule, it repeats, or it may be longer than 255 characters
 pub data Cause : Type 0 where
@@ -18,76 +19,6 @@ pub data Fault : Type 0 where
   LeftRecursion : (rules : List ℕ) → Fault
   EmptyLoop : (rule : Option ℕ) → Fault
   HaltInside : (rule : Option ℕ) → Fault
-
--- the core calls some rule
-abbrev mutual
-  pub has_call : Core → Bool
-  has_call (Set s) = false
-  has_call (Seq ps) = any_has_call ps
-  has_call (Choice ps) = any_has_call ps
-  has_call (Many p) = has_call p
-  has_call (Not p) = has_call p
-  has_call (And p) = has_call p
-  has_call (Behind l n p) = has_call p
-  has_call (Call r) = true
-  has_call (Capture c p) = has_call p
-  has_call (Note x) = false
-  has_call Start = false
-  has_call End = false
-  has_call Halt = false
-
-  pub any_has_call : Cores → Bool
-  any_has_call NoMore = false
-  any_has_call (Then p ps) = has_call p || any_has_call ps
-
--- the core repeats something
-abbrev mutual
-  pub has_repetition : Core → Bool
-  has_repetition (Set s) = false
-  has_repetition (Seq ps) = any_has_repetition ps
-  has_repetition (Choice ps) = any_has_repetition ps
-  has_repetition (Many p) = true
-  has_repetition (Not p) = has_repetition p
-  has_repetition (And p) = has_repetition p
-  has_repetition (Behind l n p) = has_repetition p
-  has_repetition (Call r) = false
-  has_repetition (Capture c p) = has_repetition p
-  has_repetition (Note x) = false
-  has_repetition Start = false
-  has_repetition End = false
-  has_repetition Halt = false
-
-  pub any_has_repetition : Cores → Bool
-  any_has_repetition NoMore = false
-  any_has_repetition (Then p ps) = has_repetition p || any_has_repetition ps
-
--- The greatest number of characters that the core takes. A call and a repetition have none: a core with one of them
--- is refused for that before its length is asked.
-abbrev mutual
-  pub greatest : Core → ℕ
-  greatest (Set s) = 1
-  greatest (Seq ps) = greatest_sum ps
-  greatest (Choice ps) = greatest_of ps
-  greatest (Many p) = 0
-  greatest (Not p) = 0
-  greatest (And p) = 0
-  greatest (Behind l n p) = 0
-  greatest (Call r) = 0
-  greatest (Capture c p) = greatest p
-  greatest (Note x) = 0
-  greatest Start = 0
-  greatest End = 0
-  greatest Halt = 0
-
-  -- of all parts in turn
-  pub greatest_sum : Cores → ℕ
-  greatest_sum NoMore = 0
-  greatest_sum (Then p ps) = greatest p + greatest_sum ps
-
-  -- of some part
-  pub greatest_of : Cores → ℕ
-  greatest_of NoMore = 0
-  greatest_of (Then p ps) = max (greatest p) (greatest_of ps)
 
 -- what is wrong with the body of a look-behind
 abbrev pub cause_of : Core → Option Cause
@@ -190,15 +121,6 @@ recursion_of (r ∷ rs) = Some (LeftRecursion (r ∷ rs))
 abbrev pub group_fault : (ℕ → Bool) → (ℕ → Bool) → (ℕ → ℕ → Bool) → List Core → ℕ → ℕ → Option Fault
 group_fault m h reach R a b =
     or_then (first_from (behind_at R) a (b - a)) (or_then (recursion_of (selves reach a (b - a))) (or_then (first_from (loop_at m R) a (b - a)) (first_from (halt_at h R) a (b - a))))
-
--- two rules stand in one block
-abbrev pub same_block : Option ℕ → Option ℕ → Bool
-same_block (Some b) (Some c) = nat_eq b c
-same_block _ _ = false
-
--- the rule k and the next one do
-abbrev pub joins_next : List (Option ℕ) → ℕ → Bool
-joins_next blocks k = same_block (block_at (slice_get blocks k)) (block_at (slice_get blocks (k + 1)))
 
 -- the first that f finds at a block, or at a rule outside blocks, where the present one begins at a, and n rules are
 -- left from k on

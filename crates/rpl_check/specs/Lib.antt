@@ -1,6 +1,4 @@
 pub mod Facts
-pub mod Order
-pub mod Standing
 pub mod Laws
 pub mod Faults
 pub mod Marked

@@ -10,7 +10,7 @@ ghost use Rattle.rpl_check.specs.Facts.{Facts};
 ghost use Rattle.rpl_check.specs.Faults as F;
 ghost use Rattle.rpl_check.specs.Goal.{peg_of};
 ghost use Rattle.rpl_check.specs.Marked.{marked};
-ghost use Rattle.rpl_check.specs.Order.{IsInOrder};
+ghost use Rattle.rpl_core.specs.Order.{IsInOrder};
 
 use crate::behinds::first_cause;
 use crate::facts::Fact;

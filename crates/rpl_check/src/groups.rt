@@ -6,16 +6,15 @@ ghost use Rattle.rpl_check.specs.Answers.{Answers, some_cause};
 ghost use Rattle.rpl_check.specs.Facts.{passes};
 ghost use Rattle.rpl_check.specs.Faults as F;
 ghost use Rattle.rpl_check.specs.Marked.{marked};
-ghost use Rattle.rpl_check.specs.Order.{IsInOrder};
+ghost use Rattle.rpl_core.specs.Order.{IsInOrder};
 ghost use Rattle.rpl_check.specs.Rounds.{CallsBefore, Reach};
 
 use crate::NoMemory;
 use crate::behinds::first_cause;
 use crate::fault::{BehindCause, CheckFault};
 use crate::inside::{has_empty_loop, predicates_stay};
-use crate::order::{is_outside, joins_next};
 use crate::recursion::selves;
-use rpl_core::Rules;
+use rpl_core::{Rules, is_outside, joins_next};
 use std::alloc::Global;
 
 /// What is wrong with the first bad look-behind of the rule.

@@ -13,12 +13,10 @@ mod fault;
 mod groups;
 mod inside;
 mod laws;
-mod order;
 mod recursion;
 mod rounds;
 
 pub use checked::{Checked, CheckedPeg, check, check_pattern};
 pub use fault::{BehindCause, CheckFault};
 pub use laws::{facts_law, one_facts_law};
-pub use order::{calls_are_rules, is_in_order};
 pub use rpl_core::NoMemory;

@@ -5,13 +5,12 @@ ghost use Rattle.rpl_core.specs.Table.{blocks_of, bodies_of};
 ghost use Rattle.rpl_check.specs.Facts.{IsLeast, Solves, passes};
 ghost use Rattle.rpl_check.specs.Faults as F;
 ghost use Rattle.rpl_check.specs.Marked.{count, marked};
-ghost use Rattle.rpl_check.specs.Order.{IsInOrder, block_at};
+ghost use Rattle.rpl_core.specs.Order.{IsInOrder, block_at};
 ghost use Rattle.rpl_check.specs.Rounds.{AreKnown, CallsBefore, Grows, IsSettled, IsUnder, test_of};
 
 use crate::NoMemory;
 use crate::facts::{Fact, rule_holds};
-use crate::order::joins_next;
-use rpl_core::Rules;
+use rpl_core::{Rules, joins_next};
 use std::alloc::Global;
 
 /// The rule isn't marked, and passes.

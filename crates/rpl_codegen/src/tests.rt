@@ -1,8 +1,8 @@
 // Codes that were worked out by hand.
 use crate::{CompileFault, compile};
-use rpl_check::{Checked, calls_are_rules, check, check_pattern, is_in_order};
+use rpl_check::{Checked, check, check_pattern};
 use rpl_classes::Set;
-use rpl_core::{Instr, Peg, Pegs, Program, Rule, Rules};
+use rpl_core::{Instr, Peg, Pegs, Program, Rule, Rules, calls_are_rules, is_in_order};
 use rpl_text::Chars;
 use std::alloc::{AllocError, Global};
 use std::test::Fail;

@@ -2,9 +2,9 @@
 ghost use Rattle.std.specs.Prelude.{◌≡◌, ◌<◌};
 
 use crate::shown::{show_match, show_outcome, show_plain};
-use rpl_check::{calls_are_rules, check, check_pattern, is_in_order};
+use rpl_check::{check, check_pattern};
 use rpl_codegen::compile;
-use rpl_core::{Peg, Program, Rules};
+use rpl_core::{Peg, Program, Rules, calls_are_rules, is_in_order};
 use rpl_machine::{Answer, RunFault, Scratch, Steps, run};
 use rpl_plain::{Outcome, evaluate};
 use rpl_text::Text;

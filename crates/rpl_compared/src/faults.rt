@@ -2,8 +2,8 @@
 use crate::made::{Made, generator, make_wild};
 use crate::plain_check;
 use crate::words::{read_pattern, read_rules};
-use rpl_check::{BehindCause, CheckFault, calls_are_rules, check, check_pattern, is_in_order};
-use rpl_core::Rules;
+use rpl_check::{BehindCause, CheckFault, check, check_pattern};
+use rpl_core::{Rules, calls_are_rules, is_in_order};
 use std::alloc::{AllocError, Global};
 use std::test::Fail;
 

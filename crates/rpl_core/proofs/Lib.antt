@@ -1,3 +1,4 @@
+pub mod Bools
 pub mod Bounds
 pub mod Codes
 pub mod Depth
@@ -6,3 +7,5 @@ pub mod Flat
 pub mod InRange
 mod Names
 pub mod Rows
+pub mod Standings
+pub mod Walk

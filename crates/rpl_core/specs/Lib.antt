@@ -11,7 +11,10 @@ pub mod Programs
 pub mod Laws
 pub mod View
 pub mod Table
+pub mod Order
+pub mod Lengths
 pub mod Numbers
 pub mod Program
 pub mod Listed
 pub mod Captures
+pub mod inside

@@ -1,12 +1,9 @@
 // The machine's instructions, with numbers in place of sets and texts.
-ghost use Rattle.std.specs.Option.{option_copied};
 ghost use Rattle.std.specs.List.{list_all};
 ghost use Rattle.rpl_core.specs.Numbers.{in_range};
-ghost use Rattle.std.specs.Prelude.{◌≡◌, List, [], ◌∷◌, ◌++◌, length, slice_get, OnOk, OnErr};
+ghost use Rattle.std.specs.Prelude.{◌≡◌, length};
 
-use crate::NoMemory;
-use std::alloc::Global;
-use std::marker::Model;
+use rpl_list::List;
 
 /// An instruction, with its operands in the order in which they print: an address from 0, the number of a set, the
 /// number of a text, or a count of characters. `specs/Machine.antt` defines the step of each.
@@ -55,60 +52,7 @@ pub enum Instr {
 }
 
 /// Instructions in order, the first at address 0. Contracts see their list.
-#[derive(Drop)]
-pub struct Instrs {
-    items: Vec<Instr>,
-}
-
-impl Model for Instrs {
-    ghost use Rattle.std.specs.Prelude.{List};
-    ghost use Rattle.rpl_core.specs.declared.instr.Instr.{Instr};
-
-    ghost Value = { List Instr };
-
-    ghost view = { λ a. a.items.items };
-}
-
-impl Instrs {
-    /// No instructions. It takes no memory.
-    pub fn new(alloc: Global) -> Instrs
-        ensures { result ≡ [] }
-    {
-        Instrs {
-            items: Vec::new(alloc),
-        }
-    }
-
-    /// Adds an instruction at the end. Where memory is wanting, nothing changes.
-    pub fn push(&mut self, item: Instr) -> Result<(), NoMemory>
-        ensures ok { OnOk result (self.new ≡ self.old ++ item ∷ []) }
-        ensures err { OnErr result (self.new ≡ self.old) }
-    {
-        self.items.push(item)?;
-        Ok(())
-    }
-
-    /// The number of instructions.
-    pub fn len(&self) -> usize
-        ensures { result ≡ length self.now }
-    {
-        self.items.len()
-    }
-
-    /// The instruction at this address.
-    pub fn get(&self, index: usize) -> Option<&Instr>
-        ensures { option_copied result ≡ slice_get self.now index }
-    {
-        self.items.get(index)
-    }
-
-    /// All of them.
-    pub fn as_slice(&self) -> &[Instr]
-        ensures { result.now ≡ self.now }
-    {
-        &self.items
-    }
-}
+pub type Instrs = List<Instr>;
 
 impl Instr {
     /// The numbers of the instruction are in range, among so many instructions, sets and texts.
@@ -131,14 +75,12 @@ impl Instr {
     }
 }
 
-impl Instrs {
-    /// The numbers of all instructions are in range, among so many sets and texts.
-    pub fn are_in_range(&self, sets: usize, labels: usize) -> bool
-        ensures { result ≡ list_all (in_range (length self.now) sets labels) self.now }
-    {
-        let code = self.items.len();
-        self.items
-            .iter()
-            .all(|instr| instr.is_in_range(code, sets, labels))
-    }
+/// The numbers of all instructions are in range, among so many sets and texts.
+pub(crate) fn are_in_range(code: &Instrs, sets: usize, labels: usize) -> bool
+    ensures { result ≡ list_all (in_range (length code.now) sets labels) code.now }
+{
+    let count = code.len();
+    code.as_slice()
+        .iter()
+        .all(|instr| instr.is_in_range(count, sets, labels))
 }

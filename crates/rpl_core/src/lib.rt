@@ -8,6 +8,8 @@
 mod caught;
 mod instr;
 mod laws;
+mod lengths;
+mod order;
 mod peg;
 mod program;
 mod rules;
@@ -15,6 +17,8 @@ mod rules;
 pub use caught::Caught;
 pub use instr::{Instr, Instrs};
 pub use laws::{code_law, depth_law, flat_law, run_law};
+pub use lengths::{greatest_length, has_call, has_repetition, least_length};
+pub use order::{calls_are_rules, is_in_order, is_outside, joins_next};
 pub use peg::{Peg, Pegs};
 pub use program::{Labels, Program, Sets};
 pub use rules::{Rule, Rules};

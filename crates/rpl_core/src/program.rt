@@ -1,43 +1,18 @@
 // Code with its sets and texts.
 ghost use Rattle.std.specs.Option.{option_copied};
-ghost use Rattle.std.specs.Prelude.{◌≡◌, List, [], ◌∷◌, ◌++◌, length, slice_get, OnOk, OnErr, chars, option_map, IsTrue, ◌↔◌};
+ghost use Rattle.std.specs.Prelude.{◌≡◌, slice_get, chars, option_map, IsTrue, ◌↔◌};
 ghost use Rattle.rpl_core.specs.Numbers.{AreInRange};
 
-use crate::NoMemory;
-use crate::instr::{Instr, Instrs};
+use crate::instr::{Instr, Instrs, are_in_range};
 use rpl_classes::Set;
+use rpl_list::List;
 use rpl_text::Chars;
-use std::alloc::Global;
-use std::marker::Model;
 
 /// Sets in order, numbered from 0. Contracts see the list of their lists of ranges.
-#[derive(Drop)]
-pub struct Sets {
-    items: Vec<Set>,
-}
-
-impl Model for Sets {
-    ghost use Rattle.std.specs.Prelude.{List};
-    ghost use Rattle.regex_class.specs.Ranges.{Range};
-
-    ghost Value = { List (List Range) };
-
-    ghost view = { λ a. a.items.items };
-}
+pub type Sets = List<Set>;
 
 /// Texts in order, numbered from 0. Contracts see the list of their lists of characters.
-#[derive(Drop)]
-pub struct Labels {
-    items: Vec<Chars>,
-}
-
-impl Model for Labels {
-    ghost use Rattle.std.specs.Prelude.{List, ℕ};
-
-    ghost Value = { List (List ℕ) };
-
-    ghost view = { λ a. a.items.items };
-}
+pub type Labels = List<Chars>;
 
 /// Code, with the sets and the texts that its instructions name by number. Each number is in range, and each
 /// address is that of an instruction.
@@ -47,81 +22,6 @@ pub struct Program {
     sets: Sets,
     labels: Labels,
     ghost in_range: { AreInRange code sets labels },
-}
-
-impl Sets {
-    /// No sets. It takes no memory.
-    pub fn new(alloc: Global) -> Sets
-        ensures { result ≡ [] }
-    {
-        Sets {
-            items: Vec::new(alloc),
-        }
-    }
-
-    /// Adds a set at the end. Where memory is wanting, nothing changes.
-    pub fn push(&mut self, item: Set) -> Result<(), NoMemory>
-        ensures ok { OnOk result (self.new ≡ self.old ++ item ∷ []) }
-        ensures err { OnErr result (self.new ≡ self.old) }
-    {
-        self.items.push(item)?;
-        Ok(())
-    }
-
-    /// The number of sets.
-    pub fn len(&self) -> usize
-        ensures { result ≡ length self.now }
-    {
-        self.items.len()
-    }
-
-    /// The set with this number.
-    pub fn get(&self, index: usize) -> Option<&Set>
-        ensures { option_copied result ≡ slice_get self.now index }
-    {
-        self.items.get(index)
-    }
-
-    /// All of them.
-    pub fn as_slice(&self) -> &[Set]
-        ensures { result.now ≡ self.now }
-    {
-        &self.items
-    }
-}
-
-impl Labels {
-    /// No texts. It takes no memory.
-    pub fn new(alloc: Global) -> Labels
-        ensures { result ≡ [] }
-    {
-        Labels {
-            items: Vec::new(alloc),
-        }
-    }
-
-    /// Adds a text at the end. Where memory is wanting, nothing changes.
-    pub fn push(&mut self, item: Chars) -> Result<(), NoMemory>
-        ensures ok { OnOk result (self.new ≡ self.old ++ item ∷ []) }
-        ensures err { OnErr result (self.new ≡ self.old) }
-    {
-        self.items.push(item)?;
-        Ok(())
-    }
-
-    /// The number of texts.
-    pub fn len(&self) -> usize
-        ensures { result ≡ length self.now }
-    {
-        self.items.len()
-    }
-
-    /// The text with this number.
-    pub fn get(&self, index: usize) -> Option<&Chars>
-        ensures { option_copied result ≡ slice_get self.now index }
-    {
-        self.items.get(index)
-    }
 }
 
 impl Program {
@@ -141,7 +41,7 @@ impl Program {
     pub fn are_in_range(code: &Instrs, sets: &Sets, labels: &Labels) -> bool
         ensures { IsTrue result ↔ AreInRange code.now sets.now labels.now }
     {
-        code.are_in_range(sets.len(), labels.len())
+        are_in_range(code, sets.len(), labels.len())
     }
 
     /// The instructions, the first at address 0. Each number in them is in range.

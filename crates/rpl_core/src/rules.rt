@@ -47,9 +47,11 @@ impl Rules {
         Ok(())
     }
 
-    /// The number of rules.
+    /// The number of rules, which have distinct names.
     pub fn len(&self) -> usize
-        ensures { result ≡ length (rules_of self.now) }
+        ensures count { result ≡ length (rules_of self.now) }
+        ensures few { result < 2 ^ 32 }
+        ensures distinct { AreDistinct (names_of (rules_of self.now)) }
     {
         self.items.len()
     }

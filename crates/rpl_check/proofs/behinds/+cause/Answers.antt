@@ -1,6 +1,6 @@
 use Rattle.std.proofs.Common.{◌∙◌, ap}
 use Rattle.rpl_check.specs.Faults.{first_cause}
-use Rattle.rpl_check.proofs.Walk.{seq_core, choice_core}
+use Rattle.rpl_core.proofs.Walk.{seq_core, choice_core}
 use Rattle.rpl_check.proofs.behinds.+cause.Goals as goal
 
 pub first_cause-returns-in-Seq : goal.first_cause-returns-in-Seq

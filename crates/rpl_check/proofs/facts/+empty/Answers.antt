@@ -1,7 +1,7 @@
 use Rattle.std.proofs.Common.{◌∙◌, ap}
 use Rattle.rpl_simulation.specs.Ending.{may_be_empty}
 use Rattle.rpl_check.specs.Marked.{marked}
-use Rattle.rpl_check.proofs.Walk.{seq_core, choice_core}
+use Rattle.rpl_core.proofs.Walk.{seq_core, choice_core}
 use Rattle.rpl_check.proofs.facts.+empty.Goals as goal
 
 pub may_be_empty-returns-in-Seq : goal.may_be_empty-returns-in-Seq

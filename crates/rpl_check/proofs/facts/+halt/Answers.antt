@@ -1,7 +1,7 @@
 use Rattle.std.proofs.Common.{◌∙◌, ap}
 use Rattle.rpl_simulation.specs.Static.{may_halt}
 use Rattle.rpl_check.specs.Marked.{marked}
-use Rattle.rpl_check.proofs.Walk.{seq_core, choice_core}
+use Rattle.rpl_core.proofs.Walk.{seq_core, choice_core}
 use Rattle.rpl_check.proofs.facts.+halt.Goals as goal
 
 pub may_halt-returns-in-Seq : goal.may_halt-returns-in-Seq

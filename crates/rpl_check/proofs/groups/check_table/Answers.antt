@@ -15,7 +15,7 @@ loop-number-preserved-then-joins_next c =
     let rules = rules_of c.args.rules.now in
     let blocks = blocks_of rules in
     let k = c.loop-number.number in
-    let lt : k < length blocks = omega (arith, length-map rules (λ (r : Rule). r.block), c.len-number-end.ensures, c.loop-number-test.true) in (
+    let lt : k < length blocks = omega (arith, length-map rules (λ (r : Rule). r.block), c.len-number-end.ensures.count, c.loop-number-test.true) in (
       omega arith,
       c.loop-number.invariant.1,
       λ reach all. c.loop-number.invariant.2 reach all ∙ group_joins (group_fault (marked c.args.empties.now) (marked c.args.halting.now) reach (bodies_of rules)) blocks c.loop-number.start k (length blocks) lt (sym c.joins_next.ensures ∙ c.if-joins_next.true),
@@ -26,7 +26,7 @@ loop-number-preserved c =
     let rules = rules_of c.args.rules.now in
     let blocks = blocks_of rules in
     let k = c.loop-number.number in
-    let lt : k < length blocks = omega (arith, length-map rules (λ (r : Rule). r.block), c.len-number-end.ensures, c.loop-number-test.true) in (
+    let lt : k < length blocks = omega (arith, length-map rules (λ (r : Rule). r.block), c.len-number-end.ensures.count, c.loop-number-test.true) in (
       omega arith,
       calls_end (bodies_of rules) blocks k c.requires (sym c.joins_next.ensures ∙ c.if-joins_next.false),
       λ reach all.
@@ -40,7 +40,7 @@ returns-in-Err c = λ reach all.
     let rules = rules_of c.args.rules.now in
     let blocks = blocks_of rules in
     let k = c.loop-number.number in
-    let lt : k < length blocks = omega (arith, length-map rules (λ (r : Rule). r.block), c.len-number-end.ensures, c.loop-number-test.true) in
+    let lt : k < length blocks = omega (arith, length-map rules (λ (r : Rule). r.block), c.len-number-end.ensures.count, c.loop-number-test.true) in
     let f = group_fault (marked c.args.empties.now) (marked c.args.halting.now) reach (bodies_of rules) in
     let e = c.loop-number.invariant.2 reach all ∙ group_ends f blocks c.loop-number.start k (length blocks) lt (sym c.joins_next.ensures ∙ c.if-joins_next.false) in
     due_first (table_fault (marked c.args.empties.now) (marked c.args.halting.now) reach (bodies_of rules) blocks) (f c.loop-number.start (k + 1)) (fault_from f blocks (k + 1) (k + 1) (length blocks - (k + 1))) (fault_named c.in-Err.fault) e (c.in-Err.ensures reach all)
@@ -49,4 +49,4 @@ pub returns : goal.returns
 returns c = λ reach all.
     let rules = rules_of c.args.rules.now in
     let blocks = blocks_of rules in
-    c.loop-number.invariant.2 reach all ∙ groups_done (group_fault (marked c.args.empties.now) (marked c.args.halting.now) reach (bodies_of rules)) blocks c.loop-number.start c.loop-number.number (length blocks) (omega (arith, length-map rules (λ (r : Rule). r.block), c.len-number-end.ensures, c.loop-number-test.false))
+    c.loop-number.invariant.2 reach all ∙ groups_done (group_fault (marked c.args.empties.now) (marked c.args.halting.now) reach (bodies_of rules)) blocks c.loop-number.start c.loop-number.number (length blocks) (omega (arith, length-map rules (λ (r : Rule). r.block), c.len-number-end.ensures.count, c.loop-number-test.false))

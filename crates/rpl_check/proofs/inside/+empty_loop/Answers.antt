@@ -1,7 +1,7 @@
 use Rattle.std.proofs.Common.{◌∙◌, ap}
 use Rattle.rpl_check.specs.Faults.{has_empty_loop}
 use Rattle.rpl_check.specs.Marked.{marked}
-use Rattle.rpl_check.proofs.Walk.{seq_core, choice_core}
+use Rattle.rpl_core.proofs.Walk.{seq_core, choice_core}
 use Rattle.rpl_check.proofs.inside.+empty_loop.Goals as goal
 
 pub has_empty_loop-returns-in-Seq : goal.has_empty_loop-returns-in-Seq

@@ -7,7 +7,7 @@ use Rattle.rpl_check.specs.Marked.{marked}
 use Rattle.rpl_check.specs.Search.{Finds}
 use Rattle.rpl_check.proofs.Finding.{finds_none, finds_as, finds_then}
 use Rattle.rpl_check.proofs.Fronts.{front_on, front_stops, front_over, any_on, any_over, any_empty}
-use Rattle.rpl_check.proofs.Walk.{drop_here, seq_core, choice_core}
+use Rattle.rpl_core.proofs.Walk.{drop_here, seq_core, choice_core}
 use Rattle.rpl_check.proofs.recursion.+find.Goals.{find_all_calls-then-any, find_all_calls-else-any}
 use Rattle.rpl_check.proofs.recursion.+find.Goals as goal
 

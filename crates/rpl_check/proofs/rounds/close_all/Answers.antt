@@ -10,4 +10,4 @@ loop-number-preserved c =
     (omega arith, c.close.ensures, calls_end (bodies_of rules) (blocks_of rules) c.loop-number.number c.requires.order (sym c.joins_next.ensures ∙ c.if-joins_next.false), λ l. absurd (omega arith))
 
 pub returns : goal.returns
-returns c = known_all c.args.fact (rules_of c.args.rules.now) c.loop-number.start c.loop-number.number c.loop-number.marks (omega (arith, c.len-number-end.ensures, c.loop-number-test.false)) c.loop-number.invariant.0 c.loop-number.invariant.1 c.loop-number.invariant.3
+returns c = known_all c.args.fact (rules_of c.args.rules.now) c.loop-number.start c.loop-number.number c.loop-number.marks (omega (arith, c.len-number-end.ensures.count, c.loop-number-test.false)) c.loop-number.invariant.0 c.loop-number.invariant.1 c.loop-number.invariant.3

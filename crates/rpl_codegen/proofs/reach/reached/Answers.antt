@@ -15,7 +15,7 @@ pub loop-number-init : goal.loop-number-init
 loop-number-init c =
     let rules = rules_of c.args.rules.now in
     let items = c.in_ok-vec.ensures.items_if_clones_equal (λ y e. e) in
-    search_begins (bodies_of rules) (core_of c.args.goal.now) _ c.mark_calls.new.search (ap length items ∙ length-replicate c.len.result false ∙ c.len.ensures ∙ sym (length-map rules _)) (λ r. ap (λ l. marked l r) items ∙ unmarked_list c.len.result r) c.new.ensures.items c.in_ok-mark_calls.ensures
+    search_begins (bodies_of rules) (core_of c.args.goal.now) _ c.mark_calls.new.search (ap length items ∙ length-replicate c.len.result false ∙ c.len.ensures.count ∙ sym (length-map rules _)) (λ r. ap (λ l. marked l r) items ∙ unmarked_list c.len.result r) c.new.ensures.items c.in_ok-mark_calls.ensures
 
 pub loop-number-preserved-in_ok-mark_calls-2 : goal.loop-number-preserved-in_ok-mark_calls-2
 loop-number-preserved-in_ok-mark_calls-2 c =
