@@ -1,0 +1,176 @@
+-- The run over several inputs, from input to input.
+use Rattle.std.proofs.Common.{ℕ, ◌≡◌, ◌+◌, ◌-◌, ◌^◌, ◌<◌, ◌≤◌, Bool, true, false, ◌||◌, cond, List, [], ◌∷◌, ◌++◌, length, length-append, get_or, drop, refl, sym, ◌∙◌, ap, subst, append_assoc, arith}
+use Rattle.std.proofs.lemmas.Bool.{false≢true}
+use Rattle.std.proofs.lemmas.List.{append-nil, drop_more, drop_all}
+use Rattle.rosie_io.specs.Counts.{Rose}
+use Rattle.rosie_run.specs.Inputs.{is_standard, one_pieces, left_after, left_all, inputs_pieces, reads_standard, names_of}
+use Rattle.rosie_run.specs.Lines.{Makes}
+use Rattle.rosie_run.specs.Outputs.{Telling, Texts, Wrote, Stands}
+use Rattle.rosie_run.specs.Report.{Piece, has, is_stop, up_to_stop, tally_of, added}
+use Rattle.rosie_run.specs.Runs.{Breaks}
+use Rattle.rosie_run.specs.Sources.{Moment, Ends}
+use Rattle.rosie_run.specs.Where.{InFile, not_opened, opened, InSource, InOne, of_standard, of_file, InInputs, in_file, in_standard}
+use Rattle.rosie_run.specs.inside.Reaching.{Reached}
+use Rattle.rosie_run.specs.declared.ended.Ended.{Ended}
+use Rattle.rosie_run.specs.declared.ended.Ended.TheVariants as E
+use Rattle.rosie_run.specs.declared.ended.Why.{Why}
+use Rattle.rosie_run.specs.declared.ended.Why.TheVariants.{ReadFault, Spent}
+use Rattle.rosie_run.specs.declared.lines.Reading.{Reading}
+use Rattle.rosie_run.specs.declared.tally.Tally.{Tally}
+use Rattle.rosie_run.proofs.Onward.{goes_by, stops_by}
+use Rattle.rosie_run.proofs.Pieces.{has-append, has-up, up-all, wrote-append, stands-first, stands-on, stands-end, stands-stop, stands-front}
+
+-- what goes on breaks off in its next part
+pub breaks-later : (W : Telling) (e : Ended) (all done qs todo : List Piece) (P Q : Why → List ℕ → ℕ → Type 0) (a b d : Texts) (t : Tally) → Stands W all done (qs ++ todo) a b t → ((why : Why) (file : List ℕ) (k : ℕ) → P why file k → Q why file (length done + k)) → Breaks e W qs P b d → Breaks e W all Q a d
+breaks-later W E.NoMemory all done qs todo P Q a b d t s f h = stands-front W all done qs todo a b d t s h
+breaks-later W E.WriteFault all done qs todo P Q a b d t s f h = stands-front W all done qs todo a b d t s h
+breaks-later W (E.Cut why text) all done qs todo P Q a b d t s f h = record {
+  file = h.file;
+  done = done ++ h.done;
+  todo = h.todo ++ todo;
+  split = s.split ∙ ap (λ xs. done ++ (xs ++ todo)) h.split ∙ ap (λ xs. done ++ xs) (append_assoc h.done h.todo todo) ∙ sym (append_assoc done h.done (h.todo ++ todo));
+  goes_on = has-append is_stop done h.done ∙ ap (λ x. x || has is_stop h.done) s.goes_on ∙ h.goes_on;
+  wrote = wrote-append W done h.done a b d s.wrote h.wrote;
+  says = h.says;
+  stood = subst (Q why h.file) (sym (length-append done h.done)) (f why h.file (length h.done) h.stood);
+}
+
+inputs_nil : (makes : Makes) (r : Reading) (tree : List (List ℕ × List ℕ)) (left : List ℕ) → inputs_pieces makes r tree left [] ≡ []
+unfolding inputs_pieces
+inputs_nil makes r tree left = refl
+
+inputs_cons : (makes : Makes) (r : Reading) (tree : List (List ℕ × List ℕ)) (left name : List ℕ) (more : List (List ℕ)) → inputs_pieces makes r tree left (name ∷ more) ≡ one_pieces makes r tree left name ++ inputs_pieces makes r tree (left_after name left) more
+unfolding inputs_pieces
+inputs_cons makes r tree left name more = refl
+
+inputs_push : (makes : Makes) (r : Reading) (tree : List (List ℕ × List ℕ)) (left : List ℕ) (front : List (List ℕ)) (name : List ℕ) → inputs_pieces makes r tree left (front ++ name ∷ []) ≡ inputs_pieces makes r tree left front ++ one_pieces makes r tree (left_all front left) name
+unfolding inputs_pieces left_all
+inputs_push makes r tree left [] name = append-nil (one_pieces makes r tree left name)
+inputs_push makes r tree left (n ∷ front) name =
+    ap (λ xs. one_pieces makes r tree left n ++ xs) (inputs_push makes r tree (left_after n left) front name) ∙ sym (append_assoc (one_pieces makes r tree left n) (inputs_pieces makes r tree (left_after n left) front) (one_pieces makes r tree (left_all front (left_after n left)) name))
+
+left_push : (front : List (List ℕ)) (name left : List ℕ) → left_all (front ++ name ∷ []) left ≡ left_after name (left_all front left)
+unfolding left_all
+left_push [] name left = refl
+left_push (n ∷ front) name left = left_push front name (left_after n left)
+
+reads_one : (b : Bool) → cond b true false ≡ b
+reads_one true = refl
+reads_one false = refl
+
+reads_more : (b x y z : Bool) → x ≡ (y || z) → cond b true x ≡ (cond b true y || z)
+reads_more true x y z h = refl
+reads_more false x y z h = h
+
+reads_push : (front : List (List ℕ)) (name : List ℕ) → reads_standard (front ++ name ∷ []) ≡ (reads_standard front || is_standard name)
+unfolding reads_standard
+reads_push [] name = reads_one (is_standard name)
+reads_push (n ∷ front) name = reads_more (is_standard n) (reads_standard (front ++ name ∷ [])) (reads_standard front) (is_standard name) (reads_push front name)
+
+-- the standard input was read, or it is not this one
+read_by : (read read' is : Bool) (standard : Bool) → standard ≡ is → (standard ≡ true → read' ≡ true) → (standard ≡ false → read' ≡ read) → (read || is) ≡ read'
+read_by true read' true standard e h k = sym (h e)
+read_by true read' false standard e h k = sym (k e)
+read_by false read' true standard e h k = sym (h e)
+read_by false read' false standard e h k = sym (k e)
+
+reads_nil : reads_standard [] ≡ false
+unfolding reads_standard
+reads_nil = refl
+
+left_nil : (left : List ℕ) → left_all [] left ≡ left
+unfolding left_all
+left_nil left = refl
+
+pub names-next : {Z : Type 0} (f : Z → List ℕ) (xs : List Z) (i : ℕ) (x : Z) (name : List ℕ) → i < length xs → x ≡ get_or xs i x → name ≡ f x → names_of f (drop i xs) ≡ name ∷ names_of f (drop (i + 1) xs)
+names-next f xs i x name lt is e = ap (names_of f) (drop_more xs i x lt) ∙ ap (λ y. f y ∷ names_of f (drop (i + 1) xs)) (sym is) ∙ ap (λ n. n ∷ names_of f (drop (i + 1) xs)) (sym e)
+
+pub names-none : {Z : Type 0} (f : Z → List ℕ) (xs : List Z) (i : ℕ) → length xs ≤ i → names_of f (drop i xs) ≡ []
+names-none f xs i h = ap (names_of f) (drop_all i xs h)
+
+-- the standard input was read, and nothing is left of it
+by_standard : (standard : Bool) (left : List ℕ) (read read' : Bool) → (standard ≡ false → read' ≡ read) → (read ≡ true → left ≡ []) → read' ≡ true → cond standard [] left ≡ []
+by_standard true left read read' stays h is = refl
+by_standard false left read read' stays h is = h (sym (stays refl) ∙ is)
+
+pub once-on : (name left left' : List ℕ) (read read' : Bool) → left' ≡ left_after name left → (is_standard name ≡ false → read' ≡ read) → (read ≡ true → left ≡ []) → read' ≡ true → left' ≡ []
+once-on name left left' read read' e stays h is = e ∙ by_standard (is_standard name) left read read' stays h is
+
+pub untouched-on : {I : Type 0} (standard read read' : Bool) (i0 i i' : I) → (standard ≡ true → read' ≡ true) → (standard ≡ false → (read' ≡ read) × (i' ≡ i)) → (read ≡ false → i ≡ i0) → read' ≡ false → i' ≡ i0
+untouched-on true read read' i0 i i' is isn't h e = absurd (false≢true (sym e ∙ is refl))
+untouched-on false read read' i0 i i' is isn't h e = (isn't refl).1 ∙ h (sym (isn't refl).0 ∙ e)
+
+ends_later : (why : Why) (m0 m m1 : Moment) → m.faults ≡ m0.faults → (m.taken < 2 ^ 64 - 1 → m0.taken ≤ m.taken) → Ends why m m1 → Ends why m0 m1
+ends_later ReadFault m0 m m1 f t h = subst (λ x. Rose x m1.faults) f h
+ends_later Spent m0 m m1 f t h = λ lt. let a = h lt in let b = t (omega arith) in omega arith
+
+pub file_later : (tree : List (List ℕ × List ℕ)) (whole : Bool) (f0 f f1 : Moment) (why : Why) (file : List ℕ) (k : ℕ) → f.faults ≡ f0.faults → f.opens ≡ f0.opens → (f.taken < 2 ^ 64 - 1 → f0.taken ≤ f.taken) → InFile tree whole f f1 why file k → InFile tree whole f0 f1 why file k
+file_later tree whole f0 f f1 why file k faults opens taken (not_opened w rose z) = not_opened w (subst (λ x. Rose x f1.opens) opens rose) z
+file_later tree whole f0 f f1 why file k faults opens taken (opened got o e is z long) = opened got (o ∙ opens) (ends_later why f0 f f1 faults taken e) is z long
+
+module _ (W : Telling) (makes : Makes) (r : Reading) (tree : List (List ℕ × List ℕ)) (input : List ℕ) (names : List (List ℕ)) where
+  pub reached-start : (a b : Texts) (t : Tally) (back : List (List ℕ)) → back ≡ names → b ≡ a → (W.counts → a.number ≤ 2 ^ 64 - 1) → t ≡ tally_of [] → Reached W makes r tree input input names back false t a b
+  reached-start a b t back is e fits none = record {
+    front = [];
+    split = sym is;
+    leaves = sym (left_nil input);
+    reads = reads_nil;
+    stands = subst (λ ps. Stands W (inputs_pieces makes r tree input names) ps (inputs_pieces makes r tree input back) a b t) (sym (inputs_nil makes r tree input))
+        (subst (λ xs. Stands W (inputs_pieces makes r tree input names) [] (inputs_pieces makes r tree input xs) a b t) (sym is) (stands-first W (inputs_pieces makes r tree input names) a b t e fits none));
+  }
+
+  module _ (left name : List ℕ) (back back' : List (List ℕ)) (read : Bool) (t : Tally) (a b : Texts) (h : Reached W makes r tree input left names back read t a b) (next : back ≡ name ∷ back') where
+    ahead : Stands W (inputs_pieces makes r tree input names) (inputs_pieces makes r tree input h.front) (one_pieces makes r tree left name ++ inputs_pieces makes r tree (left_after name left) back') a b t
+    ahead = subst (λ ps. Stands W (inputs_pieces makes r tree input names) (inputs_pieces makes r tree input h.front) ps a b t) (ap (inputs_pieces makes r tree left) next ∙ inputs_cons makes r tree left name back') h.stands
+
+    none_yet : t.stop ≡ false
+    none_yet = ap (λ (x : Tally). x.stop) h.stands.comes_to ∙ h.stands.goes_on
+
+    whole : names ≡ h.front ++ name ∷ back'
+    whole = h.split ∙ ap (λ xs. h.front ++ xs) next
+
+    module _ (d : Texts) (part t' : Tally) (w : Wrote W (up_to_stop (one_pieces makes r tree left name)) b d × (part ≡ tally_of (up_to_stop (one_pieces makes r tree left name)))) (sums : t' ≡ added t part) where
+      part_stop : part.stop ≡ has is_stop (one_pieces makes r tree left name)
+      part_stop = ap (λ (x : Tally). x.stop) w.1 ∙ has-up (one_pieces makes r tree left name)
+
+      pub part-goes : t'.stop ≡ false → part.stop ≡ false
+      part-goes goes = goes_by t.stop part.stop none_yet (sym (ap (λ (x : Tally). x.stop) sums) ∙ goes)
+
+      -- an input was passed
+      pub reached-on : (left' : List ℕ) (read' : Bool) → t'.stop ≡ false → (part.stop ≡ false → left' ≡ left_after name left) → (is_standard name ≡ true → read' ≡ true) → (is_standard name ≡ false → read' ≡ read) → Reached W makes r tree input left' names back' read' t' a d
+      reached-on left' read' goes leaves' is isn't =
+          let off = part-goes goes in
+          let leaves = leaves' off in
+          let clear : has is_stop (one_pieces makes r tree left name) ≡ false = sym part_stop ∙ off in
+          let same = up-all (one_pieces makes r tree left name) clear in
+          let on : Stands W (inputs_pieces makes r tree input names) (inputs_pieces makes r tree input h.front ++ one_pieces makes r tree left name) (inputs_pieces makes r tree (left_after name left) back') a d t' =
+          stands-on W (inputs_pieces makes r tree input names) (inputs_pieces makes r tree input h.front) (one_pieces makes r tree left name) (inputs_pieces makes r tree (left_after name left) back') a b d t t' ahead (subst (λ ps. Wrote W ps b d) same w.0) clear (sums ∙ ap (added t) (w.1 ∙ ap tally_of same)) in
+          record {
+            front = h.front ++ name ∷ [];
+            split = whole ∙ sym (append_assoc h.front (name ∷ []) back');
+            leaves = leaves ∙ ap (left_after name) h.leaves ∙ sym (left_push h.front name input);
+            reads = reads_push h.front name ∙ ap (λ x. x || is_standard name) h.reads ∙ read_by read read' (is_standard name) (is_standard name) refl is isn't;
+            stands = subst (λ ps. Stands W (inputs_pieces makes r tree input names) ps (inputs_pieces makes r tree left' back') a d t') (ap (λ x. inputs_pieces makes r tree input h.front ++ one_pieces makes r tree x name) h.leaves ∙ sym (inputs_push makes r tree input h.front name))
+                (subst (λ x. Stands W (inputs_pieces makes r tree input names) (inputs_pieces makes r tree input h.front ++ one_pieces makes r tree left name) (inputs_pieces makes r tree x back') a d t') (sym leaves) on);
+          }
+
+      -- a piece of it ends the run
+      pub reached-stop : t'.stop ≡ true → Wrote W (up_to_stop (inputs_pieces makes r tree input names)) a d × (t' ≡ tally_of (up_to_stop (inputs_pieces makes r tree input names)))
+      reached-stop stop =
+          let off : part.stop ≡ true = stops_by t.stop part.stop none_yet (sym (ap (λ (x : Tally). x.stop) sums) ∙ stop) in
+          stands-stop W (inputs_pieces makes r tree input names) (inputs_pieces makes r tree input h.front) (one_pieces makes r tree left name) (inputs_pieces makes r tree (left_after name left) back') a b d t t' ahead (sym part_stop ∙ off) w.0 (sums ∙ ap (added t) w.1)
+
+    module _ (i0 i i1 f0 f f1 : Moment) (first : read ≡ false → i ≡ i0) (faults : f.faults ≡ f0.faults) (opens : f.opens ≡ f0.opens) (taken : f.taken < 2 ^ 64 - 1 → f0.taken ≤ f.taken) where
+      stood : (why : Why) (file : List ℕ) (k : ℕ) → InOne name read tree r.whole i i1 f f1 why file k → InInputs names (λ front. length (inputs_pieces makes r tree input front)) tree r.whole i0 i1 f0 f1 why file (length (inputs_pieces makes r tree input h.front) + k)
+      stood why file k (of_standard is once x) = in_standard h.front back' k (whole ∙ ap (λ n. h.front ++ n ∷ back') (sym x.0)) (ap is_standard x.0 ∙ is) (subst (λ m. InSource r.whole m i1 why k) (first once) x.1) refl
+      stood why file k (of_file isn't x) = in_file h.front back' k (whole ∙ ap (λ n. h.front ++ n ∷ back') (sym x.0)) (ap is_standard x.0 ∙ isn't) (file_later tree r.whole f0 f f1 why file k faults opens taken x.1) refl
+
+      pub reached-break : (e : Ended) (d : Texts) → Breaks e W (one_pieces makes r tree left name) (InOne name read tree r.whole i i1 f f1) b d → Breaks e W (inputs_pieces makes r tree input names) (InInputs names (λ front. length (inputs_pieces makes r tree input front)) tree r.whole i0 i1 f0 f1) a d
+      reached-break e d x = breaks-later W e (inputs_pieces makes r tree input names) (inputs_pieces makes r tree input h.front) (one_pieces makes r tree left name) (inputs_pieces makes r tree (left_after name left) back') (InOne name read tree r.whole i i1 f f1) (InInputs names (λ front. length (inputs_pieces makes r tree input front)) tree r.whole i0 i1 f0 f1) a b d t ahead stood x
+
+  -- all inputs were passed
+  pub reached-end : (left : List ℕ) (back : List (List ℕ)) (read : Bool) (t : Tally) (a b : Texts) → Reached W makes r tree input left names back read t a b → back ≡ [] → Wrote W (up_to_stop (inputs_pieces makes r tree input names)) a b × (t ≡ tally_of (up_to_stop (inputs_pieces makes r tree input names)))
+  reached-end left back read t a b h none = stands-end W (inputs_pieces makes r tree input names) (inputs_pieces makes r tree input h.front) (inputs_pieces makes r tree left back) a b t h.stands (ap (inputs_pieces makes r tree left) none ∙ inputs_nil makes r tree left)
+
+  pub reached-all : (left : List ℕ) (back : List (List ℕ)) (read : Bool) (t : Tally) (a b : Texts) → Reached W makes r tree input left names back read t a b → back ≡ [] → reads_standard names ≡ read
+  reached-all left back read t a b h none = ap reads_standard (h.split ∙ ap (λ xs. h.front ++ xs) none ∙ append-nil h.front) ∙ h.reads

@@ -1,0 +1,64 @@
+-- What the answer of a run says of its report.
+use Rattle.rosie_run.specs.declared.ended.Why.TheVariants as Y
+use Rattle.rosie_io.specs.Opening.{file_of}
+use Rattle.rosie_run.specs.Lines.{input_fault}
+use Rattle.rosie_run.specs.Outputs.{Fronts, IsFront, Telling, Texts, Wrote}
+use Rattle.rosie_run.specs.Report.{Piece, errs, has, is_hit, outs, status_of}
+use Rattle.rosie_run.specs.Runs.{why_text}
+use Rattle.rosie_run.specs.declared.ended.Why.{Why}
+use Rattle.rosie_run.specs.declared.status.Status.TheVariants.{Matched, NoMatch, Refused, LineFault, ReadFault, WriteFault, NoMemory, Spent}
+use Rattle.rosie_run.specs.declared.status.Status.{Status}
+use Rattle.std.specs.Prelude.{◌++◌, ◌<◌, ◌^◌, ◌∷◌, ◌≡◌, List, Some, false, length, take, true, ℕ}
+
+-- all is as the report has it: the status, the texts and the steps
+pub record Reported (W : Telling) (ps : List Piece) (answer : Status) (a b : Texts) : Type 0 where
+  pub status : answer ≡ status_of ps
+  pub wrote : Wrote W ps a b
+
+-- reading ended the run: the first pieces are written, and the line that says so
+pub record Left (W : Telling) (ps : List Piece) (Where : Why → List ℕ → ℕ → Type 0) (why : Why)
+    (a b : Texts) : Type 0 where
+  pub file : List ℕ
+  pub k : ℕ
+  pub stood : Where why file k
+  pub out : W.out → b.out ≡ a.out ++ outs (take k ps)
+  pub err : W.err → b.err ≡ a.err ++ (errs (take k ps) ++ input_fault file (why_text why))
+
+-- a write or a flush failed: each output has a front of its text, or of what is left where reading ended the run
+pub data WriteFailed (W : Telling) (ps : List Piece) (Where : Why → List ℕ → ℕ → Type 0) (a b : Texts) : Type 0 where
+  in_the_run : Fronts W ps a b → WriteFailed W ps Where a b
+  at_the_end : (why : Why) (file : List ℕ) (k : ℕ) → Where why file k
+      → (W.out → IsFront a.out b.out (outs (take k ps)))
+      → (W.err → IsFront a.err b.err (errs (take k ps) ++ input_fault file (why_text why)))
+      → WriteFailed W ps Where a b
+
+-- what an answer says of the report
+abbrev pub Headline : Status → Telling → List Piece → (Why → List ℕ → ℕ → Type 0) → Texts → Texts → Type 0
+Headline Matched W ps Where a b = Reported W ps Matched a b
+Headline NoMatch W ps Where a b = Reported W ps NoMatch a b
+Headline Refused W ps Where a b = Reported W ps Refused a b
+Headline LineFault W ps Where a b = Reported W ps LineFault a b
+Headline ReadFault W ps Where a b = Left W ps Where Y.ReadFault a b
+Headline Spent W ps Where a b = Left W ps Where Y.Spent a b
+Headline WriteFault W ps Where a b = WriteFailed W ps Where a b
+Headline NoMemory W ps Where a b = Fronts W ps a b
+
+-- the run came to the end of its inputs
+abbrev pub CameToEnd : Status → Type 0
+CameToEnd Matched = Unit {0}
+CameToEnd NoMatch = Unit {0}
+CameToEnd LineFault = Unit {0}
+CameToEnd _ = ⊥
+
+-- where nothing goes wrong: some piece is a hit, or none, or memory was wanting
+abbrev pub IsComplete : Status → List Piece → Type 0
+IsComplete Matched ps = has is_hit ps ≡ true
+IsComplete NoMatch ps = has is_hit ps ≡ false
+IsComplete NoMemory ps = Unit {0}
+IsComplete _ ps = ⊥
+
+-- every file of these names has fewer bytes than are read
+abbrev pub AreShort : List (List ℕ) → List (List ℕ × List ℕ) → Type 0
+AreShort names tree =
+    (front back : List (List ℕ)) (path bytes : List ℕ) → names ≡ front ++ path ∷ back → file_of path tree ≡ Some bytes
+    → length bytes < 2 ^ 32

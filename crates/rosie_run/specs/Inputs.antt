@@ -1,0 +1,45 @@
+-- The inputs of a run in turn, and their pieces.
+use Rattle.rosie_io.specs.Opening.{file_of}
+use Rattle.rosie_run.specs.Lines.{Makes, input_fault, input_pieces}
+use Rattle.rosie_run.specs.Report.{Piece, stop_piece}
+use Rattle.rosie_run.specs.declared.lines.Reading.{Reading}
+use Rattle.std.specs.Prelude.{if◌then◌else◌, ◌++◌, ◌∷◌, Bool, List, None, Option, Some, [], codes, false, map, true, ℕ}
+use Rattle.std.specs.Str.{bytes_eq}
+
+-- the name of the standard input
+abbrev pub is_standard : List ℕ → Bool
+is_standard name = bytes_eq name (codes "-")
+
+-- the pieces of a file; where there is none the run ends
+abbrev pub file_pieces : Makes → Reading → List ℕ → Option (List ℕ) → List Piece
+file_pieces makes r path None = stop_piece (input_fault path (codes "no such file")) ∷ []
+file_pieces makes r path (Some bytes) = input_pieces makes r path bytes
+
+-- the pieces of one input, given the tree and what is left of the standard input
+abbrev pub one_pieces : Makes → Reading → List (List ℕ × List ℕ) → List ℕ → List ℕ → List Piece
+one_pieces makes r tree left name =
+    if is_standard name then input_pieces makes r name left else file_pieces makes r name (file_of name tree)
+
+-- what is left of the standard input then
+abbrev pub left_after : List ℕ → List ℕ → List ℕ
+left_after name left = if is_standard name then [] else left
+
+-- the pieces of the inputs with these names in turn
+unfoldable pub inputs_pieces : Makes → Reading → List (List ℕ × List ℕ) → List ℕ → List (List ℕ) → List Piece
+inputs_pieces makes r tree left [] = []
+inputs_pieces makes r tree left (name ∷ more) =
+    one_pieces makes r tree left name ++ inputs_pieces makes r tree (left_after name left) more
+
+-- the standard input is among them
+unfoldable pub reads_standard : List (List ℕ) → Bool
+reads_standard [] = false
+reads_standard (name ∷ more) = if is_standard name then true else reads_standard more
+
+-- the texts of some names
+abbrev pub names_of : {Z : Type 0} → (Z → List ℕ) → List Z → List (List ℕ)
+names_of f xs = map f xs
+
+-- what is left of the standard input behind some inputs
+unfoldable pub left_all : List (List ℕ) → List ℕ → List ℕ
+left_all [] left = left
+left_all (name ∷ more) left = left_all more (left_after name left)

@@ -1,0 +1,12 @@
+pub mod Statuses
+pub mod Report
+pub mod Lines
+pub mod Inputs
+pub mod Outputs
+pub mod Sources
+pub mod Where
+pub mod Made
+pub mod Runs
+pub mod Causes
+pub mod Headline
+pub mod inside

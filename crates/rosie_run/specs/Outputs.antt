@@ -1,0 +1,45 @@
+-- What stands on the outputs, and what pieces add to it.
+use Rattle.rosie_io.specs.Counts.{capped}
+use Rattle.rosie_run.specs.Report.{Piece, costs, errs, has, is_stop, outs, tally_of}
+use Rattle.rosie_run.specs.declared.tally.Tally.{Tally}
+use Rattle.std.specs.Prelude.{◌++◌, ◌+◌, ◌≡◌, ◌≤◌, List, false, length, take, ℕ}
+
+-- what the outputs tell
+pub record Telling : Type 1 where
+  pub out : Type 0
+  pub err : Type 0
+  pub counts : Type 0
+
+-- what stands on the outputs at one time, and the steps that were made
+pub record Texts : Type 0 where
+  pub out : List ℕ
+  pub err : List ℕ
+  pub number : ℕ
+  pub steps : ℕ
+
+abbrev pub texts : {O E : Type 0} → (O → List ℕ) → (O → ℕ) → (E → List ℕ) → O → E → ℕ → Texts
+texts written number written' o e n = record { out = written o; err = written' e; number = number o; steps = n }
+
+-- just these pieces were added
+pub record Wrote (T : Telling) (ps : List Piece) (a b : Texts) : Type 0 where
+  pub out : T.out → b.out ≡ a.out ++ outs ps
+  pub err : T.err → b.err ≡ a.err ++ errs ps
+  pub number : T.counts → b.number ≡ capped (a.number + length (outs ps))
+  pub steps : b.steps ≡ a.steps + costs ps
+
+-- a text has grown by a front of another
+abbrev pub IsFront : List ℕ → List ℕ → List ℕ → Type 0
+IsFront old new text = (k : ℕ) × (k ≤ length text) × (new ≡ old ++ take k text)
+
+-- each output has a front of what these pieces add
+pub record Fronts (T : Telling) (ps : List Piece) (a b : Texts) : Type 0 where
+  pub out : T.out → IsFront a.out b.out (outs ps)
+  pub err : T.err → IsFront a.err b.err (errs ps)
+
+-- Where a run stands: of all its pieces it has gone past `done`, none of which ends it, and `todo` are still to come.
+-- Just the pieces that it has gone past were added. Each clause on what a run leaves is read off this.
+pub record Stands (T : Telling) (all done todo : List Piece) (a b : Texts) (tally : Tally) : Type 0 where
+  pub split : all ≡ done ++ todo
+  pub goes_on : has is_stop done ≡ false
+  pub wrote : Wrote T done a b
+  pub comes_to : tally ≡ tally_of done

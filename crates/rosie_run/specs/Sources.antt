@@ -1,0 +1,35 @@
+-- What a source tells and counts at one time.
+use Rattle.rosie_io.specs.Counts.{Rose}
+use Rattle.rosie_run.specs.declared.ended.Why.{Why}
+use Rattle.rosie_run.specs.declared.ended.Why.TheVariants.{ReadFault, Spent}
+use Rattle.std.specs.Prelude.{◌+◌, ◌-◌, ◌<◌, ◌^◌, ◌≡◌, ◌≤◌, ◌⊎◌, List, ℕ}
+
+pub record Moment : Type 0 where
+  pub rest : List ℕ
+  pub taken : ℕ
+  pub faults : ℕ
+  pub opens : ℕ
+
+abbrev pub moment : {S : Type 0} → (S → List ℕ) → (S → ℕ) → (S → ℕ) → (S → ℕ) → S → Moment
+moment rest taken faults opens s = record { rest = rest s; taken = taken s; faults = faults s; opens = opens s }
+
+-- so many bytes were taken, or the number stands at the greatest u64
+abbrev pub TookMany : ℕ → ℕ → Type 0
+TookMany before now = now < 2 ^ 64 - 1 → before + 2 ^ 32 ≤ now
+
+-- reading from a source ended the run
+abbrev pub Ends : Why → Moment → Moment → Type 0
+Ends ReadFault a b = Rose a.faults b.faults
+Ends Spent a b = TookMany a.taken b.taken
+
+-- the counts of one source: it is not read from, or reading it is why the run ends
+pub record Still (m0 m1 : Moment) : Type 0 where
+  pub faults : m1.faults ≡ m0.faults
+  pub opens : m1.opens ≡ m0.opens
+
+pub record NoFewer (m0 m1 : Moment) : Type 0 where
+  pub faults : m0.faults ≤ m1.faults
+  pub opens : m0.opens ≤ m1.opens
+
+abbrev pub RoseIn : Moment → Moment → Type 0
+RoseIn m0 m1 = Rose m0.faults m1.faults ⊎ Rose m0.opens m1.opens

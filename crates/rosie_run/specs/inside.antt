@@ -1,0 +1,5 @@
+-- Words of private functions alone. No public contract cites them.
+pub mod Causes
+pub mod Passing
+pub mod Reaching
+pub mod Closing

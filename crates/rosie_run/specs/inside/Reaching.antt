@@ -1,0 +1,17 @@
+-- How far a run over several inputs has come.
+use Rattle.rosie_run.specs.Inputs.{inputs_pieces, left_all, reads_standard}
+use Rattle.rosie_run.specs.Lines.{Makes}
+use Rattle.rosie_run.specs.Outputs.{Stands, Telling, Texts}
+use Rattle.rosie_run.specs.declared.lines.Reading.{Reading}
+use Rattle.rosie_run.specs.declared.tally.Tally.{Tally}
+use Rattle.std.specs.Prelude.{◌++◌, ◌≡◌, Bool, List, ℕ}
+
+-- the inputs of `front` were passed, those of `back` are still to come, and so much is left of the standard input
+pub record Reached (W : Telling) (makes : Makes) (r : Reading) (tree : List (List ℕ × List ℕ)) (input left : List ℕ)
+    (names back : List (List ℕ)) (read : Bool) (tally : Tally) (a b : Texts) : Type 0 where
+  pub front : List (List ℕ)
+  pub split : names ≡ front ++ back
+  pub leaves : left ≡ left_all front input
+  pub reads : reads_standard front ≡ read
+  pub stands : Stands W (inputs_pieces makes r tree input names)
+      (inputs_pieces makes r tree input front) (inputs_pieces makes r tree left back) a b tally

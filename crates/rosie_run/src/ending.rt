@@ -1,0 +1,38 @@
+// How a run ends.
+ghost use Rattle.std.specs.Prelude.{ℕ, ◌≡◌};
+ghost use Rattle.rosie_run.specs.Causes.{IsFlushed};
+ghost use Rattle.rosie_run.specs.Outputs.{texts};
+ghost use Rattle.rosie_run.specs.inside.Closing.{Closes, ClosesCause};
+
+use crate::write::{close_with, flush_both};
+use crate::{Ended, Status, Tally, Why};
+use rosie_io::Sink;
+
+/// Ends a run: says why reading ended it, where it did, and flushes all that was written.
+pub fn finish<O: Sink, E: Sink>(out: &mut O, err: &mut E, run: Result<Tally, Ended>) -> Status
+    ensures closes { (n : ℕ) → Closes run result (record { out = O.tells; err = E.tells; counts = O.counts })
+        (texts O.written O.number E.written out.old err.old n)
+        (texts O.written O.number E.written out.new err.new n) }
+    ensures cause { ClosesCause run result (O.faults out.old) (O.faults out.new) (E.faults err.old)
+        (E.faults err.new) }
+    ensures out_flushed { O.counts → IsFlushed result (O.number out.new) (O.flushed out.new) }
+    ensures err_flushed { E.counts → IsFlushed result (E.number err.new) (E.flushed err.new) }
+{
+    match run {
+        Ok(tally) => match flush_both(out, err) {
+            Ok(()) => tally.status(),
+            Err(_) => Status::WriteFault,
+        },
+        Err(ended) => match ended {
+            Ended::NoMemory => Status::NoMemory,
+            Ended::WriteFault => Status::WriteFault,
+            Ended::Cut(why, text) => match close_with(out, err, text.as_str()) {
+                Ok(()) => match why {
+                    Why::ReadFault => Status::ReadFault,
+                    Why::Spent => Status::Spent,
+                },
+                Err(_) => Status::WriteFault,
+            },
+        },
+    }
+}

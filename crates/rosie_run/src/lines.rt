@@ -1,0 +1,223 @@
+// The run over the lines of one input.
+ghost use Rattle.std.specs.Prelude.{◌≡◌, ◌+◌, ◌-◌, ◌^◌, ◌<◌, ◌≤◌, ℕ, List, [], Err, true, false, length, IfOk, IfErr, OnOk};
+ghost use Rattle.rosie_io.specs.Answering.{Keeps};
+ghost use Rattle.rosie_io.specs.Appending.{Appends};
+ghost use Rattle.rosie_io.specs.Counts.{capped};
+ghost use Rattle.rosie_io.specs.Gathering.{left, Reads};
+ghost use Rattle.rosie_run.specs.Lines.{input_pieces};
+ghost use Rattle.rosie_run.specs.Outputs.{texts};
+ghost use Rattle.rosie_run.specs.inside.Causes.{BothCause, SinksCause, SourceCause, SpentCause, IsOfReading};
+ghost use Rattle.rosie_run.specs.inside.Passing.{MakesLine, CountsLine, StopsLine, PassesLine, RunsInput, made_out, made_err, made_mark};
+
+use crate::line_job::LineJob;
+use crate::write::{flush_before_wait, line_fault, write_both};
+use crate::{Mark, Tally, Trouble};
+use rosie_io::{Line, LineFault, LineReader, Sink, Source, WriteFault};
+use rpl_machine::Steps;
+use std::alloc::Global;
+use std::sync::ledger::Ledger;
+
+/// How the lines of an input are read.
+#[derive(Clone, Copy, Debug)]
+pub struct Reading {
+    /// An input is one line.
+    pub whole: bool,
+    /// The bytes that a line may have.
+    pub most: usize,
+}
+
+/// What was made of a line.
+#[derive(Drop)]
+enum Made {
+    /// The job has its texts.
+    Answer(Mark),
+    /// What is wrong with the line.
+    Fault(String),
+}
+
+/// Goes on to the next line of an input and makes its piece. `None` where there is no further line.
+fn make_line<J: LineJob, S: Source, L: Ledger>(
+    alloc: Global,
+    job: &mut J,
+    file: &str,
+    reader: &mut LineReader,
+    source: &mut S,
+    steps: &mut Steps<L>,
+) -> Result<Option<Made>, Trouble>
+    requires { reader.old.done ≡ false }
+    ensures same { J.makes job.new ≡ J.makes job.old }
+    ensures makes { S.tells → MakesLine result (J.makes job.old)
+        (record { whole = reader.old.whole; most = reader.old.most }) file.now reader.old reader.new
+        (left reader.old.held (S.rest source.old)) (left reader.new.held (S.rest source.new)) (J.out_text job.new)
+        (J.err_text job.new) steps.old steps.new }
+    ensures numbers { CountsLine result reader.old reader.new }
+    ensures fits { reader.new.number ≤ 2 ^ 48 }
+    ensures keeps { Keeps reader.old reader.new }
+    ensures stops { StopsLine result S.tells reader.old reader.new (S.rest source.old) (S.rest source.new) }
+    ensures of_reading { IfErr result IsOfReading }
+    ensures cause { SourceCause result (S.faults source.old) (S.faults source.new) }
+    ensures reads { Reads S.tells reader.old.held reader.new.held (S.rest source.old) (S.rest source.new)
+        (S.taken source.old) (S.taken source.new) }
+    ensures at_end { S.tells → reader.old.held.ended ≡ false → reader.new.held.ended ≡ true → S.rest source.new ≡ [] }
+    ensures ended { reader.old.held.ended ≡ true → source.new ≡ source.old }
+    ensures tree { S.tree source.new ≡ S.tree source.old }
+    ensures opens { S.failed_opens source.new ≡ S.failed_opens source.old }
+{
+    match reader.next(source) {
+        Ok(line) => match line {
+            Line::Text => match job.answer(file, reader.number(), reader.line(), steps) {
+                Ok(mark) => Ok(Some(Made::Answer(mark))),
+                Err(_) => Err(Trouble::NoMemory),
+            },
+            Line::End => Ok(None),
+        },
+        Err(fault) => match fault {
+            LineFault::TooLong { line } => match line_fault(alloc, file, line, "line too long") {
+                Ok(text) => Ok(Some(Made::Fault(text))),
+                Err(_) => Err(Trouble::NoMemory),
+            },
+            LineFault::NotText { line } => match line_fault(alloc, file, line, "not UTF-8") {
+                Ok(text) => Ok(Some(Made::Fault(text))),
+                Err(_) => Err(Trouble::NoMemory),
+            },
+            LineFault::NoMemory => Err(Trouble::NoMemory),
+            LineFault::ReadFault => Err(Trouble::ReadFault),
+            LineFault::Spent => Err(Trouble::Spent),
+        },
+    }
+}
+
+/// Writes what was made of a line. Where `out` gets some of it, that is pending until it is flushed.
+fn write_made<J: LineJob, O: Sink, E: Sink>(
+    job: &J,
+    made: &Made,
+    pending: &mut bool,
+    out: &mut O,
+    err: &mut E,
+) -> Result<Mark, WriteFault>
+    ensures mark { IfOk result (λ mark. mark ≡ made_mark made.now) }
+    ensures out { O.tells → Appends result (O.written out.old) (O.written out.new)
+        (made_out made.now (J.out_text job.now)) }
+    ensures err { E.tells → Appends result (E.written err.old) (E.written err.new)
+        (made_err made.now (J.err_text job.now)) }
+    ensures number { O.counts → OnOk result (O.number out.new ≡ capped
+        (O.number out.old + length (made_out made.now (J.out_text job.now)))) }
+    ensures cause { BothCause result (O.faults out.old) (O.faults out.new) (E.faults err.old) (E.faults err.new) }
+{
+    match made {
+        Made::Answer(mark) => {
+            *pending |= !job.out().is_empty();
+            match write_both(out, err, job.out(), job.err()) {
+                Ok(()) => Ok(*mark),
+                Err(fault) => Err(fault),
+            }
+        }
+        Made::Fault(text) => match write_both(out, err, &[], text.as_bytes()) {
+            Ok(()) => Ok(Mark::Fault),
+            Err(fault) => Err(fault),
+        },
+    }
+}
+
+/// Goes on to the next line of an input, and writes its piece. `None` where there is no further line.
+fn pass_line<J: LineJob, S: Source, O: Sink, E: Sink, L: Ledger>(
+    alloc: Global,
+    job: &mut J,
+    file: &str,
+    reader: &mut LineReader,
+    source: &mut S,
+    pending: &mut bool,
+    out: &mut O,
+    err: &mut E,
+    steps: &mut Steps<L>,
+) -> Result<Option<Mark>, Trouble>
+    requires { reader.old.done ≡ false }
+    ensures same { J.makes job.new ≡ J.makes job.old }
+    ensures passes { S.tells → PassesLine result (record { out = O.tells; err = E.tells; counts = O.counts })
+        (J.makes job.old) (record { whole = reader.old.whole; most = reader.old.most }) file.now reader.old reader.new
+        (left reader.old.held (S.rest source.old)) (left reader.new.held (S.rest source.new))
+        (texts O.written O.number E.written out.old err.old steps.old)
+        (texts O.written O.number E.written out.new err.new steps.new) }
+    ensures numbers { CountsLine result reader.old reader.new }
+    ensures fits { reader.new.number ≤ 2 ^ 48 }
+    ensures keeps { Keeps reader.old reader.new }
+    ensures stops { StopsLine result S.tells reader.old reader.new (S.rest source.old) (S.rest source.new) }
+    ensures cause { SourceCause result (S.faults source.old) (S.faults source.new) }
+    ensures sinks { SinksCause result (O.faults out.old) (O.faults out.new) (E.faults err.old) (E.faults err.new) }
+    ensures reads { Reads S.tells reader.old.held reader.new.held (S.rest source.old) (S.rest source.new)
+        (S.taken source.old) (S.taken source.new) }
+    ensures at_end { S.tells → reader.old.held.ended ≡ false → reader.new.held.ended ≡ true → S.rest source.new ≡ [] }
+    ensures ended { reader.old.held.ended ≡ true → source.new ≡ source.old }
+    ensures tree { S.tree source.new ≡ S.tree source.old }
+    ensures opens { S.failed_opens source.new ≡ S.failed_opens source.old }
+{
+    match make_line(alloc, job, file, reader, source, steps) {
+        Ok(found) => match found {
+            Some(made) => match write_made(job, &made, pending, out, err) {
+                Ok(mark) => Ok(Some(mark)),
+                Err(_) => Err(Trouble::WriteFault),
+            },
+            None => Ok(None),
+        },
+        Err(trouble) => Err(trouble),
+    }
+}
+
+/// Runs on each line of one input, which faults call `file`, up to the line that ends the run.
+pub(crate) fn run_input<J: LineJob, S: Source, O: Sink, E: Sink, L: Ledger>(
+    alloc: Global,
+    job: &mut J,
+    reading: Reading,
+    file: &str,
+    source: &mut S,
+    pending: &mut bool,
+    out: &mut O,
+    err: &mut E,
+    steps: &mut Steps<L>,
+) -> Result<Tally, Trouble>
+    requires { reading.most ≤ 2 ^ 30 }
+    ensures same { J.makes job.new ≡ J.makes job.old }
+    ensures runs { S.tells → RunsInput result (record { out = O.tells; err = E.tells; counts = O.counts })
+        (input_pieces (J.makes job.old) reading file.now (S.rest source.old)) reading.whole
+        (S.rest source.old) (S.rest source.new)
+        (texts O.written O.number E.written out.old err.old steps.old)
+        (texts O.written O.number E.written out.new err.new steps.new) }
+    ensures cause { SourceCause result (S.faults source.old) (S.faults source.new) }
+    ensures sinks { SinksCause result (O.faults out.old) (O.faults out.new) (E.faults err.old) (E.faults err.new) }
+    ensures spent { SpentCause result (S.taken source.old) (S.taken source.new) }
+    ensures taken { S.taken source.new < 2 ^ 64 - 1 → S.taken source.old ≤ S.taken source.new }
+    ensures tree { S.tree source.new ≡ S.tree source.old }
+    ensures opens { S.failed_opens source.new ≡ S.failed_opens source.old }
+{
+    let mut reader = LineReader::new(alloc, reading.whole, reading.most)?;
+    let mut tally = Tally::new();
+    'lines: loop {
+        // What was written appears before the reader waits for input.
+        match flush_before_wait(pending, reader.is_ready(), out) {
+            Ok(()) => {}
+            Err(_) => return Err(Trouble::WriteFault),
+        }
+        match pass_line(
+            alloc,
+            job,
+            file,
+            &mut reader,
+            source,
+            pending,
+            out,
+            err,
+            steps,
+        ) {
+            Ok(passed) => match passed {
+                Some(mark) => {
+                    tally = tally.with(mark);
+                    if tally.stop {
+                        return Ok(tally);
+                    }
+                }
+                None => return Ok(tally),
+            },
+            Err(trouble) => return Err(trouble),
+        }
+    }
+}

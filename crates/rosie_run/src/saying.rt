@@ -1,0 +1,48 @@
+// A piece that no input is read for.
+ghost use Rattle.std.specs.Prelude.{ℕ, ◌≡◌, [], ◌∷◌, string_bytes, IfErr, IfOk};
+ghost use Rattle.rosie_run.specs.Causes.{WritesCause};
+ghost use Rattle.rosie_run.specs.Outputs.{texts};
+ghost use Rattle.rosie_run.specs.Report.{is_stop};
+ghost use Rattle.rosie_run.specs.Runs.{Runs, IsCutOf, IsNoCut};
+ghost use Rattle.rosie_run.specs.Where.{Nowhere};
+
+use crate::write::{input_fault, write_both};
+use crate::{Ended, Mark, Tally, Why};
+use rosie_io::Sink;
+use std::alloc::Global;
+
+/// Writes one piece: a refusal, or a text that is the whole answer.
+pub fn say<O: Sink, E: Sink>(
+    out: &mut O,
+    err: &mut E,
+    out_text: &[u8],
+    err_text: &[u8],
+    mark: Mark,
+) -> Result<Tally, Ended>
+    ensures runs { (n : ℕ) → Runs result (record { out = O.tells; err = E.tells; counts = O.counts })
+        (record { out = out_text.now; err = err_text.now; mark = mark; cost = 0 } ∷ []) Nowhere
+        (texts O.written O.number E.written out.old err.old n)
+        (texts O.written O.number E.written out.new err.new n) }
+    ensures stops { IfOk result (λ tally. tally.stop ≡ is_stop mark) }
+    ensures no_cut { IfErr result IsNoCut }
+    ensures sinks { WritesCause result (O.faults out.old) (O.faults out.new) (E.faults err.old) (E.faults err.new) }
+{
+    match write_both(out, err, out_text, err_text) {
+        Ok(()) => Ok(Tally::new().with(mark)),
+        Err(_) => Err(Ended::WriteFault),
+    }
+}
+
+/// The end of a run that reading ended. `file` is what was read.
+pub fn cut(alloc: Global, why: Why, file: &str) -> Ended
+    ensures { IsCutOf result why file.now }
+{
+    let text = match why {
+        Why::ReadFault => input_fault(alloc, file, "read failed"),
+        Why::Spent => input_fault(alloc, file, "reads spent"),
+    };
+    match text {
+        Ok(text) => Ended::Cut(why, text),
+        Err(_) => Ended::NoMemory,
+    }
+}
