@@ -1,0 +1,5 @@
+pub mod Kinds
+pub mod Fold
+pub mod Casings
+pub mod Macros
+pub mod Laws

@@ -1,0 +1,212 @@
+// An expression in another casing.
+ghost use Rattle.std.specs.Prelude.{◌≡◌, [], ◌∷◌, IfOk, chars, false, if◌then◌else◌};
+ghost use Rattle.rpl_syntax.specs.View.{expr_of, exprs_all, shown};
+ghost use Rattle.rpl_syntax.specs.Expression as M;
+ghost use Rattle.rpl_macro.specs.Casings.{recased, recased_all, either_case, either_cases, every_case, single, has_letter, is_letter, keeps_text};
+ghost use Rattle.rpl_macro.specs.Casings as S;
+ghost use Rattle.rpl_macro.specs.Kinds.{kind_of};
+ghost use Rattle.rpl_macro.specs.Fold.{folded};
+ghost use Rattle.rpl_classes.specs.Norm.{norm};
+
+use crate::NoMemory;
+use crate::casing::Casing;
+use crate::folds::fold;
+use crate::kind::Macro;
+use rpl_classes::Set;
+use rpl_syntax::{Expr, Exprs, wrap};
+use rpl_text::Chars;
+use std::alloc::Global;
+
+/// One character alone, as a text.
+fn lone(alloc: Global, c: char) -> Result<Expr, NoMemory>
+    ensures { IfOk result (λ e. expr_of e ≡ M.Text (c ∷ [])) }
+{
+    let mut text = String::new(alloc);
+    text.push(c)?;
+    Ok(Expr::Text(Chars::from_str(alloc, &text)?))
+}
+
+/// The class of two characters.
+fn pair(alloc: Global, first: u32, second: u32) -> Result<Expr, NoMemory>
+    ensures { IfOk result (λ e. expr_of e ≡ M.Class (norm ((first, first) ∷ (second, second) ∷ [])) false) }
+{
+    let set = Set::from_ranges(alloc, &[(first, first), (second, second)])?;
+    Ok(Expr::Class {
+        set,
+        negated: false,
+    })
+}
+
+/// A letter in both cases, any other character as it is.
+fn either(alloc: Global, c: char) -> Result<Expr, NoMemory>
+    ensures { IfOk result (λ e. expr_of e ≡ either_case c) }
+{
+    let number = c as u32;
+    if 0x41 <= number && number <= 0x5a {
+        pair(alloc, number, number + 32)
+    } else if 0x61 <= number && number <= 0x7a {
+        pair(alloc, number, number - 32)
+    } else {
+        lone(alloc, c)
+    }
+}
+
+/// It is an ASCII letter.
+fn is_letter(c: char) -> bool
+    ensures { result ≡ is_letter c }
+{
+    let number = c as u32;
+    (0x41 <= number && number <= 0x5a) || (0x61 <= number && number <= 0x7a)
+}
+
+/// The class of one character in every case.
+fn every(alloc: Global, c: char) -> Result<Expr, NoMemory>
+    ensures { IfOk result (λ e. expr_of e ≡ M.Class (folded (single c)) false) }
+{
+    let alone = Set::range(alloc, c, c)?;
+    let set = fold(alloc, &alone)?;
+    Ok(Expr::Class {
+        set,
+        negated: false,
+    })
+}
+
+/// The text in this casing.
+fn text_in(alloc: Global, casing: Casing, text: &str) -> Result<Expr, NoMemory>
+    ensures { IfOk result (λ e. expr_of e ≡ S.text_in casing (chars text.now)) }
+{
+    match casing {
+        Casing::Plain => Ok(Expr::Text(Chars::from_str(alloc, text)?)),
+        Casing::Ascii if has_letter(text) => Ok(wrap(true, either_cases(alloc, text)?)),
+        Casing::Ascii => Ok(Expr::Text(Chars::from_str(alloc, text)?)),
+        Casing::Folded if text.is_empty() => Ok(Expr::Text(Chars::from_str(alloc, text)?)),
+        Casing::Folded => Ok(wrap(true, every_case(alloc, text)?)),
+    }
+}
+
+/// A letter is in the text.
+fn has_letter(text: &str) -> bool
+    ensures { result ≡ has_letter (chars text.now) }
+{
+    let mut found = false;
+    for c in text.chars() {
+        found = found || is_letter(c);
+    }
+    found
+}
+
+/// Each character in either case.
+fn either_cases(alloc: Global, text: &str) -> Result<Exprs, NoMemory>
+    ensures { IfOk result (λ ps. shown ps ≡ either_cases (chars text.now)) }
+{
+    let mut parts = Exprs::new(alloc);
+    for c in text.chars() {
+        parts.push(either(alloc, c)?)?;
+    }
+    Ok(parts)
+}
+
+/// Each character in every case.
+fn every_case(alloc: Global, text: &str) -> Result<Exprs, NoMemory>
+    ensures { IfOk result (λ ps. shown ps ≡ every_case (chars text.now)) }
+{
+    let mut parts = Exprs::new(alloc);
+    for c in text.chars() {
+        parts.push(every(alloc, c)?)?;
+    }
+    Ok(parts)
+}
+
+/// A box with the expression in this casing.
+#[cycle(recase)]
+fn boxed(alloc: Global, casing: Casing, body: &Expr) -> Result<Box<Expr>, NoMemory>
+    ensures { IfOk result (λ b. expr_of b.value ≡ recased casing (expr_of body.now)) }
+{
+    let body = recase(alloc, casing, body)?;
+    Ok(Box::new(alloc, body)?)
+}
+
+/// Each expression in this casing.
+#[cycle(recase)]
+fn recase_all(alloc: Global, casing: Casing, parts: &[Expr]) -> Result<Exprs, NoMemory>
+    ensures { IfOk result (λ ps. shown ps ≡ recased_all casing (exprs_all parts.now)) }
+{
+    let mut others = Exprs::new(alloc);
+    for part in parts {
+        others.push(recase(alloc, casing, part)?)?;
+    }
+    Ok(others)
+}
+
+/// The argument of a macro in this casing, unless it is a text that the macro keeps.
+#[cycle(recase)]
+fn argument(alloc: Global, casing: Casing, name: &str, arg: &Expr) -> Result<Box<Expr>, NoMemory>
+    ensures { IfOk result (λ b. expr_of b.value ≡
+        (if keeps_text (kind_of (chars name.now)) then expr_of arg.now else recased casing (expr_of arg.now))) }
+{
+    if keeps_text(name) {
+        let arg = arg.copy(alloc)?;
+        return Ok(Box::new(alloc, arg)?);
+    }
+    boxed(alloc, casing, arg)
+}
+
+/// The macro of this name takes a text, and nothing else.
+fn keeps_text(name: &str) -> bool
+    ensures { result ≡ keeps_text (kind_of (chars name.now)) }
+{
+    match Macro::named(name) {
+        Some(kind) => kind.takes_text(),
+        None => false,
+    }
+}
+
+/// The expression in this casing.
+#[cycle(recase)]
+pub(crate) fn recase(alloc: Global, casing: Casing, e: &Expr) -> Result<Expr, NoMemory>
+    ensures { IfOk result (λ o. expr_of o ≡ recased casing (expr_of e.now)) }
+{
+    match e {
+        Expr::Text(text) => text_in(alloc, casing, text.as_str()),
+        Expr::Class { set, negated } => Ok(Expr::Class {
+            set: casing.set(alloc, set)?,
+            negated: *negated,
+        }),
+        Expr::Any => Ok(Expr::Any),
+        Expr::Start => Ok(Expr::Start),
+        Expr::End => Ok(Expr::End),
+        Expr::Boundary => Ok(Expr::Boundary),
+        Expr::Name(name) => Ok(Expr::Name(name.copy(alloc)?)),
+        Expr::Cooked(items) => {
+            let items = recase_all(alloc, casing, items.as_slice())?;
+            Ok(wrap(false, items))
+        }
+        Expr::Raw(items) => {
+            let items = recase_all(alloc, casing, items.as_slice())?;
+            Ok(wrap(true, items))
+        }
+        Expr::Choice(parts) => {
+            let parts = recase_all(alloc, casing, parts.as_slice())?;
+            Ok(Expr::Choice(parts))
+        }
+        Expr::Both(first, second) => {
+            let first = boxed(alloc, casing, first)?;
+            Ok(Expr::Both(first, boxed(alloc, casing, second)?))
+        }
+        Expr::Prefix(sign, item) => Ok(Expr::Prefix(*sign, boxed(alloc, casing, item)?)),
+        Expr::Repeat { body, least, most } => Ok(Expr::Repeat {
+            body: boxed(alloc, casing, body)?,
+            least: *least,
+            most: *most,
+        }),
+        Expr::Macro { name, arg } => {
+            let arg = argument(alloc, casing, name.name.as_str(), arg)?;
+            Ok(Expr::Macro {
+                name: name.copy(alloc)?,
+                arg,
+            })
+        }
+        Expr::Marked(mark, body) => Ok(Expr::Marked(*mark, boxed(alloc, casing, body)?)),
+        Expr::Note(text) => Ok(Expr::Note(text.copy(alloc)?)),
+    }
+}

@@ -1,0 +1,142 @@
+// What a macro makes of its argument.
+ghost use Rattle.std.specs.Prelude.{◌≡◌, [], ◌∷◌, IfOk, chars, None};
+ghost use Rattle.rpl_syntax.specs.Expression as M;
+ghost use Rattle.rpl_syntax.specs.View.{expr_of};
+ghost use Rattle.rpl_macro.specs.Kinds.{kind_of};
+ghost use Rattle.rpl_macro.specs.Macros as S;
+ghost use Rattle.rpl_macro.specs.Macros.{applied_if, found, kept, passed, text_of, use_fault};
+
+use crate::NoMemory;
+use crate::casing::Casing;
+use crate::fault::MacroFault;
+use crate::kind::Macro;
+use crate::recase::recase;
+use rpl_syntax::{Expr, Exprs, Mark, QName, Sign, wrap};
+use rpl_text::Chars;
+use std::alloc::Global;
+
+/// What is wrong with the use of the macro of this name, if anything is: there is no such macro, or it takes a text, as
+/// `message` and `error` do, and the argument isn't one.
+pub fn check_use(name: &str, arg: &Expr) -> Option<MacroFault>
+    ensures { result ≡ use_fault (kind_of (chars name.now)) (expr_of arg.now) }
+{
+    let Some(kind) = Macro::named(name) else {
+        return Some(MacroFault::UnknownMacro);
+    };
+    if kind.takes_text() && !matches!(arg, Expr::Text(_)) {
+        return Some(MacroFault::BadArguments);
+    }
+    None
+}
+
+/// Two items in turn.
+fn pair(alloc: Global, first: Expr, second: Expr) -> Result<Expr, NoMemory>
+    ensures { IfOk result (λ e. expr_of e ≡ M.Raw (M.Cons (expr_of first) (M.one (expr_of second)))) }
+{
+    let mut items = Exprs::new(alloc);
+    items.push(first)?;
+    items.push(second)?;
+    Ok(wrap(true, items))
+}
+
+/// Any characters where the argument doesn't match.
+fn passed(alloc: Global, arg: &Expr) -> Result<Expr, NoMemory>
+    ensures { IfOk result (λ e. expr_of e ≡ passed (expr_of arg.now)) }
+{
+    let arg = arg.copy(alloc)?;
+    let not = Expr::Prefix(Sign::Not, Box::new(alloc, arg)?);
+    let body = pair(alloc, not, Expr::Any)?;
+    Ok(Expr::Repeat {
+        body: Box::new(alloc, body)?,
+        least: 0,
+        most: None,
+    })
+}
+
+/// The first place where the argument matches.
+fn found(alloc: Global, arg: Expr) -> Result<Expr, NoMemory>
+    ensures { IfOk result (λ e. expr_of e ≡ found (expr_of arg)) }
+{
+    let before = passed(alloc, &arg)?;
+    pair(
+        alloc,
+        before,
+        Expr::Marked(Mark::Hit, Box::new(alloc, arg)?),
+    )
+}
+
+/// The same, with what stands before it.
+fn kept(alloc: Global, arg: Expr) -> Result<Expr, NoMemory>
+    ensures { IfOk result (λ e. expr_of e ≡ kept (expr_of arg)) }
+{
+    let before = passed(alloc, &arg)?;
+    let before = Expr::Marked(Mark::Skip, Box::new(alloc, before)?);
+    pair(
+        alloc,
+        before,
+        Expr::Marked(Mark::Hit, Box::new(alloc, arg)?),
+    )
+}
+
+/// All places, one after the other.
+fn all_found(alloc: Global, arg: Expr) -> Result<Expr, NoMemory>
+    ensures { IfOk result (λ e. expr_of e ≡ M.Repeat (M.Raw (M.one (found (expr_of arg)))) 1 None) }
+{
+    let mut items = Exprs::new(alloc);
+    items.push(found(alloc, arg)?)?;
+    Ok(Expr::Repeat {
+        body: Box::new(alloc, wrap(true, items))?,
+        least: 1,
+        most: None,
+    })
+}
+
+/// The message that a text gives.
+fn note(alloc: Global, arg: Expr) -> Result<Expr, NoMemory>
+    ensures { IfOk result (λ e. expr_of e ≡ M.Note (text_of (expr_of arg))) }
+{
+    match arg {
+        Expr::Text(text) => Ok(Expr::Note(text)),
+        _ => Ok(Expr::Note(Chars::empty(alloc))),
+    }
+}
+
+/// The built-in rule `halt`, whatever is bound to that name.
+fn halt(alloc: Global) -> Result<Expr, NoMemory>
+    ensures { IfOk result (λ e. expr_of e ≡ M.Name S.halt) }
+{
+    Ok(Expr::Name(QName {
+        prefix: Some(Chars::empty(alloc)),
+        name: Chars::from_str(alloc, "halt")?,
+        at: 0,
+    }))
+}
+
+/// The message, and the end of the match.
+fn error(alloc: Global, arg: Expr) -> Result<Expr, NoMemory>
+    ensures { IfOk result (λ e. expr_of e ≡ S.failed (text_of (expr_of arg))) }
+{
+    let message = note(alloc, arg)?;
+    pair(alloc, message, halt(alloc)?)
+}
+
+/// What the macro of this name makes of its argument: one step of its equation, which a macro in the argument is no
+/// part of. `find`, `findall` and `keepto` double their argument, so whoever would apply nested ones in turn counts
+/// first.
+pub fn apply(alloc: Global, name: &str, arg: Expr) -> Result<Expr, NoMemory>
+    requires { use_fault (kind_of (chars name.now)) (expr_of arg) ≡ None }
+    ensures { IfOk result (λ e. expr_of e ≡ applied_if (kind_of (chars name.now)) (expr_of arg)) }
+{
+    let Some(kind) = Macro::named(name) else {
+        return Ok(arg);
+    };
+    match kind {
+        Macro::Find => found(alloc, arg),
+        Macro::FindAll => all_found(alloc, arg),
+        Macro::KeepTo => kept(alloc, arg),
+        Macro::Ci => recase(alloc, Casing::Ascii, &arg),
+        Macro::Uci => recase(alloc, Casing::Folded, &arg),
+        Macro::Message => note(alloc, arg),
+        Macro::Error => error(alloc, arg),
+    }
+}
