@@ -1,6 +1,6 @@
 -- Which faults a pattern has.
-use Rattle.std.proofs.Common.{◌≡◌, ℕ, List, [], ◌∷◌, Option, Some, None, Result, Ok, Err, subst}
-use Rattle.std.specs.Prelude.{Bool, true, false, if◌then◌else◌}
+use Rattle.std.proofs.Common.{◌≡◌, ℕ, List, [], ◌∷◌, Option, Some, None, Result, Ok, Err, sym, subst}
+use Rattle.std.specs.Prelude.{◌≢◌, Bool, true, false, if◌then◌else◌, IfSome}
 use Rattle.regex_class.specs.Ranges.{Range}
 use Rattle.rpl_classes.specs.Brackets.{bracket_of}
 use Rattle.rpl_classes.specs.declared.fault.SetFault.{SetFault}
@@ -74,3 +74,8 @@ bad_fault s ts f x d r e = fault_kind f.kind s ts f (bad_kind s ts f e) d (x, r)
 
 pub no_memory : (s : List ℕ) (ts : List Token) (f : ParseFault) → first_bad s ts ≡ Some f → f.kind ≡ NoMemory → ⊥
 no_memory s ts f e h = subst OfPayload h (bad_kind s ts f e)
+
+-- what is bad in a text is no want of memory
+pub bad_no_memory : (s : List ℕ) (ts : List Token) (o : Option ParseFault) → o ≡ first_bad s ts → IfSome o (λ f. f.kind ≢ NoMemory)
+bad_no_memory s ts None e = tt
+bad_no_memory s ts (Some f) e = λ h. no_memory s ts f (sym e) h

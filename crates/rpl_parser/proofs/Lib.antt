@@ -15,3 +15,5 @@ pub mod Outlined
 pub mod Reached
 pub mod Modules
 pub mod Told
+pub mod Roles
+pub mod Shallow

@@ -467,3 +467,12 @@ answers_ok s ts (Err f) h = tt
 pub answers_err : (s : List ℕ) (ts : List Lexeme) (r : Result Module ParseFault) → Answers said r (module_of s ts) → IfErr r (λ f. f.kind ≢ NoMemory → IsModuleFault s ts f)
 answers_err s ts (Ok m) h = tt
 answers_err s ts (Err f) h = λ ne. fault_sound s ts f (h.0 ne)
+
+-- ---- one or the other
+
+pub module_or_fault : (s : List ℕ) (ts : List Lexeme) → ((m : Said) × IsModule s ts m) ⊎ ((f : ParseFault) × IsModuleFault s ts f)
+module_or_fault s ts = by_answer (module_of s ts) refl
+  where
+    by_answer : (r : Result Said ParseFault) → module_of s ts ≡ r → ((m : Said) × IsModule s ts m) ⊎ ((f : ParseFault) × IsModuleFault s ts f)
+    by_answer (Ok m) e = inl (m, module_sound s ts m e)
+    by_answer (Err f) e = inr (f, fault_sound s ts f e)

@@ -1,27 +1,25 @@
 -- What one more rule stands for.
 use Rattle.std.proofs.Common.{◌≡◌, List, [], ◌∷◌, ◌++◌, Some, None, refl, sym, ap, ◌∙◌}
 use Rattle.std.specs.Prelude.{false, if◌then◌else◌}
-use Rattle.rpl_syntax.specs.Modules.{Rule, Entry, One, Block, rule_of, rules_all, rules_of, bindings_listed, entry_of, entries_all, items_listed}
+use Rattle.rpl_syntax.specs.Modules.{Rule, Entry, One, Block, rule_of, rules_of, entry_of, entries_of}
 use Rattle.rpl_syntax.specs.declared.module.Binding.{Binding}
-use Rattle.rpl_syntax.specs.declared.module.Bindings.{Bindings}
 use Rattle.rpl_syntax.specs.declared.module.Item.{Item}
-use Rattle.rpl_syntax.specs.declared.module.Items.{Items}
 use Rattle.rpl_parser.specs.Walks.{Walk, in_block, ruled, shut}
 use Rattle.rpl_parser.specs.declared.walk.Stage.TheVariants.{Ruled}
 
-rules_more : (bs : List Binding) (b : Binding) → rules_all (bs ++ b ∷ []) ≡ rules_all bs ++ rule_of b ∷ []
+rules_more : (bs : List Binding) (b : Binding) → rules_of (bs ++ b ∷ []) ≡ rules_of bs ++ rule_of b ∷ []
 rules_more [] b = refl
 rules_more (c ∷ bs) b = ap (λ x. rule_of c ∷ x) (rules_more bs b)
 
-pub rules_pushed : (new old : Bindings) (b : Binding) → bindings_listed new ≡ bindings_listed old ++ b ∷ [] → rules_of new ≡ rules_of old ++ rule_of b ∷ []
-rules_pushed new old b e = ap rules_all e ∙ rules_more (bindings_listed old) b
+pub rules_pushed : (new old : List Binding) (b : Binding) → new ≡ old ++ b ∷ [] → rules_of new ≡ rules_of old ++ rule_of b ∷ []
+rules_pushed new old b e = ap rules_of e ∙ rules_more old b
 
-entries_more : (is : List Item) (i : Item) → entries_all (is ++ i ∷ []) ≡ entries_all is ++ entry_of i ∷ []
+entries_more : (is : List Item) (i : Item) → entries_of (is ++ i ∷ []) ≡ entries_of is ++ entry_of i ∷ []
 entries_more [] i = refl
 entries_more (j ∷ is) i = ap (λ x. entry_of j ∷ x) (entries_more is i)
 
-pub items_pushed : (new old : Items) (i : Item) → items_listed new ≡ items_listed old ++ i ∷ [] → entries_all (items_listed new) ≡ entries_all (items_listed old) ++ entry_of i ∷ []
-items_pushed new old i e = ap entries_all e ∙ entries_more (items_listed old) i
+pub items_pushed : (new old : List Item) (i : Item) → new ≡ old ++ i ∷ [] → entries_of new ≡ entries_of old ++ entry_of i ∷ []
+items_pushed new old i e = ap entries_of e ∙ entries_more old i
 
 pub in_block_is : (w : Walk) (r : Rule) (rs : List Rule) → r.local ≡ false → rs ≡ w.rules ++ r ∷ [] → in_block w r ≡ Some (record w { rules = rs })
 in_block_is w r rs e h =

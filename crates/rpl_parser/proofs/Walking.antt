@@ -1,13 +1,15 @@
 -- A module is walked over piece by piece.
-use Rattle.std.proofs.Common.{◌≡◌, ◌≢◌, ℕ, zero, suc, ◌+◌, ◌<◌, ◌≤◌, List, [], ◌∷◌, length, take, drop, Ok, Err, refl, sym, ap, ◌∙◌, arith}
+use Rattle.std.proofs.Common.{◌≡◌, ◌≢◌, ℕ, zero, suc, ◌+◌, ◌-◌, ◌<◌, ◌≤◌, List, [], ◌∷◌, length, take, drop, Ok, Err, refl, sym, ap, ◌∙◌, arith}
+use Rattle.std.specs.Prelude.{Bool, Option, Some, Result}
 use Rattle.std.proofs.lemmas.List.{length-drop, length-take-le, get_or-drop, get_or-take}
 use Rattle.std.proofs.lemmas.Option.{slice_get_read, slice_get_within, get_or_from_slice_get}
 use Rattle.rpl_lexer.specs.declared.token.Token.{Token as Lexeme}
-use Rattle.rpl_syntax.specs.declared.token.Token.{Token}
-use Rattle.rpl_parser.specs.Tokens.{AllStand, token_by, tokens_of}
+use Rattle.rpl_parser.specs.Spelling.{Line}
+use Rattle.rpl_parser.specs.Tokens.{AllStand, tokens_of}
 use Rattle.rpl_parser.specs.Pieces.{piece_len, closes_later}
-use Rattle.rpl_parser.specs.Walks.{Walk, step, finish, go_on, walk}
+use Rattle.rpl_parser.specs.Walks.{Walk, by_place, by_line, place, step, finish, go_on, walk}
 use Rattle.rpl_parser.specs.declared.fault.ParseFault.{ParseFault}
+use Rattle.rpl_syntax.specs.Modules.{Said}
 
 pub stands_drop : (s : List ℕ) (ts : List Lexeme) (k : ℕ) → AllStand s ts → AllStand s (drop k ts)
 stands_drop s ts k h i t e =
@@ -22,19 +24,16 @@ stands_take s ts k le h i t e =
     let inside : i < length ts = omega (arith, below, le) in
     h i t (slice_get_read ts (length ts) i t refl inside (sym (get_or_from_slice_get (take k ts) i t t e) ∙ get_or-take k ts i t below))
 
-pub tokens_take : (s : List ℕ) (k : ℕ) (ts : List Lexeme) → tokens_of s (take k ts) ≡ take k (tokens_of s ts)
-tokens_take s zero ts = refl
-tokens_take s (suc k) [] = refl
-tokens_take s (suc k) (t ∷ ts) = ap (λ x. token_by t.kind s t ∷ x) (tokens_take s k ts)
-
-pub tokens_drop : (s : List ℕ) (k : ℕ) (ts : List Lexeme) → tokens_of s (drop k ts) ≡ drop k (tokens_of s ts)
-tokens_drop s zero ts = refl
-tokens_drop s (suc k) [] = refl
-tokens_drop s (suc k) (t ∷ ts) = tokens_drop s k ts
-
 pub tokens_len : (s : List ℕ) (ts : List Lexeme) → length (tokens_of s ts) ≡ length ts
 tokens_len s [] = refl
 tokens_len s (t ∷ ts) = let h = tokens_len s ts in omega arith
+
+-- ---- one piece
+
+-- a statement of a piece is placed, or not
+pub line_placed : (at a : ℕ) (bad b : Option ParseFault) (w : Walk) (c : Bool) (o : Option Line) (l : Line)
+    → a ≡ at → b ≡ bad → o ≡ Some l → by_place a b (place w a c l) ≡ by_line at bad w c o
+line_placed at a bad b w c o l e f g = rw (e, f, g) refl
 
 -- ---- the walk
 
@@ -42,9 +41,6 @@ pub walk_end : (n : ℕ) (s : List ℕ) (w : Walk) (ts : List Lexeme) → length
 walk_end zero s w ts e = refl
 walk_end (suc n) s w [] e = refl
 walk_end (suc n) s w (t ∷ ts) e = absurd (omega (arith, e))
-
-pub walk_zero : (n : ℕ) (s : List ℕ) (w : Walk) (ts : List Lexeme) → n ≡ 0 → walk n s w ts ≡ finish w
-walk_zero n s w ts e = ap (λ m. walk m s w ts) e
 
 module _ (n m : ℕ) (s : List ℕ) (w : Walk) (e : n ≡ suc m) where
   pub walk_on : (v : Walk) (ts : List Lexeme) → length (tokens_of s ts) ≢ 0 → step s w (closes_later (tokens_of s (drop (piece_len (tokens_of s ts)) ts))) (take (piece_len (tokens_of s ts)) ts) ≡ Ok v → walk n s w ts ≡ walk m s v (drop (piece_len (tokens_of s ts)) ts)
@@ -57,10 +53,50 @@ module _ (n m : ℕ) (s : List ℕ) (w : Walk) (e : n ≡ suc m) where
   walk_stop f (t ∷ ts) ne h =
       ap (λ j. walk j s w (t ∷ ts)) e ∙ ap (λ r. go_on r (λ u. walk m s u (drop (piece_len (tokens_of s (t ∷ ts))) (t ∷ ts)))) h
 
--- the step of the first piece, which was split off
-pub step_at : (s : List ℕ) (w : Walk) (ll : List Lexeme) (tl after : List Token) (piece : List Lexeme) (k : ℕ) → tl ≡ tokens_of s ll → k ≡ piece_len tl → piece ≡ take k ll → after ≡ drop k tl → step s w (closes_later (tokens_of s (drop (piece_len (tokens_of s ll)) ll))) (take (piece_len (tokens_of s ll)) ll) ≡ step s w (closes_later after) piece
-step_at s w ll tl after piece k e f g h =
-    let kk = f ∙ ap piece_len e in
-    let closes = ap (λ j. closes_later (tokens_of s (drop j ll))) (sym kk) ∙ ap closes_later (tokens_drop s k ll ∙ (ap (drop k) (sym e) ∙ sym h)) in
-    let part = ap (λ j. take j ll) (sym kk) ∙ sym g in
-    ap (λ b. step s w b (take (piece_len (tokens_of s ll)) ll)) closes ∙ ap (step s w (closes_later after)) part
+-- the pieces that are left are walked over as all are
+pub record Left (s : List ℕ) (w : Walk) (left : List Lexeme) (answer : Result Said ParseFault) : Type 0 where
+  pub steps : ℕ
+  pub enough : length left < steps
+  pub same : walk steps s w left ≡ answer
+
+pub none_left : (s : List ℕ) (w : Walk) (left : List Lexeme) (answer : Result Said ParseFault) → Left s w left answer → length left ≡ 0 → answer ≡ finish w
+none_left s w left answer l e = sym l.same ∙ walk_end l.steps s w left (tokens_len s left ∙ e)
+
+-- the first of them was split off
+pub record Split (s : List ℕ) (left piece rest : List Lexeme) (k : ℕ) : Type 0 where
+  pub len : k ≡ piece_len (tokens_of s left)
+  pub front : piece ≡ take k left
+  pub back : rest ≡ drop k left
+  pub some : 0 < k
+  pub inside : k ≤ length left
+
+module _ (s : List ℕ) (w : Walk) (left piece rest : List Lexeme) (k : ℕ) (answer : Result Said ParseFault) (h : Split s left piece rest k) (l : Left s w left answer) where
+  less : l.steps ≡ suc (l.steps - 1)
+  less = let e = l.enough in omega (arith, e)
+
+  more : length (tokens_of s left) ≢ 0
+  more = λ e. let n = tokens_len s left in let a = h.some in let b = h.inside in absurd (omega (arith, e, n, a, b))
+
+  rest_is : drop (piece_len (tokens_of s left)) left ≡ rest
+  rest_is = ap (λ j. drop j left) (sym h.len) ∙ sym h.back
+
+  piece_is : take (piece_len (tokens_of s left)) left ≡ piece
+  piece_is = ap (λ j. take j left) (sym h.len) ∙ sym h.front
+
+  step_is : step s w (closes_later (tokens_of s (drop (piece_len (tokens_of s left)) left))) (take (piece_len (tokens_of s left)) left) ≡ step s w (closes_later (tokens_of s rest)) piece
+  step_is = ap (λ r. step s w (closes_later (tokens_of s r)) (take (piece_len (tokens_of s left)) left)) rest_is ∙ ap (step s w (closes_later (tokens_of s rest))) piece_is
+
+  shorter : length rest < length left
+  shorter = let e = ap length h.back in let d = length-drop k left in let a = h.some in let b = h.inside in omega (arith, e, d, a, b)
+
+  pub left_on : (v : Walk) → step s w (closes_later (tokens_of s rest)) piece ≡ Ok v → Left s v rest answer
+  left_on v e = record {
+    steps = l.steps - 1;
+    enough = let a = shorter in let b = l.enough in omega (arith, a, b);
+    same =
+        ap (walk (l.steps - 1) s v) (sym rest_is)
+        ∙ (sym (walk_on l.steps (l.steps - 1) s w less v left more (step_is ∙ e)) ∙ l.same);
+  }
+
+  pub left_stop : (f : ParseFault) → step s w (closes_later (tokens_of s rest)) piece ≡ Err f → answer ≡ Err f
+  left_stop f e = sym l.same ∙ walk_stop l.steps (l.steps - 1) s w less f left more (step_is ∙ e)

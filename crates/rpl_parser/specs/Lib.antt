@@ -11,3 +11,4 @@ pub mod Walks
 pub mod Order
 pub mod ModuleFaults
 pub mod Walked
+pub mod inside

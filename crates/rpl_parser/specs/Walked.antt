@@ -1,7 +1,15 @@
 -- What the parser's walk over statements stands for.
-use Rattle.rpl_syntax.specs.Modules.{entries_all, items_listed, rules_of}
+use Rattle.rpl_syntax.specs.Modules.{entries_of, rules_of}
 use Rattle.rpl_parser.specs.Walks as W
 use Rattle.rpl_parser.specs.declared.walk.Walk.{Walk}
 
 abbrev pub walk_of : Walk → W.Walk
-walk_of w = record { stage = w.stage; version = w.version; name = w.name; imports = w.imports; items = entries_all (items_listed w.items); hidden = rules_of w.hidden; rules = rules_of w.rules }
+walk_of w = record {
+  stage = w.stage;
+  version = w.version;
+  name = w.name;
+  imports = w.imports;
+  items = entries_of w.items;
+  hidden = rules_of w.hidden;
+  rules = rules_of w.rules;
+}

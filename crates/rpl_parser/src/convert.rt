@@ -1,11 +1,11 @@
 // The tokens of a text, as the grammar sees them, and the first of them that is bad.
-ghost use Rattle.std.specs.Prelude.{◌≡◌, ◌≢◌, IfOk, IfErr, Ok, Err};
+ghost use Rattle.std.specs.Prelude.{◌≡◌, IfOk, chars};
 ghost use Rattle.rpl_classes.specs.Brackets.{bracket_of};
 ghost use Rattle.rpl_lexer.specs.Cut.{IsToken};
-ghost use Rattle.rpl_lexer.specs.Payloads.{span};
-ghost use Rattle.rpl_lexer.specs.declared.token.TokenKind.TheVariants.{Name as NameKind, Qualified as QualifiedKind, Bracket as BracketKind, Bounds as BoundsKind};
-ghost use Rattle.rpl_parser.specs.Tokens.{AllStand, capped, least_of, most_of, upper_of, bounds_token, bounds_fault, class_token, class_fault, place_in, place_behind, token_by, tokens_of, fault_by, first_bad};
-ghost use Rattle.std.specs.Prelude.{chars};
+ghost use Rattle.rpl_lexer.specs.declared.token.TokenKind.TheVariants.{Name as NameKind, Qualified as QualifiedKind};
+ghost use Rattle.rpl_parser.specs.Tokens.{AllStand, capped, least_of, most_of, upper_of, bounds_token, bounds_fault};
+ghost use Rattle.rpl_parser.specs.Tokens.{class_token, class_fault, place_in, place_behind, token_by, tokens_of};
+ghost use Rattle.rpl_parser.specs.Tokens.{fault_by, or_then, first_bad};
 
 use crate::fault::{ParseFault, ParseKind};
 use rpl_classes::{Set, SetFault, read_bracket};
@@ -50,20 +50,48 @@ fn upper(bounds: Bounds) -> Option<u32>
     }
 }
 
-/// The set of a bracket, or the empty one where it has none.
-fn class(alloc: Global, text: &str) -> Result<Token, AllocError>
-    ensures { IfOk result (λ t. t ≡ class_token (bracket_of (chars text.now))) }
+/// The place so many bytes behind another.
+fn behind(at: usize, by: usize) -> usize
+    ensures { result ≡ place_behind at by }
+{
+    at.saturating_add(by)
+}
+
+/// The byte place of a fault in its bracket.
+fn place(fault: SetFault) -> usize
+    ensures { result ≡ place_in fault }
+{
+    match fault {
+        SetFault::NoMemory => 0,
+        SetFault::UnknownClass { at } | SetFault::BadRange { at } | SetFault::BadSet { at } => at,
+    }
+}
+
+/// The set of a bracket at this place, or the empty one and what is bad about it.
+fn class(alloc: Global, text: &str, at: usize) -> Result<(Token, Option<ParseFault>), AllocError>
+    ensures token { IfOk result (λ x. x.0 ≡ class_token (bracket_of (chars text.now))) }
+    ensures bad { IfOk result (λ x. x.1 ≡ class_fault at (bracket_of (chars text.now))) }
 {
     match read_bracket(alloc, text) {
-        Ok(bracket) => Ok(Token::Class {
-            set: bracket.set,
-            negated: bracket.negated,
-        }),
+        Ok(bracket) => {
+            let class = Token::Class {
+                set: bracket.set,
+                negated: bracket.negated,
+            };
+            Ok((class, None))
+        }
         Err(SetFault::NoMemory) => Err(AllocError),
-        Err(_) => Ok(Token::Class {
-            set: Set::empty(alloc)?,
-            negated: false,
-        }),
+        Err(fault) => {
+            let class = Token::Class {
+                set: Set::empty(alloc)?,
+                negated: false,
+            };
+            let bad = ParseFault {
+                at: behind(at, place(fault)),
+                kind: ParseKind::Class(fault),
+            };
+            Ok((class, Some(bad)))
+        }
     }
 }
 
@@ -95,45 +123,13 @@ fn qualified(alloc: Global, text: &str, lexeme: Lexeme) -> Result<Token, AllocEr
 }
 
 /// Bounds, with no number above 256.
-fn bounds(text: &str, lexeme: Lexeme) -> Token
-    requires kind { lexeme.kind ≡ BoundsKind }
-    requires stands { IsToken text.now lexeme }
-    ensures { result ≡ token_by BoundsKind text.now lexeme }
+fn bounds_token(bounds: Bounds) -> Token
+    ensures { result ≡ bounds_token bounds }
 {
-    let bounds = bounds_of(text, lexeme);
     Token::Bounds {
         least: cap(least(bounds)),
         most: upper(bounds),
     }
-}
-
-/// The token, as the grammar sees it.
-fn convert(alloc: Global, text: &str, lexeme: Lexeme) -> Result<Token, AllocError>
-    requires { IsToken text.now lexeme }
-    ensures { IfOk result (λ t. t ≡ token_by lexeme.kind text.now lexeme) }
-{
-    match lexeme.kind {
-        TokenKind::Name => name(alloc, text, lexeme),
-        TokenKind::Qualified => qualified(alloc, text, lexeme),
-        TokenKind::Keyword => Ok(Token::Keyword(keyword_of(text, lexeme))),
-        TokenKind::Text => Ok(Token::Text(decode_text(alloc, text, lexeme)?)),
-        TokenKind::Bracket => class(alloc, token_text(text, lexeme)),
-        TokenKind::Bounds => Ok(bounds(text, lexeme)),
-        TokenKind::Number => Ok(Token::Number(number_of(text, lexeme))),
-        TokenKind::Sign => Ok(Token::Sign(punct_of(text, lexeme))),
-    }
-}
-
-/// The tokens of a text, as the grammar sees them.
-pub fn convert_all(alloc: Global, text: &str, lexemes: &[Lexeme]) -> Result<Vec<Token>, AllocError>
-    requires { AllStand text.now lexemes.now }
-    ensures { IfOk result (λ ts. ts.items ≡ tokens_of text.now lexemes.now) }
-{
-    let mut tokens = Vec::with_capacity(alloc, lexemes.len())?;
-    for lexeme in lexemes {
-        tokens.push(convert(alloc, text, *lexeme)?)?;
-    }
-    Ok(tokens)
 }
 
 /// What is bad about bounds at this place.
@@ -150,62 +146,60 @@ fn bounds_bad(at: usize, bounds: Bounds) -> Option<ParseFault>
     None
 }
 
-/// The byte place of a fault in its bracket.
-fn place(fault: SetFault) -> usize
-    ensures { result ≡ place_in fault }
-{
-    match fault {
-        SetFault::NoMemory => 0,
-        SetFault::UnknownClass { at } | SetFault::BadRange { at } | SetFault::BadSet { at } => at,
-    }
-}
-
-/// The place so many bytes behind another.
-fn behind(at: usize, by: usize) -> usize
-    ensures { result ≡ place_behind at by }
-{
-    at.saturating_add(by)
-}
-
-/// What is bad about a bracket at this place.
-fn bracket_bad(alloc: Global, text: &str, at: usize) -> Result<Option<ParseFault>, AllocError>
-    ensures { IfOk result (λ o. o ≡ class_fault at (bracket_of (chars text.now))) }
-{
-    match read_bracket(alloc, text) {
-        Ok(_) => Ok(None),
-        Err(SetFault::NoMemory) => Err(AllocError),
-        Err(fault) => Ok(Some(ParseFault {
-            at: behind(at, place(fault)),
-            kind: ParseKind::Class(fault),
-        })),
-    }
-}
-
-/// What is bad about a token.
-fn token_bad(alloc: Global, text: &str, lexeme: Lexeme) -> Result<Option<ParseFault>, AllocError>
-    requires { IsToken text.now lexeme }
-    ensures { IfOk result (λ o. o ≡ fault_by lexeme.kind text.now lexeme) }
-{
-    match lexeme.kind {
-        TokenKind::Bracket => bracket_bad(alloc, token_text(text, lexeme), lexeme.start),
-        TokenKind::Bounds => Ok(bounds_bad(lexeme.start, bounds_of(text, lexeme))),
-        _ => Ok(None),
-    }
-}
-
-/// The first bad bounds or bracket.
-pub fn find_bad(
+/// The token, as the grammar sees it, and what is bad about it.
+fn convert(
     alloc: Global,
     text: &str,
-    lexemes: &[Lexeme],
-) -> Result<Option<ParseFault>, AllocError>
-    requires { AllStand text.now lexemes.now }
-    ensures { IfOk result (λ o. o ≡ first_bad text.now lexemes.now) }
+    lexeme: Lexeme,
+) -> Result<(Token, Option<ParseFault>), AllocError>
+    requires { IsToken text.now lexeme }
+    ensures token { IfOk result (λ x. x.0 ≡ token_by lexeme.kind text.now lexeme) }
+    ensures bad { IfOk result (λ x. x.1 ≡ fault_by lexeme.kind text.now lexeme) }
 {
-    for &lexeme in lexemes {
-        if let Some(fault) = token_bad(alloc, text, lexeme)? {
-            return Ok(Some(fault));
+    match lexeme.kind {
+        TokenKind::Name => Ok((name(alloc, text, lexeme)?, None)),
+        TokenKind::Qualified => Ok((qualified(alloc, text, lexeme)?, None)),
+        TokenKind::Keyword => Ok((Token::Keyword(keyword_of(text, lexeme)), None)),
+        TokenKind::Text => Ok((Token::Text(decode_text(alloc, text, lexeme)?), None)),
+        TokenKind::Bracket => class(alloc, token_text(text, lexeme), lexeme.start),
+        TokenKind::Bounds => {
+            let bounds = bounds_of(text, lexeme);
+            Ok((bounds_token(bounds), bounds_bad(lexeme.start, bounds)))
         }
+        TokenKind::Number => Ok((Token::Number(number_of(text, lexeme)), None)),
+        TokenKind::Sign => Ok((Token::Sign(punct_of(text, lexeme)), None)),
     }
-    Ok(None)
+}
+
+/// The first fault, or the other where there is none.
+fn earlier(first: Option<ParseFault>, other: Option<ParseFault>) -> Option<ParseFault>
+    ensures { result ≡ or_then first other }
+{
+    match first {
+        Some(fault) => Some(fault),
+        None => other,
+    }
+}
+
+/// Tokens as the grammar sees them, and the first bounds or bracket among them that is bad.
+#[derive(Drop)]
+pub struct Converted {
+    pub tokens: Vec<Token>,
+    pub bad: Option<ParseFault>,
+}
+
+/// Some tokens of a text, each read once.
+pub fn convert_all(alloc: Global, text: &str, lexemes: &[Lexeme]) -> Result<Converted, AllocError>
+    requires { AllStand text.now lexemes.now }
+    ensures tokens { IfOk result (λ c. c.tokens.items ≡ tokens_of text.now lexemes.now) }
+    ensures bad { IfOk result (λ c. c.bad ≡ first_bad text.now lexemes.now) }
+{
+    let mut tokens = Vec::with_capacity(alloc, lexemes.len())?;
+    let mut bad = None;
+    for lexeme in lexemes {
+        let (token, fault) = convert(alloc, text, *lexeme)?;
+        tokens.push(token)?;
+        bad = earlier(bad, fault);
+    }
+    Ok(Converted { tokens, bad })
 }

@@ -45,13 +45,18 @@ pub fn one_line()
     ensures spelled { (p : List Token) (l : S.Line) → line_of p ≡ Some l → Spells p l }
 {}
 
-/// No tokens of a text are a spelling of two modules. What is read statement by statement is just the module that they
-/// spell, where none of them is at fault, and what is refused just their first fault.
+/// No tokens of a text are a spelling of two modules, and those of a text are a module or have a first fault. What is
+/// read statement by statement is just the module that they spell, where none of them is at fault, and what is refused
+/// just their first fault.
 pub fn one_module()
+    ensures either { (s : List ℕ) (ts : List Lexeme) →
+        ((m : Said) × IsModule s ts m) ⊎ ((f : ParseFault) × IsModuleFault s ts f) }
     ensures only { (s : List ℕ) (ts : List Lexeme) (m n : Said) → ReadsModule s ts m → ReadsModule s ts n → m ≡ n }
     ensures reads { (s : List ℕ) (ts : List Lexeme) (m : Said) → IsModule s ts m → ReadsModule s ts m }
     ensures read { (s : List ℕ) (ts : List Lexeme) (m : Said) → IsModule s ts m → module_of s ts ≡ Ok m }
     ensures spelled { (s : List ℕ) (ts : List Lexeme) (m : Said) → module_of s ts ≡ Ok m → IsModule s ts m }
-    ensures refused { (s : List ℕ) (ts : List Lexeme) (f : ParseFault) → IsModuleFault s ts f → module_of s ts ≡ Err f }
-    ensures faulty { (s : List ℕ) (ts : List Lexeme) (f : ParseFault) → module_of s ts ≡ Err f → IsModuleFault s ts f }
+    ensures refused { (s : List ℕ) (ts : List Lexeme) (f : ParseFault) →
+        IsModuleFault s ts f → module_of s ts ≡ Err f }
+    ensures faulty { (s : List ℕ) (ts : List Lexeme) (f : ParseFault) →
+        module_of s ts ≡ Err f → IsModuleFault s ts f }
 {}

@@ -2,17 +2,16 @@
 ghost use Rattle.std.specs.Prelude.{◌≡◌, ◌≢◌, None, IfOk, IfErr};
 ghost use Rattle.rpl_lexer.specs.Cut.{IsCut};
 ghost use Rattle.rpl_parser.specs.Patterns.{IsPattern, IsPatternFault};
-ghost use Rattle.rpl_parser.specs.Tokens.{AllStand, tokens_of, first_place};
+ghost use Rattle.rpl_parser.specs.Tokens.{AllStand, first_place};
 ghost use Rattle.rpl_parser.specs.Levels.{ground_level, too_deep};
-ghost use Rattle.rpl_syntax.specs.Grammar.{Reads};
+ghost use Rattle.rpl_parser.specs.Walks.{by_bad};
 ghost use Rattle.rpl_parser.specs.declared.fault.ParseKind.TheVariants.{NoMemory as OutOfMemory};
 ghost use Rattle.rpl_syntax.specs.View.{expr_of};
 
-use crate::convert::{convert_all, find_bad};
+use crate::convert::convert_all;
 use crate::descent::expression;
 use crate::fault::{ParseFault, ParseKind};
 use crate::level::first_deep;
-use crate::refusal::Refusal;
 use rpl_lexer::{Token as Lexeme, Tokens};
 use rpl_syntax::Expr;
 use std::alloc::Global;
@@ -27,16 +26,11 @@ pub fn start_of(lexemes: &[Lexeme]) -> usize
     }
 }
 
-/// The expression that is read, unless some of its bounds or brackets are bad.
-fn checked(alloc: Global, text: &str, lexemes: &[Lexeme], read: Expr) -> Result<Expr, ParseFault>
-    requires stands { AllStand text.now lexemes.now }
-    requires shallow { too_deep text.now ground_level lexemes.now ≡ None }
-    requires reads { Reads (tokens_of text.now lexemes.now) (expr_of read) }
-    ensures ok { IfOk result (λ x. IsPattern text.now lexemes.now (expr_of x)) }
-    ensures err { IfErr result (λ f. f.kind ≢ OutOfMemory → IsPatternFault text.now lexemes.now f) }
-    ensures memory { IfErr result (λ f. f.kind ≡ OutOfMemory → f.at ≡ 0) }
+/// What is read, unless something in it is bad.
+fn unless_bad(read: Expr, bad: Option<ParseFault>) -> Result<Expr, ParseFault>
+    ensures { result ≡ by_bad read bad }
 {
-    match find_bad(alloc, text, lexemes)? {
+    match bad {
         Some(fault) => Err(fault),
         None => Ok(read),
     }
@@ -50,17 +44,10 @@ fn read_shallow(alloc: Global, text: &str, lexemes: &[Lexeme]) -> Result<Expr, P
     ensures err { IfErr result (λ f. f.kind ≢ OutOfMemory → IsPatternFault text.now lexemes.now f) }
     ensures memory { IfErr result (λ f. f.kind ≡ OutOfMemory → f.at ≡ 0) }
 {
-    let tokens = convert_all(alloc, text, lexemes)?;
-    match expression(alloc, &tokens) {
-        Ok(read) => checked(alloc, text, lexemes, read),
-        Err(Refusal::Memory) => Err(ParseFault {
-            at: 0,
-            kind: ParseKind::NoMemory,
-        }),
-        Err(Refusal::Syntax) => Err(ParseFault {
-            at: start_of(lexemes),
-            kind: ParseKind::Syntax,
-        }),
+    let converted = convert_all(alloc, text, lexemes)?;
+    match expression(alloc, &converted.tokens) {
+        Ok(read) => unless_bad(read, converted.bad),
+        Err(refusal) => Err(refusal.fault_at(start_of(lexemes))),
     }
 }
 

@@ -1,65 +1,133 @@
-// The pieces of a module: each is a statement's tokens.
-ghost use Rattle.std.specs.Prelude.{◌≡◌, ◌≤◌, length, drop};
-ghost use Rattle.rpl_parser.specs.Pieces.{is_local_or_alias, begins_piece, front, piece_len};
+// The pieces of a module: each is a statement's tokens. They are told apart before any bracket is read.
+ghost use Rattle.std.specs.Prelude.{◌≡◌, ◌<◌, ◌≤◌, length, drop};
+ghost use Rattle.rpl_lexer.specs.Cut.{IsToken};
+ghost use Rattle.rpl_parser.specs.Pieces.{front, piece_len, closes_later};
+ghost use Rattle.rpl_parser.specs.Tokens.{AllStand, token_by, tokens_of};
+ghost use Rattle.rpl_parser.specs.inside.Roles.{sign_role, role_of, next_role, is_local, leads, is_end, begins_by};
 
-use crate::steps::next;
-use rpl_lexer::{Keyword, Punct};
-use rpl_syntax::Token;
+use rpl_lexer::{Keyword, Punct, Token, TokenKind, keyword_of, punct_of};
 
-/// No piece begins with a name behind it.
-fn leads(token: &Token) -> bool
-    ensures { result ≡ is_local_or_alias token.now }
-{
-    matches!(token, Token::Keyword(Keyword::Local | Keyword::Alias))
+/// What a token is where pieces are told apart.
+#[derive(Clone, Copy)]
+pub enum Role {
+    Word(Keyword),
+    Name,
+    Tilde,
+    Equals,
+    Other,
 }
 
-/// A piece begins at the first of these tokens, behind another.
-fn begins(before: &Token, tokens: &[Token]) -> bool
-    ensures { result ≡ begins_piece before.now tokens.now }
-{
-    match tokens {
-        [] => false,
-        [Token::Keyword(Keyword::Alias), ..] => {
-            !matches!(before, Token::Keyword(Keyword::Local))
+impl Role {
+    fn of_sign(sign: Punct) -> Role
+        ensures { result ≡ sign_role sign }
+    {
+        match sign {
+            Punct::Tilde => Role::Tilde,
+            Punct::Equals => Role::Equals,
+            _ => Role::Other,
         }
-        [Token::Keyword(Keyword::As), ..] => false,
-        [Token::Keyword(_), ..] => true,
-        [Token::Name { .. }, Token::Sign(Punct::Equals), ..] => !leads(before),
-        [Token::Sign(Punct::Tilde), Token::Sign(Punct::Equals), ..] => !leads(before),
-        _ => false,
+    }
+
+    fn of(text: &str, token: Token) -> Role
+        requires { IsToken text.now token }
+        ensures { result ≡ role_of (token_by token.kind text.now token) }
+    {
+        match token.kind {
+            TokenKind::Keyword => Role::Word(keyword_of(text, token)),
+            TokenKind::Name => Role::Name,
+            TokenKind::Sign => Role::of_sign(punct_of(text, token)),
+            TokenKind::Qualified
+            | TokenKind::Text
+            | TokenKind::Bracket
+            | TokenKind::Bounds
+            | TokenKind::Number => Role::Other,
+        }
+    }
+
+    /// Of the token with this number, where there is one.
+    fn at(text: &str, tokens: &[Token], index: usize) -> Role
+        requires { AllStand text.now tokens.now }
+        ensures { result ≡ next_role (tokens_of text.now (drop index tokens.now)) }
+    {
+        match tokens.get(index) {
+            Some(token) => Role::of(text, *token),
+            None => Role::Other,
+        }
+    }
+
+    fn is_local(self) -> bool
+        ensures { result ≡ is_local self }
+    {
+        matches!(self, Role::Word(Keyword::Local))
+    }
+
+    /// No piece begins with a name behind it.
+    fn leads(self) -> bool
+        ensures { result ≡ leads self }
+    {
+        matches!(self, Role::Word(Keyword::Local | Keyword::Alias))
+    }
+
+    fn is_end(self) -> bool
+        ensures { result ≡ is_end self }
+    {
+        matches!(self, Role::Word(Keyword::End))
+    }
+
+    /// A piece begins at this token, which has these neighbours.
+    fn begins(self, before: Role, behind: Role) -> bool
+        ensures { result ≡ begins_by before self behind }
+    {
+        match (self, behind) {
+            (Role::Word(Keyword::Alias), _) => !before.is_local(),
+            (Role::Word(Keyword::As), _) => false,
+            (Role::Word(_), _) => true,
+            (Role::Name | Role::Tilde, Role::Equals) => !before.leads(),
+            _ => false,
+        }
     }
 }
 
-/// The tokens from a number on.
-fn from(tokens: &[Token], index: usize) -> &[Token]
-    requires { index ≤ length tokens.now }
-    ensures { result.now ≡ drop index tokens.now }
-{
-    &tokens[index..]
-}
-
 /// How many tokens stand before the next piece, behind the first one of this piece.
-fn front_len(first: &Token, tokens: &[Token]) -> usize
-    ensures value { result ≡ front first.now tokens.now }
+fn front_len(text: &str, first: Token, tokens: &[Token]) -> usize
+    requires first { IsToken text.now first }
+    requires stands { AllStand text.now tokens.now }
+    ensures value { result ≡ front (token_by first.kind text.now first) (tokens_of text.now tokens.now) }
     ensures inside { result ≤ length tokens.now }
 {
-    let mut before = first;
+    let mut before = Role::of(text, first);
     for index in 0..tokens.len() {
-        if begins(before, from(tokens, index)) {
+        let next = Role::at(text, tokens, index);
+        if next.begins(before, Role::at(text, tokens, index + 1)) {
             return index;
         }
-        before = &tokens[index];
+        before = next;
     }
     tokens.len()
 }
 
 /// How many tokens the first piece has.
-pub fn first_piece(tokens: &[Token]) -> usize
-    ensures value { result ≡ piece_len tokens.now }
+pub fn first_piece(text: &str, tokens: &[Token]) -> usize
+    requires { AllStand text.now tokens.now }
+    ensures value { result ≡ piece_len (tokens_of text.now tokens.now) }
+    ensures some { 0 < length tokens.now → 0 < result }
     ensures inside { result ≤ length tokens.now }
 {
-    match next(tokens) {
-        None => 0,
-        Some((first, rest)) => 1 + front_len(first, rest),
+    match tokens {
+        [] => 0,
+        [first, rest @ ..] => 1 + front_len(text, *first, rest),
     }
+}
+
+/// An `end` comes.
+pub fn closes(text: &str, tokens: &[Token]) -> bool
+    requires { AllStand text.now tokens.now }
+    ensures { result ≡ closes_later (tokens_of text.now tokens.now) }
+{
+    for index in 0..tokens.len() {
+        if Role::at(text, tokens, index).is_end() {
+            return true;
+        }
+    }
+    false
 }

@@ -1,7 +1,9 @@
 // Why tokens are not read.
 ghost use Rattle.std.specs.Prelude.{◌≡◌};
+ghost use Rattle.rpl_parser.specs.inside.Refusals.{fault_at};
 ghost use Rattle.rpl_parser.specs.declared.refusal.Refusal.TheVariants.{Memory};
 
+use crate::fault::{ParseFault, ParseKind};
 use std::alloc::{AllocError, AllocFailed};
 
 /// Why a function of the descent has no answer.
@@ -11,6 +13,24 @@ pub enum Refusal {
     Memory,
     /// The tokens are no spelling of what is looked for.
     Syntax,
+}
+
+impl Refusal {
+    /// The fault of a pattern or a statement that begins at this place.
+    pub fn fault_at(self, place: usize) -> ParseFault
+        ensures { result ≡ fault_at self place }
+    {
+        match self {
+            Refusal::Memory => ParseFault {
+                at: 0,
+                kind: ParseKind::NoMemory,
+            },
+            Refusal::Syntax => ParseFault {
+                at: place,
+                kind: ParseKind::Syntax,
+            },
+        }
+    }
 }
 
 impl From<AllocError> for Refusal {

@@ -1,137 +1,102 @@
 // Modules.
-ghost use Rattle.std.specs.Prelude.{◌≡◌, ◌≢◌, IfOk, IfErr, Ok, Err};
+ghost use Rattle.std.specs.Prelude.{◌≡◌, ◌≢◌, Option, IfOk, IfErr, IfSome};
 ghost use Rattle.rpl_lexer.specs.Cut.{IsCut};
+ghost use Rattle.rpl_parser.specs.Gives.{Gives};
 ghost use Rattle.rpl_parser.specs.Lines.{line_of};
 ghost use Rattle.rpl_parser.specs.ModuleFaults.{IsModuleFault};
 ghost use Rattle.rpl_parser.specs.Order.{IsModule};
-ghost use Rattle.rpl_parser.specs.Statements.{line_seen};
+ghost use Rattle.rpl_parser.specs.Pieces.{closes_later};
 ghost use Rattle.rpl_parser.specs.Tokens.{AllStand, tokens_of, first_place, first_bad};
 ghost use Rattle.rpl_parser.specs.Walked.{walk_of};
-ghost use Rattle.rpl_parser.specs.Pieces.{closes_later};
-ghost use Rattle.rpl_parser.specs.Walks.{place, by_bad, by_place, by_line, step, module_of, Answers};
+ghost use Rattle.rpl_parser.specs.Walks as W;
+ghost use Rattle.rpl_parser.specs.Walks.{by_place, by_line, step, module_of, Answers};
 ghost use Rattle.rpl_parser.specs.declared.fault.ParseKind.TheVariants.{NoMemory as OutOfMemory};
 ghost use Rattle.rpl_syntax.specs.Modules.{said};
 
-use crate::convert::{convert_all, find_bad};
+use crate::convert::convert_all;
 use crate::fault::{ParseFault, ParseKind};
 use crate::level::first_deep;
-use crate::line::{Line, read_line};
+use crate::line::read_line;
 use crate::pattern::start_of;
 use crate::piece::first_piece;
 use crate::refusal::Refusal;
 use crate::walk::Walk;
 use rpl_lexer::{Token as Lexeme, Tokens};
-use rpl_syntax::{Module, Token};
+use rpl_syntax::Module;
 use std::alloc::Global;
 
-/// Behind a statement that may stand there, unless some of its bounds or brackets are bad.
-fn checked(alloc: Global, text: &str, walk: Walk, piece: &[Lexeme]) -> Result<Walk, ParseFault>
-    requires { AllStand text.now piece.now }
-    ensures { Answers walk_of result (by_bad (walk_of walk) (first_bad text.now piece.now)) }
-{
-    match find_bad(alloc, text, piece)? {
-        Some(fault) => Err(fault),
-        None => Ok(walk),
-    }
-}
-
-/// Behind a statement that is read.
-fn placed(
-    alloc: Global,
-    text: &str,
-    walk: Walk,
-    piece: &[Lexeme],
-    rest: &[Token],
-    line: Line,
+/// Behind a statement that begins at this place and was placed, unless something in it is bad.
+fn checked(
+    at: usize,
+    bad: Option<ParseFault>,
+    placed: Result<Walk, Refusal>,
 ) -> Result<Walk, ParseFault>
-    requires { AllStand text.now piece.now }
-    ensures { Answers walk_of result (by_place (first_place piece.now) (first_bad text.now piece.now) (place (walk_of walk) (first_place piece.now) (closes_later rest.now) (line_seen line))) }
+    requires { IfSome bad (λ f. f.kind ≢ OutOfMemory) }
+    ensures { (next : Option W.Walk) → Gives walk_of placed next → Answers walk_of result (by_place at bad next) }
 {
-    let at = start_of(piece);
-    match walk.place(alloc, at, rest, line) {
-        Ok(walk) => checked(alloc, text, walk, piece),
-        Err(Refusal::Memory) => Err(ParseFault {
-            at: 0,
-            kind: ParseKind::NoMemory,
-        }),
-        Err(Refusal::Syntax) => Err(ParseFault {
-            at,
-            kind: ParseKind::Syntax,
-        }),
+    match placed {
+        Ok(walk) => match bad {
+            Some(fault) => Err(fault),
+            None => Ok(walk),
+        },
+        Err(refusal) => Err(refusal.fault_at(at)),
     }
 }
 
-/// Behind a statement that is not nested too deep.
+/// Behind a piece that is not nested too deep.
 fn shallow(
     alloc: Global,
     text: &str,
     walk: Walk,
     piece: &[Lexeme],
-    tokens: &[Token],
-    rest: &[Token],
+    rest: &[Lexeme],
 ) -> Result<Walk, ParseFault>
-    requires { AllStand text.now piece.now }
-    ensures { Answers walk_of result (by_line (first_place piece.now) (first_bad text.now piece.now) (walk_of walk) (closes_later rest.now) (line_of tokens.now)) }
+    requires piece { AllStand text.now piece.now }
+    requires rest { AllStand text.now rest.now }
+    ensures { Answers walk_of result (by_line (first_place piece.now) (first_bad text.now piece.now) (walk_of walk)
+        (closes_later (tokens_of text.now rest.now)) (line_of (tokens_of text.now piece.now))) }
 {
-    match read_line(alloc, tokens) {
-        Ok(line) => placed(alloc, text, walk, piece, rest, line),
-        Err(Refusal::Memory) => Err(ParseFault {
-            at: 0,
-            kind: ParseKind::NoMemory,
-        }),
-        Err(Refusal::Syntax) => Err(ParseFault {
-            at: start_of(piece),
-            kind: ParseKind::Syntax,
-        }),
+    let converted = convert_all(alloc, text, piece)?;
+    let at = start_of(piece);
+    match read_line(alloc, &converted.tokens) {
+        Ok(line) => checked(at, converted.bad, walk.place(alloc, at, line, text, rest)),
+        Err(refusal) => Err(refusal.fault_at(at)),
     }
 }
 
-/// Behind one more statement: its tokens in the text, as the grammar sees them, and those behind it.
+/// Behind one more piece, with those behind it. Its level is counted before any of its brackets is read.
 fn past(
     alloc: Global,
     text: &str,
     walk: Walk,
     piece: &[Lexeme],
-    tokens: &[Token],
-    rest: &[Token],
+    rest: &[Lexeme],
 ) -> Result<Walk, ParseFault>
-    requires stands { AllStand text.now piece.now }
-    requires tokens { tokens.now ≡ tokens_of text.now piece.now }
-    ensures { Answers walk_of result (step text.now (walk_of walk) (closes_later rest.now) piece.now) }
+    requires piece { AllStand text.now piece.now }
+    requires rest { AllStand text.now rest.now }
+    ensures { Answers walk_of result
+        (step text.now (walk_of walk) (closes_later (tokens_of text.now rest.now)) piece.now) }
 {
     match first_deep(alloc, text, piece)? {
         Some(at) => Err(ParseFault {
             at,
             kind: ParseKind::TooDeep,
         }),
-        None => shallow(alloc, text, walk, piece, tokens, rest),
+        None => shallow(alloc, text, walk, piece, rest),
     }
 }
 
-/// All statements in turn.
-fn read_all(
-    alloc: Global,
-    text: &str,
-    lexemes: &[Lexeme],
-    tokens: &[Token],
-) -> Result<Module, ParseFault>
-    requires stands { AllStand text.now lexemes.now }
-    requires tokens { tokens.now ≡ tokens_of text.now lexemes.now }
+/// All pieces in turn.
+fn read_all(alloc: Global, text: &str, lexemes: &[Lexeme]) -> Result<Module, ParseFault>
+    requires { AllStand text.now lexemes.now }
     ensures { Answers said result (module_of text.now lexemes.now) }
 {
     let mut walk = Walk::new(alloc);
-    let mut lexemes_left = lexemes;
-    let mut tokens_left = tokens;
-    for _ in 0..lexemes.len() + 1 {
-        if tokens_left.is_empty() {
-            return walk.finish();
-        }
-        let len = first_piece(tokens_left);
-        let (piece, lexemes_after) = lexemes_left.split_at(len);
-        let (seen, tokens_after) = tokens_left.split_at(len);
-        walk = past(alloc, text, walk, piece, seen, tokens_after)?;
-        lexemes_left = lexemes_after;
-        tokens_left = tokens_after;
+    let mut left = lexemes;
+    'pieces: while !left.is_empty() {
+        let (piece, rest) = left.split_at(first_piece(text, left));
+        walk = past(alloc, text, walk, piece, rest)?;
+        left = rest;
     }
     walk.finish()
 }
@@ -146,7 +111,5 @@ pub fn parse_module(alloc: Global, text: &str, tokens: &Tokens) -> Result<Module
     ensures err { IfErr result (λ f. f.kind ≢ OutOfMemory → IsModuleFault text.now tokens.now f) }
     ensures memory { IfErr result (λ f. f.kind ≡ OutOfMemory → f.at ≡ 0) }
 {
-    let lexemes = tokens.as_slice();
-    let seen = convert_all(alloc, text, lexemes)?;
-    read_all(alloc, text, lexemes, &seen)
+    read_all(alloc, text, tokens.as_slice())
 }

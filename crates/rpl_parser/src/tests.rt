@@ -270,3 +270,20 @@ fn levels(rt: HostRuntime) -> Result<(), Fail> {
     }
     Ok(())
 }
+
+/// Brackets in one another, as many as a text of a mebibyte may hold. Their level is counted before any is read, so no
+/// call nests with them; what is too deep is the bracket, also behind a statement that may stand.
+#[test]
+fn brackets_in_one_another(rt: HostRuntime) -> Result<(), Fail> {
+    let alloc = rt.alloc();
+    for count in [1_000, 100_000, 500_000] {
+        let bracket = nested(alloc, count, "[", "a", "]")?;
+        expect_fault(&rt, alloc, &bracket, 0, ParseKind::TooDeep)?;
+        let module = format!(in alloc; "a = b c = {bracket}")?;
+        expect_module_fault(&rt, alloc, &module, 10, ParseKind::TooDeep)?;
+        // what stands before it decides
+        let earlier = format!(in alloc; "a = / c = {bracket}")?;
+        expect_module_fault(&rt, alloc, &earlier, 0, ParseKind::Syntax)?;
+    }
+    Ok(())
+}

@@ -2,6 +2,7 @@
 ghost use Rattle.std.specs.Prelude.{◌≡◌, Some};
 ghost use Rattle.rpl_parser.specs.Gives.{Gives};
 ghost use Rattle.rpl_parser.specs.Pieces.{closes_later};
+ghost use Rattle.rpl_parser.specs.Tokens.{AllStand, tokens_of};
 ghost use Rattle.rpl_parser.specs.Walks.{begun, versioned, packaged, imported, in_block, ruled, bound, opened, split, shut, closed, place, by_version, finish, Answers};
 ghost use Rattle.rpl_parser.specs.Walked.{walk_of};
 ghost use Rattle.rpl_parser.specs.Statements.{line_seen};
@@ -9,10 +10,10 @@ ghost use Rattle.rpl_syntax.specs.Modules.{rule_of, said};
 
 use crate::fault::{ParseFault, ParseKind};
 use crate::line::Line;
+use crate::piece::closes;
 use crate::refusal::Refusal;
-use crate::steps::next;
-use rpl_lexer::Keyword;
-use rpl_syntax::{Binding, Bindings, Imports, Item, Items, Module, QName, Token};
+use rpl_lexer::Token;
+use rpl_syntax::{Binding, Bindings, Imports, Item, Items, Module, QName};
 use std::alloc::Global;
 
 /// What has come.
@@ -210,10 +211,13 @@ impl Walk {
         self,
         alloc: Global,
         at: usize,
-        rest: &[Token],
         line: Line,
+        text: &str,
+        rest: &[Token],
     ) -> Result<Walk, Refusal>
-        ensures { Gives walk_of result (place (walk_of self) at (closes_later rest.now) (line_seen line)) }
+        requires { AllStand text.now rest.now }
+        ensures { Gives walk_of result
+            (place (walk_of self) at (closes_later (tokens_of text.now rest.now)) (line_seen line)) }
     {
         match line {
             Line::Version { major, minor } => self.version(Numbered { at, major, minor }),
@@ -235,7 +239,7 @@ impl Walk {
                 alias,
                 body,
             }),
-            Line::Opens => self.open(alloc, closes(rest)),
+            Line::Opens => self.open(alloc, closes(text, rest)),
             Line::Splits => self.split(alloc),
             Line::Closes => self.close(alloc),
         }
@@ -270,18 +274,4 @@ fn known(whole: Module, version: Numbered) -> Result<Module, ParseFault>
             kind: ParseKind::Version,
         })
     }
-}
-
-/// An `end` comes.
-fn closes(tokens: &[Token]) -> bool
-    ensures { result ≡ closes_later tokens.now }
-{
-    let mut rest = tokens;
-    while let Some((first, others)) = next(rest) {
-        if matches!(first, Token::Keyword(Keyword::End)) {
-            return true;
-        }
-        rest = others;
-    }
-    false
 }

@@ -103,6 +103,13 @@ impl Exprs {
         Ok(())
     }
 
+    /// Gives the expressions away as a `Vec`, with no copy.
+    pub fn into_vec(self) -> Vec<Expr>
+        ensures { result.items ≡ listed self }
+    {
+        self.items
+    }
+
     /// The number of expressions.
     pub fn len(&self) -> usize
         ensures { result ≡ length (listed self.now) }

@@ -1,9 +1,9 @@
-use Rattle.std.proofs.Common.{◌++◌, ◌∷◌, [], take, get_or, sym, ap, ◌∙◌}
+use Rattle.std.proofs.Common.{◌+◌, ◌++◌, ◌∷◌, [], take, drop, get_or, sym, ap, ◌∙◌}
 use Rattle.std.proofs.lemmas.List.{take_more}
 use Rattle.rpl_lexer.specs.declared.token.Token.{Token}
 use Rattle.rpl_lexer.specs.declared.token.TokenKind.TheVariants as K
-use Rattle.rpl_parser.specs.Tokens.{tokens_of}
-use Rattle.rpl_parser.proofs.Converted.{tokens_more}
+use Rattle.rpl_parser.specs.Tokens.{tokens_of, or_then, first_bad}
+use Rattle.rpl_parser.proofs.Converted.{tokens_more, bad_more, bad_all}
 use Rattle.rpl_parser.proofs.Deep.{stands_at}
 use Rattle.rpl_parser.proofs.convert.convert_all.Goals as goal
 
@@ -19,7 +19,17 @@ loop-lexeme-preserved c =
     let ts = c.args.lexemes.now in
     let i = c.loop-lexeme.lexeme-index in
     let t = get_or ts i none in
-    c.in_ok-push.ensures.items
-    ∙ (ap (λ x. x ++ c.in_ok-convert.field-0 ∷ []) c.loop-lexeme.invariant
-    ∙ (ap (λ y. tokens_of s (take i ts) ++ y ∷ []) c.in_ok-convert.ensures
-    ∙ (sym (tokens_more s (take i ts) t) ∙ ap (tokens_of s) (sym (take_more ts i none c.loop-lexeme-test.true)))))
+    record {
+      seen =
+          c.in_ok-push.ensures.items
+          ∙ (ap (λ x. x ++ c.in_ok-token.token ∷ []) c.loop-lexeme.invariant.seen
+          ∙ (ap (λ y. tokens_of s (take i ts) ++ y ∷ []) c.in_ok-token.ensures.token
+          ∙ (sym (tokens_more s (take i ts) t) ∙ ap (tokens_of s) (sym (take_more ts i none c.loop-lexeme-test.true)))));
+      bad =
+          ap (λ b. or_then b (first_bad s (drop (i + 1) ts))) c.earlier-bad.ensures
+          ∙ (bad_more s ts i none c.loop-lexeme.bad c.in_ok-token.fault c.loop-lexeme-test.true c.in_ok-token.ensures.bad ∙ c.loop-lexeme.invariant.bad);
+    }
+
+pub returns-clause-bad : goal.returns-clause-bad
+returns-clause-bad c =
+    sym (bad_all c.args.text.now c.args.lexemes.now c.loop-lexeme.lexeme-index c.loop-lexeme.bad c.loop-lexeme-test.false) ∙ c.loop-lexeme.invariant.bad

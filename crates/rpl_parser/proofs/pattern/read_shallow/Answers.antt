@@ -1,16 +1,29 @@
-use Rattle.std.proofs.Common.{sym, ap, subst, ◌∙◌}
-use Rattle.rpl_parser.specs.Gives.{Fails}
+use Rattle.std.proofs.Common.{sym, ap, subst, ◌≢◌, ◌∙◌}
 use Rattle.rpl_syntax.specs.Reading.{read}
-use Rattle.rpl_syntax.specs.View.{expr_of}
-use Rattle.rpl_syntax.proofs.Unique.{sound}
-use Rattle.rpl_parser.specs.Tokens.{tokens_of}
-use Rattle.rpl_parser.proofs.Readings.{unreadable}
+use Rattle.rpl_parser.specs.Gives.{Fails}
+use Rattle.rpl_parser.specs.Patterns.{IsPatternFault}
+use Rattle.rpl_parser.specs.declared.fault.ParseKind.TheVariants.{NoMemory}
+use Rattle.rpl_parser.proofs.Shallow.{read_answered, refused}
 use Rattle.rpl_parser.proofs.pattern.read_shallow.Goals as goal
 
-pub checked-requires-clause-reads : goal.checked-requires-clause-reads
-checked-requires-clause-reads c =
-    sound (tokens_of c.args.text.now c.args.lexemes.now) (expr_of c.in-Ok.read) (ap read (sym (c.deref.ensures.value ∙ c.in_ok-tokens.ensures)) ∙ c.in-Ok.ensures)
+pub returns-in-Ok-clause-ok : goal.returns-in-Ok-clause-ok
+returns-in-Ok-clause-ok c =
+    (read_answered c.args.text.now c.args.lexemes.now c.in-Ok.read c.in_ok-converted.converted.bad c.unless_bad.result c.requires.shallow
+    (ap read (sym (c.deref.ensures.value ∙ c.in_ok-converted.ensures.tokens)) ∙ c.in-Ok.ensures) c.in_ok-converted.ensures.bad c.unless_bad.ensures).ok
+
+pub returns-in-Ok-clause-err : goal.returns-in-Ok-clause-err
+returns-in-Ok-clause-err c =
+    (read_answered c.args.text.now c.args.lexemes.now c.in-Ok.read c.in_ok-converted.converted.bad c.unless_bad.result c.requires.shallow
+    (ap read (sym (c.deref.ensures.value ∙ c.in_ok-converted.ensures.tokens)) ∙ c.in-Ok.ensures) c.in_ok-converted.ensures.bad c.unless_bad.ensures).err
+
+pub returns-in-Ok-clause-memory : goal.returns-in-Ok-clause-memory
+returns-in-Ok-clause-memory c =
+    (read_answered c.args.text.now c.args.lexemes.now c.in-Ok.read c.in_ok-converted.converted.bad c.unless_bad.result c.requires.shallow
+    (ap read (sym (c.deref.ensures.value ∙ c.in_ok-converted.ensures.tokens)) ∙ c.in-Ok.ensures) c.in_ok-converted.ensures.bad c.unless_bad.ensures).memory
 
 pub returns-clause-err : goal.returns-clause-err
 returns-clause-err c =
-    λ ne. (c.requires.shallow, unreadable (tokens_of c.args.text.now c.args.lexemes.now) (ap read (sym (c.deref.ensures.value ∙ c.in_ok-tokens.ensures)) ∙ subst (λ e. Fails e (read c.deref.result.now)) c.in-Err-Syntax.field-0-is c.in-Err-Syntax.ensures), c.start_of.ensures)
+    let s = c.args.text.now in
+    let ts = c.args.lexemes.now in
+    let h = subst (λ p. Fails c.in-Err.refusal (read p)) (c.deref.ensures.value ∙ c.in_ok-converted.ensures.tokens) c.in-Err.ensures in
+    subst (λ f. f.kind ≢ NoMemory → IsPatternFault s ts f) (sym c.fault_at.ensures) (refused s ts c.in-Err.refusal c.start_of.result c.requires.shallow h c.start_of.ensures)
