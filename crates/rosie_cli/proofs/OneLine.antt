@@ -1,6 +1,6 @@
 -- The piece of one line, case by case.
 use Rattle.std.proofs.Common.{ℕ, ◌≡◌, ◌+◌, ◌-◌, ◌^◌, ◌<◌, ◌≤◌, Bool, true, false, cond, List, [], ◌∷◌, ◌++◌, length, take, refl, sym, ◌∙◌, ap, subst, arith, Ok, Err}
-use Rattle.std.specs.Prelude.{Result, IfOk, nat_lt, map, Some, None, chars, codes, encode_utf8_all, slice_index_or}
+use Rattle.std.specs.Prelude.{Result, IfOk, OnOk, nat_lt, map, Some, None, chars, codes, encode_utf8_all, slice_index_or}
 use Rattle.std.specs.Str.{IsUtf8, is_utf8, all_scalars}
 use Rattle.std.proofs.lemmas.List.{append-nil, map-append}
 use Rattle.std.proofs.lemmas.Str.{chars-encodes}
@@ -102,10 +102,19 @@ ran_fail job line t b n code u meant et eb ec e =
     let told : Tells (outcome job.rules job.goal (chars line)) (budget_of plain (chars line)) (Failed n) = subst (Tells (outcome job.rules job.goal (chars line)) (budget_of plain (chars line))) ran (meant (chars line) (are_scalars line u) (budget_of plain (chars line))) in
     record { within = ap is_over ran; matches = ap matches told.1; none = ap (print Json (chars line)) told.1 }
 
-pub ran_steps : (job : Job) (line t : List ℕ) (b n s0 s1 : ℕ) (code : List Instr) → t ≡ chars line → b ≡ budget_of plain (chars line) → code ≡ job.code → run code t b ≡ Failed n → s1 ≡ s0 + n → s1 ≡ s0 + made (budget_of plain (chars line)) (run job.code (chars line) (budget_of plain (chars line)))
-ran_steps job line t b n s0 s1 code et eb ec e s =
-    let ran : run job.code (chars line) (budget_of plain (chars line)) ≡ Failed n = ran_same code job.code t (chars line) b (budget_of plain (chars line)) (Failed n) ec et eb e in
-    s ∙ ap (λ x. s0 + made (budget_of plain (chars line)) x) (sym ran)
+-- a line whose run passed its budget
+pub ran_over : (job : Job) (line t : List ℕ) (b : ℕ) (code : List Instr) → t ≡ chars line → b ≡ budget_of plain (chars line) → code ≡ job.code → run code t b ≡ Unfinished → is_over (run job.code (chars line) (budget_of plain (chars line))) ≡ true
+ran_over job line t b code et eb ec e = ap is_over (ran_same code job.code t (chars line) b (budget_of plain (chars line)) Unfinished ec et eb e)
+
+-- the steps of a run are those that its answer tells
+pub ran_steps : (job : Job) (line t : List ℕ) (b s0 s1 : ℕ) (code : List Instr) (a : Answer) → t ≡ chars line → b ≡ budget_of plain (chars line) → code ≡ job.code → run code t b ≡ a → s1 ≡ s0 + made b a → s1 ≡ s0 + made (budget_of plain (chars line)) (run job.code (chars line) (budget_of plain (chars line)))
+ran_steps job line t b s0 s1 code a et eb ec e s =
+    let ran : run job.code (chars line) (budget_of plain (chars line)) ≡ a = ran_same code job.code t (chars line) b (budget_of plain (chars line)) a ec et eb e in
+    s ∙ ap (λ x. s0 + made x a) eb ∙ ap (λ x. s0 + made (budget_of plain (chars line)) x) (sym ran)
+
+pub on_ok : {X E P : Type 0} (r : Result X E) → P → OnOk r P
+on_ok (Ok x) h = h
+on_ok (Err e) h = tt
 
 ends_encoded : (ran : Ran) (job : Job) (line kept : List ℕ) (f : Forest) → ((text : List ℕ) → text ≡ answer Json line (Some (placed (at (chars line)) f)) → Matches job line text) → Encodes ran (answer Json line (Some (placed (at (chars line)) f))) kept → Ends ran job line kept
 ends_encoded R.Hit job line kept f m e = (m kept e.0, subst (λ x. length x ≤ most_bytes) (sym e.0) e.1)

@@ -107,5 +107,7 @@ fn runs_end_after_the_steps_that_were_worked_by_hand(rt: HostRuntime) -> Result<
         Caught::Finish { place: 3 },
     ];
     assert_eq!(rt; scratch.captures(), wanted.as_slice());
+    scratch.reserve(1_000)?;
+    assert_eq!(rt; scratch.captures(), wanted.as_slice());
     Ok(())
 }

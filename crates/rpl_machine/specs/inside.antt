@@ -1,0 +1,4 @@
+pub mod States
+pub mod Trees
+pub mod Lists
+pub mod Progress
