@@ -8,7 +8,7 @@ use Rattle.rpl_classes.specs.Norm.{norm}
 use Rattle.rpl_classes.specs.Sets.{IsNormal}
 use Rattle.rpl_classes.proofs.Normal.{norm_alike, norm_just, norm_normal, norm_normal_same}
 use Rattle.rpl_core.specs.Head.{both_heads}
-use Rattle.rpl_codegen.specs.Gathered.{Gathers}
+use Rattle.rpl_codegen.specs.inside.Gathered.{Gathers}
 
 append_nil : (xs : List Range) → (xs ++ []) ≡ xs
 append_nil [] = refl

@@ -8,8 +8,8 @@ use Rattle.rpl_core.specs.Core.{Core}
 use Rattle.rpl_core.specs.Instr as I
 use Rattle.rpl_core.specs.Code.{code, size}
 use Rattle.rpl_core.specs.Programs.{bodies, place_of}
-use Rattle.rpl_codegen.specs.Laid.{body_len, bodies_len, rule_code}
-use Rattle.rpl_codegen.proofs.Adding.{read_at, some_at}
+use Rattle.rpl_codegen.specs.inside.Laid.{body_len, bodies_len, rule_code}
+use Rattle.rpl_draft.proofs.Adding.{read_at, some_at}
 use Rattle.rpl_codegen.proofs.Lengths.{code_length, size_is}
 use Rattle.rpl_codegen.proofs.Parts.{drop_here}
 

@@ -5,7 +5,7 @@ use Rattle.rpl_core.specs.Core.{Core, Set, Seq, Choice, Many, Not, And, Behind, 
 use Rattle.rpl_core.specs.Head.{head, lone_set}
 use Rattle.rpl_core.specs.Instr as I
 use Rattle.rpl_core.specs.Code.{Placed, code, code_all, code_first, choice_code, tested_choice, many_code, not_code, and_code, lengths_code, size}
-use Rattle.rpl_codegen.specs.Sizes.{many_len, not_len, tried_len, len, len_all, len_first}
+use Rattle.rpl_codegen.specs.inside.Sizes.{many_len, not_len, tried_len, len, len_all, len_first}
 
 choice_length : (p q : Placed) (m n a : ℕ) → ((x : ℕ) → length (p x) ≡ m) → ((x : ℕ) → length (q x) ≡ n) → length (choice_code p q a) ≡ (m + 2) + n
 choice_length p q m n a h k =

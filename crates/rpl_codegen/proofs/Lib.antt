@@ -2,8 +2,6 @@ pub mod Marking
 pub mod Parts
 pub mod Search
 pub mod Lengths
-pub mod Adding
-pub mod Keeping
 pub mod Pieces
 pub mod Weights
 pub mod Layouts

@@ -3,8 +3,8 @@ use Rattle.std.proofs.Common.{◌≡◌, ℕ, zero, suc, ◌<◌, List, [], ◌�
 use Rattle.std.proofs.Math.Bool.{or-false}
 use Rattle.std.proofs.lemmas.Bool.{cases_eq, lt-ltb, ne_eqb}
 use Rattle.std.specs.Prelude.{Bool, true, false, ◌||◌, ◌&&◌, not, nat_eq, nat_lt}
-use Rattle.rpl_codegen.specs.Marked.{marked}
-use Rattle.rpl_codegen.specs.Searching.{unmarked, waits, Marks}
+use Rattle.rpl_codegen.specs.inside.Marked.{marked}
+use Rattle.rpl_codegen.specs.inside.Searching.{unmarked, waits, Marks}
 use Rattle.rpl_codegen.specs.declared.reach.Search.{Search}
 
 -- Bools

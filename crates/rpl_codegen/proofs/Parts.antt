@@ -12,7 +12,7 @@ use Rattle.rpl_core.specs.Head.{head}
 use Rattle.regex_class.specs.Ranges.{Range}
 use Rattle.rpl_core.specs.View.{core_of, cores, listed}
 use Rattle.rpl_core.proofs.Rows.{seq_view, choice_view}
-use Rattle.rpl_codegen.specs.Sizes.{len, len_first, tried_len}
+use Rattle.rpl_codegen.specs.inside.Sizes.{len, len_first, tried_len}
 
 pub drop_here : {A : Type 0} (xs : List A) (k : ℕ) (x : A) → k < length xs → x ≡ get_or xs k x → drop k xs ≡ x ∷ drop (k + 1) xs
 drop_here xs k x lt is =

@@ -5,10 +5,11 @@ use Rattle.regex_class.specs.Ranges.{Range}
 use Rattle.rpl_core.specs.Instr.{Instr}
 use Rattle.rpl_core.specs.Instr as I
 use Rattle.rpl_core.specs.Code.{Placed, choice_code, tested_choice, loop_code, refuse_code, and_code, lengths_code, behind_code}
-use Rattle.rpl_codegen.specs.declared.draft.Draft.{Draft}
-use Rattle.rpl_codegen.specs.Written.{Adds, test_code}
-use Rattle.rpl_codegen.specs.Sizes.{tried_len}
-use Rattle.rpl_codegen.proofs.Adding.{adds_then}
+use Rattle.rpl_draft.specs.declared.draft.Draft.{Draft}
+use Rattle.rpl_draft.specs.Written.{Adds}
+use Rattle.rpl_codegen.specs.inside.Written.{test_code}
+use Rattle.rpl_codegen.specs.inside.Sizes.{tried_len}
+use Rattle.rpl_draft.proofs.Adding.{adds_then}
 use Rattle.rpl_codegen.proofs.Lengths.{lengths_length}
 
 -- an instruction, a fragment behind it, and what follows the fragment

@@ -8,9 +8,9 @@ use Rattle.rpl_core.specs.Programs.{calls, Reaches, by_goal, by_rule}
 use Rattle.rpl_core.specs.Table.{bodies_of}
 use Rattle.rpl_core.specs.View.{core_of}
 use Rattle.rpl_core.specs.declared.rules.Rule.{Rule}
-use Rattle.rpl_codegen.specs.Calls.{CallsAreRules}
-use Rattle.rpl_codegen.specs.Marked.{marked, MarksReached}
-use Rattle.rpl_codegen.specs.Searching.{waits, Marks, Reached}
+use Rattle.rpl_codegen.specs.inside.Calls.{CallsAreRules}
+use Rattle.rpl_codegen.specs.inside.Marked.{marked, MarksReached}
+use Rattle.rpl_codegen.specs.inside.Searching.{waits, Marks, Reached}
 use Rattle.rpl_codegen.specs.declared.reach.Search.{Search}
 use Rattle.rpl_codegen.proofs.Marking.{waits_more}
 

@@ -7,10 +7,10 @@ use Rattle.rpl_core.specs.declared.peg.Peg.{Peg}
 use Rattle.rpl_core.specs.View.{core_of, cores}
 use Rattle.rpl_codegen.specs.declared.size.Node.{Node}
 use Rattle.rpl_codegen.specs.declared.size.Nodes.{Nodes}
-use Rattle.rpl_codegen.specs.Laid.{bodies_nodes, rule_nodes}
-use Rattle.rpl_codegen.specs.Nodes.{behind_nodes, choice_nodes, nodes_in, parts_nodes, tested_nodes}
-use Rattle.rpl_codegen.specs.Taken.{Begins, Takes, left}
-use Rattle.rpl_codegen.proofs.Adding.{read_at, some_at}
+use Rattle.rpl_codegen.specs.inside.Laid.{bodies_nodes, rule_nodes}
+use Rattle.rpl_codegen.specs.inside.Nodes.{behind_nodes, choice_nodes, nodes_in, parts_nodes, tested_nodes}
+use Rattle.rpl_codegen.specs.inside.Taken.{Begins, Takes, left}
+use Rattle.rpl_draft.proofs.Adding.{read_at, some_at}
 use Rattle.rpl_codegen.proofs.Parts.{drop_here, drop_last}
 
 -- what a list begins with

@@ -1,11 +1,2 @@
-pub mod Calls
-pub mod Marked
-pub mod Searching
-pub mod Sizes
-pub mod Nodes
-pub mod Taken
-pub mod Uses
-pub mod Written
-pub mod Laid
 pub mod Compiled
-pub mod Gathered
+pub mod inside

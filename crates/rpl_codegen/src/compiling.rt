@@ -7,25 +7,28 @@ ghost use Rattle.rpl_core.specs.Programs.{IsCode};
 ghost use Rattle.rpl_core.specs.Table.{bodies_of};
 ghost use Rattle.rpl_core.specs.View.{core_of};
 ghost use Rattle.rpl_codegen.specs.Compiled.{DoesAsMeant, HasLongCode};
-ghost use Rattle.rpl_codegen.specs.Uses.{KeepsOnce, labels_in, sets_in};
+ghost use Rattle.rpl_draft.specs.Uses.{KeepsOnce, labels_in, sets_in};
 
 use crate::whole::{CompileFault, compile_goal};
 use rpl_check::{Checked, CheckedPeg};
 use rpl_core::Program;
 use std::alloc::Global;
 
-/// The code of a goal that was checked over this table of rules: the goal's own code, `finish`, and each rule that it reaches in the order
-/// of the table. Equal sets, and equal texts, are kept once, in the order of their first uses.
+/// The code of a goal that was checked over this table of rules: the goal's own code, `finish`, and each rule that it
+/// reaches in the order of the table. Equal sets, and equal texts, are kept once, in the order of their first uses.
 ///
-/// The code does on every text what the goal means, with no further premise: a check has shown that this is never open.
+/// The code does on every text what the goal means, with no further premise: a check has shown that this is never
+/// open.
 pub fn compile(alloc: Global, checked: &Checked, goal: &CheckedPeg) -> Result<Program, CompileFault>
     requires { IsWhole (bodies_of checked.now) (core_of (peg_of goal.now)) }
     ensures code { IfOk result (λ p. IsCode (bodies_of checked.now) (core_of (peg_of goal.now)) (instructions p)) }
-    ensures meant { IfOk result (λ p. DoesAsMeant (bodies_of checked.now) (core_of (peg_of goal.now)) (instructions p)) }
+    ensures meant { IfOk result (λ p.
+        DoesAsMeant (bodies_of checked.now) (core_of (peg_of goal.now)) (instructions p)) }
     ensures fits { IfOk result (λ p. length (code_of p) ≤ 1048576) }
     ensures sets { IfOk result (λ p. KeepsOnce (sets_in (instructions p)) (sets_of p)) }
     ensures labels { IfOk result (λ p. KeepsOnce (labels_in (instructions p)) (labels_of p)) }
-    ensures too_long { IfErr result (λ e. e ≡ CompileFault.CodeTooLong → HasLongCode (bodies_of checked.now) (core_of (peg_of goal.now))) }
+    ensures too_long { IfErr result (λ e. e ≡ CompileFault.CodeTooLong
+        → HasLongCode (bodies_of checked.now) (core_of (peg_of goal.now))) }
 {
     compile_goal(alloc, checked.rules(), goal.peg())
 }

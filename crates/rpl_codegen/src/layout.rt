@@ -1,11 +1,11 @@
 // Where the rules begin.
-ghost use Rattle.std.specs.Prelude.{◌≡◌, ◌<◌, ◌++◌, if◌then◌else◌, IfOk, OnOk, length, min, slice_get};
+ghost use Rattle.std.specs.Prelude.{◌≡◌, ◌<◌, ◌++◌, IfOk, OnOk, length, min, slice_get};
 ghost use Rattle.rpl_core.specs.Listed.{rules_of};
 ghost use Rattle.rpl_core.specs.Table.{bodies_of};
 ghost use Rattle.rpl_core.specs.View.{core_of};
-ghost use Rattle.rpl_codegen.specs.Laid.{LaysOut, bodies_nodes, body_len, rule_nodes};
-ghost use Rattle.rpl_codegen.specs.Marked.{marked};
-ghost use Rattle.rpl_codegen.specs.Nodes.{nodes_in};
+ghost use Rattle.rpl_codegen.specs.inside.Laid.{LaysOut, bodies_nodes, rule_len, rule_nodes};
+ghost use Rattle.rpl_codegen.specs.inside.Marked.{marked};
+ghost use Rattle.rpl_codegen.specs.inside.Nodes.{nodes_in};
 
 use crate::NoMemory;
 use crate::size::{Plan, capped, measure};
@@ -20,10 +20,10 @@ pub(crate) struct Layout {
 }
 
 impl Layout {
-    ghost use Rattle.rpl_codegen.specs.Written.{address_of};
+    ghost use Rattle.rpl_codegen.specs.inside.Written.{address_of};
 
-    /// The addresses of the rules behind the goal. Only marked rules take room. The nodes of the goal and of the marked rules are added to
-    /// the plan in the order in which the code is written.
+    /// The addresses of the rules behind the goal. Only marked rules take room. The nodes of the goal and of the
+    /// marked rules are added to the plan in the order in which the code is written.
     pub(crate) fn new(
         alloc: Global,
         rules: &Rules,
@@ -32,8 +32,10 @@ impl Layout {
         plan: &mut Plan,
     ) -> Result<Layout, NoMemory>
         requires { length marks.now ≡ length (rules_of rules.now) }
-        ensures layout { IfOk result (λ l. LaysOut (marked marks.now) (bodies_of (rules_of rules.now)) (core_of goal.now) l) }
-        ensures nodes { OnOk result (plan.new.nodes.items ≡ plan.old.nodes.items ++ (nodes_in (core_of goal.now) ++ bodies_nodes (marked marks.now) (bodies_of (rules_of rules.now)) 0)) }
+        ensures layout { IfOk result (λ l.
+            LaysOut (marked marks.now) (bodies_of (rules_of rules.now)) (core_of goal.now) l) }
+        ensures nodes { OnOk result (plan.new.nodes.items ≡ plan.old.nodes.items
+            ++ (nodes_in (core_of goal.now) ++ bodies_nodes (marked marks.now) (bodies_of (rules_of rules.now)) 0)) }
     {
         let mut addresses = Vec::new(alloc);
         let shape = measure(alloc, plan, goal)?;
@@ -67,8 +69,8 @@ impl Layout {
     }
 }
 
-/// The number of instructions of a rule with its return, or the first number past the limit; none, if the rule isn't marked. The nodes of a
-/// marked rule are added to the plan.
+/// The number of instructions of a rule with its return, or the first number past the limit; none, if the rule isn't
+/// marked. The nodes of a marked rule are added to the plan.
 fn marked_size(
     alloc: Global,
     plan: &mut Plan,
@@ -77,8 +79,10 @@ fn marked_size(
     number: u32,
 ) -> Result<u32, NoMemory>
     requires { number < length marks.now }
-    ensures size { IfOk result (λ n. n ≡ min 1048577 (if marked marks.now number then body_len (slice_get (bodies_of (rules_of rules.now)) number) else 0)) }
-    ensures nodes { OnOk result (plan.new.nodes.items ≡ plan.old.nodes.items ++ rule_nodes (marked marks.now number) (slice_get (bodies_of (rules_of rules.now)) number)) }
+    ensures size { IfOk result (λ n. n ≡ min 1048577
+        (rule_len (marked marks.now number) (slice_get (bodies_of (rules_of rules.now)) number))) }
+    ensures nodes { OnOk result (plan.new.nodes.items ≡ plan.old.nodes.items
+        ++ rule_nodes (marked marks.now number) (slice_get (bodies_of (rules_of rules.now)) number)) }
 {
     if !marks[number as usize] {
         return Ok(0);

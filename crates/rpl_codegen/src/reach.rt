@@ -4,9 +4,9 @@ ghost use Rattle.rpl_core.specs.Listed.{rules_of};
 ghost use Rattle.rpl_core.specs.Programs.{calls, calls_any};
 ghost use Rattle.rpl_core.specs.Table.{bodies_of};
 ghost use Rattle.rpl_core.specs.View.{core_of, cores};
-ghost use Rattle.rpl_codegen.specs.Calls.{CallsAreRules};
-ghost use Rattle.rpl_codegen.specs.Marked.{MarksReached};
-ghost use Rattle.rpl_codegen.specs.Searching.{Marks};
+ghost use Rattle.rpl_codegen.specs.inside.Calls.{CallsAreRules};
+ghost use Rattle.rpl_codegen.specs.inside.Marked.{MarksReached};
+ghost use Rattle.rpl_codegen.specs.inside.Searching.{Marks};
 
 use crate::NoMemory;
 use rpl_core::{Peg, Rules};

@@ -1,13 +1,15 @@
-// What is known of a pattern, and of each pattern in it, before any code is written: how many instructions it has, and the head that is tested
-// before it.
+// What is known of a pattern, and of each pattern in it, before any code is written: how many instructions it has,
+// and the head that is tested before it.
 ghost use Rattle.std.specs.Option.{option_copied};
-ghost use Rattle.std.specs.Prelude.{◌≡◌, ◌+◌, ◌-◌, ◌*◌, ◌<◌, ◌≤◌, [], ◌++◌, IfOk, OnOk, None, Some, drop, false, if◌then◌else◌, length, min, option_map, take};
+ghost use Rattle.std.specs.Prelude.{◌≡◌, ◌+◌, ◌-◌, ◌*◌, ◌<◌, ◌≤◌, [], ◌++◌, IfOk, OnOk, None, Some, drop, false};
+ghost use Rattle.std.specs.Prelude.{if◌then◌else◌, length, min, option_map, take};
 ghost use Rattle.rpl_classes.specs.Norm.{norm};
 ghost use Rattle.rpl_core.specs.Head as H;
 ghost use Rattle.rpl_core.specs.View.{core_of, cores};
-ghost use Rattle.rpl_codegen.specs.Gathered.{Gathers};
-ghost use Rattle.rpl_codegen.specs.Nodes.{behind_nodes, choice_nodes, inner_nodes, nodes_in, parts_nodes, tested_nodes};
-ghost use Rattle.rpl_codegen.specs.Sizes.{len, len_all, len_first};
+ghost use Rattle.rpl_codegen.specs.inside.Gathered.{Gathers};
+ghost use Rattle.rpl_codegen.specs.inside.Nodes.{behind_nodes, choice_nodes, inner_nodes, nodes_in, parts_nodes};
+ghost use Rattle.rpl_codegen.specs.inside.Nodes.{tested_nodes};
+ghost use Rattle.rpl_codegen.specs.inside.Sizes.{len, len_all, len_first};
 
 use crate::NoMemory;
 use crate::head::lone_set;
@@ -37,7 +39,8 @@ pub(crate) fn behind_size(size: u32, least: u32, most: u32) -> u32
     (lengths * (size as u64 + 3) + 1).min(MAX_CODE as u64 + 1) as u32
 }
 
-/// The number of instructions of a pattern, or the first number past the limit; and its head, if others follow it in a choice and it has one.
+/// The number of instructions of a pattern, or the first number past the limit; and its head, if others follow it in
+/// a choice and it has one.
 #[derive(Drop)]
 pub(crate) struct Node {
     size: u32,
@@ -52,7 +55,7 @@ pub(crate) struct Nodes {
 }
 
 impl Nodes {
-    ghost use Rattle.rpl_codegen.specs.Taken.{Takes, head_at, left, size_at};
+    ghost use Rattle.rpl_codegen.specs.inside.Taken.{Takes, head_at, left, size_at};
 
     /// The nodes from the first on.
     pub(crate) fn new(list: Vec<Node>) -> Nodes
@@ -89,7 +92,8 @@ impl Nodes {
     }
 }
 
-/// What is gathered while patterns are measured: their nodes, and the ranges of those heads that are part of a greater one.
+/// What is gathered while patterns are measured: their nodes, and the ranges of those heads that are part of a
+/// greater one.
 #[derive(Drop)]
 pub(crate) struct Plan {
     pub(crate) nodes: Vec<Node>,
@@ -108,8 +112,8 @@ impl Plan {
     }
 }
 
-/// The number of instructions of a pattern, or the first number past the limit, and whether it has a head. Both are had in one walk, since each
-/// level needs both of the one below.
+/// The number of instructions of a pattern, or the first number past the limit, and whether it has a head. Both are
+/// had in one walk, since each level needs both of the one below.
 #[derive(Clone, Copy)]
 pub(crate) struct Shape {
     pub(crate) size: u32,
@@ -127,13 +131,14 @@ fn headless(size: u32) -> Shape
     }
 }
 
-/// Adds the nodes of the pattern and of all patterns in it. The ranges of its head are added, if it has one; else there may be more ranges of no
-/// use.
+/// Adds the nodes of the pattern and of all patterns in it. The ranges of its head are added, if it has one; else
+/// there may be more ranges of no use.
 #[cycle(measure)]
 pub(crate) fn measure(alloc: Global, plan: &mut Plan, peg: &Peg) -> Result<Shape, NoMemory>
     ensures nodes { OnOk result (plan.new.nodes.items ≡ plan.old.nodes.items ++ nodes_in (core_of peg.now)) }
     ensures size { IfOk result (λ s. s.size ≡ min 1048577 (len (core_of peg.now))) }
-    ensures head { IfOk result (λ s. Gathers plan.old.ranges.items plan.new.ranges.items (H.head (core_of peg.now)) s.has_head) }
+    ensures head { IfOk result (λ s.
+        Gathers plan.old.ranges.items plan.new.ranges.items (H.head (core_of peg.now)) s.has_head) }
 {
     let place = plan.nodes.len();
     plan.nodes.push(Node {
@@ -153,7 +158,8 @@ pub(crate) fn measure(alloc: Global, plan: &mut Plan, peg: &Peg) -> Result<Shape
 fn measure_tried(alloc: Global, plan: &mut Plan, part: &Peg) -> Result<Shape, NoMemory>
     ensures nodes { OnOk result (plan.new.nodes.items ≡ plan.old.nodes.items ++ tested_nodes (core_of part.now)) }
     ensures size { IfOk result (λ s. s.size ≡ min 1048577 (len (core_of part.now))) }
-    ensures head { IfOk result (λ s. Gathers plan.old.ranges.items plan.new.ranges.items (H.head (core_of part.now)) s.has_head) }
+    ensures head { IfOk result (λ s.
+        Gathers plan.old.ranges.items plan.new.ranges.items (H.head (core_of part.now)) s.has_head) }
 {
     let place = plan.nodes.len();
     let start = plan.ranges.len();
@@ -170,7 +176,8 @@ fn measure_tried(alloc: Global, plan: &mut Plan, part: &Peg) -> Result<Shape, No
     Ok(shape)
 }
 
-/// Puts the normal form of the ranges from `start` on in their place, and gives the set that they are; no set and no ranges, if no head was found.
+/// Puts the normal form of the ranges from `start` on in their place, and gives the set that they are; no set and no
+/// ranges, if no head was found.
 fn join(
     alloc: Global,
     ranges: &mut Vec<ClassRange>,
@@ -179,7 +186,8 @@ fn join(
 ) -> Result<Option<Set>, NoMemory>
     requires { start ≤ length ranges.old.items }
     ensures set { IfOk result (λ h. h ≡ (if found then Some (norm (drop start ranges.old.items)) else None)) }
-    ensures ranges { OnOk result (ranges.new.items ≡ take start ranges.old.items ++ (if found then norm (drop start ranges.old.items) else [])) }
+    ensures ranges { OnOk result (ranges.new.items
+        ≡ take start ranges.old.items ++ (if found then norm (drop start ranges.old.items) else [])) }
 {
     if !found {
         ranges.truncate(start);
@@ -196,7 +204,8 @@ fn join(
 fn measure_inner(alloc: Global, plan: &mut Plan, peg: &Peg) -> Result<Shape, NoMemory>
     ensures nodes { OnOk result (plan.new.nodes.items ≡ plan.old.nodes.items ++ inner_nodes (core_of peg.now)) }
     ensures size { IfOk result (λ s. s.size ≡ min 1048577 (len (core_of peg.now))) }
-    ensures head { IfOk result (λ s. Gathers plan.old.ranges.items plan.new.ranges.items (H.head (core_of peg.now)) s.has_head) }
+    ensures head { IfOk result (λ s.
+        Gathers plan.old.ranges.items plan.new.ranges.items (H.head (core_of peg.now)) s.has_head) }
 {
     match peg {
         Peg::Set(set) => {
@@ -249,9 +258,11 @@ fn measure_behind(
     most: u32,
     body: &Peg,
 ) -> Result<Shape, NoMemory>
-    ensures nodes { OnOk result (plan.new.nodes.items ≡ plan.old.nodes.items ++ behind_nodes (most + 1 - least) (nodes_in (core_of body.now))) }
+    ensures nodes { OnOk result (plan.new.nodes.items
+        ≡ plan.old.nodes.items ++ behind_nodes (most + 1 - least) (nodes_in (core_of body.now))) }
     ensures size { IfOk result (λ s. s.size ≡ min 1048577 ((most + 1 - least) * (len (core_of body.now) + 3) + 1)) }
-    ensures head { IfOk result (λ s. Gathers plan.old.ranges.items plan.new.ranges.items None s.has_head) }
+    ensures head { IfOk result (λ s.
+        Gathers plan.old.ranges.items plan.new.ranges.items None s.has_head) }
 {
     if least > most {
         return Ok(headless(1));
@@ -265,7 +276,8 @@ fn measure_behind(
 fn measure_all(alloc: Global, plan: &mut Plan, parts: &[Peg]) -> Result<Shape, NoMemory>
     ensures nodes { OnOk result (plan.new.nodes.items ≡ plan.old.nodes.items ++ parts_nodes (cores parts.now)) }
     ensures size { IfOk result (λ s. s.size ≡ min 1048577 (len_all (cores parts.now))) }
-    ensures head { IfOk result (λ s. Gathers plan.old.ranges.items plan.new.ranges.items (H.first_head (cores parts.now)) s.has_head) }
+    ensures head { IfOk result (λ s.
+        Gathers plan.old.ranges.items plan.new.ranges.items (H.first_head (cores parts.now)) s.has_head) }
 {
     if parts.is_empty() {
         return Ok(headless(0));
@@ -289,7 +301,9 @@ fn measure_all(alloc: Global, plan: &mut Plan, parts: &[Peg]) -> Result<Shape, N
 fn measure_first(alloc: Global, plan: &mut Plan, parts: &[Peg]) -> Result<Shape, NoMemory>
     ensures nodes { OnOk result (plan.new.nodes.items ≡ plan.old.nodes.items ++ choice_nodes (cores parts.now)) }
     ensures size { IfOk result (λ s. s.size ≡ min 1048577 (len_first (cores parts.now))) }
-    ensures head { IfOk result (λ s. Gathers plan.old.ranges.items plan.new.ranges.items (option_map norm (H.all_heads (cores parts.now))) s.has_head) }
+    ensures head { IfOk result (λ s.
+        Gathers plan.old.ranges.items plan.new.ranges.items
+        (option_map norm (H.all_heads (cores parts.now))) s.has_head) }
 {
     if parts.is_empty() {
         return Ok(Shape {

@@ -1,26 +1,26 @@
 // The code of a goal.
-ghost use Rattle.std.specs.Prelude.{◌≡◌, ◌<◌, ◌≤◌, ◌+◌, if◌then◌else◌, IfErr, IfOk, OnOk, length, slice_get};
+ghost use Rattle.std.specs.Prelude.{◌≡◌, ◌<◌, ◌≤◌, ◌+◌, IfErr, IfOk, OnOk, length, slice_get};
 ghost use Rattle.rpl_core.specs.Listed.{rules_of};
 ghost use Rattle.rpl_core.specs.Program.{code_of, instructions, labels_of, sets_of};
 ghost use Rattle.rpl_core.specs.Programs.{IsCode, bodies};
 ghost use Rattle.rpl_core.specs.Table.{bodies_of};
 ghost use Rattle.rpl_core.specs.View.{core_of};
-ghost use Rattle.rpl_codegen.specs.Calls.{CallsAreRules};
+ghost use Rattle.rpl_codegen.specs.inside.Calls.{CallsAreRules};
 ghost use Rattle.rpl_codegen.specs.Compiled.{HasLongCode};
-ghost use Rattle.rpl_codegen.specs.Laid.{bodies_len, bodies_nodes, body_len, rule_code, rule_nodes};
-ghost use Rattle.rpl_codegen.specs.Marked.{marked};
-ghost use Rattle.rpl_codegen.specs.Taken.{Begins, Takes, left};
-ghost use Rattle.rpl_codegen.specs.Uses.{KeepsOnce, labels_in, sets_in};
-ghost use Rattle.rpl_codegen.specs.Written.{Adds, address_of};
+ghost use Rattle.rpl_codegen.specs.inside.Laid.{bodies_len, bodies_nodes, rule_code, rule_len, rule_nodes};
+ghost use Rattle.rpl_codegen.specs.inside.Marked.{marked};
+ghost use Rattle.rpl_codegen.specs.inside.Taken.{Begins, Takes, left};
+ghost use Rattle.rpl_draft.specs.Uses.{KeepsOnce, labels_in, sets_in};
+ghost use Rattle.rpl_codegen.specs.inside.Written.{Writes, address_of};
 ghost use Rattle.rpl_codegen.specs.declared.whole.CompileFault.TheVariants.{NoMemory};
 
 use crate::NoMemory;
-use crate::draft::Draft;
 use crate::layout::Layout;
 use crate::reach::reached;
 use crate::size::{MAX_CODE, Nodes, Plan};
 use crate::writing::emit;
 use rpl_core::{Instr, Peg, Program, Rules};
+use rpl_draft::Draft;
 use std::alloc::Global;
 use thiserror::Error;
 
@@ -43,8 +43,8 @@ impl From<NoMemory> for CompileFault {
     }
 }
 
-/// The code of the goal over the table of rules: the goal's own code, `finish`, and each rule that it reaches in the order of the
-/// table. Equal sets, and equal texts, are kept once, in the order of their first uses.
+/// The code of the goal over the table of rules: the goal's own code, `finish`, and each rule that it reaches in the
+/// order of the table. Equal sets, and equal texts, are kept once, in the order of their first uses.
 pub(crate) fn compile_goal(
     alloc: Global,
     rules: &Rules,
@@ -55,7 +55,8 @@ pub(crate) fn compile_goal(
     ensures fits { IfOk result (λ p. length (code_of p) ≤ 1048576) }
     ensures sets { IfOk result (λ p. KeepsOnce (sets_in (instructions p)) (sets_of p)) }
     ensures labels { IfOk result (λ p. KeepsOnce (labels_in (instructions p)) (labels_of p)) }
-    ensures too_long { IfErr result (λ e. e ≡ CompileFault.CodeTooLong → HasLongCode (bodies_of (rules_of rules.now)) (core_of goal.now)) }
+    ensures too_long { IfErr result (λ e. e ≡ CompileFault.CodeTooLong
+        → HasLongCode (bodies_of (rules_of rules.now)) (core_of goal.now)) }
 {
     let marks = reached(alloc, rules, goal)?;
     let mut plan = Plan::new(alloc);
@@ -84,7 +85,8 @@ fn emit_rules(
     requires long { length marks.now ≡ length (rules_of rules.now) }
     requires room { length draft.old.code + bodies_len (marked marks.now) (bodies_of (rules_of rules.now)) 0 ≤ 1048576 }
     requires nodes { Begins (left nodes.old) (bodies_nodes (marked marks.now) (bodies_of (rules_of rules.now)) 0) }
-    ensures { OnOk result (Adds draft.old draft.new (bodies (marked marks.now) (address_of layout.now) (bodies_of (rules_of rules.now)) 0 (length draft.old.code))) }
+    ensures { OnOk result (Writes draft.old draft.new
+        (bodies (marked marks.now) (address_of layout.now) (bodies_of (rules_of rules.now)) 0)) }
 {
     for number in 0..rules.len() {
         emit_rule(alloc, draft, layout, nodes, rules, marks, number as u32)?;
@@ -103,10 +105,14 @@ fn emit_rule(
     number: u32,
 ) -> Result<(), NoMemory>
     requires inside { number < length marks.now }
-    requires room { length draft.old.code + (if marked marks.now number then body_len (slice_get (bodies_of (rules_of rules.now)) number) else 0) ≤ 1048576 }
-    requires nodes { Begins (left nodes.old) (rule_nodes (marked marks.now number) (slice_get (bodies_of (rules_of rules.now)) number)) }
-    ensures code { OnOk result (Adds draft.old draft.new (rule_code (marked marks.now number) (address_of layout.now) (slice_get (bodies_of (rules_of rules.now)) number) (length draft.old.code))) }
-    ensures nodes { OnOk result (Takes nodes.old nodes.new (rule_nodes (marked marks.now number) (slice_get (bodies_of (rules_of rules.now)) number))) }
+    requires room { length draft.old.code
+        + rule_len (marked marks.now number) (slice_get (bodies_of (rules_of rules.now)) number) ≤ 1048576 }
+    requires nodes { Begins (left nodes.old)
+        (rule_nodes (marked marks.now number) (slice_get (bodies_of (rules_of rules.now)) number)) }
+    ensures code { OnOk result (Writes draft.old draft.new (rule_code (marked marks.now number)
+        (address_of layout.now) (slice_get (bodies_of (rules_of rules.now)) number))) }
+    ensures nodes { OnOk result (Takes nodes.old nodes.new
+        (rule_nodes (marked marks.now number) (slice_get (bodies_of (rules_of rules.now)) number))) }
 {
     if !marks[number as usize] {
         return Ok(());

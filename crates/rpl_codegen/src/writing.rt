@@ -1,22 +1,21 @@
-// The code of each kind of pattern. Sizes are known before, so that each jump is written with its address. Each writer takes the nodes of the
-// pattern that it writes, and of all patterns in it.
-ghost use Rattle.std.specs.Prelude.{◌≡◌, ℕ, suc, ◌<◌, ◌+◌, ◌-◌, ◌*◌, ◌≤◌, List, [], ◌∷◌, ◌++◌, OnOk, length};
+// The code of each kind of pattern. Sizes are known before, so that each jump is written with its address. Each
+// writer takes the nodes of the pattern that it writes, and of all patterns in it.
+ghost use Rattle.std.specs.Prelude.{◌≡◌, ◌<◌, ◌+◌, ◌-◌, ◌*◌, ◌≤◌, OnOk, length};
 ghost use Rattle.rpl_core.specs.Code as C;
 ghost use Rattle.rpl_core.specs.Head as H;
-ghost use Rattle.rpl_core.specs.Instr as I;
 ghost use Rattle.rpl_core.specs.View.{core_of};
-ghost use Rattle.rpl_codegen.specs.declared.draft.Draft as D;
-ghost use Rattle.rpl_codegen.specs.Sizes.{len, many_len, not_len, tried_len};
-ghost use Rattle.rpl_codegen.specs.Nodes.{behind_nodes, inner_nodes, nodes_in, tested_nodes};
-ghost use Rattle.rpl_codegen.specs.Taken.{Begins, Takes, head_at, left};
-ghost use Rattle.rpl_codegen.specs.Written.{Adds, address_of, test_code};
+ghost use Rattle.rpl_codegen.specs.inside.Sizes.{len, many_len, not_len, tried_len};
+ghost use Rattle.rpl_codegen.specs.inside.Nodes.{behind_nodes, inner_nodes, nodes_in, tested_nodes};
+ghost use Rattle.rpl_codegen.specs.inside.Taken.{Begins, Takes, head_at, left};
+ghost use Rattle.rpl_draft.specs.Written.{Adds};
+ghost use Rattle.rpl_codegen.specs.inside.Written.{GoesOn, Tries, Writes, capture_code, code_in, test_code};
 
 use crate::NoMemory;
-use crate::draft::Draft;
 use crate::head::lone_set;
 use crate::layout::Layout;
 use crate::size::Nodes;
 use rpl_core::{Instr, Peg, Pegs};
+use rpl_draft::Draft;
 use rpl_text::Chars;
 use std::alloc::Global;
 
@@ -31,7 +30,7 @@ pub(crate) fn emit(
 ) -> Result<(), NoMemory>
     requires room { length draft.old.code + len (core_of peg.now) ≤ 1048576 }
     requires nodes { Begins (left nodes.old) (nodes_in (core_of peg.now)) }
-    ensures code { OnOk result (Adds draft.old draft.new (C.code (address_of layout.now) (core_of peg.now) (length draft.old.code))) }
+    ensures code { OnOk result (Writes draft.old draft.new (code_in layout.now peg.now)) }
     ensures nodes { OnOk result (Takes nodes.old nodes.new (nodes_in (core_of peg.now))) }
 {
     let end = draft.next() + nodes.take();
@@ -51,7 +50,7 @@ fn emit_inner(
     requires room { length draft.old.code + len (core_of peg.now) ≤ 1048576 }
     requires nodes { Begins (left nodes.old) (inner_nodes (core_of peg.now)) }
     requires end { end ≡ length draft.old.code + len (core_of peg.now) }
-    ensures code { OnOk result (Adds draft.old draft.new (C.code (address_of layout.now) (core_of peg.now) (length draft.old.code))) }
+    ensures code { OnOk result (Writes draft.old draft.new (code_in layout.now peg.now)) }
     ensures nodes { OnOk result (Takes nodes.old nodes.new (inner_nodes (core_of peg.now))) }
 {
     match peg {
@@ -84,7 +83,7 @@ fn emit_all(
 ) -> Result<(), NoMemory>
     requires room { length draft.old.code + len (core_of (Peg.Seq parts.now)) ≤ 1048576 }
     requires nodes { Begins (left nodes.old) (inner_nodes (core_of (Peg.Seq parts.now))) }
-    ensures code { OnOk result (Adds draft.old draft.new (C.code (address_of layout.now) (core_of (Peg.Seq parts.now)) (length draft.old.code))) }
+    ensures code { OnOk result (Writes draft.old draft.new (code_in layout.now (Peg.Seq parts.now))) }
     ensures nodes { OnOk result (Takes nodes.old nodes.new (inner_nodes (core_of (Peg.Seq parts.now)))) }
 {
     for part in parts.as_slice() {
@@ -106,7 +105,7 @@ fn emit_first(
     requires room { length draft.old.code + len (core_of (Peg.Choice parts.now)) ≤ 1048576 }
     requires nodes { Begins (left nodes.old) (inner_nodes (core_of (Peg.Choice parts.now))) }
     requires end { end ≡ length draft.old.code + len (core_of (Peg.Choice parts.now)) }
-    ensures code { OnOk result (Adds draft.old draft.new (C.code (address_of layout.now) (core_of (Peg.Choice parts.now)) (length draft.old.code))) }
+    ensures code { OnOk result (Writes draft.old draft.new (code_in layout.now (Peg.Choice parts.now))) }
     ensures nodes { OnOk result (Takes nodes.old nodes.new (inner_nodes (core_of (Peg.Choice parts.now)))) }
 {
     let parts = parts.as_slice();
@@ -130,10 +129,13 @@ fn emit_tried(
     part: &Peg,
     end: u32,
 ) -> Result<(), NoMemory>
-    requires room { length draft.old.code + tried_len (H.head (core_of part.now)) (len (core_of part.now)) ≤ 1048576 }
+    requires room { length draft.old.code + tried_len (H.head (core_of part.now)) (len (core_of part.now))
+        ≤ 1048576 }
     requires nodes { Begins (left nodes.old) (tested_nodes (core_of part.now)) }
-    ensures goes_on { OnOk result ((q : C.Placed) (x : D.Draft) → end ≡ length draft.new.code + length (q (length draft.new.code)) → Adds draft.new x (q (length draft.new.code)) → Adds draft.old x (C.tested_choice (H.head (core_of part.now)) (C.code (address_of layout.now) (core_of part.now)) q (length draft.old.code))) }
-    ensures long { OnOk result (length draft.new.code ≡ length draft.old.code + tried_len (H.head (core_of part.now)) (len (core_of part.now))) }
+    ensures goes_on { OnOk result (GoesOn draft.old draft.new end
+        (C.tested_choice (H.head (core_of part.now)) (code_in layout.now part.now))) }
+    ensures long { OnOk result (length draft.new.code
+        ≡ length draft.old.code + tried_len (H.head (core_of part.now)) (len (core_of part.now))) }
     ensures nodes { OnOk result (Takes nodes.old nodes.new (tested_nodes (core_of part.now))) }
 {
     let size = nodes.size();
@@ -167,9 +169,11 @@ fn emit_many(
     nodes: &mut Nodes,
     body: &Peg,
 ) -> Result<(), NoMemory>
-    requires room { length draft.old.code + many_len (H.lone_set (core_of body.now)) (len (core_of body.now)) ≤ 1048576 }
+    requires room { length draft.old.code + many_len (H.lone_set (core_of body.now)) (len (core_of body.now))
+        ≤ 1048576 }
     requires nodes { Begins (left nodes.old) (nodes_in (core_of body.now)) }
-    ensures code { OnOk result (Adds draft.old draft.new (C.many_code (H.lone_set (core_of body.now)) (C.code (address_of layout.now) (core_of body.now)) (length draft.old.code))) }
+    ensures code { OnOk result (Writes draft.old draft.new
+        (C.many_code (H.lone_set (core_of body.now)) (code_in layout.now body.now))) }
     ensures nodes { OnOk result (Takes nodes.old nodes.new (nodes_in (core_of body.now))) }
 {
     if let Some(set) = lone_set(body) {
@@ -193,7 +197,8 @@ fn emit_not(
 ) -> Result<(), NoMemory>
     requires room { length draft.old.code + not_len (H.lone_set (core_of body.now)) (len (core_of body.now)) ≤ 1048576 }
     requires nodes { Begins (left nodes.old) (nodes_in (core_of body.now)) }
-    ensures code { OnOk result (Adds draft.old draft.new (C.not_code (H.lone_set (core_of body.now)) (C.code (address_of layout.now) (core_of body.now)) (length draft.old.code))) }
+    ensures code { OnOk result (Writes draft.old draft.new
+        (C.not_code (H.lone_set (core_of body.now)) (code_in layout.now body.now))) }
     ensures nodes { OnOk result (Takes nodes.old nodes.new (nodes_in (core_of body.now))) }
 {
     let start = draft.next();
@@ -218,7 +223,7 @@ fn emit_and(
 ) -> Result<(), NoMemory>
     requires room { length draft.old.code + (len (core_of body.now) + 3) ≤ 1048576 }
     requires nodes { Begins (left nodes.old) (nodes_in (core_of body.now)) }
-    ensures code { OnOk result (Adds draft.old draft.new (C.and_code (C.code (address_of layout.now) (core_of body.now)) (length draft.old.code))) }
+    ensures code { OnOk result (Writes draft.old draft.new (C.and_code (code_in layout.now body.now))) }
     ensures nodes { OnOk result (Takes nodes.old nodes.new (nodes_in (core_of body.now))) }
 {
     let fail = draft.next() + 1 + nodes.size() + 1;
@@ -228,7 +233,8 @@ fn emit_and(
     draft.put(Instr::Fail)
 }
 
-/// Writes a look-behind: each length in turn, for which the nodes of the body are taken anew, and then that none fits.
+/// Writes a look-behind: each length in turn, for which the nodes of the body are taken anew, and then that none
+/// fits.
 #[cycle(emit)]
 fn emit_behind(
     alloc: Global,
@@ -243,8 +249,10 @@ fn emit_behind(
     requires room { length draft.old.code + ((most + 1 - least) * (len (core_of body.now) + 3) + 1) ≤ 1048576 }
     requires nodes { Begins (left nodes.old) (behind_nodes (most + 1 - least) (nodes_in (core_of body.now))) }
     requires end { end ≡ length draft.old.code + ((most + 1 - least) * (len (core_of body.now) + 3) + 1) }
-    ensures code { OnOk result (Adds draft.old draft.new (C.behind_code (C.code (address_of layout.now) (core_of body.now)) (most + 1 - least) least (length draft.old.code))) }
-    ensures nodes { OnOk result (Takes nodes.old nodes.new (behind_nodes (most + 1 - least) (nodes_in (core_of body.now)))) }
+    ensures code { OnOk result (Writes draft.old draft.new
+        (C.behind_code (code_in layout.now body.now) (most + 1 - least) least)) }
+    ensures nodes { OnOk result (Takes nodes.old nodes.new
+        (behind_nodes (most + 1 - least) (nodes_in (core_of body.now)))) }
 {
     let start = nodes.next;
     for back in least as u64..most as u64 + 1 {
@@ -267,7 +275,7 @@ fn emit_length(
 ) -> Result<(), NoMemory>
     requires room { length draft.old.code + (len (core_of body.now) + 3) ≤ 1048576 }
     requires nodes { Begins (left nodes.old) (nodes_in (core_of body.now)) }
-    ensures goes_on { OnOk result ((left : ℕ) (x : D.Draft) → Adds draft.new x (C.lengths_code (C.code (address_of layout.now) (core_of body.now)) end left (back + 1) (length draft.new.code)) → Adds draft.old x (C.lengths_code (C.code (address_of layout.now) (core_of body.now)) end (suc left) back (length draft.old.code))) }
+    ensures goes_on { OnOk result (Tries draft.old draft.new (code_in layout.now body.now) end back) }
     ensures long { OnOk result (length draft.new.code ≡ length draft.old.code + (len (core_of body.now) + 3)) }
     ensures nodes { OnOk result (Takes nodes.old nodes.new (nodes_in (core_of body.now))) }
 {
@@ -290,7 +298,7 @@ fn emit_capture(
 ) -> Result<(), NoMemory>
     requires room { length draft.old.code + (len (core_of body.now) + 2) ≤ 1048576 }
     requires nodes { Begins (left nodes.old) (nodes_in (core_of body.now)) }
-    ensures code { OnOk result (Adds draft.old draft.new (I.Open label.now ∷ (C.code (address_of layout.now) (core_of body.now) (length draft.old.code + 1) ++ I.Close ∷ []))) }
+    ensures code { OnOk result (Writes draft.old draft.new (capture_code label.now (code_in layout.now body.now))) }
     ensures nodes { OnOk result (Takes nodes.old nodes.new (nodes_in (core_of body.now))) }
 {
     draft.put_open(alloc, label)?;

@@ -3,7 +3,7 @@ use Rattle.std.proofs.lemmas.List.{drop_all}
 use Rattle.std.specs.Prelude.{OnOk}
 use Rattle.rpl_core.specs.Programs.{calls, calls_any}
 use Rattle.rpl_core.specs.View.{core_of, cores}
-use Rattle.rpl_codegen.specs.Searching.{Marks}
+use Rattle.rpl_codegen.specs.inside.Searching.{Marks}
 use Rattle.rpl_codegen.proofs.Marking.{marks_none, marks_then}
 use Rattle.rpl_codegen.proofs.Parts.{drop_here, seq_core, choice_core}
 use Rattle.rpl_codegen.proofs.reach.+mark.Goals as goal

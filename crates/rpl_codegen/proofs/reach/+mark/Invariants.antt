@@ -1,7 +1,7 @@
 use Rattle.std.proofs.Common.{drop}
 use Rattle.rpl_core.specs.Programs.{calls_any}
 use Rattle.rpl_core.specs.View.{cores}
-use Rattle.rpl_codegen.specs.Searching.{Marks}
+use Rattle.rpl_codegen.specs.inside.Searching.{Marks}
 use Rattle.rpl_codegen.specs.declared.reach.Search.{Search}
 use Rattle.rpl_codegen.proofs.reach.+mark.Given as goal
 

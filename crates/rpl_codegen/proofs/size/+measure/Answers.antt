@@ -4,9 +4,9 @@ use Rattle.std.specs.Prelude.{Bool, true, false, ◌&&◌, ◌++◌, if◌then�
 use Rattle.rpl_classes.specs.Norm.{norm}
 use Rattle.rpl_core.specs.Head as H
 use Rattle.rpl_core.specs.View.{core_of, cores}
-use Rattle.rpl_codegen.specs.Gathered.{Gathers}
-use Rattle.rpl_codegen.specs.Nodes.{choice_nodes, inner_nodes, tested_nodes}
-use Rattle.rpl_codegen.specs.Sizes.{capped_len, len}
+use Rattle.rpl_codegen.specs.inside.Gathered.{Gathers}
+use Rattle.rpl_codegen.specs.inside.Nodes.{choice_nodes, inner_nodes, tested_nodes}
+use Rattle.rpl_codegen.specs.inside.Sizes.{capped_len, len}
 use Rattle.rpl_codegen.proofs.Gathering.{gathers_joined, gathers_last, gathers_set, gathers_then, joined_head}
 use Rattle.rpl_codegen.proofs.Parts.{drop_here, drop_last, seq_core, choice_core, len_first_here, tried_is, and_assoc}
 use Rattle.rpl_codegen.proofs.Taking.{filled, listed_turn, tried_here}

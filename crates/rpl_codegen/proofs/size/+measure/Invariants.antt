@@ -4,9 +4,9 @@ use Rattle.regex_class.specs.Ranges.{Range}
 use Rattle.rpl_classes.specs.Norm.{norm}
 use Rattle.rpl_core.specs.Head as H
 use Rattle.rpl_core.specs.View.{cores}
-use Rattle.rpl_codegen.specs.Gathered.{Gathers}
-use Rattle.rpl_codegen.specs.Nodes.{choice_nodes, parts_nodes}
-use Rattle.rpl_codegen.specs.Sizes.{len_all, len_first}
+use Rattle.rpl_codegen.specs.inside.Gathered.{Gathers}
+use Rattle.rpl_codegen.specs.inside.Nodes.{choice_nodes, parts_nodes}
+use Rattle.rpl_codegen.specs.inside.Sizes.{len_all, len_first}
 use Rattle.rpl_codegen.proofs.size.+measure.Given as goal
 
 abbrev pub invariant-measure_all-loop-number : goal.invariant-measure_all-loop-number

@@ -4,12 +4,12 @@ use Rattle.rpl_core.specs.Numbers.{AreInRange}
 use Rattle.rpl_core.specs.Programs.{program}
 use Rattle.rpl_core.specs.Table.{bodies_of}
 use Rattle.rpl_core.specs.View.{core_of}
-use Rattle.rpl_codegen.specs.Laid.{LaysOut, bodies_nodes}
-use Rattle.rpl_codegen.specs.Marked.{marked}
-use Rattle.rpl_codegen.specs.Nodes.{nodes_in}
-use Rattle.rpl_codegen.specs.Taken.{left}
-use Rattle.rpl_codegen.specs.Uses.{sets_in, labels_in}
-use Rattle.rpl_codegen.specs.Written.{address_of}
+use Rattle.rpl_codegen.specs.inside.Laid.{LaysOut, bodies_nodes}
+use Rattle.rpl_codegen.specs.inside.Marked.{marked}
+use Rattle.rpl_codegen.specs.inside.Nodes.{nodes_in}
+use Rattle.rpl_codegen.specs.inside.Taken.{left}
+use Rattle.rpl_draft.specs.Uses.{sets_in, labels_in}
+use Rattle.rpl_codegen.specs.inside.Written.{address_of}
 use Rattle.rpl_codegen.proofs.Finish.{compiled, finished, is_code, program_means, kept}
 use Rattle.rpl_codegen.proofs.Jumps.{program_length}
 use Rattle.rpl_codegen.proofs.Lengths.{code_length}

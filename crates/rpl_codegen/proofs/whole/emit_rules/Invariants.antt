@@ -2,11 +2,12 @@ use Rattle.std.proofs.Common.{◌≤◌, ◌+◌, length, drop}
 use Rattle.rpl_core.specs.Listed.{rules_of}
 use Rattle.rpl_core.specs.Programs.{bodies}
 use Rattle.rpl_core.specs.Table.{bodies_of}
-use Rattle.rpl_codegen.specs.declared.draft.Draft.{Draft}
-use Rattle.rpl_codegen.specs.Laid.{bodies_len, bodies_nodes}
-use Rattle.rpl_codegen.specs.Marked.{marked}
-use Rattle.rpl_codegen.specs.Taken.{Begins, left}
-use Rattle.rpl_codegen.specs.Written.{Adds, address_of}
+use Rattle.rpl_draft.specs.declared.draft.Draft.{Draft}
+use Rattle.rpl_codegen.specs.inside.Laid.{bodies_len, bodies_nodes}
+use Rattle.rpl_codegen.specs.inside.Marked.{marked}
+use Rattle.rpl_codegen.specs.inside.Taken.{Begins, left}
+use Rattle.rpl_draft.specs.Written.{Adds}
+use Rattle.rpl_codegen.specs.inside.Written.{address_of}
 use Rattle.rpl_codegen.proofs.whole.emit_rules.Given as goal
 
 abbrev pub invariant-loop-number : goal.invariant-loop-number

@@ -7,13 +7,14 @@ use Rattle.rpl_core.specs.Head as H
 use Rattle.rpl_core.specs.Instr as I
 use Rattle.rpl_core.specs.View.{core_of, cores, listed}
 use Rattle.rpl_core.proofs.Rows.{seq_view, choice_view}
-use Rattle.rpl_codegen.specs.Sizes.{len, len_all, len_first, many_len, not_len}
-use Rattle.rpl_codegen.specs.Nodes.{behind_nodes, choice_nodes, inner_nodes, nodes_in, parts_nodes, tested_nodes}
-use Rattle.rpl_codegen.specs.Taken.{Begins, head_at, left, size_at}
-use Rattle.rpl_codegen.specs.Written.{Adds, address_of, test_code}
-use Rattle.rpl_codegen.specs.declared.draft.Draft.{Draft}
+use Rattle.rpl_codegen.specs.inside.Sizes.{len, len_all, len_first, many_len, not_len}
+use Rattle.rpl_codegen.specs.inside.Nodes.{behind_nodes, choice_nodes, inner_nodes, nodes_in, parts_nodes, tested_nodes}
+use Rattle.rpl_codegen.specs.inside.Taken.{Begins, head_at, left, size_at}
+use Rattle.rpl_draft.specs.Written.{Adds}
+use Rattle.rpl_codegen.specs.inside.Written.{address_of, test_code}
+use Rattle.rpl_draft.specs.declared.draft.Draft.{Draft}
 use Rattle.rpl_codegen.specs.declared.size.Node.{Node}
-use Rattle.rpl_codegen.proofs.Adding.{adds_then}
+use Rattle.rpl_draft.proofs.Adding.{adds_then}
 use Rattle.rpl_codegen.proofs.Lengths.{code_length, first_length}
 use Rattle.rpl_codegen.proofs.Parts.{drop_here, len_first_here, code_first_here, drop_last, no_parts, part_of}
 use Rattle.rpl_codegen.proofs.Pieces.{on_ok, piece_loop, piece_refuse, piece_and, piece_capture, piece_choice, piece_length, piece_tried, test_length, behind_end, room_turn}

@@ -6,10 +6,10 @@ use Rattle.rpl_core.specs.Listed.{rules_of}
 use Rattle.rpl_core.specs.Programs.{place_of}
 use Rattle.rpl_core.specs.Table.{bodies_of}
 use Rattle.rpl_core.specs.View.{core_of}
-use Rattle.rpl_codegen.specs.Laid.{bodies_nodes, rule_nodes, whole_len}
-use Rattle.rpl_codegen.specs.Marked.{marked}
-use Rattle.rpl_codegen.specs.Sizes.{len}
-use Rattle.rpl_codegen.specs.Nodes.{nodes_in}
+use Rattle.rpl_codegen.specs.inside.Laid.{bodies_nodes, rule_nodes, whole_len}
+use Rattle.rpl_codegen.specs.inside.Marked.{marked}
+use Rattle.rpl_codegen.specs.inside.Sizes.{len}
+use Rattle.rpl_codegen.specs.inside.Nodes.{nodes_in}
 use Rattle.rpl_codegen.proofs.Layouts.{place_zero, place_turn, place_end, place_past, place_within, addresses_are, addresses_more}
 use Rattle.rpl_codegen.proofs.Lengths.{size_is}
 use Rattle.rpl_codegen.proofs.Taking.{append_nil, nodes_here, listed_turn}

@@ -1,6 +1,0 @@
-use Rattle.std.proofs.Common.{◌≡◌, take}
-use Rattle.std.specs.Prelude.{map}
-use Rattle.rpl_codegen.proofs.tables.LabelTable.labels.Given as goal
-
-abbrev pub invariant-loop-characters : goal.invariant-loop-characters
-invariant-loop-characters l = l.labels ≡ map (λ v. v.items) (take l.characters-index l.characters-items)

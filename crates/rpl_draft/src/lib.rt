@@ -1,0 +1,12 @@
+//! Code while it is written: instructions in order, with each set and each text that they name kept once.
+//!
+//! It is for whoever makes a program: the compiler, and the reader and writer of code files. The tables find a set or
+//! a text by its hash, and number them in the order of their first uses, so that each code has one program.
+#![tactic(auto)]
+
+mod draft;
+mod tables;
+
+pub use draft::Draft;
+pub use rpl_core::NoMemory;
+pub use tables::{LabelTable, SetTable};
