@@ -15,5 +15,6 @@ pub mod Outlined
 pub mod Reached
 pub mod Modules
 pub mod Told
+pub mod Bodies
 pub mod Roles
 pub mod Shallow

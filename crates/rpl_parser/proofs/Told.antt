@@ -19,7 +19,7 @@ use Rattle.rpl_syntax.specs.declared.token.Token.TheVariants as T
 use Rattle.rpl_syntax.specs.Expression.{Expr}
 use Rattle.rpl_syntax.specs.Grammar.{Reads}
 use Rattle.rpl_syntax.specs.Printed.{printed}
-use Rattle.rpl_syntax.specs.Printing.{plain}
+use Rattle.rpl_syntax.specs.Braces.{again, plain}
 use Rattle.rpl_syntax.specs.Texts.{Allowed, Says, Say, IsReadAs, HasFewTokens}
 use Rattle.rpl_syntax.proofs.Back.{printed_reads_back}
 use Rattle.rpl_syntax.proofs.Held.{read_held}
@@ -120,7 +120,7 @@ or_none : (a b : Option ParseFault) → or_then a b ≡ None → (a ≡ None) ×
 or_none None b h = (refl, h)
 or_none (Some f) b h = absurd (cc)
 
-all_said : (s : List ℕ) (ts : List Token) → first_bad s ts ≡ None → Say s ts (tokens_of s ts)
+pub all_said : (s : List ℕ) (ts : List Token) → first_bad s ts ≡ None → Say s ts (tokens_of s ts)
 all_said s [] h = refl
 all_said s (t ∷ ts) h =
     let p = or_none (fault_by t.kind s t) (first_bad s ts) h in
@@ -144,7 +144,7 @@ read_pattern s ts x c d h =
 
 -- what is printed of a pattern is that pattern again
 pub printed_again : (s : List ℕ) (ts us : List Token) (x : Expr) → IsUtf8 s → IsCut s ts → IsPattern s ts x → HasFewTokens x → IsCut (encode_utf8_all (printed x)) us → too_deep (encode_utf8_all (printed x)) ground_level us ≡ None
-    → (y : Expr) × IsPattern (encode_utf8_all (printed x)) us y × (plain y ≡ plain x)
+    → (y : Expr) × IsPattern (encode_utf8_all (printed x)) us y × (plain y ≡ plain (again x))
 printed_again s ts us x u c h few d shallow =
     let w = read_held s x u (pattern_read s ts x c h) in
     let b = printed_reads_back x w.0 w.1 few in

@@ -10,5 +10,6 @@ pub mod Pieces
 pub mod Walks
 pub mod Order
 pub mod ModuleFaults
+pub mod Bodies
 pub mod Walked
 pub mod inside

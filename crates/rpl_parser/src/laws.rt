@@ -5,9 +5,10 @@ ghost use Rattle.rpl_lexer.specs.declared.token.Token.{Token as Lexeme};
 ghost use Rattle.rpl_syntax.specs.Expression.{Expr};
 ghost use Rattle.rpl_syntax.specs.Modules.{Said};
 ghost use Rattle.rpl_syntax.specs.Printed.{printed};
-ghost use Rattle.rpl_syntax.specs.Printing.{plain};
+ghost use Rattle.rpl_syntax.specs.Braces.{again, plain};
 ghost use Rattle.rpl_syntax.specs.Texts.{IsReadAs, HasFewTokens};
 ghost use Rattle.rpl_syntax.specs.declared.token.Token.{Token};
+ghost use Rattle.rpl_parser.specs.Bodies.{BodiesWritten};
 ghost use Rattle.rpl_parser.specs.Levels.{ground_level, too_deep};
 ghost use Rattle.rpl_parser.specs.Lines.{line_of};
 ghost use Rattle.rpl_parser.specs.ModuleFaults.{IsModuleFault};
@@ -20,22 +21,34 @@ ghost use Rattle.rpl_parser.specs.declared.fault.ParseFault.{ParseFault};
 
 /// The tokens of a text have one answer as a pattern: an expression, or a first fault.
 pub fn one_pattern()
-    ensures either { (s : List ℕ) (ts : List Lexeme) → ((x : Expr) × IsPattern s ts x) ⊎ ((f : ParseFault) × IsPatternFault s ts f) }
+    ensures either { (s : List ℕ) (ts : List Lexeme) →
+        ((x : Expr) × IsPattern s ts x) ⊎ ((f : ParseFault) × IsPatternFault s ts f) }
     ensures only { (s : List ℕ) (ts : List Lexeme) (x y : Expr) → IsPattern s ts x → IsPattern s ts y → x ≡ y }
-    ensures apart { (s : List ℕ) (ts : List Lexeme) (x : Expr) (f : ParseFault) → IsPattern s ts x → IsPatternFault s ts f → ⊥ }
-    ensures first { (s : List ℕ) (ts : List Lexeme) (f g : ParseFault) → IsPatternFault s ts f → IsPatternFault s ts g → f ≡ g }
+    ensures apart { (s : List ℕ) (ts : List Lexeme) (x : Expr) (f : ParseFault) →
+        IsPattern s ts x → IsPatternFault s ts f → ⊥ }
+    ensures first { (s : List ℕ) (ts : List Lexeme) (f g : ParseFault) →
+        IsPatternFault s ts f → IsPatternFault s ts g → f ≡ g }
 {}
 
 /// A pattern is what its text is read as; and a text that isn't nested too deep is the pattern that it is read as.
 pub fn patterns_are_readings()
     ensures read { (s : List ℕ) (ts : List Lexeme) (x : Expr) → IsCut s ts → IsPattern s ts x → IsReadAs s x }
-    ensures pattern { (s : List ℕ) (ts : List Lexeme) (x : Expr) → IsCut s ts → too_deep s ground_level ts ≡ None → IsReadAs s x → IsPattern s ts x }
+    ensures pattern { (s : List ℕ) (ts : List Lexeme) (x : Expr) →
+        IsCut s ts → too_deep s ground_level ts ≡ None → IsReadAs s x → IsPattern s ts x }
 {}
 
-/// What is printed of a pattern is that pattern again, where it isn't nested too deep: up to the places of names and up to
-/// taking a raw group of one item as that item.
+/// What is printed of a pattern is that pattern with the braces that printing adds, where it isn't nested too deep; but
+/// for the places of names, nothing else changes.
 pub fn printed_again()
-    ensures { (s : List ℕ) (ts us : List Lexeme) (x : Expr) → IsUtf8 s → IsCut s ts → IsPattern s ts x → HasFewTokens x → IsCut (encode_utf8_all (printed x)) us → too_deep (encode_utf8_all (printed x)) ground_level us ≡ None → (y : Expr) × IsPattern (encode_utf8_all (printed x)) us y × (plain y ≡ plain x) }
+    ensures { (s : List ℕ) (ts us : List Lexeme) (x : Expr) → IsUtf8 s → IsCut s ts → IsPattern s ts x → HasFewTokens x →
+        IsCut (encode_utf8_all (printed x)) us → too_deep (encode_utf8_all (printed x)) ground_level us ≡ None →
+        (y : Expr) × IsPattern (encode_utf8_all (printed x)) us y × (plain y ≡ plain (again x)) }
+{}
+
+/// The body of each rule of a module can be written, as what a whole text is read as.
+pub fn bodies_can_be_written()
+    ensures { (s : List ℕ) (ts : List Lexeme) (m : Said) →
+        IsUtf8 s → IsCut s ts → IsModule s ts m → BodiesWritten m.items }
 {}
 
 /// No tokens are a spelling of two statements, and reading from left to right finds what they spell.

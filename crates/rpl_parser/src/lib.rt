@@ -23,7 +23,9 @@ mod tests;
 mod walk;
 
 pub use fault::{ParseFault, ParseKind};
-pub use laws::{one_line, one_module, one_pattern, patterns_are_readings, printed_again};
+pub use laws::{
+    bodies_can_be_written, one_line, one_module, one_pattern, patterns_are_readings, printed_again,
+};
 pub use pattern::parse_pattern;
 pub use rpl_text::NoMemory;
 pub use statements::parse_module;

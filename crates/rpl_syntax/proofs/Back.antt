@@ -4,7 +4,8 @@ use Rattle.std.specs.Prelude.{false, encode_utf8_all}
 use Rattle.rpl_syntax.specs.Expression.{Expr, Text, Class, Any, Start, End, Boundary, Name, Cooked, Raw, Choice, Both, Prefix, Repeat, Macro, Marked, Note, Exprs, Nil, Cons, joined}
 use Rattle.rpl_syntax.specs.Grammar.{Item, Signed, Applied, Plain, Times, content, spell_exp, Reads}
 use Rattle.rpl_syntax.specs.Printed.{printed}
-use Rattle.rpl_syntax.specs.Printing.{named, body_of, quant_of, item_tree, exp_tree, seq_tree, choice_tree, Good}
+use Rattle.rpl_syntax.specs.Trees.{named, body_of, quant_of, item_tree, exp_tree, seq_tree, choice_tree}
+use Rattle.rpl_syntax.specs.Readable.{Good}
 use Rattle.rpl_syntax.specs.Texts.{Allowed, ReadsBack, HasFewTokens, AreNames, Writable, Writable_all}
 use Rattle.rpl_lexer.proofs.Spans.{drop_zero}
 use Rattle.rpl_syntax.proofs.Printing.{same}

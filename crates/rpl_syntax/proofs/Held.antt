@@ -1,12 +1,12 @@
 -- An expression that a text is read as can be written.
-use Rattle.std.proofs.Common.{ℕ, List, [], ◌∷◌, sym, subst, arith}
+use Rattle.std.proofs.Common.{ℕ, List, [], ◌∷◌, refl, sym, subst, arith}
 use Rattle.std.specs.Prelude.{Bool, true, false, IsUtf8}
 use Rattle.rpl_lexer.specs.declared.punct.Punct.TheVariants.{Slash, Ampersand}
 use Rattle.rpl_syntax.specs.declared.token.Token.{Token}
 use Rattle.rpl_syntax.specs.declared.token.Token.TheVariants as T
 use Rattle.rpl_syntax.specs.Expression.{Expr, Exprs, Nil, Cons, wrapped, joined, chosen}
 use Rattle.rpl_syntax.specs.Grammar.{Leaf, TextLeaf, ClassLeaf, NameLeaf, QualifiedLeaf, AnyLeaf, StartLeaf, EndLeaf, BoundaryLeaf, Quant, StarQuant, PlusQuant, QuestionQuant, BoundsQuant, Exp, Last, Or, And, Seq, Single, More, Item, Signed, Applied, Plain, Times, Atom, One, Group, leaf_token, quant_token, closer, spell_exp, spell_seq, spell_item, spell_atom, leaf_expr, times, content, parts, items, item_expr, atom_expr}
-use Rattle.rpl_syntax.specs.Printing.{Good}
+use Rattle.rpl_syntax.specs.Readable.{Good}
 use Rattle.rpl_syntax.specs.Texts.{IsReadAs, Writable, Writable_all}
 use Rattle.rpl_syntax.proofs.Printing.{reads_good}
 use Rattle.rpl_syntax.proofs.Said.{Fit_token, All_fit, tokens_fit}
@@ -99,8 +99,11 @@ mutual
   atom_held (One l) ts h = record { here = leaf_held l h.0; behind = h.1 }
   atom_held (Group raw e) ts h = let k = exp_held e (T.Sign (closer raw) ∷ ts) h.1 in record { here = wrapped_held raw (content raw e) (k.here raw); behind = k.behind.1 }
 
+-- a tree whose tokens can be written
+pub tree_held : (e : Exp) → All_fit (spell_exp e []) → Good (joined false (content false e)) × Writable (joined false (content false e))
+tree_held e f = (reads_good (spell_exp e []) (joined false (content false e)) (record { tree = e; spelled = refl; stands_for = refl }), joined_held false (content false e) ((exp_held e [] f).here false))
+
 pub read_held : (s : List ℕ) (x : Expr) → IsUtf8 s → IsReadAs s x → Good x × Writable x
 read_held s x u h =
-    let t = h.reads.tree in
     let f = subst All_fit h.reads.spelled (tokens_fit s 0 0 h.lexemes h.tokens u h.cut h.say) in
-    (reads_good h.tokens x h.reads, subst Writable (sym h.reads.stands_for) (joined_held false (content false t) ((exp_held t [] f).here false)))
+    subst (λ y. Good y × Writable y) (sym h.reads.stands_for) (tree_held h.reads.tree f)

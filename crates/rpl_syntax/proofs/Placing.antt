@@ -7,7 +7,7 @@ use Rattle.rpl_syntax.specs.declared.token.Token.TheVariants as T
 use Rattle.rpl_syntax.specs.Expression.{Expr, Exprs, one, wrapped, joined, chosen, Nil, Cons}
 use Rattle.rpl_syntax.specs.Expression as M
 use Rattle.rpl_syntax.specs.Grammar.{Leaf, TextLeaf, ClassLeaf, NameLeaf, QualifiedLeaf, AnyLeaf, StartLeaf, EndLeaf, BoundaryLeaf, Quant, StarQuant, PlusQuant, QuestionQuant, BoundsQuant, Exp, Last, Or, And, Seq, Single, More, Item, Signed, Applied, Plain, Times, Atom, One, Group, leaf_token, quant_token, sign_mark, opener, closer, spell_exp, spell_seq, spell_item, spell_atom, leaf_expr, times, content, parts, items, item_expr, atom_expr}
-use Rattle.rpl_syntax.specs.Printing.{plain, plain_all, raw_of}
+use Rattle.rpl_syntax.specs.Braces.{plain, plain_all}
 
 -- u is the token t, but for the place of a name
 abbrev pub Alike : Token → Token → Type 0
@@ -44,7 +44,7 @@ chosen_same : (xs ys : Exprs) → plain_all xs ≡ plain_all ys → plain (chose
 chosen_same xs ys e = chosen_plain xs ∙ (ap chosen e ∙ sym (chosen_plain ys))
 
 wrapped_same : (raw : Bool) (xs ys : Exprs) → plain_all xs ≡ plain_all ys → plain (wrapped raw xs) ≡ plain (wrapped raw ys)
-wrapped_same true xs ys e = ap raw_of e
+wrapped_same true xs ys e = ap M.Raw e
 wrapped_same false xs ys e = ap M.Cooked e
 
 cons_same : (p q : Expr) (xs ys : Exprs) → plain p ≡ plain q → plain_all xs ≡ plain_all ys → plain_all (Cons p xs) ≡ plain_all (Cons q ys)

@@ -1,11 +1,14 @@
--- What is printed is read as the same expression.
+-- What is printed is read as the expression that `again` tells.
 use Rattle.std.proofs.Common.{◌≡◌, ℕ, zero, suc, List, [], Option, Some, None, refl, sym, ap, ◌∙◌, subst}
 use Rattle.std.specs.Prelude.{Bool, true, false}
 use Rattle.rpl_syntax.specs.Expression.{Expr, Text, Class, Any, Start, End, Boundary, Name, Cooked, Raw, Choice, Both, Prefix, Repeat, Macro, Marked, Note, Exprs, Nil, Cons, one, joined, chosen, wrapped}
 use Rattle.rpl_syntax.specs.declared.name.QName.{QName}
 use Rattle.rpl_syntax.specs.declared.token.Token.{Token}
 use Rattle.rpl_syntax.specs.Grammar.{TextLeaf, ClassLeaf, NameLeaf, QualifiedLeaf, AnyLeaf, StartLeaf, EndLeaf, BoundaryLeaf, StarQuant, PlusQuant, QuestionQuant, BoundsQuant, Quant, Exp, Last, Or, And, Seq, Single, More, Item, Signed, Applied, Plain, Times, Atom, One, Group, times, content, parts, items, item_expr, atom_expr, Reads, spell_exp}
-use Rattle.rpl_syntax.specs.Printing.{named, unplaced, body_of, quant_of, item_tree, exp_tree, seq_tree, choice_tree, raw_of, plain, plain_all, is_choice, Good, Good_items, Good_choice, Good_parts}
+use Rattle.rpl_syntax.specs.Printed.{is_joined, is_compound}
+use Rattle.rpl_syntax.specs.Trees.{named, body_of, quant_of, item_tree, exp_tree, seq_tree, choice_tree}
+use Rattle.rpl_syntax.specs.Braces.{grouped, again, items_again, parts_again, unplaced, plain, plain_all}
+use Rattle.rpl_syntax.specs.Readable.{is_choice, Good, Good_items, Good_choice, Good_parts}
 
 abbrev unprefixed_as : (prefix : Option (List ℕ)) (name : List ℕ) → QName
 unprefixed_as o n = record { prefix = o; name = n; at = 0 }
@@ -20,22 +23,10 @@ times_of zero (Some (suc (suc m))) p = refl
 times_of (suc zero) (Some m) p = refl
 times_of (suc (suc l)) (Some m) p = refl
 
-times_plain : (q : Quant) (x y : Expr) → plain x ≡ plain y → plain (times q x) ≡ plain (times q y)
-times_plain StarQuant x y e = ap (λ z. Repeat z 0 None) e
-times_plain PlusQuant x y e = ap (λ z. Repeat z 1 None) e
-times_plain QuestionQuant x y e = ap (λ z. Repeat z 0 (Some 1)) e
-times_plain (BoundsQuant l m) x y e = ap (λ z. Repeat z l m) e
-
 -- a name alone
 named_same : (o : Option (List ℕ)) (n : List ℕ) → plain (atom_expr (One (named o n))) ≡ Name (unprefixed_as o n)
 named_same None n = refl
 named_same (Some p) n = refl
-
-body_same : (i : Item) → plain (atom_expr (body_of i)) ≡ plain (item_expr i)
-body_same (Plain a) = refl
-body_same (Signed s i) = refl
-body_same (Applied n at i) = refl
-body_same (Times a q) = refl
 
 chosen_plain : (y : Expr) (ps rest : Exprs) (q : Expr) → plain_all ps ≡ Cons q rest → plain (chosen (Cons y ps)) ≡ Choice (Cons (plain y) (plain_all ps))
 chosen_plain y Nil rest q e = absurd (cc e)
@@ -59,63 +50,77 @@ last_parts (Macro q p) raw e = refl
 last_parts (Marked m p) raw e = refl
 last_parts (Note s) raw e = refl
 
--- the same as an item, and as a whole
+-- something is the last of the parts
+parts_some : (q : Expr) (rest : Exprs) → (y : Expr) × (ys : Exprs) × (plain_all (parts_again (Cons q rest)) ≡ Cons y ys)
+parts_some q Nil = (plain (again q), Nil, refl)
+parts_some q (Cons r rest) = (plain (grouped (is_joined q) (again q)), plain_all (parts_again (Cons r rest)), refl)
+
+both_is : {a b x y : Expr} → a ≡ x → b ≡ y → Both a b ≡ Both x y
+both_is {a} {b} {x} {y} e f = ap (λ z. Both z b) e ∙ ap (Both x) f
+
+chosen_is : (p q : Expr) (rest ys : Exprs) (y : Expr) → plain y ≡ plain (grouped (is_joined p) (again p)) → plain_all ys ≡ plain_all (parts_again (Cons q rest)) → plain (chosen (Cons y ys)) ≡ Choice (plain_all (parts_again (Cons p (Cons q rest))))
+chosen_is p q rest ys y e k =
+    let n = parts_some q rest in
+    chosen_plain y ys n.1 n.0 (k ∙ n.2)
+    ∙ (ap (λ z. Choice (Cons z (plain_all ys))) e ∙ ap (λ zs. Choice (Cons (plain (grouped (is_joined p) (again p))) zs)) k)
+
+-- read again as an item, as a whole and as the body of a quantifier
 pub record Same (x : Expr) (raw : Bool) : Type 0 where
-  pub item : plain (item_expr (item_tree x)) ≡ plain x
-  pub whole : plain (joined raw (content raw (exp_tree x))) ≡ plain x
+  pub item : plain (item_expr (item_tree x)) ≡ plain (grouped (is_joined x) (again x))
+  pub whole : plain (joined raw (content raw (exp_tree x))) ≡ plain (again x)
+  pub body : plain (atom_expr (body_of (item_tree x))) ≡ plain (grouped (is_compound x) (again x))
+
+abbrev group_of : Expr → Expr
+group_of y = Raw (one y)
 
 mutual
   pub same : (x : Expr) → Good x → (raw : Bool) → Same x raw
-  same (Text s) g raw = record { item = refl; whole = refl }
-  same (Class s negated) g raw = record { item = refl; whole = refl }
-  same Any g raw = record { item = refl; whole = refl }
-  same Start g raw = record { item = refl; whole = refl }
-  same End g raw = record { item = refl; whole = refl }
-  same Boundary g raw = record { item = refl; whole = refl }
-  same (Name q) g raw = let e = named_same q.prefix q.name in record { item = e; whole = e }
-  same (Cooked ps) g raw = let e = ap Cooked (same_items ps g) in record { item = e; whole = e }
-  same (Raw ps) g raw = let e = ap raw_of (same_items ps g) in record { item = e; whole = e }
-  same (Choice ps) g raw = record { item = ap raw_of (same_choice ps g true); whole = same_joined ps g raw }
+  same (Text s) g raw = record { item = refl; whole = refl; body = refl }
+  same (Class s negated) g raw = record { item = refl; whole = refl; body = refl }
+  same Any g raw = record { item = refl; whole = refl; body = refl }
+  same Start g raw = record { item = refl; whole = refl; body = refl }
+  same End g raw = record { item = refl; whole = refl; body = refl }
+  same Boundary g raw = record { item = refl; whole = refl; body = refl }
+  same (Name q) g raw = let e = named_same q.prefix q.name in record { item = e; whole = e; body = e }
+  same (Cooked ps) g raw = let e = ap Cooked (same_items ps g) in record { item = e; whole = e; body = e }
+  same (Raw ps) g raw = let e = ap Raw (same_items ps g) in record { item = e; whole = e; body = e }
+  same (Choice ps) g raw = let e = ap Raw (same_choice ps g true) in record { item = e; whole = same_joined ps g raw; body = e }
   same (Both p q) g raw =
-      record {
-        item = ap (λ y. Both y (plain (joined true (content true (exp_tree q))))) (same p g.0 true).item ∙ ap (Both (plain p)) (same q g.1 true).whole;
-        whole = ap (λ y. Both y (plain (joined raw (content raw (exp_tree q))))) (same p g.0 raw).item ∙ ap (Both (plain p)) (same q g.1 raw).whole;
-      }
-  same (Prefix s p) g raw = let e = ap (Prefix s) (same p g raw).item in record { item = e; whole = e }
+      let e = ap group_of (both_is (same p g.0 true).item (same q g.1 true).whole) in
+      record { item = e; whole = both_is (same p g.0 raw).item (same q g.1 raw).whole; body = e }
+  same (Prefix s p) g raw = let e = ap (Prefix s) (same p g raw).item in record { item = e; whole = e; body = ap group_of e }
   same (Repeat p l m) g raw =
-      let e = times_plain (quant_of l m) (atom_expr (body_of (item_tree p))) p (body_same (item_tree p) ∙ (same p g raw).item) ∙ ap plain (times_of l m p) in
-      record { item = e; whole = e }
+      let e = ap plain (times_of l m (atom_expr (body_of (item_tree p)))) ∙ ap (λ z. Repeat z l m) (same p g raw).body in
+      record { item = e; whole = e; body = ap group_of e }
   same (Macro q p) g raw =
       let e = ap (λ o. Macro (unprefixed_as o q.name) (plain (item_expr (item_tree p)))) (sym g.0) ∙ ap (Macro (unplaced q)) (same p g.1 raw).item in
-      record { item = e; whole = e }
+      record { item = e; whole = e; body = ap group_of e }
   same (Marked m p) g raw = absurd g
   same (Note s) g raw = absurd g
 
-  same_items : (ps : Exprs) → Good_items ps → plain_all (items (seq_tree ps)) ≡ plain_all ps
+  same_items : (ps : Exprs) → Good_items ps → plain_all (items (seq_tree ps)) ≡ plain_all (items_again ps)
   same_items Nil g = absurd g
   same_items (Cons p Nil) g = ap one (same p g true).item
   same_items (Cons p (Cons q rest)) g =
-      ap (λ y. Cons y (plain_all (items (seq_tree (Cons q rest))))) (same p g.0 true).item ∙ ap (Cons (plain p)) (same_items (Cons q rest) g.1)
+      ap (λ y. Cons y (plain_all (items (seq_tree (Cons q rest))))) (same p g.0 true).item
+      ∙ ap (Cons (plain (grouped (is_joined p) (again p)))) (same_items (Cons q rest) g.1)
 
-  same_parts : (ps : Exprs) → Good_parts ps → (raw : Bool) → plain_all (parts raw (choice_tree ps)) ≡ plain_all ps
+  same_parts : (ps : Exprs) → Good_parts ps → (raw : Bool) → plain_all (parts raw (choice_tree ps)) ≡ plain_all (parts_again ps)
   same_parts Nil g raw = absurd g
   same_parts (Cons p Nil) g raw = ap plain_all (last_parts p raw g.1) ∙ ap one (same p g.0 raw).whole
   same_parts (Cons p (Cons q rest)) g raw =
-      ap (λ y. Cons y (plain_all (parts raw (choice_tree (Cons q rest))))) (same p g.0 raw).item ∙ ap (Cons (plain p)) (same_parts (Cons q rest) g.1 raw)
+      ap (λ y. Cons y (plain_all (parts raw (choice_tree (Cons q rest))))) (same p g.0 raw).item
+      ∙ ap (Cons (plain (grouped (is_joined p) (again p)))) (same_parts (Cons q rest) g.1 raw)
 
-  same_choice : (ps : Exprs) → Good_choice ps → (raw : Bool) → plain_all (content raw (choice_tree ps)) ≡ one (Choice (plain_all ps))
+  same_choice : (ps : Exprs) → Good_choice ps → (raw : Bool) → plain_all (content raw (choice_tree ps)) ≡ one (Choice (plain_all (parts_again ps)))
   same_choice Nil g raw = absurd g
   same_choice (Cons p Nil) g raw = absurd g
-  same_choice (Cons p (Cons q rest)) g raw =
-      let k = same_parts (Cons q rest) g.1 raw in
-      ap one (chosen_plain (item_expr (item_tree p)) (parts raw (choice_tree (Cons q rest))) (plain_all rest) (plain q) k ∙ (ap (λ y. Choice (Cons y (plain_all (parts raw (choice_tree (Cons q rest)))))) (same p g.0 raw).item ∙ ap (λ ys. Choice (Cons (plain p) ys)) k))
+  same_choice (Cons p (Cons q rest)) g raw = ap one (chosen_is p q rest (parts raw (choice_tree (Cons q rest))) (item_expr (item_tree p)) (same p g.0 raw).item (same_parts (Cons q rest) g.1 raw))
 
-  same_joined : (ps : Exprs) → Good_choice ps → (raw : Bool) → plain (joined raw (content raw (choice_tree ps))) ≡ Choice (plain_all ps)
+  same_joined : (ps : Exprs) → Good_choice ps → (raw : Bool) → plain (joined raw (content raw (choice_tree ps))) ≡ Choice (plain_all (parts_again ps))
   same_joined Nil g raw = absurd g
   same_joined (Cons p Nil) g raw = absurd g
-  same_joined (Cons p (Cons q rest)) g raw =
-      let k = same_parts (Cons q rest) g.1 raw in
-      chosen_plain (item_expr (item_tree p)) (parts raw (choice_tree (Cons q rest))) (plain_all rest) (plain q) k ∙ (ap (λ y. Choice (Cons y (plain_all (parts raw (choice_tree (Cons q rest)))))) (same p g.0 raw).item ∙ ap (λ ys. Choice (Cons (plain p) ys)) k)
+  same_joined (Cons p (Cons q rest)) g raw = chosen_is p q rest (parts raw (choice_tree (Cons q rest))) (item_expr (item_tree p)) (same p g.0 raw).item (same_parts (Cons q rest) g.1 raw)
 
 -- ---- what is read is good
 
@@ -213,8 +218,8 @@ mutual
 pub reads_good : (p : List Token) (x : Expr) → Reads p x → Good x
 reads_good p x h = subst Good (sym h.stands_for) (good_joined false (content false h.tree) (good_content false h.tree))
 
--- an expression that some tokens spell is spelled by the tokens of its print, up to raw groups of one item
-pub reads_back : (p : List Token) (x : Expr) → Reads p x → (y : Expr) × Reads (spell_exp (exp_tree x) []) y × (plain y ≡ plain x)
+-- what some tokens spell is printed as tokens that spell it with its braces
+pub reads_back : (p : List Token) (x : Expr) → Reads p x → (y : Expr) × Reads (spell_exp (exp_tree x) []) y × (plain y ≡ plain (again x))
 reads_back p x h =
     let g = reads_good p x h in
     (joined false (content false (exp_tree x)), record { tree = exp_tree x; spelled = refl; stands_for = refl }, (same x g false).whole)

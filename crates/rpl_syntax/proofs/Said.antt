@@ -132,7 +132,7 @@ decoded_scalars zero (c ∷ cs) h =
 
 -- ---- tokens
 
-form_of : (s : List ℕ) (l : Lexeme) → IsToken s l → Form l.kind (span s l)
+pub form_of : (s : List ℕ) (l : Lexeme) → IsToken s l → Form l.kind (span s l)
 form_of s l h = (longest (drop l.start s) l.kind (l.end - l.start) h.stands).fits.form
 
 name_fit : (w : List ℕ) → IsName w false → IsName (chars w) false
@@ -154,7 +154,7 @@ text_fit s l u h =
 fit_as : (t u : Token) → t ≡ u → Fit_token u → Fit_token t
 fit_as t u e h = subst Fit_token (sym e) h
 
-token_fit : (k : TokenKind) (s : List ℕ) (l : Lexeme) (t : Token) → IsUtf8 s → IsToken s l → Form k (span s l) → Says l.start (P.payload_by k s l) t → Fit_token t
+pub token_fit : (k : TokenKind) (s : List ℕ) (l : Lexeme) (t : Token) → IsUtf8 s → IsToken s l → Form k (span s l) → Says l.start (P.payload_by k s l) t → Fit_token t
 token_fit K.Name s l t u h f e = fit_as t _ e (name_fit (span s l) f)
 token_fit K.Qualified s l t u h f e = fit_as t _ e (pair_fit (span s l) f)
 token_fit K.Keyword s l t u h f e = fit_as t _ e tt

@@ -2,7 +2,9 @@ pub mod Expression
 pub mod View
 pub mod Grammar
 pub mod Reading
-pub mod Printing
+pub mod Trees
+pub mod Braces
+pub mod Readable
 pub mod Printed
 pub mod Writing
 pub mod Texts

@@ -18,7 +18,8 @@ use Rattle.rpl_syntax.specs.declared.token.Token.TheVariants as T
 use Rattle.rpl_syntax.specs.Expression.{Expr, Text, Class, Any, Start, End, Boundary, Name, Cooked, Raw, Choice, Both, Prefix, Repeat, Macro, Marked, Note, Exprs, Nil, Cons}
 use Rattle.rpl_syntax.specs.Grammar.{Reads, spell_exp}
 use Rattle.rpl_syntax.specs.Printed.{printed}
-use Rattle.rpl_syntax.specs.Printing.{exp_tree, plain}
+use Rattle.rpl_syntax.specs.Braces.{again, plain}
+use Rattle.rpl_syntax.specs.Trees.{exp_tree}
 
 -- ---- what a token says, where it isn't at fault
 
@@ -58,9 +59,9 @@ pub record IsReadAs (s : List ℕ) (x : Expr) : Type 0 where
   pub say : Say s lexemes tokens
   pub reads : Reads tokens x
 
--- what is printed of x is read as x, up to the places of names and up to taking a raw group of one item as that item
+-- what is printed of x is read as x with the braces that printing adds, and nothing else but the places of names
 abbrev pub ReadsBack : Expr → Type 0
-ReadsBack x = (y : Expr) × IsReadAs (encode_utf8_all (printed x)) y × (plain y ≡ plain x)
+ReadsBack x = (y : Expr) × IsReadAs (encode_utf8_all (printed x)) y × (plain y ≡ plain (again x))
 
 -- ---- what can be written
 

@@ -3,7 +3,9 @@ ghost use Rattle.std.specs.Prelude.{◌≡◌, ℕ, List, [], Some, IsUtf8};
 ghost use Rattle.rpl_syntax.specs.Expression as M;
 ghost use Rattle.rpl_syntax.specs.Grammar.{Reads, spell_exp};
 ghost use Rattle.rpl_syntax.specs.Printed.{printed};
-ghost use Rattle.rpl_syntax.specs.Printing.{exp_tree, plain, Good};
+ghost use Rattle.rpl_syntax.specs.Braces.{again, plain};
+ghost use Rattle.rpl_syntax.specs.Readable.{Good};
+ghost use Rattle.rpl_syntax.specs.Trees.{exp_tree};
 ghost use Rattle.rpl_syntax.specs.Reading.{read};
 ghost use Rattle.rpl_syntax.specs.Texts.{IsReadAs, ReadsBack, HasFewTokens, Writable};
 ghost use Rattle.rpl_syntax.specs.Writing.{write_exp};
@@ -16,10 +18,12 @@ pub fn one_reading()
     ensures spelled { (p : List Token) (x : M.Expr) → read p ≡ Some x → Reads p x }
 {}
 
-/// What some tokens spell is also what the tokens of its printed text spell, up to the places of names and up to
-/// taking a raw group of one item as that item.
+/// The tokens of the printed text of what some tokens spell are a spelling of it with the braces that printing adds:
+/// a choice or an `&` that stands as an item, and what a quantifier can't stand behind, is then a raw group of one item.
+/// But for the places of names, nothing else changes.
 pub fn reads_back()
-    ensures { (p : List Token) (x : M.Expr) → Reads p x → (y : M.Expr) × Reads (spell_exp (exp_tree x) []) y × (plain y ≡ plain x) }
+    ensures { (p : List Token) (x : M.Expr) → Reads p x →
+        (y : M.Expr) × Reads (spell_exp (exp_tree x) []) y × (plain y ≡ plain (again x)) }
 {}
 
 /// The printed text of an expression is its tree as it is written: the text of each token in turn, with spaces between.
@@ -33,8 +37,8 @@ pub fn readings_of_texts()
     ensures writable { (s : List ℕ) (x : M.Expr) → IsUtf8 s → IsReadAs s x → Good x × Writable x }
 {}
 
-/// The printed text of an expression is read as that expression, up to the places of names and up to taking a raw group
-/// of one item as that item.
+/// The printed text of an expression is read as that expression with the braces that printing adds, and nothing else
+/// changes but the places of names.
 pub fn printed_reads_back()
     ensures { (x : M.Expr) → Good x → Writable x → HasFewTokens x → ReadsBack x }
 {}

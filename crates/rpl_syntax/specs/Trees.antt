@@ -1,9 +1,10 @@
--- The tree that an expression is printed as, and when two expressions are the same up to the places of names and
--- up to a raw group of one item.
-use Rattle.std.specs.Prelude.{◌≡◌, ℕ, zero, suc, List, Bool, true, false, Option, Some, None}
-use Rattle.rpl_syntax.specs.declared.name.QName.{QName}
-use Rattle.rpl_syntax.specs.Expression.{Expr, Text, Class, Any, Start, End, Boundary, Name, Cooked, Raw, Choice, Both, Prefix, Repeat, Macro, Marked, Note, Exprs, Nil, Cons}
-use Rattle.rpl_syntax.specs.Grammar.{Leaf, TextLeaf, ClassLeaf, AnyLeaf, StartLeaf, EndLeaf, BoundaryLeaf, NameLeaf, QualifiedLeaf, Quant, StarQuant, PlusQuant, QuestionQuant, BoundsQuant, Exp, Last, Or, And, Seq, Single, More, Item, Signed, Applied, Plain, Times, Atom, One, Group}
+-- The tree that an expression is printed as.
+use Rattle.std.specs.Prelude.{ℕ, zero, suc, List, true, false, Option, Some, None}
+use Rattle.rpl_syntax.specs.Expression.{Expr, Text, Class, Any, Start, End, Boundary, Name, Cooked, Raw, Choice, Both}
+use Rattle.rpl_syntax.specs.Expression.{Prefix, Repeat, Macro, Marked, Note, Exprs, Nil, Cons}
+use Rattle.rpl_syntax.specs.Grammar.{Leaf, TextLeaf, ClassLeaf, AnyLeaf, StartLeaf, EndLeaf, BoundaryLeaf, NameLeaf}
+use Rattle.rpl_syntax.specs.Grammar.{QualifiedLeaf, Quant, StarQuant, PlusQuant, QuestionQuant, BoundsQuant, Exp, Last}
+use Rattle.rpl_syntax.specs.Grammar.{Or, And, Seq, Single, More, Item, Signed, Applied, Plain, Times, Atom, One, Group}
 
 abbrev pub alone : Item → Exp
 alone i = Last (Single i)
@@ -79,78 +80,3 @@ abbrev mutual
   choice_tree Nil = alone (leaf AnyLeaf)
   choice_tree (Cons p Nil) = exp_tree p
   choice_tree (Cons p (Cons q rest)) = Or (Single (item_tree p)) (choice_tree (Cons q rest))
-
--- ---- sameness
-
--- a raw group of one item is that item
-abbrev pub raw_of : Exprs → Expr
-raw_of (Cons p Nil) = p
-raw_of Nil = Raw Nil
-raw_of (Cons p (Cons q rest)) = Raw (Cons p (Cons q rest))
-
-abbrev pub unplaced : QName → QName
-unplaced q = record { prefix = q.prefix; name = q.name; at = 0 }
-
-abbrev mutual
-  pub plain : Expr → Expr
-  plain (Text s) = Text s
-  plain (Class s negated) = Class s negated
-  plain Any = Any
-  plain Start = Start
-  plain End = End
-  plain Boundary = Boundary
-  plain (Name q) = Name (unplaced q)
-  plain (Cooked ps) = Cooked (plain_all ps)
-  plain (Raw ps) = raw_of (plain_all ps)
-  plain (Choice ps) = Choice (plain_all ps)
-  plain (Both p q) = Both (plain p) (plain q)
-  plain (Prefix s p) = Prefix s (plain p)
-  plain (Repeat p l m) = Repeat (plain p) l m
-  plain (Macro q p) = Macro (unplaced q) (plain p)
-  plain (Marked m p) = Marked m (plain p)
-  plain (Note s) = Note s
-
-  pub plain_all : Exprs → Exprs
-  plain_all Nil = Nil
-  plain_all (Cons p rest) = Cons (plain p) (plain_all rest)
-
--- ---- what a reading is
-
-abbrev pub is_choice : Expr → Bool
-is_choice (Choice ps) = true
-is_choice _ = false
-
--- a group has an item; a choice has two parts, and the last isn't a choice itself; a macro has no prefix
-abbrev mutual
-  pub Good : Expr → Type 0
-  Good (Text s) = Unit {0}
-  Good (Class s negated) = Unit {0}
-  Good Any = Unit {0}
-  Good Start = Unit {0}
-  Good End = Unit {0}
-  Good Boundary = Unit {0}
-  Good (Name q) = Unit {0}
-  Good (Cooked ps) = Good_items ps
-  Good (Raw ps) = Good_items ps
-  Good (Choice ps) = Good_choice ps
-  Good (Both p q) = Good p × Good q
-  Good (Prefix s p) = Good p
-  Good (Repeat p l m) = Good p
-  Good (Macro q p) = (q.prefix ≡ None) × Good p
-  Good (Marked m p) = ⊥
-  Good (Note s) = ⊥
-
-  pub Good_items : Exprs → Type 0
-  Good_items Nil = ⊥
-  Good_items (Cons p Nil) = Good p
-  Good_items (Cons p (Cons q rest)) = Good p × Good_items (Cons q rest)
-
-  pub Good_choice : Exprs → Type 0
-  Good_choice Nil = ⊥
-  Good_choice (Cons p Nil) = ⊥
-  Good_choice (Cons p (Cons q rest)) = Good p × Good_parts (Cons q rest)
-
-  pub Good_parts : Exprs → Type 0
-  Good_parts Nil = ⊥
-  Good_parts (Cons p Nil) = Good p × (is_choice p ≡ false)
-  Good_parts (Cons p (Cons q rest)) = Good p × Good_parts (Cons q rest)
