@@ -1,0 +1,14 @@
+pub mod Standing
+pub mod Shaping
+pub mod Parts
+pub mod Places
+pub mod Whole
+pub mod Trees
+pub mod Running
+pub mod Kept
+pub mod Stacks
+pub mod Puts
+pub mod Looking
+pub mod Ending
+pub mod Placing
+pub mod Testing

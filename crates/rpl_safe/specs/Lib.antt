@@ -1,0 +1,3 @@
+pub mod Safe
+pub mod Laws
+pub mod inside

@@ -1,0 +1,85 @@
+// The search for the shape of each address that a run may come to.
+ghost use Rattle.std.specs.Prelude.{◌<◌, ◌≤◌, length};
+ghost use Rattle.rpl_core.specs.Program.{code_of, instructions};
+ghost use Rattle.rpl_safe.specs.inside.Marks.{Puts, PutsAll, Searched, given_of};
+
+use crate::marks::{Mark, Next, mark_at};
+use crate::steps::goes_on;
+use rpl_core::{NoMemory, Program};
+use std::alloc::Global;
+
+/// The marks found so far, and the addresses that weren't looked at.
+#[derive(Drop)]
+struct Search {
+    marks: Vec<Option<Mark>>,
+    waiting: Vec<u32>,
+}
+
+impl Search {
+    /// Marks the address; false where it has another mark, or there is no such address.
+    fn put(&mut self, address: u32, mark: Mark) -> Result<bool, NoMemory>
+        ensures { Puts address mark self.old self.new result }
+    {
+        let place = address as usize;
+        if place >= self.marks.len() {
+            return Ok(false);
+        }
+        match self.marks[place] {
+            Some(old) => Ok(old.is(mark)),
+            None => {
+                self.waiting.push(address)?;
+                self.marks[place] = Some(mark);
+                Ok(true)
+            }
+        }
+    }
+
+    /// Marks where a run goes on, the last address first, since the list of entries of the first may be told by it;
+    /// false where it can't.
+    fn put_all(&mut self, next: Next) -> Result<bool, NoMemory>
+        ensures { PutsAll (given_of next) self.old self.new result }
+    {
+        match next {
+            Next::Lacks => Ok(false),
+            Next::Nowhere => Ok(true),
+            Next::To(address, mark) => self.put(address, mark),
+            Next::ToBoth(address, mark, other, other_mark) => {
+                if !self.put(other, other_mark)? {
+                    return Ok(false);
+                }
+                self.put(address, mark)
+            }
+        }
+    }
+}
+
+/// The mark of each address of the program that a run may come to; None where there is an address without an
+/// instruction or with two shapes, or an instruction that lacks what it needs, so that the code isn't safe. Each
+/// address is looked at once.
+pub(crate) fn find_marks(
+    alloc: Global,
+    program: &Program,
+) -> Result<Option<Vec<Option<Mark>>>, NoMemory>
+    requires some { 0 < length (code_of program.now) }
+    requires limit { length (code_of program.now) ≤ 1048576 }
+    ensures { Searched (instructions program.now) result }
+{
+    let code = program.code();
+    let mut search = Search {
+        marks: vec![in alloc; None; code.len()]?,
+        waiting: Vec::new(alloc),
+    };
+    search.put(0, Mark::fresh(0))?;
+    while let Some(address) = search.waiting.pop() {
+        if let Some(instr) = code.get(address as usize) {
+            if let Some(mark) = mark_at(&search.marks, address) {
+                let next = goes_on(&search.marks, *instr, address, mark);
+                if !search.put_all(next)? {
+                    return Ok(None);
+                }
+            }
+        }
+    }
+    let Search { marks, .. } = search;
+    Ok(Some(marks))
+}
