@@ -1,4 +1,4 @@
-pub mod Quoting
+pub mod Escaping
 pub mod Nodes
 pub mod Walking
 pub mod Listing

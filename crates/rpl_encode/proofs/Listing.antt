@@ -6,10 +6,10 @@ use Rattle.rpl_core.specs.Forest.{Forest, NoTree}
 use Rattle.rpl_tree.specs.Trees.{node_as, forest_of}
 use Rattle.rpl_tree.specs.declared.node.Node.{Node}
 use Rattle.rpl_encode.specs.Answer.{below_root, line_by_line}
-use Rattle.rpl_encode.specs.Children.{is_hit_by, is_wanted, wanted, is_some_text, below_by, below_of_first}
+use Rattle.rpl_encode.specs.inside.Children.{is_hit_by, is_wanted, wanted, is_some_text, below_by, below_of_first}
 use Rattle.rpl_encode.specs.Labels.{label_in}
 use Rattle.rpl_encode.specs.Texts.{texts}
-use Rattle.rpl_encode.specs.Walk.{text_by, text_at}
+use Rattle.rpl_encode.specs.inside.Walk.{text_by, text_at}
 use Rattle.rpl_encode.proofs.Nodes.{forest_of-cons, drop_within, drop_got, drop_capped, got_none}
 use Rattle.rpl_encode.proofs.Walking.{stepped}
 

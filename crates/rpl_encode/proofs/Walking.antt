@@ -1,12 +1,12 @@
 -- One step of the walk over the nodes of a flat list.
-use Rattle.std.proofs.Common.{◌^◌, ◌⊎◌, inl, inr, subst, ◌≡◌, ℕ, zero, suc, ◌+◌, ◌-◌, ◌*◌, ◌<◌, ◌≤◌, Bool, true, false, List, [], ◌∷◌, ◌++◌, length, take, drop, min, Option, Some, None, refl, sym, ap, ◌∙◌, arith, append_assoc}
+use Rattle.std.proofs.Common.{◌^◌, ◌⊎◌, inl, inr, subst, ◌≡◌, ℕ, zero, suc, ◌+◌, ◌-◌, ◌*◌, ◌<◌, ◌≤◌, Bool, true, false, List, [], ◌∷◌, ◌++◌, length, take, drop, min, Option, Some, None, refl, sym, ap, ◌∙◌, arith, append_assoc, length-append}
 use Rattle.std.specs.Prelude.{flat_map, codes}
 use Rattle.rpl_core.specs.Forest.{Forest}
 use Rattle.rpl_tree.specs.Trees.{node_as, forest_of}
 use Rattle.rpl_tree.specs.declared.node.Node.{Node}
 use Rattle.rpl_encode.specs.Labels.{label_in}
 use Rattle.rpl_encode.specs.Texts.{objects, subs}
-use Rattle.rpl_encode.specs.Walk.{fields_by, fields_at, comma, ending, joined, rest_of}
+use Rattle.rpl_encode.specs.inside.Walk.{fields_by, fields_at, comma, ending, joined, rest_of}
 use Rattle.std.proofs.lemmas.List.{append-nil, drop-drop, drop_all, take_all, reverse-append, length-drop}
 use Rattle.std.proofs.lemmas.Bool.{false≢true}
 use Rattle.std.specs.Prelude.{slice_get, reverse, IsTrue, ◌↔◌}
@@ -170,3 +170,10 @@ tree_whole labels line nodes root false pending got has opened =
 
 pub written_three : {S : Type 0} (after : S → List ℕ → S) → ((s : S) (x y : List ℕ) → after (after s x) y ≡ after s (x ++ y)) → (s s1 s2 s3 : S) (x y z : List ℕ) → s1 ≡ after s x → s2 ≡ after s1 y → s3 ≡ after s2 z → s3 ≡ after s (x ++ (y ++ z))
 written_three after both s s1 s2 s3 x y z e f g = g ∙ ap (λ v. after v z) f ∙ ap (λ v. after (after v y) z) e ∙ both (after s x) y z ∙ both s x (y ++ z)
+
+-- a first part that is too long makes the whole too long
+pub longer : (most : ℕ) (out o1 x r w : List ℕ) → o1 ≡ out ++ x → w ≡ x ++ (r ++ 10 ∷ []) → most < length (o1 ++ r) → most < length (out ++ w)
+longer most out o1 x r w e f h =
+    let first = ap length e ∙ length-append out x in
+    let rest = ap length f ∙ length-append x (r ++ 10 ∷ []) in
+    omega (arith, h, first, rest, length-append o1 r, length-append out w, length-append r (10 ∷ []))

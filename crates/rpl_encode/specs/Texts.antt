@@ -2,7 +2,7 @@
 use Rattle.std.specs.Prelude.{ℕ, ◌+◌, List, [], ◌∷◌, ◌++◌, slice_range, flat_map, decimal, codes}
 use Rattle.std.specs.Str.{encode_utf8_all}
 use Rattle.rpl_core.specs.Forest.{Forest, NoTree, Tree, Noted}
-use Rattle.rpl_encode.specs.Quoted.{quoted}
+use Rattle.rpl_print.specs.Quoted.{quoted}
 
 -- the text of each tree: its part of the line, empty where its end is before its start, or what a note says
 abbrev pub texts : List ℕ → Forest → List (List ℕ)

@@ -1,13 +1,13 @@
 // The text of an answer, whole.
-ghost use Rattle.std.specs.Prelude.{◌≡◌, ◌<◌, ◌≤◌, [], Err, IfOk, OnOk, length, option_map};
+ghost use Rattle.std.specs.Prelude.{◌≡◌, ◌<◌, ◌≤◌, ◌++◌, [], Err, IfOk, OnOk, length, option_map};
 ghost use Rattle.std.specs.Option.{option_copied};
 ghost use Rattle.rpl_encode.specs.Answer.{answer, line_by_line, most_bytes, none, parts};
 ghost use Rattle.rpl_encode.specs.Labels.{trees_in};
 
 use crate::children::{put_line, put_root_text, put_texts};
 use crate::fault::EncodeFault;
+use crate::prepared::Prepared;
 use crate::style::Style;
-use crate::target::{Page, Size, Target};
 use crate::tree::put_tree;
 use rosie_io::Bytes;
 use rpl_core::{NoMemory, Program};
@@ -15,12 +15,18 @@ use rpl_tree::Forest;
 use std::alloc::Global;
 use std::marker::Model;
 
+/// The greatest number of bytes of an answer.
+pub(crate) const MOST_BYTES: usize = 67_108_864;
+
 /// The text of an answer, in memory that is kept from line to line. Contracts see its bytes.
 #[derive(Drop)]
 pub struct AnswerText {
-    page: Page,
+    text: Vec<u8>,
+    /// The next text, until it is known that it isn't too long.
+    draft: Vec<u8>,
     /// How many nodes are still to come in each list of JSON that is open.
     pending: Vec<usize>,
+    prepared: Prepared,
 }
 
 impl Model for AnswerText {
@@ -28,7 +34,7 @@ impl Model for AnswerText {
 
     ghost Value = { List ℕ };
 
-    ghost view = { λ a. a.page };
+    ghost view = { λ a. a.text.items };
 }
 
 impl AnswerText {
@@ -37,8 +43,10 @@ impl AnswerText {
         ensures { result ≡ [] }
     {
         AnswerText {
-            page: Page::new(alloc),
+            text: Vec::new(alloc),
+            draft: Vec::new(alloc),
             pending: Vec::new(alloc),
+            prepared: Prepared::new(alloc),
         }
     }
 
@@ -46,11 +54,11 @@ impl AnswerText {
     pub fn as_slice(&self) -> &[u8]
         ensures { result.now ≡ self.now }
     {
-        self.page.as_slice()
+        &self.text
     }
 
-    /// Becomes the text of a line's outcome in a style: of the trees that were found, or of none. Its length is found first, and then the
-    /// text is written in the memory that there is where that is enough. What it holds where memory is wanting is left open.
+    /// Becomes the text of a line's outcome in a style: of the trees that were found, or of none. It is written in the memory that there
+    /// is where that is enough, and taken back as soon as it is too long. What it holds where memory is wanting is left open.
     pub fn fill(
         &mut self,
         style: Style,
@@ -63,27 +71,20 @@ impl AnswerText {
         ensures too_long { result ≡ Err EncodeFault.AnswerTooLong → most_bytes < length (answer style line.now (option_map (trees_in program.now) (option_copied found.entry))) }
         ensures kept { result ≡ Err EncodeFault.AnswerTooLong → self.new ≡ self.old }
     {
-        let mut size = Size::new();
+        self.draft.clear();
         put_answer(
-            &mut size,
+            &mut self.draft,
             &mut self.pending,
+            &mut self.prepared,
             style,
-            line.as_bytes(),
+            line,
             found,
             program,
         )?;
-        if size.is_too_long() {
+        if self.draft.len() > MOST_BYTES {
             return Err(EncodeFault::AnswerTooLong);
         }
-        self.page.start(size.bytes())?;
-        put_answer(
-            &mut self.page,
-            &mut self.pending,
-            style,
-            line.as_bytes(),
-            found,
-            program,
-        )?;
+        std::mem::swap(&mut self.text, &mut self.draft);
         Ok(())
     }
 }
@@ -102,71 +103,79 @@ pub fn encode(
 {
     let mut answer = AnswerText::new(alloc);
     answer.fill(style, line, found, program)?;
-    Ok(Bytes::from_vec(answer.page.into_vec()))
+    Ok(Bytes::from_vec(answer.text))
 }
 
 /// Writes the text of an outcome.
-fn put_answer<T: Target>(
-    out: &mut T,
+fn put_answer(
+    out: &mut Vec<u8>,
     pending: &mut Vec<usize>,
+    prepared: &mut Prepared,
     style: Style,
-    line: &[u8],
+    line: &str,
     found: Option<&Forest>,
     program: &Program,
-) -> Result<(), NoMemory>
-    ensures { OnOk result (out.new ≡ T.after out.old (answer style line.now (option_map (trees_in program.now) (option_copied found.entry)))) }
+) -> Result<(), EncodeFault>
+    ensures too_long { result ≡ Err EncodeFault.AnswerTooLong → most_bytes < length (out.old.items ++ answer style line.now (option_map (trees_in program.now) (option_copied found.entry))) }
+    ensures text { OnOk result (out.new.items ≡ out.old.items ++ (answer style line.now (option_map (trees_in program.now) (option_copied found.entry)))) }
 {
     match found {
-        Some(forest) => put_match(out, pending, style, line, forest, program),
-        None => put_miss(out, style),
+        Some(forest) => put_match(out, pending, prepared, style, line, forest, program),
+        None => Ok(put_miss(out, style)?),
     }
 }
 
 /// Writes the text of a line that isn't matched.
-fn put_miss<T: Target>(out: &mut T, style: Style) -> Result<(), NoMemory>
-    ensures { OnOk result (out.new ≡ T.after out.old (line_by_line (none style))) }
+fn put_miss(out: &mut Vec<u8>, style: Style) -> Result<(), NoMemory>
+    ensures { OnOk result (out.new.items ≡ out.old.items ++ (line_by_line (none style))) }
 {
     match style {
-        Style::Bool => out.put(b"false\n"),
+        Style::Bool => out.extend_from_slice(b"false\n"),
         _ => Ok(()),
     }
 }
 
 /// Writes the text of a match.
-fn put_match<T: Target>(
-    out: &mut T,
+fn put_match(
+    out: &mut Vec<u8>,
     pending: &mut Vec<usize>,
+    prepared: &mut Prepared,
     style: Style,
-    line: &[u8],
+    line: &str,
     forest: &Forest,
     program: &Program,
-) -> Result<(), NoMemory>
-    ensures { OnOk result (out.new ≡ T.after out.old (line_by_line (parts style line.now (trees_in program.now forest.now)))) }
+) -> Result<(), EncodeFault>
+    ensures too_long { result ≡ Err EncodeFault.AnswerTooLong → most_bytes < length (out.old.items ++ line_by_line (parts style line.now (trees_in program.now forest.now))) }
+    ensures text { OnOk result (out.new.items ≡ out.old.items ++ (line_by_line (parts style line.now (trees_in program.now forest.now)))) }
 {
     match style {
-        Style::Json => put_tree(out, pending, line, forest, program),
-        Style::Line => put_line(out, line),
-        Style::Matches => put_hits(out, line, forest, program),
+        Style::Json => {
+            prepared.fill(line, program)?;
+            put_tree(out, pending, line.as_bytes(), prepared, forest, program)
+        }
+        Style::Line => Ok(put_line(out, line.as_bytes())?),
+        Style::Matches => put_hits(out, line.as_bytes(), forest, program),
         Style::Subs => {
-            put_texts(out, false, line, forest, program)?;
+            put_texts(out, false, line.as_bytes(), forest, program)?;
             Ok(())
         }
-        Style::Plain => put_root_text(out, line, forest, program),
-        Style::Bool => out.put(b"true\n"),
+        Style::Plain => Ok(put_root_text(out, line.as_bytes(), forest, program)?),
+        Style::Bool => Ok(out.extend_from_slice(b"true\n")?),
     }
 }
 
 /// Writes the texts of the hits of a search, or the text of the root where there is none.
-fn put_hits<T: Target>(
-    out: &mut T,
+fn put_hits(
+    out: &mut Vec<u8>,
     line: &[u8],
     forest: &Forest,
     program: &Program,
-) -> Result<(), NoMemory>
-    ensures { OnOk result (out.new ≡ T.after out.old (line_by_line (parts Style.Matches line.now (trees_in program.now forest.now)))) }
+) -> Result<(), EncodeFault>
+    ensures too_long { result ≡ Err EncodeFault.AnswerTooLong → most_bytes < length (out.old.items ++ line_by_line (parts Style.Matches line.now (trees_in program.now forest.now))) }
+    ensures text { OnOk result (out.new.items ≡ out.old.items ++ (line_by_line (parts Style.Matches line.now (trees_in program.now forest.now)))) }
 {
     if put_texts(out, true, line, forest, program)? {
         return Ok(());
     }
-    put_root_text(out, line, forest, program)
+    Ok(put_root_text(out, line, forest, program)?)
 }

@@ -1,13 +1,14 @@
 // The texts of the root, and of the nodes directly under it.
-ghost use Rattle.std.specs.Prelude.{◌≡◌, ◌<◌, ◌⊎◌, ◌++◌, [], ◌∷◌, slice_get, OnOk, IfOk, IfSome, IfNone};
+ghost use Rattle.std.specs.Prelude.{◌≡◌, ◌<◌, ◌⊎◌, ◌++◌, [], ◌∷◌, length, slice_get, Err, OnOk, IfOk, IfSome, IfNone};
 ghost use Rattle.rpl_core.specs.Program.{labels_of};
-ghost use Rattle.rpl_encode.specs.Answer.{below_root, line_by_line, parts};
-ghost use Rattle.rpl_encode.specs.Children.{below_of_first, is_some_text, is_wanted, wanted};
+ghost use Rattle.rpl_encode.specs.Answer.{below_root, line_by_line, most_bytes, parts};
+ghost use Rattle.rpl_encode.specs.inside.Children.{below_of_first, is_some_text, is_wanted, wanted};
 ghost use Rattle.rpl_encode.specs.Labels.{trees_in};
 
+use crate::answer::MOST_BYTES;
+use crate::fault::EncodeFault;
 use crate::node_text::{label_of, text_of};
 use crate::style::Style;
-use crate::target::Target;
 use rpl_core::{NoMemory, Program};
 use rpl_tree::{Forest, Node};
 
@@ -15,21 +16,21 @@ use rpl_tree::{Forest, Node};
 const HIT: &str = "find.*";
 
 /// Writes the bytes and a line feed.
-pub(crate) fn put_line<T: Target>(out: &mut T, bytes: &[u8]) -> Result<(), NoMemory>
-    ensures { OnOk result (out.new ≡ T.after out.old (bytes.now ++ 10 ∷ [])) }
+pub(crate) fn put_line(out: &mut Vec<u8>, bytes: &[u8]) -> Result<(), NoMemory>
+    ensures { OnOk result (out.new.items ≡ out.old.items ++ (bytes.now ++ 10 ∷ [])) }
 {
-    out.put(bytes)?;
-    out.put(b"\n")
+    out.extend_from_slice(bytes)?;
+    out.extend_from_slice(b"\n")
 }
 
 /// Writes the text of the first tree and a line feed, or nothing where there is no tree.
-pub(crate) fn put_root_text<T: Target>(
-    out: &mut T,
+pub(crate) fn put_root_text(
+    out: &mut Vec<u8>,
     line: &[u8],
     forest: &Forest,
     program: &Program,
 ) -> Result<(), NoMemory>
-    ensures { OnOk result (out.new ≡ T.after out.old (line_by_line (parts Style.Plain line.now (trees_in program.now forest.now)))) }
+    ensures { OnOk result (out.new.items ≡ out.old.items ++ (line_by_line (parts Style.Plain line.now (trees_in program.now forest.now)))) }
 {
     match forest.get(0) {
         Some(root) => put_line(out, text_of(root, line, program)),
@@ -38,14 +39,15 @@ pub(crate) fn put_root_text<T: Target>(
 }
 
 /// Writes the texts of the nodes directly under the root, or only those of hits, each with a line feed. Tells whether there was one.
-pub(crate) fn put_texts<T: Target>(
-    out: &mut T,
+pub(crate) fn put_texts(
+    out: &mut Vec<u8>,
     only_hits: bool,
     line: &[u8],
     forest: &Forest,
     program: &Program,
-) -> Result<bool, NoMemory>
-    ensures text { OnOk result (out.new ≡ T.after out.old (line_by_line (wanted only_hits line.now (below_root (trees_in program.now forest.now))))) }
+) -> Result<bool, EncodeFault>
+    ensures text { OnOk result (out.new.items ≡ out.old.items ++ (line_by_line (wanted only_hits line.now (below_root (trees_in program.now forest.now))))) }
+    ensures too_long { result ≡ Err EncodeFault.AnswerTooLong → most_bytes < length (out.old.items ++ line_by_line (wanted only_hits line.now (below_root (trees_in program.now forest.now)))) }
     ensures found { IfOk result (λ some. some ≡ is_some_text (wanted only_hits line.now (below_root (trees_in program.now forest.now)))) }
 {
     let count = forest.len();
@@ -53,6 +55,9 @@ pub(crate) fn put_texts<T: Target>(
     let mut index = 1;
     let mut some = false;
     while let Some(node) = node_within(forest, index, left) {
+        if out.len() > MOST_BYTES {
+            return Err(EncodeFault::AnswerTooLong);
+        }
         if wants(only_hits, node, program) {
             put_line(out, text_of(node, line, program))?;
             some = true;

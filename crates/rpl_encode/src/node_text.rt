@@ -1,13 +1,17 @@
 // What is written of one node.
-ghost use Rattle.std.specs.Prelude.{◌≡◌, ◌+◌, ◌++◌, slice_range, OnOk, decimal};
+ghost use Rattle.std.specs.Prelude.{◌≡◌, ◌+◌, ◌≤◌, ◌++◌, ◌∷◌, length, drop, slice_range, OnOk, decimal, codes};
 ghost use Rattle.std.specs.Str.{encode_utf8_all};
 ghost use Rattle.rpl_core.specs.Program.{labels_of};
+ghost use Rattle.json.specs.Print.{escape};
 ghost use Rattle.rpl_encode.specs.Labels.{label_in};
 ghost use Rattle.rpl_encode.specs.Texts.{fields};
-ghost use Rattle.rpl_encode.specs.Walk.{text_at, fields_at, comma, ending};
+ghost use Rattle.rpl_encode.specs.inside.Escapes.{AreOf};
+ghost use Rattle.rpl_encode.specs.inside.Walk.{text_at, fields_at, comma, ending};
 
-use crate::target::Target;
-use itoa::Buffer;
+use crate::escapes::Escapes;
+use crate::front::{put_escaped, put_front, put_new_front};
+use crate::prepared::Prepared;
+use itoa::{Buffer, write_digits};
 use rpl_core::{NoMemory, Program};
 use rpl_tree::Node;
 
@@ -29,7 +33,7 @@ pub(crate) fn text_of<'a>(node: Node, line: &'a [u8], program: &'a Program) -> &
 }
 
 /// The part of a line between two places. It is empty where the end is before the start, and ends where the line does.
-fn part_of(line: &[u8], start: usize, end: usize) -> &[u8]
+pub(crate) fn part_of(line: &[u8], start: usize, end: usize) -> &[u8]
     ensures { result.now ≡ slice_range line.now start end }
 {
     let end = end.min(line.len());
@@ -38,71 +42,116 @@ fn part_of(line: &[u8], start: usize, end: usize) -> &[u8]
 }
 
 /// Writes the object of a node, with a comma before it unless it is the first, up to the first of the nodes below it or to its end.
-pub(crate) fn put_node<T: Target>(
-    out: &mut T,
+pub(crate) fn put_node(
+    out: &mut Vec<u8>,
     node: Node,
     is_first: bool,
     has_subs: bool,
     line: &[u8],
+    prepared: &Prepared,
     program: &Program,
 ) -> Result<(), NoMemory>
-    ensures { OnOk result (out.new ≡ T.after out.old (comma is_first ++ (fields_at (labels_of program.now) line.now node ++ ending has_subs))) }
+    requires { AreOf line.now prepared.now.escapes }
+    ensures { OnOk result (out.new.items ≡ out.old.items ++ (comma is_first ++ (fields_at (labels_of program.now) line.now node ++ ending has_subs))) }
 {
-    if !is_first {
-        out.put(b",")?;
-    }
-    put_head(out, node, line, program)?;
-    if has_subs {
-        out.put(b",\"subs\":[")
-    } else {
-        out.put(b"}")
-    }
-}
-
-fn put_head<T: Target>(
-    out: &mut T,
-    node: Node,
-    line: &[u8],
-    program: &Program,
-) -> Result<(), NoMemory>
-    ensures { OnOk result (out.new ≡ T.after out.old (fields_at (labels_of program.now) line.now node)) }
-{
-    let text = text_of(node, line, program);
     match node.note {
-        Some(_) => put_fields(out, "message", node.start, node.start, text),
-        None => put_fields(
-            out,
-            label_of(program, node.label),
-            node.start,
-            node.end,
-            text,
-        ),
+        Some(text) => {
+            let text = label_of(program, text);
+            put_message(out, is_first, has_subs, "message", node.start, text)
+        }
+        None => {
+            let label = label_of(program, node.label);
+            put_front(out, &prepared.fronts, is_first, node.label, label)?;
+            put_places(out, node.start, node.end)?;
+            put_part(out, has_subs, &prepared.escapes, line, node.start, node.end)
+        }
     }
 }
 
-fn put_fields<T: Target>(
-    out: &mut T,
+/// Writes the object of a note, which has this type.
+fn put_message(
+    out: &mut Vec<u8>,
+    is_first: bool,
+    has_subs: bool,
     label: &str,
+    place: usize,
+    text: &str,
+) -> Result<(), NoMemory>
+    ensures { OnOk result (out.new.items ≡ out.old.items ++ (comma is_first ++ (fields label.now place place text.now ++ ending has_subs))) }
+{
+    put_new_front(out, is_first, label)?;
+    put_places(out, place, place)?;
+    put_escaped(out, text)?;
+    put_ending(out, has_subs)
+}
+
+/// Writes the text of a node that is a part of the line, and what stands behind it.
+fn put_part(
+    out: &mut Vec<u8>,
+    has_subs: bool,
+    escapes: &Escapes,
+    line: &[u8],
     start: usize,
     end: usize,
-    text: &[u8],
 ) -> Result<(), NoMemory>
-    ensures { OnOk result (out.new ≡ T.after out.old (fields label.now start end text.now)) }
+    requires { AreOf line.now escapes.now }
+    ensures { OnOk result (out.new.items ≡ out.old.items ++ (escape (slice_range line.now start end) ++ 34 ∷ ending has_subs)) }
 {
-    out.put(b"{\"type\":")?;
-    out.put_quoted(label.as_bytes())?;
-    out.put(b",\"s\":")?;
-    put_place(out, start)?;
-    out.put(b",\"e\":")?;
-    put_place(out, end)?;
-    out.put(b",\"data\":")?;
-    out.put_quoted(text)
+    escapes.put(out, line, start, end)?;
+    put_ending(out, has_subs)
 }
 
-/// Places are printed one higher.
-fn put_place<T: Target>(out: &mut T, place: usize) -> Result<(), NoMemory>
-    ensures { OnOk result (out.new ≡ T.after out.old (decimal (place + 1))) }
+/// Writes the quote behind the text of a node, and what stands behind it.
+#[inline]
+fn put_ending(out: &mut Vec<u8>, has_subs: bool) -> Result<(), NoMemory>
+    ensures { OnOk result (out.new.items ≡ out.old.items ++ 34 ∷ ending has_subs) }
+{
+    if has_subs {
+        out.extend_from_slice(b"\",\"subs\":[")
+    } else {
+        out.extend_from_slice(b"\"}")
+    }
+}
+
+/// Writes where a node starts and ends, up to the quote before its text.
+#[inline(always)]
+fn put_places(out: &mut Vec<u8>, start: usize, end: usize) -> Result<(), NoMemory>
+    ensures { OnOk result (out.new.items ≡ out.old.items ++ (decimal (start + 1) ++ (codes ",\"e\":" ++ (decimal (end + 1) ++ codes ",\"data\":\"")))) }
+{
+    if start == usize::MAX || end == usize::MAX {
+        return put_far_places(out, start, end);
+    }
+    let mut buffer = [0; ROOM];
+    let at = write_before(b",\"data\":\"", &mut buffer, ROOM);
+    let at = write_digits(end as u64 + 1, &mut buffer, at);
+    let at = write_before(b",\"e\":", &mut buffer, at);
+    let at = write_digits(start as u64 + 1, &mut buffer, at);
+    out.extend_from_slice(&buffer[at..])
+}
+
+/// Room for two numbers with what stands between and behind them.
+const ROOM: usize = 64;
+
+/// Writes the bytes so that they end at `end`, and tells where they start.
+#[inline(always)]
+fn write_before(bytes: &[u8], buffer: &mut [u8], end: usize) -> usize
+    requires { (length bytes.now ≤ end) × (end ≤ length buffer.old) }
+    ensures start { result + length bytes.now ≡ end }
+    ensures written { drop result buffer.new ≡ bytes.now ++ drop end buffer.old }
+{
+    let start = end - bytes.len();
+    buffer[start..end].copy_from_slice(bytes);
+    start
+}
+
+/// The same for any places; printed one higher, the greatest has no usize.
+#[cold]
+fn put_far_places(out: &mut Vec<u8>, start: usize, end: usize) -> Result<(), NoMemory>
+    ensures { OnOk result (out.new.items ≡ out.old.items ++ (decimal (start + 1) ++ (codes ",\"e\":" ++ (decimal (end + 1) ++ codes ",\"data\":\"")))) }
 {
     let mut buffer = Buffer::new();
-    out.put(buffer.format(place as u128 + 1).as_bytes())
+    out.extend_from_slice(buffer.format(start as u128 + 1).as_bytes())?;
+    out.extend_from_slice(b",\"e\":")?;
+    out.extend_from_slice(buffer.format(end as u128 + 1).as_bytes())?;
+    out.extend_from_slice(b",\"data\":\"")
 }

@@ -1,4 +1,3 @@
-use crate::quoted::{push_quoted, quoted_len};
 use crate::{AnswerText, EncodeFault, Style, encode};
 use rpl_core::{Caught, Instrs, Labels, NoMemory, Program, Sets};
 use rpl_text::Chars;
@@ -79,7 +78,23 @@ const BACKWARDS: &[Caught] = &[
     Caught::Finish { place: 0 },
 ];
 
-static CASES: [Case; 20] = [
+/// Parts of a line with a quote and a control: the quote alone, and the control with what stands behind it.
+const ESCAPED: &[Caught] = &[
+    Caught::Begin { label: 0, place: 0 },
+    Caught::Begin { label: 1, place: 1 },
+    Caught::Finish { place: 2 },
+    Caught::Begin { label: 1, place: 3 },
+    Caught::Finish { place: 5 },
+    Caught::Finish { place: 5 },
+];
+
+static CASES: [Case; 21] = [
+    Case {
+        style: Style::Json,
+        line: "a\"b\u{1}c",
+        caught: ESCAPED,
+        text: "{\"type\":\"*\",\"s\":1,\"e\":6,\"data\":\"a\\\"b\\u0001c\",\"subs\":[{\"type\":\"p\",\"s\":2,\"e\":3,\"data\":\"\\\"\"},{\"type\":\"p\",\"s\":4,\"e\":6,\"data\":\"\\u0001c\"}]}\n",
+    },
     Case {
         style: Style::Json,
         line: "abc",
@@ -271,21 +286,6 @@ fn an_answer_has_at_most_64_mebibytes(rt: HostRuntime) -> Result<(), Fail> {
     let forest = build(rt.alloc(), &wide(rt.alloc(), 8_193)?)?;
     let refused = answer.fill(Style::Subs, &line, Some(&forest), &program);
     assert!(rt; refused == Err(EncodeFault::AnswerTooLong));
-    Ok(())
-}
-
-#[test]
-fn strings_are_those_of_serde_json(rt: HostRuntime) -> Result<(), Fail> {
-    let mut text = String::new(rt.alloc());
-    for byte in 0..=255 {
-        text.push(char::from(byte))?;
-    }
-    text.push_str("\u{2028}\u{d7ff}\u{e000}\u{ffff}😀\u{10ffff}")?;
-    let mut quoted = Vec::new(rt.alloc());
-    push_quoted(&mut quoted, text.as_bytes())?;
-    assert_eq!(rt; quoted_len(text.as_bytes()), quoted.len());
-    let wanted = Value::String(text).to_string(rt.alloc())?;
-    assert!(rt; quoted.as_slice() == wanted.as_bytes());
     Ok(())
 }
 

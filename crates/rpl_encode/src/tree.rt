@@ -1,37 +1,52 @@
 // A tree as JSON.
-ghost use Rattle.std.specs.Prelude.{◌≡◌, ◌<◌, ◌↔◌, true, drop, reverse, OnOk, IsTrue};
+ghost use Rattle.std.specs.Prelude.{◌≡◌, ◌+◌, ◌<◌, ◌++◌, ◌∷◌, [], ◌↔◌, true, drop, length, reverse, vec_len, Err, OnOk, IsTrue};
 ghost use Rattle.rpl_core.specs.Program.{labels_of};
 ghost use Rattle.rpl_encode.specs.Labels.{trees_in};
-ghost use Rattle.rpl_encode.specs.Answer.{parts, line_by_line};
-ghost use Rattle.rpl_encode.specs.Walk.{rest_of};
+ghost use Rattle.rpl_encode.specs.Answer.{parts, line_by_line, most_bytes};
+ghost use Rattle.rpl_encode.specs.inside.Escapes.{AreOf};
+ghost use Rattle.rpl_encode.specs.inside.Walk.{rest_of};
 
+use crate::answer::MOST_BYTES;
+use crate::fault::EncodeFault;
 use crate::node_text::put_node;
+use crate::prepared::Prepared;
 use crate::style::Style;
-use crate::target::Target;
 use rpl_core::{NoMemory, Program};
 use rpl_tree::{Forest, Node};
 
 /// Writes the object of the first tree and a line feed, or nothing where there is no tree. `pending` is room for the work.
-pub(crate) fn put_tree<T: Target>(
-    out: &mut T,
+pub(crate) fn put_tree(
+    out: &mut Vec<u8>,
     pending: &mut Vec<usize>,
     line: &[u8],
+    prepared: &Prepared,
     forest: &Forest,
     program: &Program,
-) -> Result<(), NoMemory>
-    ensures { OnOk result (out.new ≡ T.after out.old (line_by_line (parts Style.Json line.now (trees_in program.now forest.now)))) }
+) -> Result<(), EncodeFault>
+    requires { AreOf line.now prepared.now.escapes }
+    ensures text { OnOk result (out.new.items ≡ out.old.items ++ line_by_line (parts Style.Json line.now (trees_in program.now forest.now))) }
+    ensures too_long { result ≡ Err EncodeFault.AnswerTooLong → most_bytes < length (out.old.items ++ line_by_line (parts Style.Json line.now (trees_in program.now forest.now))) }
 {
     let Some(root) = forest.get(0) else {
         return Ok(());
     };
     let has_subs = has_subs(root, root.below, 1, forest.len());
-    put_node(out, root, true, has_subs, line, program)?;
+    put_node(out, root, true, has_subs, line, prepared, program)?;
     pending.clear();
     if has_subs {
-        pending.push(root.below)?;
+        open_list(pending, root.below)?;
     }
-    put_below(out, pending, line, forest, program)?;
-    out.put(b"\n")
+    put_below(out, pending, line, prepared, forest, program)?;
+    Ok(out.extend_from_slice(b"\n")?)
+}
+
+/// A list begins in which so many nodes are still to come.
+fn open_list(pending: &mut Vec<usize>, count: usize) -> Result<(), NoMemory>
+    ensures items { OnOk result (pending.new.items ≡ pending.old.items ++ count ∷ []) }
+    ensures len { OnOk result (vec_len pending.new ≡ vec_len pending.old + 1) }
+{
+    pending.push(count)?;
+    Ok(())
 }
 
 /// Whether nodes are printed below this one: it has some, the next of which has the number `next` among `count`. A note has none.
@@ -43,36 +58,42 @@ fn has_subs(node: Node, below: usize, next: usize, count: usize) -> bool
 
 /// Writes the nodes from the second on, and closes the lists that are open. `pending` has the number of nodes that are still to come in each
 /// of them, the innermost last.
-fn put_below<T: Target>(
-    out: &mut T,
+fn put_below(
+    out: &mut Vec<u8>,
     pending: &mut Vec<usize>,
     line: &[u8],
+    prepared: &Prepared,
     forest: &Forest,
     program: &Program,
-) -> Result<(), NoMemory>
-    ensures { OnOk result (out.new ≡ T.after out.old (rest_of (labels_of program.now) line.now (drop 1 forest.now) (reverse pending.old.items) true)) }
+) -> Result<(), EncodeFault>
+    requires { AreOf line.now prepared.now.escapes }
+    ensures text { OnOk result (out.new.items ≡ out.old.items ++ rest_of (labels_of program.now) line.now (drop 1 forest.now) (reverse pending.old.items) true) }
+    ensures too_long { result ≡ Err EncodeFault.AnswerTooLong → most_bytes < length (out.old.items ++ rest_of (labels_of program.now) line.now (drop 1 forest.now) (reverse pending.old.items) true) }
 {
     let count = forest.len();
     let mut index = 1;
     let mut is_first = true;
     while let Some(left) = pending.pop() {
+        if out.len() > MOST_BYTES {
+            return Err(EncodeFault::AnswerTooLong);
+        }
         match forest.get(index) {
             Some(node) if left > 0 => {
                 // A node's nodes end at the latest where those of its parent do.
                 let below = node.below.min(left - 1);
-                pending.push(left - 1 - below)?;
+                open_list(pending, left - 1 - below)?;
                 index += 1;
                 let has_subs = has_subs(node, below, index, count);
-                put_node(out, node, is_first, has_subs, line, program)?;
+                put_node(out, node, is_first, has_subs, line, prepared, program)?;
                 if has_subs {
-                    pending.push(below)?;
+                    open_list(pending, below)?;
                 } else {
                     index = index.saturating_add(below);
                 }
                 is_first = has_subs;
             }
             _ => {
-                out.put(b"]}")?;
+                out.extend_from_slice(b"]}")?;
                 is_first = false;
             }
         }

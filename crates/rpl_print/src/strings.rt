@@ -1,5 +1,5 @@
 // Texts as strings of JSON.
-ghost use Rattle.std.specs.Prelude.{◌≡◌, ◌++◌, ◌∷◌, [], IsTrue, IfOk, OnOk, string_bytes};
+ghost use Rattle.std.specs.Prelude.{◌≡◌, ◌≤◌, ◌++◌, ◌∷◌, [], length, IsTrue, IfOk, OnOk, string_bytes};
 ghost use Rattle.rpl_print.specs.Quoted as Q;
 
 use rpl_text::NoMemory;
@@ -28,14 +28,43 @@ pub fn push_quoted(out: &mut String, text: &str) -> Result<(), NoMemory>
     out.push_str(&string)
 }
 
+/// How many bytes are looked at together.
+const CHUNK: usize = 32;
+
 /// Whether no byte of a text needs an escape, so that it stands for itself between the quotes. It looks at all of them,
-/// so that many are looked at in one instruction.
+/// many in one instruction.
 pub fn is_plain(text: &[u8]) -> bool
     ensures exact { result ≡ Q.is_plain text.now }
     ensures itself { IsTrue result → Q.quoted text.now ≡ 34 ∷ (text.now ++ 34 ∷ []) }
 {
     let mut is_all = true;
-    for byte in text {
+    let mut rest = text;
+    while rest.len() > CHUNK {
+        let (chunk, behind) = rest.split_at(CHUNK);
+        is_all &= are_plain(chunk);
+        rest = behind;
+    }
+    is_all & is_plain_short(rest)
+}
+
+/// The same of a short text. Spaces are plain, and make it as long as a chunk.
+#[inline]
+fn is_plain_short(text: &[u8]) -> bool
+    requires { length text.now ≤ CHUNK }
+    ensures { result ≡ Q.is_plain text.now }
+{
+    let mut chunk = [b' '; CHUNK];
+    chunk[..text.len()].copy_from_slice(text);
+    are_plain(&chunk)
+}
+
+/// The same, byte by byte. Where the caller knows how many there are, this is a few instructions.
+#[inline(always)]
+fn are_plain(bytes: &[u8]) -> bool
+    ensures { result ≡ Q.is_plain bytes.now }
+{
+    let mut is_all = true;
+    for byte in bytes {
         is_all &= is_plain_byte(*byte);
     }
     is_all

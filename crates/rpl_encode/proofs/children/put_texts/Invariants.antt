@@ -1,19 +1,19 @@
-use Rattle.std.proofs.Common.{◌≡◌}
+use Rattle.std.proofs.Common.{◌≡◌, ◌++◌}
 use Rattle.std.specs.Prelude.{◌||◌}
 use Rattle.rpl_core.specs.Program.{labels_of}
 use Rattle.rpl_encode.specs.Answer.{below_root, line_by_line}
-use Rattle.rpl_encode.specs.Children.{is_some_text, wanted}
+use Rattle.rpl_encode.specs.inside.Children.{is_some_text, wanted}
 use Rattle.rpl_encode.specs.Labels.{trees_in}
 use Rattle.rpl_encode.proofs.Listing.{texts_left}
 use Rattle.rpl_encode.proofs.children.put_texts.Given as goal
 
 -- what is written, with the texts that are left, is the whole, and a text was written or is left where there is one
 abbrev pub invariant-loop-node : goal.invariant-loop-node
-invariant-loop-node g l =
-    (g.T.Target.after l.out (line_by_line (texts_left (labels_of l.program) l.line l.only_hits l.forest l.index l.left))
-    ≡ g.T.Target.after l.initial.out (line_by_line (wanted l.only_hits l.line (below_root (trees_in l.program l.forest)))))
+invariant-loop-node l =
+    (l.out.items ++ (line_by_line (texts_left (labels_of l.program) l.line l.only_hits l.forest l.index l.left))
+    ≡ l.initial.out.items ++ (line_by_line (wanted l.only_hits l.line (below_root (trees_in l.program l.forest)))))
     × ((l.some || is_some_text (texts_left (labels_of l.program) l.line l.only_hits l.forest l.index l.left))
     ≡ is_some_text (wanted l.only_hits l.line (below_root (trees_in l.program l.forest))))
 
 abbrev pub decreases-loop-node : goal.decreases-loop-node
-decreases-loop-node g l = l.left
+decreases-loop-node l = l.left

@@ -1,4 +1,4 @@
-use Rattle.std.proofs.Common.{◌≡◌, ◌+◌, ◌-◌, ◌<◌, ◌⊎◌, ◌∷◌, length, None, inl, inr, sym, ap, ◌∙◌, arith}
+use Rattle.std.proofs.Common.{◌≡◌, ◌+◌, ◌-◌, ◌<◌, ◌⊎◌, ◌∷◌, length, None, inl, inr, sym, ap, ◌∙◌, arith, ◌++◌, append_assoc}
 use Rattle.std.specs.Prelude.{reverse, slice_get}
 use Rattle.std.proofs.lemmas.Bool.{false≢true}
 use Rattle.rpl_core.specs.Program.{labels_of}
@@ -7,31 +7,31 @@ use Rattle.rpl_encode.proofs.Walking.{stepped, reverse_last, leaf_step, subs_ste
 use Rattle.rpl_encode.proofs.tree.put_below.Goals as goal
 use Rattle.rpl_encode.proofs.tree.put_below.Goals.{in_default-get-via-in-Some-get+else-left-gt0, in_default-get-via-in_default-get}
 
-pub loop-left-preserved-in_ok-push-in-Some-get-2 : goal.loop-left-preserved-in_ok-push-in-Some-get-2
-loop-left-preserved-in_ok-push-in-Some-get-2 g c =
+pub loop-left-preserved-in_ok-open_list-in-Some-get-2 : goal.loop-left-preserved-in_ok-open_list-in-Some-get-2
+loop-left-preserved-in_ok-open_list-in-Some-get-2 c =
     let labels = labels_of c.args.program.now in
     let has = c.has_subs-has_subs.ensures.0 c.if-has_subs.true in
     let was = ap reverse c.in-Some.ensures.items ∙ reverse_last c.pop.new.self.items c.in-Some.left in
-    let now = ap reverse c.in_ok-push-in-Some-get-2.ensures.items ∙ reverse_last c.push.new.self.items c.min-below.result ∙ ap (λ q. c.min-below.result ∷ q) (ap reverse c.in_ok-push-in-Some-get.ensures.items ∙ reverse_last c.pop.new.self.items _) in
+    let now = ap reverse c.in_ok-open_list-in-Some-get-2.ensures.items ∙ reverse_last c.open_list.new.pending.items c.min-below.result ∙ ap (λ q. c.min-below.result ∷ q) (ap reverse c.in_ok-open_list-in-Some-get.ensures.items ∙ reverse_last c.pop.new.self.items _) in
     let step = subs_step labels c.args.line.now c.args.forest.now c.loop-left.index c.in-Some.left c.min-below.result c.in-Some-get.node _ _ _ c.loop-left.is_first c.has_subs-has_subs.result (sym c.in-Some-get.ensures) (omega arith) c.min-below.ensures was now c.if-has_subs.true has.0 has.1 (omega (arith, has.2, c.len-count.ensures)) in
-    stepped g.T.Target.after g.met.T.Target.after_both c.loop-left.out c.put_node.new.out _ _ _ _ c.in_ok-put_node-in-Some-get.ensures step c.loop-left.invariant
+    stepped ◌++◌ append_assoc c.loop-left.out.items c.put_node.new.out.items _ _ _ _ c.in_ok-put_node-in-Some-get.ensures step c.loop-left.invariant
 
 pub loop-left-smaller-else-has_subs : goal.loop-left-smaller-else-has_subs
-loop-left-smaller-else-has_subs g c =
-    nearer (length c.args.forest.now) c.loop-left.index c.saturating_add-index.result c.min-below.result _ _ (got_within c.args.forest.now c.loop-left.index c.in-Some-get.node (sym c.in-Some-get.ensures)) (omega (arith, c.len-count.ensures)) c.saturating_add-index.ensures (omega (arith, c.in-Some.ensures.len, c.in_ok-push-in-Some-get.ensures.len))
+loop-left-smaller-else-has_subs c =
+    nearer (length c.args.forest.now) c.loop-left.index c.saturating_add-index.result c.min-below.result _ _ (got_within c.args.forest.now c.loop-left.index c.in-Some-get.node (sym c.in-Some-get.ensures)) (omega (arith, c.len-count.ensures)) c.saturating_add-index.ensures (omega (arith, c.in-Some.ensures.len, c.in_ok-open_list-in-Some-get.ensures.len))
 
 pub loop-left-preserved-else-has_subs : goal.loop-left-preserved-else-has_subs
-loop-left-preserved-else-has_subs g c =
+loop-left-preserved-else-has_subs c =
     let labels = labels_of c.args.program.now in
     let was = ap reverse c.in-Some.ensures.items ∙ reverse_last c.pop.new.self.items c.in-Some.left in
-    let now = ap reverse c.in_ok-push-in-Some-get.ensures.items ∙ reverse_last c.pop.new.self.items (c.in-Some.left - 1 - c.min-below.result) in
+    let now = ap reverse c.in_ok-open_list-in-Some-get.ensures.items ∙ reverse_last c.pop.new.self.items (c.in-Some.left - 1 - c.min-below.result) in
     let has : (c.in-Some-get.node.note ≡ None) × (0 < c.min-below.result) × (c.loop-left.index + 1 < length c.args.forest.now) → ⊥ =
     λ h. false≢true (sym c.if-has_subs.false ∙ c.has_subs-has_subs.ensures.1 (h.0, h.1, omega (arith, h.2, c.len-count.ensures))) in
     let step = leaf_step labels c.args.line.now c.args.forest.now c.loop-left.index c.saturating_add-index.result c.in-Some.left c.min-below.result c.in-Some-get.node _ _ _ c.loop-left.is_first c.has_subs-has_subs.result (sym c.in-Some-get.ensures) (omega arith) (omega (arith, c.len-count.ensures)) c.min-below.ensures c.saturating_add-index.ensures was now c.if-has_subs.false has in
-    stepped g.T.Target.after g.met.T.Target.after_both c.loop-left.out c.put_node.new.out _ _ _ _ c.in_ok-put_node-in-Some-get.ensures step c.loop-left.invariant
+    stepped ◌++◌ append_assoc c.loop-left.out.items c.put_node.new.out.items _ _ _ _ c.in_ok-put_node-in-Some-get.ensures step c.loop-left.invariant
 
 pub loop-left-preserved : goal.loop-left-preserved
-loop-left-preserved g c =
+loop-left-preserved c =
     let was = ap reverse c.in-Some.ensures.items ∙ reverse_last c.pop.new.self.items c.in-Some.left in
     let done : (c.in-Some.left ≡ 0) ⊎ (slice_get c.args.forest.now c.loop-left.index ≡ None) =
     elim c.in_default-get.branch [
@@ -39,4 +39,4 @@ loop-left-preserved g c =
       | in_default-get-via-in_default-get w ↦ inr (sym c.get.ensures ∙ w.in_default-get.is)
     ] in
     let step = close_step (labels_of c.args.program.now) c.args.line.now c.args.forest.now c.loop-left.index c.in-Some.left _ _ c.loop-left.is_first was done in
-    stepped g.T.Target.after g.met.T.Target.after_both c.loop-left.out c.put.new.self _ _ _ _ c.in_ok-put-in_default-get.ensures step c.loop-left.invariant
+    stepped ◌++◌ append_assoc c.loop-left.out.items c.extend_from_slice.new.self.items _ _ _ _ c.in_ok-extend_from_slice-in_default-get.ensures.items step c.loop-left.invariant

@@ -1,13 +1,13 @@
-use Rattle.std.proofs.Common.{◌≡◌, ◌+◌, ◌-◌, ◌*◌, true, drop, reverse, length, vec_len}
+use Rattle.std.proofs.Common.{◌≡◌, ◌+◌, ◌-◌, ◌*◌, true, drop, reverse, length, vec_len, ◌++◌}
 use Rattle.rpl_core.specs.Program.{labels_of}
-use Rattle.rpl_encode.specs.Walk.{rest_of}
+use Rattle.rpl_encode.specs.inside.Walk.{rest_of}
 use Rattle.rpl_encode.proofs.tree.put_below.Given as goal
 
 -- what is written, with the rest behind it, is the whole
 abbrev pub invariant-loop-left : goal.invariant-loop-left
-invariant-loop-left g l =
-    g.T.Target.after l.out (rest_of (labels_of l.program) l.line (drop l.index l.forest) (reverse l.pending.items) l.is_first)
-    ≡ g.T.Target.after l.initial.out (rest_of (labels_of l.program) l.line (drop 1 l.forest) (reverse l.initial.pending.items) true)
+invariant-loop-left l =
+    l.out.items ++ (rest_of (labels_of l.program) l.line (drop l.index l.forest) (reverse l.pending.items) l.is_first)
+    ≡ l.initial.out.items ++ (rest_of (labels_of l.program) l.line (drop 1 l.forest) (reverse l.initial.pending.items) true)
 
 abbrev pub decreases-loop-left : goal.decreases-loop-left
-decreases-loop-left g l = 2 * (length l.forest - l.index) + vec_len l.pending
+decreases-loop-left l = 2 * (length l.forest - l.index) + vec_len l.pending

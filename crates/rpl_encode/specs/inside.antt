@@ -1,0 +1,5 @@
+-- Words of the private contracts: nothing here is needed to read what the crate promises.
+pub mod Walk
+pub mod Children
+pub mod Fronts
+pub mod Escapes
