@@ -1,13 +1,15 @@
 -- Building goes over the captures of some trees as over one thing: their nodes come at the end, and what is open stays.
 use Rattle.std.proofs.Common.{◌≡◌, ℕ, zero, suc, ◌+◌, ◌-◌, ◌≤◌, List, [], ◌∷◌, ◌++◌, length, take, drop, Option, Some, None, refl, sym, ap, ◌∙◌, subst, arith, append_assoc}
-use Rattle.std.specs.Prelude.{fold, slice_get, slice_set, map}
+use Rattle.std.specs.Prelude.{All, fold, slice_get, slice_set, map}
+use Rattle.std.proofs.lemmas.Bool.{false≢true}
 use Rattle.std.proofs.lemmas.List.{append-nil, length-append}
+use Rattle.std.proofs.lemmas.List.Elements.{All-append, All-cons, All-nil}
 use Rattle.std.proofs.Math.Seq.{take-append_seam, drop-append_seam, set-append_seam}
 use Rattle.rpl_core.specs.Forest as C
 use Rattle.rpl_core.specs.Forest.{Forest, NoTree, Tree, Noted, flat}
 use Rattle.rpl_core.specs.Captures.{named, all_named}
-use Rattle.rpl_tree.specs.Trees.{node_as, trees_of, forest_of}
-use Rattle.rpl_tree.specs.Building.{Built, opened, noted, close_node, closed, taken_in}
+use Rattle.rpl_tree.specs.Trees.{node_as, trees_of, forest_of, Write, nothing, a_tree, a_note, IsLeaf, Builds}
+use Rattle.rpl_tree.specs.inside.Building.{Built, opened, noted, close_node, closed, taken_in}
 use Rattle.rpl_core.specs.declared.caught.Caught.{Caught}
 use Rattle.rpl_core.specs.declared.caught.Caught.TheVariants.{Begin, Finish, Note}
 use Rattle.rpl_tree.specs.declared.node.Node.{Node}
@@ -19,6 +21,9 @@ pub record Front (name : ℕ → List ℕ) (f : Forest) (more : List C.Caught) (
   pub nodes : List Node
   pub rest : List Caught
   pub rest_is : all_named name rest ≡ more
+  pub taken : List Caught
+  pub taken_is : cs ≡ taken ++ rest
+  pub writes : Write nodes taken
   pub builds : (before : List Node) (open_at : List ℕ) → fold taken_in (with_open before open_at) cs ≡ fold taken_in (with_open (before ++ nodes) open_at) rest
   pub stands : (most : ℕ) → length nodes ≤ most → trees_of most name nodes ≡ f
 
@@ -116,6 +121,9 @@ front name NoTree more cs e = record {
   nodes = [];
   rest = cs;
   rest_is = e;
+  taken = [];
+  taken_is = refl;
+  writes = nothing;
   builds = λ before open_at. ap (λ ns. fold taken_in (with_open ns open_at) cs) (sym (append-nil before));
   stands = λ most fits. none_stand name most;
 }
@@ -128,6 +136,9 @@ front name (Tree c i j f r) more cs e =
       nodes = done b.label i j inner.nodes ∷ (inner.nodes ++ outer.nodes);
       rest = outer.rest;
       rest_is = outer.rest_is;
+      taken = Begin b.label i ∷ (inner.taken ++ Finish j ∷ outer.taken);
+      taken_is = b.is ∙ ap (λ x. Begin b.label i ∷ x) (inner.taken_is ∙ ap (λ x. inner.taken ++ x) (k.is ∙ ap (λ x. Finish j ∷ x) outer.taken_is) ∙ sym (append_assoc inner.taken (Finish j ∷ outer.taken) outer.rest));
+      writes = a_tree b.label i j inner.nodes outer.nodes inner.taken outer.taken inner.writes outer.writes;
       builds = λ before open_at. ap (fold taken_in (with_open before open_at)) b.is ∙ tree_builds b.label i j b.rest k.rest outer.rest inner.nodes outer.nodes (λ n o. inner.builds n o ∙ ap (fold taken_in (with_open (n ++ inner.nodes) o)) k.is) outer.builds before open_at;
       stands = λ most fits. tree_stands name b.label i j inner.nodes outer.nodes f r inner.stands outer.stands most fits ∙ ap (λ x. Tree x i j f r) b.named;
     }
@@ -138,14 +149,29 @@ front name (Noted x i r) more cs e =
       nodes = noted n.text i ∷ outer.nodes;
       rest = outer.rest;
       rest_is = outer.rest_is;
+      taken = Note n.text i ∷ outer.taken;
+      taken_is = n.is ∙ ap (λ x. Note n.text i ∷ x) outer.taken_is;
+      writes = a_note n.text i outer.nodes outer.taken outer.writes;
       builds = λ before open_at. ap (fold taken_in (with_open before open_at)) n.is ∙ note_builds n.text i n.rest outer.rest outer.nodes outer.builds before open_at;
       stands = λ most fits. note_stands name n.text i outer.nodes r outer.stands most fits ∙ ap (λ y. Noted y i r) n.named;
     }
 
+leaves_of : (ns : List Node) (cs : List Caught) → Write ns cs → All IsLeaf ns
+leaves_of _ _ nothing = All-nil IsLeaf
+leaves_of _ _ (a_tree label i j below behind inside after w v) =
+    All-cons IsLeaf (done label i j below) (below ++ behind) (λ h. absurd (false≢true h)) (All-append IsLeaf below behind (leaves_of below inside w) (leaves_of behind after v))
+leaves_of _ _ (a_note text i behind after v) = All-cons IsLeaf (noted text i) behind (λ h. refl) (leaves_of behind after v)
+
 -- what is built of the whole list
-pub built_is : (name : ℕ → List ℕ) (f : Forest) (cs : List Caught) (nodes : List Node) (open_at : List ℕ) → all_named name cs ≡ flat f → with_open nodes open_at ≡ fold taken_in (with_open [] []) cs → forest_of name nodes ≡ f
+pub built_is : (name : ℕ → List ℕ) (f : Forest) (cs : List Caught) (nodes : List Node) (open_at : List ℕ) → all_named name cs ≡ flat f → with_open nodes open_at ≡ fold taken_in (with_open [] []) cs → Builds cs nodes name f
 built_is name f cs nodes open_at e b =
     let all = front name f [] cs (e ∙ sym (append-nil (flat f))) in
     let none : all.rest ≡ [] = no_more name all.rest all.rest_is in
     let same : nodes ≡ all.nodes = ap (λ x. x.nodes) (b ∙ all.builds [] [] ∙ ap (fold taken_in (with_open all.nodes [])) none) in
-    subst (λ ns. forest_of name ns ≡ f) (sym same) (all.stands (length all.nodes) (omega arith))
+    let took : all.taken ≡ cs = sym (append-nil all.taken) ∙ ap (λ x. all.taken ++ x) (sym none) ∙ sym all.taken_is in
+    let writes : Write nodes cs = subst (λ ns. Write ns cs) (sym same) (subst (Write all.nodes) took all.writes) in
+    record {
+      trees = subst (λ ns. forest_of name ns ≡ f) (sym same) (all.stands (length all.nodes) (omega arith));
+      captures = writes;
+      leaves = leaves_of nodes cs writes;
+    }

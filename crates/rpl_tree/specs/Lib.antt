@@ -1,3 +1,2 @@
 pub mod Trees
-pub mod Building
-pub mod Built
+pub mod inside

@@ -1,8 +1,9 @@
 -- The trees that a flat list of nodes stands for, where a number stands for the text that it names.
-use Rattle.std.specs.Prelude.{◌≡◌, ℕ, zero, suc, List, [], ◌∷◌, take, drop, length, Option, None, Some}
+use Rattle.std.specs.Prelude.{◌≡◌, ℕ, zero, suc, List, [], ◌∷◌, ◌++◌, take, drop, length, All, Option, None, Some, IsSome}
 use Rattle.rpl_core.specs.Forest.{Forest, NoTree, Tree, Noted, flat}
 use Rattle.rpl_core.specs.Captures.{all_named}
 use Rattle.rpl_core.specs.declared.caught.Caught.{Caught}
+use Rattle.rpl_core.specs.declared.caught.Caught.TheVariants.{Begin, Finish, Note}
 use Rattle.rpl_tree.specs.declared.node.Node.{Node}
 
 -- one node over the trees below it, and the trees behind it; a note has nothing below
@@ -21,7 +22,34 @@ trees_of (suc most) name (n ∷ nodes) =
 abbrev pub forest_of : (ℕ → List ℕ) → List Node → Forest
 forest_of name nodes = trees_of (length nodes) name nodes
 
+-- The nodes write out the captures, number by number: a tree's node has its label, its places and the number of the
+-- nodes below it, which are those directly behind it; a note's has its text, its place twice, and nothing below.
+pub data Write : List Node → List Caught → Type 0 where
+  nothing : Write [] []
+  a_tree :
+      (label start end : ℕ) (below behind : List Node) (inside after : List Caught) →
+      Write below inside → Write behind after →
+      Write
+      (record { label = label; note = None; start = start; end = end; below = length below } ∷ (below ++ behind))
+      (Begin label start ∷ (inside ++ Finish end ∷ after))
+  a_note :
+      (text place : ℕ) (behind : List Node) (after : List Caught) →
+      Write behind after →
+      Write
+      (record { label = text; note = Some text; start = place; end = place; below = 0 } ∷ behind)
+      (Note text place ∷ after)
+
+-- where it is a note, it has nothing below
+abbrev pub IsLeaf : Node → Type 0
+IsLeaf n = IsSome n.note → n.below ≡ 0
+
+-- the nodes stand for just these trees under the names of the numbers, and for just these captures
+pub record Builds (caught : List Caught) (nodes : List Node) (name : ℕ → List ℕ) (f : Forest) : Type 0 where
+  pub trees : forest_of name nodes ≡ f
+  pub captures : Write nodes caught
+  pub leaves : All IsLeaf nodes
+
 -- Where the captures are the list of some trees, under any names of the numbers, the nodes stand for these trees.
 abbrev pub BuildsEach : List Caught → List Node → Type 0
 BuildsEach caught nodes =
-    (name : ℕ → List ℕ) (f : Forest) → all_named name caught ≡ flat f → forest_of name nodes ≡ f
+    (name : ℕ → List ℕ) (f : Forest) → all_named name caught ≡ flat f → Builds caught nodes name f

@@ -1,12 +1,13 @@
 // The nodes so far, and those of them that are open.
 ghost use Rattle.std.specs.Prelude.{◌≡◌, [], OnOk, slice_get};
 ghost use Rattle.rpl_tree.specs.Trees.{BuildsEach};
-ghost use Rattle.rpl_tree.specs.Building.{close_node};
+ghost use Rattle.rpl_tree.specs.inside.Building.{close_node};
 
 use crate::node::Node;
 use rpl_core::{Caught, NoMemory};
 use std::alloc::Global;
 
+/// The nodes so far, and which of them are open.
 #[derive(Drop)]
 pub struct Building {
     pub nodes: Vec<Node>,
@@ -15,8 +16,8 @@ pub struct Building {
 }
 
 impl Building {
-    ghost use Rattle.rpl_tree.specs.Built.{built};
-    ghost use Rattle.rpl_tree.specs.Building.{taken_in, closed};
+    ghost use Rattle.rpl_tree.specs.inside.Built.{built};
+    ghost use Rattle.rpl_tree.specs.inside.Building.{taken_in, closed};
 
     pub fn new(alloc: Global) -> Building
         ensures { result.nodes.items ≡ [] }
@@ -31,26 +32,14 @@ impl Building {
         ensures { OnOk result (built self.new ≡ taken_in (built self.old) (Caught.Begin label place)) }
     {
         self.open.push(self.nodes.len())?;
-        self.nodes.push(Node {
-            label,
-            note: None,
-            start: place,
-            end: place,
-            below: 0,
-        })?;
+        self.nodes.push(Node::opened(label, place))?;
         Ok(())
     }
 
     fn note(&mut self, text: u32, place: usize) -> Result<(), NoMemory>
         ensures { OnOk result (built self.new ≡ taken_in (built self.old) (Caught.Note text place)) }
     {
-        self.nodes.push(Node {
-            label: text,
-            note: Some(text),
-            start: place,
-            end: place,
-            below: 0,
-        })?;
+        self.nodes.push(Node::noted(text, place))?;
         Ok(())
     }
 

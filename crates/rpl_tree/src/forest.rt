@@ -1,3 +1,4 @@
+// The trees of captures, as a flat list of nodes.
 ghost use Rattle.std.specs.Prelude.{◌≡◌, [], length, slice_get, IfOk, OnOk};
 ghost use Rattle.rpl_tree.specs.Trees.{BuildsEach};
 
@@ -46,7 +47,8 @@ impl Forest {
         self.building.nodes.get(index).copied()
     }
 
-    /// Becomes the trees of these captures, in the memory that it has where that is enough. What it holds after a refusal is left open.
+    /// Becomes the trees of these captures, in the memory that it has where that is enough. What it holds after a
+    /// refusal is left open.
     pub fn fill(&mut self, caught: &[Caught]) -> Result<(), NoMemory>
         ensures { OnOk result (BuildsEach caught.now self.new) }
     {

@@ -1,8 +1,8 @@
 use Rattle.std.proofs.Common.{ap, sym, ◌∙◌}
 use Rattle.std.specs.Prelude.{fold, reverse}
 use Rattle.std.proofs.Math.ListN.{drop_of_length-le}
-use Rattle.rpl_tree.specs.Building.{taken_in}
-use Rattle.rpl_tree.specs.Built.{built}
+use Rattle.rpl_tree.specs.inside.Building.{taken_in}
+use Rattle.rpl_tree.specs.inside.Built.{built}
 use Rattle.rpl_tree.proofs.Fronts.{built_is}
 use Rattle.rpl_tree.proofs.building.Building.fill.Goals as goal
 

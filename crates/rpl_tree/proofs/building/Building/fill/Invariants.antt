@@ -1,7 +1,7 @@
 use Rattle.std.proofs.Common.{◌≡◌, [], drop}
 use Rattle.std.specs.Prelude.{fold}
-use Rattle.rpl_tree.specs.Building.{taken_in}
-use Rattle.rpl_tree.specs.Built.{built}
+use Rattle.rpl_tree.specs.inside.Building.{taken_in}
+use Rattle.rpl_tree.specs.inside.Built.{built}
 use Rattle.rpl_tree.proofs.building.Building.fill.Given as goal
 
 -- what is built so far, and what the other captures will do, is the whole
