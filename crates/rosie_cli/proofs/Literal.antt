@@ -4,10 +4,12 @@ use Rattle.std.proofs.lemmas.Bool.{false≢true}
 use Rattle.std.specs.Prelude.{Option, Some, None, is_some, slice_get}
 use Rattle.rpl_check.specs.Answers.{IsDue, fault_named}
 use Rattle.rpl_check.specs.Facts.{Facts}
-use Rattle.rpl_check.specs.Faults.{Fault, EmptyLoop, HaltInside, behind_fault, fault_from, group_fault, fault_if, first_cause, first_cause_in, goal_fault, has_empty_loop, any_has_empty_loop, or_then, table_fault}
+use Rattle.rpl_check.specs.Faults.{Fault, EmptyLoop, HaltInside, behind_fault, fault_if, goal_fault}
+use Rattle.rpl_check.specs.Blocks.{fault_from, first_fault, group_fault}
+use Rattle.rpl_check.specs.Causes.{first_cause, first_cause_in, or_then}
+use Rattle.rpl_check.specs.Loops.{has_empty_loop, any_has_empty_loop}
 use Rattle.rpl_check.specs.declared.fault.CheckFault.{CheckFault}
 use Rattle.rpl_check.specs.declared.fault.CheckFault.TheVariants as W
-use Rattle.rpl_check.proofs.Exists.{facts_of}
 use Rattle.rpl_core.specs.Core.{Core, Cores, NoMore, Then}
 use Rattle.rpl_core.specs.Meaning.{Open}
 use Rattle.rpl_core.specs.Outcome.{outcome}
@@ -16,9 +18,9 @@ use Rattle.rpl_core.specs.declared.peg.Peg.{Peg}
 use Rattle.rpl_core.specs.declared.rules.Rule.{Rule}
 use Rattle.rpl_core.specs.Table.{blocks_of, bodies_of}
 use Rattle.rpl_core.specs.View.{core_of, cores}
-use Rattle.rpl_simulation.specs.Ending.{IsTidy, AreTidy}
+use Rattle.rpl_simulation.specs.Termination.{IsTidy, AreTidy}
 use Rattle.rpl_simulation.specs.Static.{NoPredicateHalts, may_halt, any_may_halt, predicates_stay, all_predicates_stay}
-use Rattle.rpl_simulation.proofs.Ending.{ends_holds}
+use Rattle.rpl_simulation.proofs.Termination.{ends_holds}
 use Rattle.rpl_simulation.proofs.NoHalt.{no_halt_holds}
 use Rattle.rosie_cli.specs.Literals.{char_core, char_cores, sequence_core, literal_core, literal_goal}
 
@@ -115,10 +117,6 @@ literal_fault m h cs =
     ∙ ap (λ b. or_then (fault_if b (EmptyLoop None)) (fault_if (not (predicates_stay h (literal_goal cs))) (HaltInside None))) (literal_loop m cs)
     ∙ ap (λ b. fault_if (not b) (HaltInside None)) (literal_predicates h cs)
 
--- the static facts of no rules
-pub no_facts : (R : List Core) → R ≡ [] → Facts R
-no_facts R e = facts_of R (λ r s p is c. absurd (none r p (subst (λ x. slice_get x r ≡ Some p) e is)))
-
 -- where no fault is due, none is named
 pub none_due : (f : CheckFault) → IsDue None (fault_named f) → f ≡ W.NoMemory
 none_due W.NoMemory h = refl
@@ -128,17 +126,17 @@ none_due (W.EmptyLoop rule) h = absurd (cc)
 none_due (W.HaltInside rule) h = absurd (cc)
 
 -- no rules have no fault
-pub empty_fault : (rs : List Rule) → rs ≡ [] → (o : Option Fault) → ((d : Facts (bodies_of rs)) → IsDue (table_fault d.empties d.halting d.reach (bodies_of rs) (blocks_of rs)) o) → IsDue None o
+pub empty_fault : (rs : List Rule) → rs ≡ [] → (o : Option Fault) → (d : Facts (bodies_of rs)) × IsDue (first_fault d (blocks_of rs)) o → IsDue None o
 empty_fault rs e o due =
-    let d = no_facts (bodies_of rs) (ap bodies_of e) in
-    subst (λ x. IsDue x o) (ap (λ bs. fault_from (group_fault d.empties d.halting d.reach (bodies_of rs)) bs 0 0 (length bs)) (ap blocks_of e)) (due d)
+    let d = due.0 in
+    subst (λ x. IsDue x o) (ap (λ bs. fault_from (group_fault d.empties d.halting d.reach (bodies_of rs)) bs 0 0 (length bs)) (ap blocks_of e)) due.1
 
 -- a literal over no rules has none
-pub is_faultless : (R : List Core) (g : Core) (cs : List ℕ) → R ≡ [] → g ≡ literal_goal cs → (f : CheckFault) → is_some (fault_named f) ≡ true → ((d : Facts R) → IsDue (goal_fault d.empties d.halting g) (fault_named f)) → ⊥
-is_faultless R g cs r e f some due =
-    let d = no_facts R r in
+pub is_faultless : (R : List Core) (g : Core) (cs : List ℕ) → g ≡ literal_goal cs → (f : CheckFault) → is_some (fault_named f) ≡ true → (d : Facts R) × IsDue (goal_fault d.empties d.halting g) (fault_named f) → ⊥
+is_faultless R g cs e f some due =
+    let d = due.0 in
     let no : goal_fault d.empties d.halting g ≡ None = ap (goal_fault d.empties d.halting) e ∙ literal_fault d.empties d.halting cs in
-    let memory = none_due f (subst (λ x. IsDue x (fault_named f)) no (due d)) in
+    let memory = none_due f (subst (λ x. IsDue x (fault_named f)) no due.1) in
     false≢true (sym (ap (λ x. is_some (fault_named x)) memory) ∙ some)
 
 pub no_calls_in : (g : Core) (cs : List ℕ) → g ≡ literal_goal cs → (n r : ℕ) → calls g r ≡ true → r < n

@@ -1,47 +1,36 @@
 -- What a table and a goal without faults are for the laws of the simulation.
-use Rattle.std.proofs.Common.{◌≡◌, ℕ, zero, suc, ◌+◌, ◌-◌, ◌<◌, ◌≤◌, List, [], ◌∷◌, length, Option, Some, None, refl, sym, ap, ◌∙◌, subst, inl, arith}
+use Rattle.std.proofs.Common.{◌≡◌, ℕ, zero, suc, ◌+◌, ◌-◌, ◌<◌, ◌≤◌, List, [], ◌∷◌, length, Option, Some, None, refl, sym, ap, ◌∙◌, inl, arith}
+use Rattle.std.proofs.lemmas.List.{length-map}
 use Rattle.std.proofs.lemmas.Option.{slice_get_within}
 use Rattle.std.specs.Prelude.{Bool, true, false, ◌&&◌, nat_lt, if◌then◌else◌, slice_get}
 use Rattle.rpl_core.specs.Core.{Core, Set, Seq, Choice, Many, Not, And, Behind, Call, Capture, Note, Start, End, Halt, Cores, NoMore, Then}
 use Rattle.rpl_core.specs.Programs.{calls, calls_any}
-use Rattle.rpl_simulation.specs.Ending.{may_be_empty, IfEmpty, CallsBelow, AllCallBelow, EachCallsBelow, IsPlain, ArePlain, IsTidy, AreTidy, Ends}
+use Rattle.rpl_core.specs.Table.{blocks_of, bodies_of}
+use Rattle.rpl_core.specs.View.{core_of}
+use Rattle.rpl_core.specs.declared.rules.Rule.{Rule}
+use Rattle.rpl_simulation.specs.Static.{may_be_empty}
+use Rattle.rpl_simulation.specs.Termination.{IfEmpty, CallsBelow, AllCallBelow, EachCallsBelow, IsTidy, AreTidy, Terminates}
 use Rattle.rpl_simulation.specs.Static.{may_halt, predicates_stay}
-use Rattle.rpl_simulation.proofs.Ending.{ends_holds}
-use Rattle.rpl_check.specs.Checked.{IsAccepted, IsWhole}
-use Rattle.rpl_check.specs.Facts.{IsLeast, Solves, Follows, Facts, passes, calls_here, front_calls_here, any_calls_here}
+use Rattle.rpl_simulation.proofs.Termination.{ends_holds}
+use Rattle.rpl_check.specs.inside.Accepted.{IsAccepted}
+use Rattle.rpl_check.specs.Checked.{IsWhole}
+use Rattle.rpl_check.specs.Facts.{IsLeast, Solves, Facts, passes, calls_here, front_calls_here, any_calls_here}
 use Rattle.rpl_core.specs.Lengths.{has_call, any_has_call, has_repetition, any_has_repetition, greatest}
-use Rattle.rpl_check.specs.Faults.{Cause, Recursive, Repetition, TooLong, Fault, EmptyLoop, HaltInside, cause_of, first_cause, first_cause_in, body_cause, behind_fault, fault_if, has_empty_loop, any_has_empty_loop, has_halt_inside, behind_at, loop_at, halt_at, first_from, or_then, selves, recursion_of, group_fault, table_fault, goal_fault}
+use Rattle.rpl_check.specs.Causes.{Cause, Recursive, Repetition, TooLong, cause_of, first_cause, first_cause_in, body_cause, or_then}
+use Rattle.rpl_check.specs.Faults.{Fault, EmptyLoop, HaltInside, behind_fault, fault_if, has_halt_inside, behind_at, loop_at, halt_at, first_from, goal_fault}
+use Rattle.rpl_check.specs.Loops.{has_empty_loop, any_has_empty_loop}
+use Rattle.rpl_check.specs.Blocks.{selves, recursion_of, group_fault, table_fault}
 use Rattle.rpl_check.specs.Laws.{CallsStay}
-use Rattle.rpl_check.specs.Marked.{count}
+use Rattle.rpl_core.specs.inside.Marks.{count}
 use Rattle.rpl_core.specs.Order.{IsInOrder}
-use Rattle.rpl_check.specs.Rounds.{Reach}
-use Rattle.rpl_check.proofs.Counts.{count_lt, count_below}
-use Rattle.rpl_check.proofs.Exists.{facts_of}
+use Rattle.rpl_check.specs.inside.Rounds.{Reach}
+use Rattle.rpl_core.proofs.Counts.{count_lt, count_below}
+use Rattle.rpl_check.proofs.Exists.{facts_with}
 use Rattle.rpl_check.proofs.Firsts.{or_none, first_none, selves_none, group_of}
 use Rattle.rpl_check.proofs.Following.{reach_on}
-use Rattle.rpl_check.proofs.Least.{least_unique, here_called}
+use Rattle.rpl_check.proofs.Least.{here_called}
 use Rattle.rpl_check.proofs.Ordering.{calls_end, last_ends}
 use Rattle.rpl_core.proofs.Bools.{neither, left, right, paired, not_off, off_with, eq_self}
-
-mutual
-  plain_of : (e : Core) → has_call e ≡ false → has_repetition e ≡ false → IsPlain e
-  plain_of (Set s) c d = tt
-  plain_of (Seq ps) c d = all_plain ps c d
-  plain_of (Choice ps) c d = all_plain ps c d
-  plain_of (Many p) c d = absurd (cc)
-  plain_of (Not p) c d = plain_of p c d
-  plain_of (And p) c d = plain_of p c d
-  plain_of (Behind a b p) c d = plain_of p c d
-  plain_of (Call r) c d = absurd (cc)
-  plain_of (Capture x p) c d = plain_of p c d
-  plain_of (Note x) c d = tt
-  plain_of Start c d = tt
-  plain_of End c d = tt
-  plain_of Halt c d = tt
-
-  all_plain : (ps : Cores) → any_has_call ps ≡ false → any_has_repetition ps ≡ false → ArePlain ps
-  all_plain NoMore c d = tt
-  all_plain (Then p ps) c d = let x = neither (has_call p) (any_has_call ps) c in let y = neither (has_repetition p) (any_has_repetition ps) d in (plain_of p x.0 y.0, all_plain ps x.1 y.1)
 
 no_cause : (p : Core) → cause_of p ≡ None → (has_call p ≡ false) × (has_repetition p ≡ false)
 no_cause p e = go (has_call p) (has_repetition p) (nat_lt 255 (greatest p)) e
@@ -60,7 +49,7 @@ module _ (m : ℕ → Bool) (n : ℕ) where
     tidy_of (Many p) f b c = let x = neither (may_be_empty m p) (has_empty_loop m p) f in (x.0, tidy_of p x.1 b c)
     tidy_of (Not p) f b c = tidy_of p f b c
     tidy_of (And p) f b c = tidy_of p f b c
-    tidy_of (Behind l k p) f b c = let y = or_none (cause_of p) (first_cause p) b in let z = no_cause p y.0 in plain_of p z.0 z.1
+    tidy_of (Behind l k p) f b c = let y = or_none (cause_of p) (first_cause p) b in no_cause p y.0
     tidy_of (Call r) f b c = c r (eq_self r)
     tidy_of (Capture x p) f b c = tidy_of p f b c
     tidy_of (Note x) f b c = tt
@@ -115,6 +104,13 @@ calls_stay R bs long o r s p is c = go (length R) refl
         let lt = calls_end R bs k o (last_ends bs k (omega arith)) r s p (omega (arith, slice_get_within R r p is)) is c in
         omega arith
 
+-- a table in order has its facts
+abbrev pub facts_in_order : (R : List Core) (bs : List (Option ℕ)) (m h : ℕ → Bool) → length bs ≡ length R → IsInOrder R bs → IsLeast (Solves may_be_empty R) m → IsLeast (Solves may_halt R) h → Facts R
+facts_in_order R bs m h long o em ha = facts_with R (calls_stay R bs long o) m h em ha
+
+pub same_long : (rs : List Rule) → length (blocks_of rs) ≡ length (bodies_of rs)
+same_long rs = length-map rs (λ (r : Rule). r.block) ∙ sym (length-map rs (λ (r : Rule). core_of r.body))
+
 no_behind : (rule : Option ℕ) (o : Option Cause) → behind_fault rule o ≡ None → o ≡ None
 no_behind rule None e = refl
 no_behind rule (Some c) e = absurd (cc)
@@ -160,36 +156,24 @@ module _ (R : List Core) (bs : List (Option ℕ)) (m h : ℕ → Bool) (long : l
             stop = no_fault (passes (has_halt_inside h) (slice_get R r)) (HaltInside (Some r)) (first_none (halt_at h R) x n c.1 r xr fit);
           }
 
-  some_reach : (reach : ℕ → ℕ → Bool) × Reach R m reach
-  some_reach =
-      let d = facts_of R (calls_stay R bs long o) in
-      let e = least_unique (Solves may_be_empty R) d.empties m d.empties_least em in
-      (d.reach, λ r. subst (λ x. IsLeast (Follows R x r) (d.reach r)) e (d.reach_least r))
-
   pub accepted : IsAccepted R m h
   accepted =
-      let d = some_reach in
+      let d = facts_in_order R bs m h long o em ha in
       record {
         empties = em;
         halting = ha;
         calls = calls_stay R bs long o;
-        behinds = λ r p is. off_behind (slice_get R r) p is (free_rule d.0 d.1 r (slice_get_within R r p is)).behind;
-        loops = λ r p is. off_rule (has_empty_loop m) (slice_get R r) p is (free_rule d.0 d.1 r (slice_get_within R r p is)).loop;
-        halts = λ r p is. not_off (predicates_stay h p) (off_rule (has_halt_inside h) (slice_get R r) p is (free_rule d.0 d.1 r (slice_get_within R r p is)).stop);
+        behinds = λ r p is. off_behind (slice_get R r) p is (free_rule d.reach d.reach_least r (slice_get_within R r p is)).behind;
+        loops = λ r p is. off_rule (has_empty_loop m) (slice_get R r) p is (free_rule d.reach d.reach_least r (slice_get_within R r p is)).loop;
+        halts = λ r p is. not_off (predicates_stay h p) (off_rule (has_halt_inside h) (slice_get R r) p is (free_rule d.reach d.reach_least r (slice_get_within R r p is)).stop);
         selves = λ reach all r lt. (free_rule reach all r lt).self;
       }
 
 module _ (R : List Core) (m h : ℕ → Bool) (a : IsAccepted R m h) where
-  reach_of : (reach : ℕ → ℕ → Bool) × Reach R m reach
-  reach_of =
-      let d = facts_of R a.calls in
-      let e = least_unique (Solves may_be_empty R) d.empties m d.empties_least a.empties in
-      (d.reach, λ r. subst (λ x. IsLeast (Follows R x r) (d.reach r)) e (d.reach_least r))
-
   abbrev rank_in : (ℕ → ℕ → Bool) → ℕ → ℕ
   rank_in reach r = count (reach r) (length R)
 
-  ends_of : (g : Core) (reach : ℕ → ℕ → Bool) → Reach R m reach → has_empty_loop m g ≡ false → first_cause g ≡ None → ((r : ℕ) → calls g r ≡ true → r < length R) → Ends m (rank_in reach) R g
+  ends_of : (g : Core) (reach : ℕ → ℕ → Bool) → Reach R m reach → has_empty_loop m g ≡ false → first_cause g ≡ None → ((r : ℕ) → calls g r ≡ true → r < length R) → Terminates m (rank_in reach) R g
   ends_of g reach all lg bg cg = record {
     empties = λ r p is off. off_with (m r) (may_be_empty m p) (λ e. a.empties.solution r (ap (passes (may_be_empty m)) is ∙ e)) off;
     low = λ r lt. count_below (reach r) (length R) r lt (a.selves reach all r lt);
@@ -206,9 +190,9 @@ module _ (R : List Core) (m h : ℕ → Bool) (a : IsAccepted R m h) where
   whole_of g cg none =
       let x = or_none (behind_fault None (first_cause g)) (or_then (fault_if (has_empty_loop m g) (EmptyLoop None)) (fault_if (has_halt_inside h g) (HaltInside None))) none in
       let y = or_none (fault_if (has_empty_loop m g) (EmptyLoop None)) (fault_if (has_halt_inside h g) (HaltInside None)) x.1 in
-      let d = reach_of in
+      let d = facts_with R a.calls m h a.empties a.halting in
       record {
-        shut = λ t. ends_holds m (rank_in d.0) R g t (ends_of g d.0 d.1 (no_fault (has_empty_loop m g) (EmptyLoop None) y.0) (no_behind None (first_cause g) x.0) cg);
+        shut = λ t. ends_holds m (rank_in d.reach) R g t (ends_of g d.reach d.reach_least (no_fault (has_empty_loop m g) (EmptyLoop None) y.0) (no_behind None (first_cause g) x.0) cg);
         stays = (
           h,
           record {
@@ -220,13 +204,3 @@ module _ (R : List Core) (m h : ℕ → Bool) (a : IsAccepted R m h) where
         goal = cg;
         rules = a.calls;
       }
-
--- what is said of the least sets is said of all static facts
-pub of_facts : (R : List Core) (m h : ℕ → Bool) → IsLeast (Solves may_be_empty R) m → IsLeast (Solves may_halt R) h → (d : Facts R) (P : (ℕ → Bool) → (ℕ → Bool) → Type 0) → P m h → P d.empties d.halting
-of_facts R m h em ha d P p =
-    let e = least_unique (Solves may_be_empty R) m d.empties em d.empties_least in
-    let f = least_unique (Solves may_halt R) h d.halting ha d.halting_least in
-    subst (λ x. P x d.halting) e (subst (λ y. P m y) f p)
-
-pub of_reach : (R : List Core) (m h : ℕ → Bool) → IsLeast (Solves may_be_empty R) m → IsLeast (Solves may_halt R) h → (d : Facts R) (P : (ℕ → Bool) → (ℕ → Bool) → (ℕ → ℕ → Bool) → Type 0) → ((reach : ℕ → ℕ → Bool) → Reach R m reach → P m h reach) → P d.empties d.halting d.reach
-of_reach R m h em ha d P p = of_facts R m h em ha d (λ x y. (reach : ℕ → ℕ → Bool) → Reach R x reach → P x y reach) p d.reach d.reach_least

@@ -1,65 +1,27 @@
 -- Each table has its static facts, and one set of them.
-use Rattle.std.proofs.Common.{◌≡◌, ℕ, zero, suc, ◌+◌, ◌<◌, List, length, refl, ap, subst, ⊎_elim, inl, inr, arith}
+use Rattle.std.proofs.Common.{◌≡◌, ℕ, ◌<◌, List, length, subst, ⊎_elim, inl, inr}
 use mathlib.Core.Path.{fun_ext}
-use Rattle.std.proofs.lemmas.Bool.{cases_lt}
 use Rattle.std.proofs.lemmas.Option.{slice_get_within}
-use Rattle.std.specs.Prelude.{Bool, true, false, ◌||◌, ◌&&◌, not, ◌⊎◌, nat_eq, slice_get}
+use Rattle.std.specs.Prelude.{Bool, true, false, ◌&&◌, not, ◌⊎◌, slice_get}
 use Rattle.rpl_core.specs.Core.{Core}
 use Rattle.rpl_core.specs.Programs.{calls}
-use Rattle.rpl_simulation.specs.Ending.{may_be_empty}
+use Rattle.rpl_simulation.specs.Static.{may_be_empty}
 use Rattle.rpl_simulation.specs.Static.{may_halt}
 use Rattle.rpl_check.specs.Facts.{IsLeast, Solves, Follows, Facts, passes, calls_here}
 use Rattle.rpl_check.specs.Laws.{CallsStay, AreSame}
-use Rattle.rpl_check.specs.Marked.{count}
-use Rattle.rpl_check.proofs.Counts.{count_lt, count_all_le}
 use Rattle.rpl_check.proofs.Least.{least_unique, empty_grows, halt_grows, here_called}
-use Rattle.rpl_core.proofs.Bools.{right, both, paired, not_on, not_off, eq_of, eq_self}
+use Rattle.rpl_core.proofs.Bools.{both, paired, not_on, on_of}
+use Rattle.rpl_core.proofs.Growth.{some_below, pair_below, closed_exists}
 use Rattle.rpl_check.proofs.Tests.{passing, pass_at}
-
--- a test of the numbers below n holds of one of them, or of none
-pub some_below : (f : ℕ → Bool) (n : ℕ) → ((r : ℕ) × (r < n) × (f r ≡ true)) ⊎ ((r : ℕ) → r < n → f r ≡ false)
-some_below f zero = inr (λ r lt. absurd (omega arith))
-some_below f (suc n) = ⊎_elim (λ h. inl (h.0, omega (arith, h.1), h.2)) (λ none. here_or_not none (f n) refl) (some_below f n)
-  where
-    here_or_not : ((r : ℕ) → r < n → f r ≡ false) → (b : Bool) → f n ≡ b → ((r : ℕ) × (r < suc n) × (f r ≡ true)) ⊎ ((r : ℕ) → r < suc n → f r ≡ false)
-    here_or_not none true e = inl (n, omega arith, e)
-    here_or_not none false e = inr (λ r lt. ⊎_elim (none r) (λ ge. let z : n ≡ r = omega arith in subst (λ x. f x ≡ false) z e) (cases_lt r n))
 
 -- what is missing of a closed set: a number that each closed set above has
 abbrev pub Missing : ((ℕ → Bool) → Type 0) → ℕ → (ℕ → Bool) → Type 0
 Missing closed n m = (q : ℕ) × (q < n) × (m q ≡ false) × ((k : ℕ → Bool) → closed k → ((r : ℕ) → m r ≡ true → k r ≡ true) → k q ≡ true)
 
-abbrev with_one : ℕ → (ℕ → Bool) → ℕ → Bool
-with_one q m r = nat_eq q r || m r
-
-with_cases : (q : ℕ) (m k : ℕ → Bool) → k q ≡ true → ((r : ℕ) → m r ≡ true → k r ≡ true) → (r : ℕ) → with_one q m r ≡ true → k r ≡ true
-with_cases q m k hq h r = go (nat_eq q r) refl
-  where
-    go : (b : Bool) → nat_eq q r ≡ b → (b || m r) ≡ true → k r ≡ true
-    go true e x = subst (λ z. k z ≡ true) (eq_of q r e) hq
-    go false e x = h r x
-
--- by adding what is missing, one number at a time
-grown : (closed : (ℕ → Bool) → Type 0) (n : ℕ) → ((m : ℕ → Bool) → closed m ⊎ Missing closed n m) → (fuel : ℕ) (m : ℕ → Bool) → n < fuel + count m n → ((k : ℕ → Bool) → closed k → (r : ℕ) → m r ≡ true → k r ≡ true) → (s : ℕ → Bool) × IsLeast closed s
-grown closed n find zero m enough under = absurd (let h = count_all_le m n in omega arith)
-grown closed n find (suc fuel) m enough under = ⊎_elim done (more (λ m1. grown closed n find fuel m1)) (find m)
-  where
-    done : closed m → (s : ℕ → Bool) × IsLeast closed s
-    done c = (m, record { solution = c; least = under })
-
-    more : ((m1 : ℕ → Bool) → n < fuel + count m1 n → ((k : ℕ → Bool) → closed k → (r : ℕ) → m1 r ≡ true → k r ≡ true) → (s : ℕ → Bool) × IsLeast closed s) → Missing closed n m → (s : ℕ → Bool) × IsLeast closed s
-    more again x =
-        let m1 = with_one x.0 m in
-        let new : m1 x.0 ≡ true = ap (λ b. b || m x.0) (eq_self x.0) in
-        let up = count_lt m m1 n x.0 (λ r e. right (nat_eq x.0 r) (m r) e) x.1 x.2 new in
-        again m1 (omega arith) (λ k c r. with_cases x.0 m k (x.3 k c (under k c)) (under k c) r)
-
 pub least_exists : (closed : (ℕ → Bool) → Type 0) (n : ℕ) → ((m : ℕ → Bool) → closed m ⊎ Missing closed n m) → (s : ℕ → Bool) × IsLeast closed s
-least_exists closed n find = grown closed n find (suc n) (λ r. false) (omega arith) (λ k c r e. absurd (cc))
-
-on_of : (a b : Bool) → (a && not b) ≡ false → a ≡ true → b ≡ true
-on_of true b e x = not_off b e
-on_of false b e x = absurd (cc)
+least_exists closed n find =
+    let x = closed_exists closed (λ r. (k : ℕ → Bool) → closed k → k r ≡ true) n (λ m under. ⊎_elim inl (λ h. inr (h.0, h.1, h.2, λ k c. h.3 k c (λ r e. under r e k c))) (find m)) in
+    (x.0, record { solution = x.1; least = λ k c r e. x.2 r e k c })
 
 module _ (test : (ℕ → Bool) → Core → Bool)
     (grows : (m k : ℕ → Bool) (e : Core) → ((r : ℕ) → calls e r ≡ true → m r ≡ true → k r ≡ true) → test m e ≡ true → test k e ≡ true)
@@ -79,14 +41,6 @@ module _ (test : (ℕ → Bool) → Core → Bool)
       closed : ((r : ℕ) → r < length R → open_rule m r ≡ false) → Solves test R m
       closed none r e = let x = passing (test m) R r e in on_of (passes (test m) (slice_get R r)) (m r) (none r (slice_get_within R r x.0 x.1)) e
 
--- a test of pairs below n
-pair_below : (f : ℕ → ℕ → Bool) (n k : ℕ) → ((q : ℕ) × (t : ℕ) × (t < n) × (f q t ≡ true)) ⊎ ((q : ℕ) → q < k → (t : ℕ) → t < n → f q t ≡ false)
-pair_below f n zero = inr (λ q lt t l. absurd (omega arith))
-pair_below f n (suc k) = ⊎_elim (λ h. inl h) (λ none. ⊎_elim (λ h. inl (k, h.0, h.1, h.2)) (λ last. inr (all none last)) (some_below (f k) n)) (pair_below f n k)
-  where
-    all : ((q : ℕ) → q < k → (t : ℕ) → t < n → f q t ≡ false) → ((t : ℕ) → t < n → f k t ≡ false) → (q : ℕ) → q < suc k → (t : ℕ) → t < n → f q t ≡ false
-    all none last q lt t l = ⊎_elim (λ x. none q x t l) (λ ge. let z : k ≡ q = omega arith in subst (λ x. f x t ≡ false) z (last t l)) (cases_lt q k)
-
 module _ (R : List Core) (stay : CallsStay R) (m : ℕ → Bool) (r : ℕ) where
   abbrev at : ℕ → ℕ → Bool
   at q t = passes (λ p. calls_here m p t) (slice_get R q)
@@ -103,7 +57,7 @@ module _ (R : List Core) (stay : CallsStay R) (m : ℕ → Bool) (r : ℕ) where
   abbrev further_open : (ℕ → Bool) → ℕ → ℕ → Bool
   further_open s q t = (s q && at q t) && not (s t)
 
-  reach_find : (s : ℕ → Bool) → Follows R m r s ⊎ Missing (Follows R m r) (length R) s
+  pub reach_find : (s : ℕ → Bool) → Follows R m r s ⊎ Missing (Follows R m r) (length R) s
   reach_find s = ⊎_elim (λ h. inr (early h)) (λ none. ⊎_elim (λ h. inr (late h)) (λ rest. inl (closed none rest)) (pair_below (further_open s) (length R) (length R))) (some_below (first_open s) (length R))
     where
       early : ((t : ℕ) × (t < length R) × (first_open s t ≡ true)) → Missing (Follows R m r) (length R) s
@@ -121,19 +75,23 @@ module _ (R : List Core) (stay : CallsStay R) (m : ℕ → Bool) (r : ℕ) where
         further = λ q t x e. on_of (s q && at q t) (s t) (rest q (caller_in q t e) t (called_in q t e)) (paired (s q) (at q t) x e);
       }
 
+-- the facts of a table, where those of its rules that may be empty and those that may halt are known
+abbrev pub facts_with : (R : List Core) → CallsStay R → (m h : ℕ → Bool) → IsLeast (Solves may_be_empty R) m → IsLeast (Solves may_halt R) h → Facts R
+facts_with R stay m h empty halt = record {
+  empties = m;
+  halting = h;
+  reach = λ r. (least_exists (Follows R m r) (length R) (reach_find R stay m r)).0;
+  empties_least = empty;
+  halting_least = halt;
+  reach_least = λ r. (least_exists (Follows R m r) (length R) (reach_find R stay m r)).1;
+}
+
 -- each table whose calls stay in it has its facts
 pub facts_of : (R : List Core) → CallsStay R → Facts R
 facts_of R stay =
     let m = least_exists (Solves may_be_empty R) (length R) (solve_find may_be_empty (λ m k e up. empty_grows m k e up) R) in
     let h = least_exists (Solves may_halt R) (length R) (solve_find may_halt (λ m k e up. halt_grows m k e up) R) in
-    record {
-      empties = m.0;
-      halting = h.0;
-      reach = λ r. (least_exists (Follows R m.0 r) (length R) (reach_find R stay m.0 r)).0;
-      empties_least = m.1;
-      halting_least = h.1;
-      reach_least = λ r. (least_exists (Follows R m.0 r) (length R) (reach_find R stay m.0 r)).1;
-    }
+    facts_with R stay m.0 h.0 m.1 h.1
 
 -- and no others
 pub facts_same : (R : List Core) (d e : Facts R) → AreSame R d e

@@ -4,11 +4,13 @@ use Rattle.std.proofs.lemmas.Bool.{cases_lt}
 use Rattle.std.specs.Prelude.{Bool, true, false, if◌then◌else◌, slice_get, ◌⊎◌}
 use Rattle.rpl_core.specs.Core.{Core}
 use Rattle.rpl_check.specs.Answers.{IsDue}
-use Rattle.rpl_check.specs.Facts.{calls_at}
+use Rattle.rpl_check.specs.Facts.{calls_at, calls_here}
 use Rattle.rpl_core.specs.Order.{joins_next}
-use Rattle.rpl_check.specs.Faults.{Fault, Cause, or_then, first_from, behind_fault, fault_if, selves, recursion_of, fault_from}
+use Rattle.rpl_check.specs.Faults.{Fault, LeftRecursion, first_from}
+use Rattle.rpl_check.specs.Causes.{or_then}
+use Rattle.rpl_check.specs.Blocks.{selves, recursion_of, fault_from}
 use Rattle.rpl_core.specs.Order.{IsInOrder, block_at}
-use Rattle.rpl_check.specs.Rounds.{CallsBefore, Reach}
+use Rattle.rpl_check.specs.inside.Rounds.{CallsBefore, Reach}
 use Rattle.rpl_check.proofs.Following.{no_self}
 use Rattle.rpl_check.proofs.Least.{here_called}
 use Rattle.rpl_check.proofs.Ordering.{last_ends}
@@ -63,14 +65,14 @@ alone R blocks m reach r e o early out one all = ap (λ n. recursion_of (selves 
   where
     before : (t : ℕ) → calls_at m R r t ≡ true → t < r
     before t c =
-        let x = passing (λ p. Rattle.rpl_check.specs.Facts.calls_here m p t) R r c in
+        let x = passing (λ p. calls_here m p t) R r c in
         ⊎_elim (λ l. l) (λ k. let z : None ≡ Some k.0 = sym out ∙ k.1 in absurd (cc)) (o.earlier r t x.0 x.1 (here_called m t x.0 x.2))
 
     off : reach r r ≡ false
     off = no_self R m reach all r r early (omega arith) (λ t c. inl (before t c))
 
 -- a list that isn't empty
-pub some_recursion : (l : List ℕ) → 0 < length l → recursion_of l ≡ Some (Rattle.rpl_check.specs.Faults.LeftRecursion l)
+pub some_recursion : (l : List ℕ) → 0 < length l → recursion_of l ≡ Some (LeftRecursion l)
 some_recursion [] lt = absurd (omega arith)
 some_recursion (r ∷ l) lt = refl
 

@@ -1,5 +1,4 @@
 pub mod Tests
-pub mod Counts
 pub mod Least
 pub mod Exists
 pub mod Stay

@@ -1,7 +1,7 @@
 -- Which rules reach themselves, one after the other.
 use Rattle.std.proofs.Common.{◌≡◌, ℕ, suc, ◌+◌, ◌-◌, ◌<◌, ◌∷◌, ap, ◌∙◌, arith}
 use Rattle.std.specs.Prelude.{Bool, true, false, if◌then◌else◌}
-use Rattle.rpl_check.specs.Faults.{selves}
+use Rattle.rpl_check.specs.Blocks.{selves}
 
 pub minus_step : (r e : ℕ) → r < e → e - r ≡ suc (e - (r + 1))
 minus_step r e lt = omega arith

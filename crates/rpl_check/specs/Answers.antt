@@ -4,7 +4,8 @@ use Rattle.rpl_check.specs.declared.fault.BehindCause as B
 use Rattle.rpl_check.specs.declared.fault.BehindCause.TheVariants as V
 use Rattle.rpl_check.specs.declared.fault.CheckFault.{CheckFault}
 use Rattle.rpl_check.specs.declared.fault.CheckFault.TheVariants as W
-use Rattle.rpl_check.specs.Faults.{Cause, Recursive, Repetition, TooLong, Fault, LookBehind, LeftRecursion, EmptyLoop, HaltInside}
+use Rattle.rpl_check.specs.Causes.{Cause, Recursive, Repetition, TooLong}
+use Rattle.rpl_check.specs.Faults.{Fault, LookBehind, LeftRecursion, EmptyLoop, HaltInside}
 
 abbrev pub cause_named : B.BehindCause → Cause
 cause_named V.Recursive = Recursive

@@ -1,9 +1,10 @@
 pub mod Facts
 pub mod Laws
+pub mod Causes
+pub mod Loops
 pub mod Faults
-pub mod Marked
+pub mod Blocks
 pub mod Answers
-pub mod Rounds
-pub mod Search
 pub mod Checked
 pub mod Goal
+pub mod inside

@@ -2,7 +2,7 @@
 ghost use Rattle.std.specs.Prelude.{◌≡◌};
 ghost use Rattle.rpl_core.specs.View.{core_of, cores};
 ghost use Rattle.rpl_check.specs.Answers.{some_cause};
-ghost use Rattle.rpl_check.specs.Faults as F;
+ghost use Rattle.rpl_check.specs.Causes as C;
 
 use crate::fault::BehindCause;
 use rpl_core::{Peg, greatest_length, has_call, has_repetition};
@@ -12,7 +12,7 @@ const MAX_LENGTH: u32 = 255;
 
 /// What is wrong with the body of a look-behind.
 fn cause_of(body: &Peg) -> Option<BehindCause>
-    ensures { some_cause result ≡ F.cause_of (core_of body.now) }
+    ensures { some_cause result ≡ C.cause_of (core_of body.now) }
 {
     if has_call(body) {
         Some(BehindCause::Recursive)
@@ -28,7 +28,7 @@ fn cause_of(body: &Peg) -> Option<BehindCause>
 /// What is wrong with the first bad look-behind of the pattern, an outer one before those inside it.
 #[cycle(cause)]
 pub(crate) fn first_cause(peg: &Peg) -> Option<BehindCause>
-    ensures { some_cause result ≡ F.first_cause (core_of peg.now) }
+    ensures { some_cause result ≡ C.first_cause (core_of peg.now) }
 {
     match peg {
         Peg::Set(_) | Peg::Call(_) | Peg::Note(_) | Peg::Start | Peg::End | Peg::Halt => None,
@@ -46,7 +46,7 @@ pub(crate) fn first_cause(peg: &Peg) -> Option<BehindCause>
 /// That of the first part that has one.
 #[cycle(cause)]
 fn first_cause_in(parts: &[Peg]) -> Option<BehindCause>
-    ensures { some_cause result ≡ F.first_cause_in (cores parts.now) }
+    ensures { some_cause result ≡ C.first_cause_in (cores parts.now) }
 {
     for part in parts {
         if let Some(cause) = first_cause(part) {

@@ -1,15 +1,16 @@
 // Tables and patterns without faults.
 ghost use Rattle.std.specs.Prelude.{◌≡◌, ℕ, ◌<◌, true, is_some, length, IfErr, IfOk};
-ghost use Rattle.rpl_core.specs.Listed.{rules_of};
+ghost use Rattle.rpl_core.specs.Listed.{blocks_in, bodies_in, rules_of};
 ghost use Rattle.rpl_core.specs.Programs.{calls};
-ghost use Rattle.rpl_core.specs.Table.{blocks_of, bodies_of};
+ghost use Rattle.rpl_core.specs.Table.{bodies_of};
 ghost use Rattle.rpl_core.specs.View.{core_of};
 ghost use Rattle.rpl_check.specs.Answers.{Answers, fault_named};
 ghost use Rattle.rpl_check.specs.Checked.{IsWhole};
 ghost use Rattle.rpl_check.specs.Facts.{Facts};
-ghost use Rattle.rpl_check.specs.Faults as F;
+ghost use Rattle.rpl_check.specs.Blocks.{first_fault};
+ghost use Rattle.rpl_check.specs.Faults.{goal_fault};
 ghost use Rattle.rpl_check.specs.Goal.{peg_of};
-ghost use Rattle.rpl_check.specs.Marked.{marked};
+ghost use Rattle.rpl_core.specs.inside.Marks.{marked};
 ghost use Rattle.rpl_core.specs.Order.{IsInOrder};
 
 use crate::behinds::first_cause;
@@ -34,12 +35,11 @@ pub struct Checked {
 impl Model for Checked {
     ghost use Rattle.std.specs.Coded.{codes};
     ghost use Rattle.std.specs.Prelude.{List};
-    ghost use Rattle.rpl_core.specs.Listed.{rules_of};
-    ghost use Rattle.rpl_core.specs.Table.{bodies_of};
+    ghost use Rattle.rpl_core.specs.Listed.{bodies_in, rules_of};
     ghost use Rattle.rpl_core.specs.contracts.peg.Peg as e;
     ghost use Rattle.rpl_core.specs.declared.rules.Rule.{Rule};
-    ghost use Rattle.rpl_check.specs.Checked.{IsAccepted};
-    ghost use Rattle.rpl_check.specs.Marked.{marked};
+    ghost use Rattle.rpl_check.specs.inside.Accepted.{IsAccepted};
+    ghost use Rattle.rpl_core.specs.inside.Marks.{marked};
 
     ghost Value = { List Rule };
 
@@ -47,7 +47,7 @@ impl Model for Checked {
 
     ghost view = { λ a. rules_of a.rules };
 
-    ghost invariant = { λ a. IsAccepted (bodies_of (rules_of a.rules)) (marked a.empties.items) (marked a.halting.items) };
+    ghost invariant = { λ a. IsAccepted (bodies_in a.rules) (marked a.empties.items) (marked a.halting.items) };
 }
 
 impl Checked {
@@ -65,8 +65,8 @@ impl Checked {
 /// come first, then left recursion, then empty loops, then halts under predicates. It needs a table in order, as every
 /// expansion is.
 pub fn check(alloc: Global, rules: Rules) -> Result<Checked, CheckFault>
-    requires { IsInOrder (bodies_of (rules_of rules)) (blocks_of (rules_of rules)) }
-    ensures exactly { (d : Facts (bodies_of (rules_of rules))) → Answers (F.table_fault d.empties d.halting d.reach (bodies_of (rules_of rules)) (blocks_of (rules_of rules))) result }
+    requires { IsInOrder (bodies_in rules) (blocks_in rules) }
+    ensures exactly { (d : Facts (bodies_in rules)) × Answers (first_fault d (blocks_in rules)) result }
     ensures same { IfOk result (λ c. c ≡ rules_of rules) }
 {
     let empties = work_out(alloc, &rules, Fact::MayBeEmpty)?;
@@ -98,7 +98,7 @@ impl CheckedPeg {
 
 /// The first fault of a pattern: a look-behind, an empty loop, or a halt under a predicate.
 fn check_goal(peg: &Peg, empties: &[bool], halting: &[bool]) -> Result<(), CheckFault>
-    ensures exactly { Answers (F.goal_fault (marked empties.now) (marked halting.now) (core_of peg.now)) result }
+    ensures exactly { Answers (goal_fault (marked empties.now) (marked halting.now) (core_of peg.now)) result }
     ensures memory { IfErr result (λ e. is_some (fault_named e) ≡ true) }
 {
     if let Some(cause) = first_cause(peg) {
@@ -117,7 +117,8 @@ fn check_goal(peg: &Peg, empties: &[bool], halting: &[bool]) -> Result<(), Check
 /// does its code. It needs each call to be one of a rule of the table, and takes no memory.
 pub fn check_pattern(_alloc: Global, checked: &Checked, peg: Peg) -> Result<CheckedPeg, CheckFault>
     requires { (r : ℕ) → calls (core_of peg) r ≡ true → r < length checked.now }
-    ensures exactly { (d : Facts (bodies_of checked.now)) → Answers (F.goal_fault d.empties d.halting (core_of peg)) result }
+    ensures exactly { (d : Facts (bodies_of checked.now))
+        × Answers (goal_fault d.empties d.halting (core_of peg)) result }
     ensures memory { IfErr result (λ e. is_some (fault_named e) ≡ true) }
     ensures same { IfOk result (λ g. peg_of g ≡ peg) }
     ensures whole { IfOk result (λ g. IsWhole (bodies_of checked.now) (core_of (peg_of g))) }

@@ -1,13 +1,11 @@
 // Which rules may be empty, and which may halt.
 ghost use Rattle.std.specs.Prelude.{◌≡◌, ◌<◌, ◌≤◌, false, true, length, slice_get};
-ghost use Rattle.rpl_core.specs.Listed.{rules_of};
-ghost use Rattle.rpl_core.specs.Table.{blocks_of, bodies_of};
+ghost use Rattle.rpl_core.specs.Listed.{bodies_in};
 ghost use Rattle.rpl_core.specs.View.{core_of, cores};
-ghost use Rattle.rpl_simulation.specs.Ending as E;
 ghost use Rattle.rpl_simulation.specs.Static as S;
 ghost use Rattle.rpl_check.specs.Facts.{passes};
-ghost use Rattle.rpl_check.specs.Marked.{marked};
-ghost use Rattle.rpl_check.specs.Rounds.{test_of};
+ghost use Rattle.rpl_core.specs.inside.Marks.{marked};
+ghost use Rattle.rpl_check.specs.inside.Rounds.{test_of};
 
 use rpl_core::{Peg, Rules};
 
@@ -32,7 +30,7 @@ pub(crate) fn is_marked(marks: &[bool], rule: u32) -> bool
 /// The pattern may succeed and take nothing, where just the marked rules may.
 #[cycle(empty)]
 pub(crate) fn may_be_empty(peg: &Peg, empties: &[bool]) -> bool
-    ensures { result ≡ E.may_be_empty (marked empties.now) (core_of peg.now) }
+    ensures { result ≡ S.may_be_empty (marked empties.now) (core_of peg.now) }
 {
     match peg {
         Peg::Set(_) | Peg::Halt => false,
@@ -48,7 +46,7 @@ pub(crate) fn may_be_empty(peg: &Peg, empties: &[bool]) -> bool
 /// So may all parts.
 #[cycle(empty)]
 fn all_may_be_empty(parts: &[Peg], empties: &[bool]) -> bool
-    ensures { result ≡ E.all_may_be_empty (marked empties.now) (cores parts.now) }
+    ensures { result ≡ S.all_may_be_empty (marked empties.now) (cores parts.now) }
 {
     for part in parts {
         if !may_be_empty(part, empties) {
@@ -61,7 +59,7 @@ fn all_may_be_empty(parts: &[Peg], empties: &[bool]) -> bool
 /// So may some part.
 #[cycle(empty)]
 fn any_may_be_empty(parts: &[Peg], empties: &[bool]) -> bool
-    ensures { result ≡ E.any_may_be_empty (marked empties.now) (cores parts.now) }
+    ensures { result ≡ S.any_may_be_empty (marked empties.now) (cores parts.now) }
 {
     for part in parts {
         if may_be_empty(part, empties) {
@@ -113,7 +111,7 @@ fn holds(peg: &Peg, fact: Fact, marks: &[bool]) -> bool
 
 /// So does the body of the rule with this number, if there is one.
 pub(crate) fn rule_holds(rules: &Rules, number: u32, fact: Fact, marks: &[bool]) -> bool
-    ensures { result ≡ passes (test_of fact (marked marks.now)) (slice_get (bodies_of (rules_of rules.now)) number) }
+    ensures { result ≡ passes (test_of fact (marked marks.now)) (slice_get (bodies_in rules.now) number) }
 {
     match rules.get(number) {
         Some(rule) => holds(&rule.body, fact, marks),

@@ -15,7 +15,8 @@ pub enum BehindCause {
     TooLong,
 }
 
-/// Why a table of rules or a pattern is refused. A rule is its number in the table; where there is none it is the pattern.
+/// Why a table of rules or a pattern is refused. A rule is its number in the table; where there is none it is the
+/// pattern.
 #[derive(Debug, Drop, Error)]
 pub enum CheckFault {
     /// Memory is wanting.

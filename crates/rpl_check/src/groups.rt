@@ -1,13 +1,15 @@
 // The first fault of a table.
-ghost use Rattle.std.specs.Prelude.{◌≡◌, ℕ, ◌-◌, ◌<◌, ◌≤◌, Bool, length, slice_get};
-ghost use Rattle.rpl_core.specs.Listed.{rules_of};
-ghost use Rattle.rpl_core.specs.Table.{blocks_of, bodies_of};
+ghost use Rattle.std.specs.Prelude.{◌≡◌, ◌-◌, ◌<◌, ◌≤◌, length, slice_get};
+ghost use Rattle.rpl_core.specs.Listed.{blocks_in, bodies_in, rules_of};
 ghost use Rattle.rpl_check.specs.Answers.{Answers, some_cause};
 ghost use Rattle.rpl_check.specs.Facts.{passes};
-ghost use Rattle.rpl_check.specs.Faults as F;
-ghost use Rattle.rpl_check.specs.Marked.{marked};
+ghost use Rattle.rpl_check.specs.Blocks.{group_fault, recursion_of, selves, table_fault};
+ghost use Rattle.rpl_check.specs.Causes.{body_cause};
+ghost use Rattle.rpl_check.specs.Faults.{behind_at, first_from, halt_at, has_halt_inside, loop_at};
+ghost use Rattle.rpl_check.specs.Loops.{has_empty_loop};
+ghost use Rattle.rpl_core.specs.inside.Marks.{marked};
 ghost use Rattle.rpl_core.specs.Order.{IsInOrder};
-ghost use Rattle.rpl_check.specs.Rounds.{CallsBefore, Reach};
+ghost use Rattle.rpl_check.specs.inside.Rounds.{CallsBefore, OverReach};
 
 use crate::NoMemory;
 use crate::behinds::first_cause;
@@ -19,7 +21,7 @@ use std::alloc::Global;
 
 /// What is wrong with the first bad look-behind of the rule.
 fn cause_at(rules: &Rules, number: u32) -> Option<BehindCause>
-    ensures { some_cause result ≡ F.body_cause (slice_get (bodies_of (rules_of rules.now)) number) }
+    ensures { some_cause result ≡ body_cause (slice_get (bodies_in rules.now) number) }
 {
     match rules.get(number) {
         Some(rule) => first_cause(&rule.body),
@@ -29,7 +31,7 @@ fn cause_at(rules: &Rules, number: u32) -> Option<BehindCause>
 
 /// The rule repeats something that may be empty.
 fn has_loop_at(rules: &Rules, number: u32, empties: &[bool]) -> bool
-    ensures { result ≡ passes (F.has_empty_loop (marked empties.now)) (slice_get (bodies_of (rules_of rules.now)) number) }
+    ensures { result ≡ passes (has_empty_loop (marked empties.now)) (slice_get (bodies_in rules.now) number) }
 {
     match rules.get(number) {
         Some(rule) => has_empty_loop(&rule.body, empties),
@@ -39,7 +41,7 @@ fn has_loop_at(rules: &Rules, number: u32, empties: &[bool]) -> bool
 
 /// The rule has a predicate that may halt.
 fn has_halt_at(rules: &Rules, number: u32, halting: &[bool]) -> bool
-    ensures { result ≡ passes (F.has_halt_inside (marked halting.now)) (slice_get (bodies_of (rules_of rules.now)) number) }
+    ensures { result ≡ passes (has_halt_inside (marked halting.now)) (slice_get (bodies_in rules.now) number) }
 {
     match rules.get(number) {
         Some(rule) => !predicates_stay(&rule.body, halting),
@@ -49,7 +51,7 @@ fn has_halt_at(rules: &Rules, number: u32, halting: &[bool]) -> bool
 
 /// The rule has no bad look-behind.
 fn check_behind(rules: &Rules, number: u32) -> Result<(), CheckFault>
-    ensures { Answers (F.behind_at (bodies_of (rules_of rules.now)) number) result }
+    ensures { Answers (behind_at (bodies_in rules.now) number) result }
 {
     match cause_at(rules, number) {
         Some(cause) => Err(CheckFault::LookBehind {
@@ -62,7 +64,7 @@ fn check_behind(rules: &Rules, number: u32) -> Result<(), CheckFault>
 
 /// The rule has no empty loop.
 fn check_loop(rules: &Rules, number: u32, empties: &[bool]) -> Result<(), CheckFault>
-    ensures { Answers (F.loop_at (marked empties.now) (bodies_of (rules_of rules.now)) number) result }
+    ensures { Answers (loop_at (marked empties.now) (bodies_in rules.now) number) result }
 {
     if has_loop_at(rules, number, empties) {
         return Err(CheckFault::EmptyLoop { rule: Some(number) });
@@ -72,7 +74,7 @@ fn check_loop(rules: &Rules, number: u32, empties: &[bool]) -> Result<(), CheckF
 
 /// The rule has no halt under a predicate.
 fn check_halt(rules: &Rules, number: u32, halting: &[bool]) -> Result<(), CheckFault>
-    ensures { Answers (F.halt_at (marked halting.now) (bodies_of (rules_of rules.now)) number) result }
+    ensures { Answers (halt_at (marked halting.now) (bodies_in rules.now) number) result }
 {
     if has_halt_at(rules, number, halting) {
         return Err(CheckFault::HaltInside { rule: Some(number) });
@@ -83,7 +85,7 @@ fn check_halt(rules: &Rules, number: u32, halting: &[bool]) -> Result<(), CheckF
 /// No rule of the block has a bad look-behind.
 fn check_behinds(rules: &Rules, start: u32, end: u32) -> Result<(), CheckFault>
     requires { start ≤ end }
-    ensures { Answers (F.first_from (F.behind_at (bodies_of (rules_of rules.now))) start (end - start)) result }
+    ensures { Answers (first_from (behind_at (bodies_in rules.now)) start (end - start)) result }
 {
     for number in start..end {
         check_behind(rules, number)?;
@@ -100,10 +102,11 @@ fn check_recursion(
     empties: &[bool],
 ) -> Result<(), CheckFault>
     requires within { (start < end) × (end ≤ length (rules_of rules.now)) }
-    requires order { IsInOrder (bodies_of (rules_of rules.now)) (blocks_of (rules_of rules.now)) }
-    requires earlier { CallsBefore (bodies_of (rules_of rules.now)) start }
-    requires calls { CallsBefore (bodies_of (rules_of rules.now)) end }
-    ensures { (reach : ℕ → ℕ → Bool) → Reach (bodies_of (rules_of rules.now)) (marked empties.now) reach → Answers (F.recursion_of (F.selves reach start (end - start))) result }
+    requires order { IsInOrder (bodies_in rules.now) (blocks_in rules.now) }
+    requires earlier { CallsBefore (bodies_in rules.now) start }
+    requires calls { CallsBefore (bodies_in rules.now) end }
+    ensures { OverReach (bodies_in rules.now) (marked empties.now)
+        (λ reach. Answers (recursion_of (selves reach start (end - start))) result) }
 {
     if end - start == 1 && is_outside(rules, start) {
         return Ok(());
@@ -118,7 +121,7 @@ fn check_recursion(
 /// No rule of the block has an empty loop.
 fn check_loops(rules: &Rules, start: u32, end: u32, empties: &[bool]) -> Result<(), CheckFault>
     requires { start ≤ end }
-    ensures { Answers (F.first_from (F.loop_at (marked empties.now) (bodies_of (rules_of rules.now))) start (end - start)) result }
+    ensures { Answers (first_from (loop_at (marked empties.now) (bodies_in rules.now)) start (end - start)) result }
 {
     for number in start..end {
         check_loop(rules, number, empties)?;
@@ -129,7 +132,7 @@ fn check_loops(rules: &Rules, start: u32, end: u32, empties: &[bool]) -> Result<
 /// No rule of the block has a halt under a predicate.
 fn check_halts(rules: &Rules, start: u32, end: u32, halting: &[bool]) -> Result<(), CheckFault>
     requires { start ≤ end }
-    ensures { Answers (F.first_from (F.halt_at (marked halting.now) (bodies_of (rules_of rules.now))) start (end - start)) result }
+    ensures { Answers (first_from (halt_at (marked halting.now) (bodies_in rules.now)) start (end - start)) result }
 {
     for number in start..end {
         check_halt(rules, number, halting)?;
@@ -147,10 +150,11 @@ fn check_group(
     halting: &[bool],
 ) -> Result<(), CheckFault>
     requires within { (start < end) × (end ≤ length (rules_of rules.now)) }
-    requires order { IsInOrder (bodies_of (rules_of rules.now)) (blocks_of (rules_of rules.now)) }
-    requires earlier { CallsBefore (bodies_of (rules_of rules.now)) start }
-    requires calls { CallsBefore (bodies_of (rules_of rules.now)) end }
-    ensures { (reach : ℕ → ℕ → Bool) → Reach (bodies_of (rules_of rules.now)) (marked empties.now) reach → Answers (F.group_fault (marked empties.now) (marked halting.now) reach (bodies_of (rules_of rules.now)) start end) result }
+    requires order { IsInOrder (bodies_in rules.now) (blocks_in rules.now) }
+    requires earlier { CallsBefore (bodies_in rules.now) start }
+    requires calls { CallsBefore (bodies_in rules.now) end }
+    ensures { OverReach (bodies_in rules.now) (marked empties.now) (λ reach.
+        Answers (group_fault (marked empties.now) (marked halting.now) reach (bodies_in rules.now) start end) result) }
 {
     check_behinds(rules, start, end)?;
     check_recursion(alloc, rules, start, end, empties)?;
@@ -165,8 +169,10 @@ pub(crate) fn check_table(
     empties: &[bool],
     halting: &[bool],
 ) -> Result<(), CheckFault>
-    requires { IsInOrder (bodies_of (rules_of rules.now)) (blocks_of (rules_of rules.now)) }
-    ensures { (reach : ℕ → ℕ → Bool) → Reach (bodies_of (rules_of rules.now)) (marked empties.now) reach → Answers (F.table_fault (marked empties.now) (marked halting.now) reach (bodies_of (rules_of rules.now)) (blocks_of (rules_of rules.now))) result }
+    requires { IsInOrder (bodies_in rules.now) (blocks_in rules.now) }
+    ensures { OverReach (bodies_in rules.now) (marked empties.now) (λ reach. Answers
+        (table_fault (marked empties.now) (marked halting.now) reach (bodies_in rules.now) (blocks_in rules.now))
+        result) }
 {
     let mut start = 0;
     for number in 0..rules.len() as u32 {

@@ -2,8 +2,8 @@
 ghost use Rattle.std.specs.Prelude.{◌≡◌};
 ghost use Rattle.rpl_core.specs.View.{core_of, cores};
 ghost use Rattle.rpl_simulation.specs.Static as S;
-ghost use Rattle.rpl_check.specs.Faults as F;
-ghost use Rattle.rpl_check.specs.Marked.{marked};
+ghost use Rattle.rpl_check.specs.Loops as L;
+ghost use Rattle.rpl_core.specs.inside.Marks.{marked};
 
 use crate::facts::{may_be_empty, may_halt};
 use rpl_core::Peg;
@@ -11,7 +11,7 @@ use rpl_core::Peg;
 /// The pattern repeats something that may be empty, where just the marked rules may.
 #[cycle(empty_loop)]
 pub(crate) fn has_empty_loop(peg: &Peg, empties: &[bool]) -> bool
-    ensures { result ≡ F.has_empty_loop (marked empties.now) (core_of peg.now) }
+    ensures { result ≡ L.has_empty_loop (marked empties.now) (core_of peg.now) }
 {
     match peg {
         Peg::Set(_) | Peg::Call(_) | Peg::Note(_) | Peg::Start | Peg::End | Peg::Halt => false,
@@ -27,7 +27,7 @@ pub(crate) fn has_empty_loop(peg: &Peg, empties: &[bool]) -> bool
 /// Some part does.
 #[cycle(empty_loop)]
 fn any_has_empty_loop(parts: &[Peg], empties: &[bool]) -> bool
-    ensures { result ≡ F.any_has_empty_loop (marked empties.now) (cores parts.now) }
+    ensures { result ≡ L.any_has_empty_loop (marked empties.now) (cores parts.now) }
 {
     for part in parts {
         if has_empty_loop(part, empties) {

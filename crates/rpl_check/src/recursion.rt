@@ -1,14 +1,14 @@
 // Which rules of a block reach themselves before a character is taken.
 ghost use Rattle.std.specs.Prelude.{◌≡◌, ℕ, ◌-◌, ◌<◌, ◌≤◌, ◌^◌, Bool, false, true, nat_eq, length, IfOk, OnOk};
-ghost use Rattle.rpl_core.specs.Listed.{rules_of};
-ghost use Rattle.rpl_core.specs.Table.{bodies_of};
+ghost use Rattle.rpl_core.specs.Listed.{bodies_in, rules_of};
 ghost use Rattle.rpl_core.specs.View.{core_of, cores};
-ghost use Rattle.rpl_simulation.specs.Ending as E;
+ghost use Rattle.rpl_simulation.specs.Static as E;
 ghost use Rattle.rpl_check.specs.Facts.{Follows, IsLeast, any_calls_here, calls_at, calls_here, front_calls_here};
-ghost use Rattle.rpl_check.specs.Faults as F;
-ghost use Rattle.rpl_check.specs.Marked.{marked, marked_from};
-ghost use Rattle.rpl_check.specs.Rounds.{CallsBefore, Reach};
-ghost use Rattle.rpl_check.specs.Search.{AreClean, Finds, calls_within, each_calls_within, front_calls_within, within_or_none};
+ghost use Rattle.rpl_check.specs.Blocks as B;
+ghost use Rattle.rpl_core.specs.inside.Marks.{marked};
+ghost use Rattle.rpl_check.specs.inside.Rounds.{CallsBefore, OverReach};
+ghost use Rattle.rpl_check.specs.inside.Search.{AreClean, Finds, marked_from};
+ghost use Rattle.rpl_check.specs.inside.Search.{clean_all, clean_core, clean_each, within_or_none};
 
 use crate::NoMemory;
 use crate::facts::is_marked;
@@ -29,7 +29,7 @@ fn is_clean(clean: &[bool], start: u32, rule: u32) -> bool
 /// Whether the pattern may be empty, where each rule that it may call before a character is clean; else nothing.
 #[cycle(front)]
 fn clean_front(peg: &Peg, empties: &[bool], clean: &[bool], start: u32) -> Option<bool>
-    ensures { result ≡ within_or_none (calls_within (marked empties.now) (marked_from start clean.now) (core_of peg.now)) (E.may_be_empty (marked empties.now) (core_of peg.now)) }
+    ensures { result ≡ clean_core (marked empties.now) (marked_from start clean.now) (core_of peg.now) }
 {
     match peg {
         Peg::Set(_) | Peg::Halt => Some(false),
@@ -62,7 +62,7 @@ fn stays(body: Option<bool>) -> Option<bool>
 /// That of parts in turn.
 #[cycle(front)]
 fn clean_front_in_turn(parts: &[Peg], empties: &[bool], clean: &[bool], start: u32) -> Option<bool>
-    ensures { result ≡ within_or_none (front_calls_within (marked empties.now) (marked_from start clean.now) (cores parts.now)) (E.all_may_be_empty (marked empties.now) (cores parts.now)) }
+    ensures { result ≡ clean_all (marked empties.now) (marked_from start clean.now) (cores parts.now) }
 {
     for part in parts {
         match clean_front(part, empties, clean, start) {
@@ -77,7 +77,7 @@ fn clean_front_in_turn(parts: &[Peg], empties: &[bool], clean: &[bool], start: u
 /// That of a choice of the parts.
 #[cycle(front)]
 fn clean_front_of_each(parts: &[Peg], empties: &[bool], clean: &[bool], start: u32) -> Option<bool>
-    ensures { result ≡ within_or_none (each_calls_within (marked empties.now) (marked_from start clean.now) (cores parts.now)) (E.any_may_be_empty (marked empties.now) (cores parts.now)) }
+    ensures { result ≡ clean_each (marked empties.now) (marked_from start clean.now) (cores parts.now) }
 {
     let mut any = false;
     for part in parts {
@@ -152,7 +152,8 @@ fn find_calls(search: &mut Search, peg: &Peg, empties: &[bool]) -> Result<bool, 
 /// Finds those of parts in turn.
 #[cycle(find)]
 fn find_front_calls(search: &mut Search, parts: &[Peg], empties: &[bool]) -> Result<bool, NoMemory>
-    ensures finds { OnOk result (Finds (front_calls_here (marked empties.now) (cores parts.now)) search.old search.new) }
+    ensures finds { OnOk result
+        (Finds (front_calls_here (marked empties.now) (cores parts.now)) search.old search.new) }
     ensures empty { IfOk result (λ b. b ≡ E.all_may_be_empty (marked empties.now) (cores parts.now)) }
 {
     for part in parts {
@@ -184,7 +185,8 @@ fn find_calls_of(
     number: u32,
     empties: &[bool],
 ) -> Result<(), NoMemory>
-    ensures { OnOk result (Finds (λ t. calls_at (marked empties.now) (bodies_of (rules_of rules.now)) number t) search.old search.new) }
+    ensures { OnOk result
+        (Finds (calls_at (marked empties.now) (bodies_in rules.now) number) search.old search.new) }
 {
     if let Some(rule) = rules.get(number) {
         find_calls(search, &rule.body, empties)?;
@@ -202,9 +204,10 @@ fn reaches_itself(
     empties: &[bool],
 ) -> Result<bool, NoMemory>
     requires within { (start ≤ number) × (number < end) × (end ≤ length (rules_of rules.now)) }
-    requires earlier { CallsBefore (bodies_of (rules_of rules.now)) start }
-    requires calls { CallsBefore (bodies_of (rules_of rules.now)) end }
-    ensures { (k : ℕ → Bool) → IsLeast (Follows (bodies_of (rules_of rules.now)) (marked empties.now) number) k → IfOk result (λ b. b ≡ k number) }
+    requires earlier { CallsBefore (bodies_in rules.now) start }
+    requires calls { CallsBefore (bodies_in rules.now) end }
+    ensures { (k : ℕ → Bool) → IsLeast (Follows (bodies_in rules.now) (marked empties.now) number) k →
+        IfOk result (λ b. b ≡ k number) }
 {
     let mut search = Search {
         start,
@@ -220,7 +223,8 @@ fn reaches_itself(
 
 /// The rule calls only clean rules before a character.
 fn calls_clean(rules: &Rules, number: u32, empties: &[bool], clean: &[bool], start: u32) -> bool
-    ensures { result ≡ true → (t : ℕ) → calls_at (marked empties.now) (bodies_of (rules_of rules.now)) number t ≡ true → marked_from start clean.now t ≡ true }
+    ensures { result ≡ true → (r : ℕ) → calls_at (marked empties.now) (bodies_in rules.now) number r ≡ true →
+        marked_from start clean.now r ≡ true }
 {
     match rules.get(number) {
         Some(rule) => clean_front(&rule.body, empties, clean, start).is_some(),
@@ -232,11 +236,11 @@ fn calls_clean(rules: &Rules, number: u32, empties: &[bool], clean: &[bool], sta
 /// such rules and earlier ones before a character. Most blocks are marked whole.
 fn mark_clean(rules: &Rules, start: u32, end: u32, empties: &[bool], clean: &mut [bool])
     requires within { (start ≤ end) × (end ≤ length (rules_of rules.now)) }
-    requires earlier { CallsBefore (bodies_of (rules_of rules.now)) start }
+    requires earlier { CallsBefore (bodies_in rules.now) start }
     requires long { length clean.old ≡ end - start }
     requires none { (r : ℕ) → marked clean.old r ≡ false }
     ensures long { length clean.new ≡ end - start }
-    ensures clean { AreClean (bodies_of (rules_of rules.now)) (marked empties.now) start clean.new }
+    ensures clean { AreClean (bodies_in rules.now) (marked empties.now) start clean.new }
 {
     let mut number = end;
     while start < number {
@@ -256,9 +260,9 @@ fn clean_rules(
     empties: &[bool],
 ) -> Result<Vec<bool>, NoMemory>
     requires within { (start ≤ end) × (end ≤ length (rules_of rules.now)) }
-    requires earlier { CallsBefore (bodies_of (rules_of rules.now)) start }
+    requires earlier { CallsBefore (bodies_in rules.now) start }
     ensures long { IfOk result (λ v. length v.items ≡ end - start) }
-    ensures clean { IfOk result (λ v. AreClean (bodies_of (rules_of rules.now)) (marked empties.now) start v.items) }
+    ensures clean { IfOk result (λ v. AreClean (bodies_in rules.now) (marked empties.now) start v.items) }
 {
     let mut clean = vec![in alloc; false; (end - start) as usize]?;
     mark_clean(rules, start, end, empties, &mut clean);
@@ -276,11 +280,12 @@ fn is_left_recursive(
     clean: &[bool],
 ) -> Result<bool, NoMemory>
     requires within { (start ≤ number) × (number < end) × (end ≤ length (rules_of rules.now)) }
-    requires earlier { CallsBefore (bodies_of (rules_of rules.now)) start }
-    requires calls { CallsBefore (bodies_of (rules_of rules.now)) end }
+    requires earlier { CallsBefore (bodies_in rules.now) start }
+    requires calls { CallsBefore (bodies_in rules.now) end }
     requires long { length clean.now ≡ end - start }
-    requires clean { AreClean (bodies_of (rules_of rules.now)) (marked empties.now) start clean.now }
-    ensures { (reach : ℕ → ℕ → Bool) → Reach (bodies_of (rules_of rules.now)) (marked empties.now) reach → IfOk result (λ b. b ≡ reach number number) }
+    requires clean { AreClean (bodies_in rules.now) (marked empties.now) start clean.now }
+    ensures { OverReach (bodies_in rules.now) (marked empties.now)
+        (λ reach. IfOk result (λ b. b ≡ reach number number)) }
 {
     if clean[(number - start) as usize] {
         return Ok(false);
@@ -297,9 +302,10 @@ pub(crate) fn selves(
     empties: &[bool],
 ) -> Result<Vec<u32>, NoMemory>
     requires within { (start ≤ end) × (end ≤ length (rules_of rules.now)) }
-    requires earlier { CallsBefore (bodies_of (rules_of rules.now)) start }
-    requires calls { CallsBefore (bodies_of (rules_of rules.now)) end }
-    ensures { (reach : ℕ → ℕ → Bool) → Reach (bodies_of (rules_of rules.now)) (marked empties.now) reach → IfOk result (λ v. v.items ≡ F.selves reach start (end - start)) }
+    requires earlier { CallsBefore (bodies_in rules.now) start }
+    requires calls { CallsBefore (bodies_in rules.now) end }
+    ensures { OverReach (bodies_in rules.now) (marked empties.now)
+        (λ reach. IfOk result (λ v. v.items ≡ B.selves reach start (end - start))) }
 {
     let clean = clean_rules(alloc, rules, start, end, empties)?;
     let mut list = Vec::new(alloc);

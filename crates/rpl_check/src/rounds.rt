@@ -1,12 +1,10 @@
 // A fact of all rules, found block by block.
 ghost use Rattle.std.specs.Prelude.{◌≡◌, ℕ, ◌<◌, ◌≤◌, false, true, length, slice_get, IfOk};
-ghost use Rattle.rpl_core.specs.Listed.{rules_of};
-ghost use Rattle.rpl_core.specs.Table.{blocks_of, bodies_of};
+ghost use Rattle.rpl_core.specs.Listed.{blocks_in, bodies_in, rules_of};
 ghost use Rattle.rpl_check.specs.Facts.{IsLeast, Solves, passes};
-ghost use Rattle.rpl_check.specs.Faults as F;
-ghost use Rattle.rpl_check.specs.Marked.{count, marked};
+ghost use Rattle.rpl_core.specs.inside.Marks.{count, marked};
 ghost use Rattle.rpl_core.specs.Order.{IsInOrder, block_at};
-ghost use Rattle.rpl_check.specs.Rounds.{AreKnown, CallsBefore, Grows, IsSettled, IsUnder, test_of};
+ghost use Rattle.rpl_check.specs.inside.Rounds.{AreKnown, CallsBefore, Grows, IsSettled, IsUnder, test_of};
 
 use crate::NoMemory;
 use crate::facts::{Fact, rule_holds};
@@ -16,8 +14,11 @@ use std::alloc::Global;
 /// The rule isn't marked, and passes.
 fn is_new(rules: &Rules, number: u32, fact: Fact, marks: &[bool]) -> bool
     requires { number < length marks.now }
-    ensures new { result ≡ true → (marked marks.now number ≡ false) × (passes (test_of fact (marked marks.now)) (slice_get (bodies_of (rules_of rules.now)) number) ≡ true) }
-    ensures old { result ≡ false → passes (test_of fact (marked marks.now)) (slice_get (bodies_of (rules_of rules.now)) number) ≡ true → marked marks.now number ≡ true }
+    ensures new { result ≡ true → (marked marks.now number ≡ false)
+        × (passes (test_of fact (marked marks.now)) (slice_get (bodies_in rules.now) number) ≡ true) }
+    ensures old { result ≡ false →
+        passes (test_of fact (marked marks.now)) (slice_get (bodies_in rules.now) number) ≡ true →
+        marked marks.now number ≡ true }
 {
     if marks[number as usize] {
         false
@@ -31,11 +32,13 @@ fn is_new(rules: &Rules, number: u32, fact: Fact, marks: &[bool]) -> bool
 fn round(rules: &Rules, start: u32, end: u32, fact: Fact, marks: &mut [bool]) -> bool
     requires within { (start ≤ end) × (end ≤ length (rules_of rules.now)) }
     requires long { length marks.old ≡ length (rules_of rules.now) }
-    requires under { IsUnder (test_of fact) (bodies_of (rules_of rules.now)) (marked marks.old) }
+    requires under { IsUnder (test_of fact) (bodies_in rules.now) (marked marks.old) }
     ensures grows { Grows start marks.old marks.new }
-    ensures under { IsUnder (test_of fact) (bodies_of (rules_of rules.now)) (marked marks.new) }
-    ensures quiet { result ≡ false → (marks.new ≡ marks.old) × IsSettled (test_of fact) (bodies_of (rules_of rules.now)) (marked marks.new) start end }
-    ensures found { result ≡ true → count (marked marks.old) (length marks.old) < count (marked marks.new) (length marks.old) }
+    ensures under { IsUnder (test_of fact) (bodies_in rules.now) (marked marks.new) }
+    ensures quiet { result ≡ false → (marks.new ≡ marks.old)
+        × IsSettled (test_of fact) (bodies_in rules.now) (marked marks.new) start end }
+    ensures found { result ≡ true →
+        count (marked marks.old) (length marks.old) < count (marked marks.new) (length marks.old) }
 {
     let mut found = false;
     let mut number = end;
@@ -52,19 +55,19 @@ fn round(rules: &Rules, start: u32, end: u32, fact: Fact, marks: &mut [bool]) ->
 /// Marks the rules of a block that have the fact: rounds, until one marks nothing.
 fn close(rules: &Rules, start: u32, end: u32, fact: Fact, marks: &mut [bool])
     requires within { (start ≤ end) × (end ≤ length (rules_of rules.now)) }
-    requires earlier { CallsBefore (bodies_of (rules_of rules.now)) start }
-    requires known { AreKnown (test_of fact) (bodies_of (rules_of rules.now)) marks.old start }
-    ensures { AreKnown (test_of fact) (bodies_of (rules_of rules.now)) marks.new end }
+    requires earlier { CallsBefore (bodies_in rules.now) start }
+    requires known { AreKnown (test_of fact) (bodies_in rules.now) marks.old start }
+    ensures { AreKnown (test_of fact) (bodies_in rules.now) marks.new end }
 {
     while round(rules, start, end, fact, marks) {}
 }
 
 /// Marks all rules that have the fact.
 fn close_all(rules: &Rules, fact: Fact, marks: &mut [bool])
-    requires order { IsInOrder (bodies_of (rules_of rules.now)) (blocks_of (rules_of rules.now)) }
+    requires order { IsInOrder (bodies_in rules.now) (blocks_in rules.now) }
     requires long { length marks.old ≡ length (rules_of rules.now) }
     requires none { (r : ℕ) → marked marks.old r ≡ false }
-    ensures { IsLeast (Solves (test_of fact) (bodies_of (rules_of rules.now))) (marked marks.new) }
+    ensures { IsLeast (Solves (test_of fact) (bodies_in rules.now)) (marked marks.new) }
 {
     let mut start = 0;
     for number in 0..rules.len() as u32 {
@@ -78,8 +81,8 @@ fn close_all(rules: &Rules, fact: Fact, marks: &mut [bool])
 
 /// The marks of all rules that have the fact.
 pub(crate) fn work_out(alloc: Global, rules: &Rules, fact: Fact) -> Result<Vec<bool>, NoMemory>
-    requires { IsInOrder (bodies_of (rules_of rules.now)) (blocks_of (rules_of rules.now)) }
-    ensures { IfOk result (λ marks. IsLeast (Solves (test_of fact) (bodies_of (rules_of rules.now))) (marked marks.items)) }
+    requires { IsInOrder (bodies_in rules.now) (blocks_in rules.now) }
+    ensures { IfOk result (λ marks. IsLeast (Solves (test_of fact) (bodies_in rules.now)) (marked marks.items)) }
 {
     let mut marks = vec![in alloc; false; rules.len()]?;
     close_all(rules, fact, &mut marks);

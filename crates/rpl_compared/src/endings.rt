@@ -19,7 +19,8 @@ const BUDGET: u64 = 100_000;
 /// The turns and calls that may stand one in the other.
 const DEPTH: u32 = 40;
 
-/// An answer as text, and how much it took: work, or steps. Where it isn't found within the depth or the budget, it is `open`.
+/// An answer as text, and how much it took: work, or steps. Where it isn't found within the depth or the budget, it is
+/// `open`.
 #[derive(Drop)]
 pub(crate) struct Ending {
     pub(crate) shown: String,

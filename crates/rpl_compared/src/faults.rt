@@ -7,8 +7,8 @@ use rpl_core::{Rules, calls_are_rules, is_in_order};
 use std::alloc::{AllocError, Global};
 use std::test::Fail;
 
-/// A table, its rules between `;` and numbered from 0, each behind the number of its block if it stands in one; a pattern
-/// over it; and what is due: of the table, or else of the pattern, whose rule is written `-`.
+/// A table, its rules between `;` and numbered from 0, each behind the number of its block if it stands in one; a
+/// pattern over it; and what is due: of the table, or else of the pattern, whose rule is written `-`.
 type Case = (&'static str, &'static str, &'static str);
 
 static CASES: [Case; 74] = [
@@ -251,9 +251,10 @@ fn faults_are_those_worked_by_hand(rt: HostRuntime) -> Result<(), Fail> {
     Ok(())
 }
 
-/// Counts of verdicts by their first letter: faults of look-behinds, of left recursion, of empty loops and of halts, and none.
+/// How many verdicts there were by their first word: faults of look-behinds, of left recursion, of empty loops and of
+/// halts, and none.
 #[derive(Drop)]
-struct Seen {
+struct Verdicts {
     behind: u32,
     left: u32,
     empty_loop: u32,
@@ -261,7 +262,7 @@ struct Seen {
     none: u32,
 }
 
-impl Seen {
+impl Verdicts {
     fn add(&mut self, verdict: &str) {
         let count = if verdict.starts_with("behind") {
             &mut self.behind
@@ -278,13 +279,14 @@ impl Seen {
     }
 }
 
-/// On four thousand made-up tables and patterns the check finds what the plain check finds, which tries all sets of rules.
+/// On four thousand made-up tables and patterns the check finds what the plain check finds, which tries all sets of
+/// rules.
 #[test]
 fn faults_are_those_of_the_plain_check(rt: HostRuntime) -> Result<(), Fail> {
     let alloc = rt.alloc();
     let mut random = generator();
     let mut out_of_order = 0u32;
-    let mut seen = Seen {
+    let mut verdicts = Verdicts {
         behind: 0,
         left: 0,
         empty_loop: 0,
@@ -301,16 +303,16 @@ fn faults_are_those_of_the_plain_check(rt: HostRuntime) -> Result<(), Fail> {
             let due = plain_check::verdict(alloc, &table, &peg)?;
             let found = verdict(alloc, rules.as_str(), goal.as_str())?;
             assert_eq!(&rt; found.as_str(), due.as_str(), "{rules} {goal}");
-            seen.add(found.as_str());
+            verdicts.add(found.as_str());
         } else {
             out_of_order = out_of_order.saturating_add(1);
         }
     }
     assert!(&rt; out_of_order > 300);
-    assert!(&rt; seen.behind > 100);
-    assert!(&rt; seen.left > 100);
-    assert!(&rt; seen.empty_loop > 100);
-    assert!(&rt; seen.halt > 100);
-    assert!(&rt; seen.none > 300);
+    assert!(&rt; verdicts.behind > 100);
+    assert!(&rt; verdicts.left > 100);
+    assert!(&rt; verdicts.empty_loop > 100);
+    assert!(&rt; verdicts.halt > 100);
+    assert!(&rt; verdicts.none > 300);
     Ok(())
 }

@@ -1,6 +1,9 @@
-// Made-up goals, rules and texts. A pattern is made of templates in words: `S` stands for a set, `P` for the pattern made last, and `C`
-// for a call of a rule. What stands twice in a table is taken more often. A repeated body begins with a set, so that each turn takes a
-// character, and so does a rule, so that calls end. No halt stands under a predicate: where there are halts, all predicates are leaves.
+// Made-up goals, rules and texts. A pattern is made of templates in words: `S` stands for a set, `P` for the pattern
+// made last, and `C` for a call of a rule. What stands twice in a table is taken more often.
+//
+// What `make` makes has a meaning on every text: a repeated body begins with a set, so that each turn takes a
+// character, and so does a rule, so that calls end; no halt stands under a predicate, since where there are halts, all
+// predicates are leaves. In what `make_wild` makes anything may be wrong, the order of the table too.
 use rand::RngExt;
 use rand::seq::IndexedRandom;
 use rand_pcg::Pcg32;
@@ -90,7 +93,8 @@ static WILD: [&str; 14] = [
     "S P seq2 cap:x",
 ];
 
-/// The blocks of three rules, of which the second may not stand in one with the others.
+/// What stands before each of three rules: the number of its block, or nothing outside blocks. In the last two rows
+/// the rules of one block don't stand side by side.
 static BLOCKS: [[&str; 3]; 8] = [
     ["", "", ""],
     ["0|", "0|", "0|"],

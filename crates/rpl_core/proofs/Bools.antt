@@ -53,3 +53,8 @@ eq_of a b e = grind arith
 
 pub eq_self : (q : ℕ) → nat_eq q q ≡ true
 eq_self q = grind arith
+
+-- the other of two that are not true one without the other
+pub on_of : (a b : Bool) → (a && not b) ≡ false → a ≡ true → b ≡ true
+on_of true b e x = not_off b e
+on_of false b e x = absurd (cc)

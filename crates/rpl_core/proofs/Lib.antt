@@ -1,11 +1,15 @@
 pub mod Bools
 pub mod Bounds
 pub mod Codes
+pub mod Counts
 pub mod Depth
 mod Examples
 pub mod Flat
+pub mod Growth
 pub mod InRange
+pub mod Marking
 mod Names
+pub mod Reaching
 pub mod Rows
 pub mod Standings
 pub mod Walk

@@ -2,7 +2,8 @@
 -- definition, with labels for addresses.
 use Rattle.std.specs.Prelude.{ℕ, zero, suc, ◌+◌, ◌-◌, List, [], ◌∷◌, ◌++◌, length, Option, Some, None}
 use Rattle.regex_class.specs.Ranges.{Range}
-use Rattle.rpl_core.specs.Core.{Core, Set, Seq, Choice, Many, Not, And, Behind, Call, Capture, Note, Start, End, Halt, Cores, NoMore, Then}
+use Rattle.rpl_core.specs.Core.{Core, Set, Seq, Choice, Many, Not, And, Behind, Call, Capture, Note, Start, End, Halt}
+use Rattle.rpl_core.specs.Core.{Cores, NoMore, Then}
 use Rattle.rpl_core.specs.Head.{head, lone_set}
 use Rattle.rpl_core.specs.Instr.{Instr}
 use Rattle.rpl_core.specs.Instr as I

@@ -2,7 +2,8 @@
 use Rattle.std.specs.Prelude.{List, [], ◌++◌, Option, Some, None, option_map}
 use Rattle.regex_class.specs.Ranges.{Range}
 use Rattle.rpl_classes.specs.Norm.{norm}
-use Rattle.rpl_core.specs.Core.{Core, Set, Seq, Choice, Many, Not, And, Behind, Call, Capture, Note, Start, End, Halt, Cores, NoMore, Then}
+use Rattle.rpl_core.specs.Core.{Core, Set, Seq, Choice, Many, Not, And, Behind, Call, Capture, Note, Start, End, Halt}
+use Rattle.rpl_core.specs.Core.{Cores, NoMore, Then}
 
 -- the ranges of two heads, where there are both
 abbrev pub both_heads : Option (List Range) → Option (List Range) → Option (List Range)

@@ -1,48 +1,32 @@
 -- How many characters a core takes, and what leaves that open.
-use Rattle.std.specs.Prelude.{ℕ, ◌+◌, Bool, true, false, ◌||◌, min, max}
-use Rattle.rpl_core.specs.Core.{Core, Set, Seq, Choice, Many, Not, And, Behind, Call, Capture, Note, Start, End, Halt, Cores, NoMore, Then}
+use Rattle.std.specs.Prelude.{ℕ, ◌+◌, Bool, true, false, min, max}
+use Rattle.rpl_core.specs.Core.{Core, Set, Seq, Choice, Many, Not, And, Behind, Call, Capture, Note, Start, End, Halt}
+use Rattle.rpl_core.specs.Core.{Cores, NoMore, Then}
+use Rattle.rpl_core.specs.Parts.{some_inside, some_of}
 
 -- the core calls some rule
-abbrev mutual
-  pub has_call : Core → Bool
-  has_call (Set s) = false
-  has_call (Seq ps) = any_has_call ps
-  has_call (Choice ps) = any_has_call ps
-  has_call (Many p) = has_call p
-  has_call (Not p) = has_call p
-  has_call (And p) = has_call p
-  has_call (Behind l n p) = has_call p
-  has_call (Call r) = true
-  has_call (Capture c p) = has_call p
-  has_call (Note x) = false
-  has_call Start = false
-  has_call End = false
-  has_call Halt = false
+abbrev pub is_call : Core → Bool
+is_call (Call r) = true
+is_call _ = false
 
-  pub any_has_call : Cores → Bool
-  any_has_call NoMore = false
-  any_has_call (Then p ps) = has_call p || any_has_call ps
+abbrev pub has_call : Core → Bool
+has_call = some_inside is_call
+
+-- some part does
+abbrev pub any_has_call : Cores → Bool
+any_has_call = some_of is_call
 
 -- the core repeats something
-abbrev mutual
-  pub has_repetition : Core → Bool
-  has_repetition (Set s) = false
-  has_repetition (Seq ps) = any_has_repetition ps
-  has_repetition (Choice ps) = any_has_repetition ps
-  has_repetition (Many p) = true
-  has_repetition (Not p) = has_repetition p
-  has_repetition (And p) = has_repetition p
-  has_repetition (Behind l n p) = has_repetition p
-  has_repetition (Call r) = false
-  has_repetition (Capture c p) = has_repetition p
-  has_repetition (Note x) = false
-  has_repetition Start = false
-  has_repetition End = false
-  has_repetition Halt = false
+abbrev pub is_repetition : Core → Bool
+is_repetition (Many p) = true
+is_repetition _ = false
 
-  pub any_has_repetition : Cores → Bool
-  any_has_repetition NoMore = false
-  any_has_repetition (Then p ps) = has_repetition p || any_has_repetition ps
+abbrev pub has_repetition : Core → Bool
+has_repetition = some_inside is_repetition
+
+-- some part does
+abbrev pub any_has_repetition : Cores → Bool
+any_has_repetition = some_of is_repetition
 
 -- The greatest number of characters that the core takes. A call and a repetition have none: whoever asks looks first
 -- whether there is one.

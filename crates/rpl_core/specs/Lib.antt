@@ -1,4 +1,5 @@
 pub mod Core
+pub mod Parts
 pub mod Forest
 pub mod Meaning
 pub mod Outcome

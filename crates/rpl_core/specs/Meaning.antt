@@ -1,7 +1,9 @@
 -- What a core does at a place of a text, and how much work that is (Ford 2004, section 3.3).
-use Rattle.std.specs.Prelude.{ℕ, zero, suc, ◌+◌, ◌-◌, Bool, nat_eq, nat_le, if◌then◌else◌, List, length, Option, Some, None, slice_get}
+use Rattle.std.specs.Prelude.{ℕ, zero, suc, ◌+◌, ◌-◌, Bool, nat_eq, nat_le, if◌then◌else◌, List, length, Option}
+use Rattle.std.specs.Prelude.{Some, None, slice_get}
 use Rattle.regex_class.specs.Ranges.{Range}
-use Rattle.rpl_core.specs.Core.{fits, Core, Set, Seq, Choice, Many, Not, And, Behind, Call, Capture, Note, Start, End, Halt, Cores, NoMore, Then}
+use Rattle.rpl_core.specs.Core.{Core, Set, Seq, Choice, Many, Not, And, Behind, Call, Capture, Note, Start, End, Halt}
+use Rattle.rpl_core.specs.Core.{Cores, NoMore, Then, fits}
 use Rattle.rpl_core.specs.Forest.{Forest, NoTree, Tree, Noted, joined}
 
 -- An outcome, with the work w that it took. `At` and `HaltAt` have the place behind the match and its trees;

@@ -1,5 +1,6 @@
 -- The order in which a table of rules stands.
-use Rattle.std.specs.Prelude.{◌≡◌, ℕ, ◌+◌, ◌<◌, ◌≤◌, Bool, true, false, nat_eq, List, Option, Some, None, ◌⊎◌, slice_get}
+use Rattle.std.specs.Prelude.{◌≡◌, ℕ, ◌+◌, ◌<◌, ◌≤◌, Bool, true, false, nat_eq, List, Option, Some, None, ◌⊎◌}
+use Rattle.std.specs.Prelude.{slice_get}
 use Rattle.rpl_core.specs.Core.{Core}
 use Rattle.rpl_core.specs.Programs.{calls}
 

@@ -1,6 +1,8 @@
 -- The whole code of a goal: its own, the end, and the rules that it reaches.
-use Rattle.std.specs.Prelude.{◌≡◌, ℕ, zero, suc, ◌+◌, Bool, true, false, ◌||◌, nat_eq, ◌↔◌, if◌then◌else◌, List, [], ◌∷◌, ◌++◌, Some, slice_get}
-use Rattle.rpl_core.specs.Core.{Core, Set, Seq, Choice, Many, Not, And, Behind, Call, Capture, Note, Start, End, Halt, Cores, NoMore, Then}
+use Rattle.std.specs.Prelude.{◌≡◌, ℕ, zero, suc, ◌+◌, Bool, true, false, ◌||◌, nat_eq, ◌↔◌, if◌then◌else◌, List, []}
+use Rattle.std.specs.Prelude.{◌∷◌, ◌++◌, Some, slice_get}
+use Rattle.rpl_core.specs.Core.{Core, Set, Seq, Choice, Many, Not, And, Behind, Call, Capture, Note, Start, End, Halt}
+use Rattle.rpl_core.specs.Core.{Cores, NoMore, Then}
 use Rattle.rpl_core.specs.Instr.{Instr}
 use Rattle.rpl_core.specs.Instr as I
 use Rattle.rpl_core.specs.Code.{Placed, code, size}
@@ -36,7 +38,8 @@ pub data Reaches (R : List Core) (g : Core) : ℕ → Type 0 where
 abbrev pub bodies : (ℕ → Bool) → (ℕ → ℕ) → List Core → ℕ → Placed
 bodies marks at [] k a = []
 bodies marks at (p ∷ ps) k a =
-    if marks k then code at p a ++ I.Return ∷ bodies marks at ps (k + 1) (a + size p + 1) else bodies marks at ps (k + 1) a
+    if marks k then code at p a ++ I.Return ∷ bodies marks at ps (k + 1) (a + size p + 1)
+    else bodies marks at ps (k + 1) a
 
 -- where the rule begins that stands r rules behind the first
 abbrev pub place_of : (ℕ → Bool) → List Core → ℕ → ℕ → ℕ → ℕ

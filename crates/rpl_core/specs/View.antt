@@ -3,7 +3,8 @@ use Rattle.std.specs.Prelude.{List, [], ◌∷◌}
 use Rattle.rpl_core.specs.Core.{Core, Cores, NoMore, Then}
 use Rattle.rpl_core.specs.Core as C
 use Rattle.rpl_core.specs.declared.peg.Pegs.{Pegs}
-use Rattle.rpl_core.specs.declared.peg.Peg.{Peg, Set, Seq', Choice', Many', Not', And', Behind', Call, Capture', Note, Start, End, Halt, Row_of-Peg, end_of-Peg, more_of-Peg}
+use Rattle.rpl_core.specs.declared.peg.Peg.{Peg, Set, Seq', Choice', Many', Not', And', Behind', Call, Capture'}
+use Rattle.rpl_core.specs.declared.peg.Peg.{Note, Start, End, Halt, Row_of-Peg, end_of-Peg, more_of-Peg}
 
 -- the core of a pattern
 abbrev mutual

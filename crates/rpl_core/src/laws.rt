@@ -1,5 +1,5 @@
 // What holds of the definitions alone.
-ghost use Rattle.rpl_core.specs.Laws.{CodeLaw, DepthLaw, FlatLaw, RunLaw};
+ghost use Rattle.rpl_core.specs.Laws.{CodeLaw, DepthLaw, FlatLaw, HasCodeLaw, RunLaw};
 
 /// An outcome that isn't open is the same, with the same work, at every greater depth.
 pub fn depth_law()
@@ -19,4 +19,9 @@ pub fn flat_law()
 /// A goal has at most one code over a table of rules.
 pub fn code_law()
     ensures { CodeLaw }
+{}
+
+/// A goal has a code over a table of rules, so what is said of its code is said of something.
+pub fn has_code_law()
+    ensures { HasCodeLaw }
 {}

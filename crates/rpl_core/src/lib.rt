@@ -16,7 +16,7 @@ mod rules;
 
 pub use caught::Caught;
 pub use instr::{Instr, Instrs};
-pub use laws::{code_law, depth_law, flat_law, run_law};
+pub use laws::{code_law, depth_law, flat_law, has_code_law, run_law};
 pub use lengths::{greatest_length, has_call, has_repetition, least_length};
 pub use order::{calls_are_rules, is_in_order, is_outside, joins_next};
 pub use peg::{Peg, Pegs};

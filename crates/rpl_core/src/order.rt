@@ -1,8 +1,7 @@
 // Whether tables stand in order, and patterns call rules of their table.
 ghost use Rattle.std.specs.Prelude.{◌≡◌, ℕ, ◌<◌, ◌≤◌, ◌↔◌, IsTrue, None, true, nat_lt, length, slice_get};
-ghost use Rattle.rpl_core.specs.Listed.{rules_of};
+ghost use Rattle.rpl_core.specs.Listed.{blocks_in, bodies_in, rules_of};
 ghost use Rattle.rpl_core.specs.Programs.{calls};
-ghost use Rattle.rpl_core.specs.Table.{blocks_of, bodies_of};
 ghost use Rattle.rpl_core.specs.View.{core_of, cores};
 ghost use Rattle.rpl_core.specs.Order as O;
 ghost use Rattle.rpl_core.specs.Order.{IsInOrder, block_at};
@@ -13,7 +12,7 @@ use crate::rules::Rules;
 
 /// The block of the rule with this number, if there is the rule and it stands in one.
 fn block_of(rules: &Rules, number: u32) -> Option<u32>
-    ensures { result ≡ block_at (slice_get (blocks_of (rules_of rules.now)) number) }
+    ensures { result ≡ block_at (slice_get (blocks_in rules.now) number) }
 {
     match rules.get(number) {
         Some(rule) => rule.block,
@@ -23,7 +22,9 @@ fn block_of(rules: &Rules, number: u32) -> Option<u32>
 
 /// Both rules stand in one block.
 fn same_block(rules: &Rules, one: u32, other: u32) -> bool
-    ensures { result ≡ O.same_block (block_at (slice_get (blocks_of (rules_of rules.now)) one)) (block_at (slice_get (blocks_of (rules_of rules.now)) other)) }
+    ensures { result ≡ O.same_block
+        (block_at (slice_get (blocks_in rules.now) one))
+        (block_at (slice_get (blocks_in rules.now) other)) }
 {
     match (block_of(rules, one), block_of(rules, other)) {
         (Some(block), Some(other)) => block == other,
@@ -34,14 +35,14 @@ fn same_block(rules: &Rules, one: u32, other: u32) -> bool
 /// The rule stands in one block with the next one.
 pub fn joins_next(rules: &Rules, number: u32) -> bool
     requires { number < length (rules_of rules.now) }
-    ensures { result ≡ O.joins_next (blocks_of (rules_of rules.now)) number }
+    ensures { result ≡ O.joins_next (blocks_in rules.now) number }
 {
     same_block(rules, number, number + 1)
 }
 
 /// The rule stands outside blocks.
 pub fn is_outside(rules: &Rules, number: u32) -> bool
-    ensures { IsTrue result ↔ (block_at (slice_get (blocks_of (rules_of rules.now)) number) ≡ None) }
+    ensures { IsTrue result ↔ (block_at (slice_get (blocks_in rules.now) number) ≡ None) }
 {
     match block_of(rules, number) {
         Some(_) => false,
@@ -51,7 +52,7 @@ pub fn is_outside(rules: &Rules, number: u32) -> bool
 
 /// The rule may call the other.
 fn may_call(rules: &Rules, number: u32, other: u32) -> bool
-    ensures { result ≡ S.may_call (blocks_of (rules_of rules.now)) number other }
+    ensures { result ≡ S.may_call (blocks_in rules.now) number other }
 {
     other < number || same_block(rules, number, other)
 }
@@ -59,7 +60,7 @@ fn may_call(rules: &Rules, number: u32, other: u32) -> bool
 /// The rule may call each rule that the pattern calls.
 #[cycle(only)]
 fn calls_only(peg: &Peg, rules: &Rules, number: u32) -> bool
-    ensures { result ≡ S.calls_only (S.may_call (blocks_of (rules_of rules.now)) number) (core_of peg.now) }
+    ensures { result ≡ S.calls_only (S.may_call (blocks_in rules.now) number) (core_of peg.now) }
 {
     match peg {
         Peg::Call(rule) => may_call(rules, number, *rule),
@@ -75,7 +76,7 @@ fn calls_only(peg: &Peg, rules: &Rules, number: u32) -> bool
 /// And each that the parts call.
 #[cycle(only)]
 fn all_call_only(parts: &[Peg], rules: &Rules, number: u32) -> bool
-    ensures { result ≡ S.all_call_only (S.may_call (blocks_of (rules_of rules.now)) number) (cores parts.now) }
+    ensures { result ≡ S.all_call_only (S.may_call (blocks_in rules.now) number) (cores parts.now) }
 {
     for part in parts {
         if !calls_only(part, rules, number) {
@@ -87,7 +88,9 @@ fn all_call_only(parts: &[Peg], rules: &Rules, number: u32) -> bool
 
 /// And each that its body calls.
 fn body_calls_only(rules: &Rules, number: u32) -> bool
-    ensures { result ≡ S.body_calls_only (S.may_call (blocks_of (rules_of rules.now)) number) (slice_get (bodies_of (rules_of rules.now)) number) }
+    ensures { result ≡ S.body_calls_only
+        (S.may_call (blocks_in rules.now) number)
+        (slice_get (bodies_in rules.now) number) }
 {
     match rules.get(number) {
         Some(rule) => calls_only(&rule.body, rules, number),
@@ -97,7 +100,7 @@ fn body_calls_only(rules: &Rules, number: u32) -> bool
 
 /// An earlier rule is in the block of this one.
 fn has_mate(rules: &Rules, number: u32) -> bool
-    ensures { result ≡ S.has_mate (blocks_of (rules_of rules.now)) number number }
+    ensures { result ≡ S.has_mate (blocks_in rules.now) number number }
 {
     let mut other = number;
     while other > 0 {
@@ -112,7 +115,7 @@ fn has_mate(rules: &Rules, number: u32) -> bool
 /// The rule is in the block of an earlier one, and not in that of the rule before it.
 fn is_split(rules: &Rules, number: u32) -> bool
     requires { number < length (rules_of rules.now) }
-    ensures { result ≡ S.is_split (blocks_of (rules_of rules.now)) number }
+    ensures { result ≡ S.is_split (blocks_in rules.now) number }
 {
     if number == 0 || is_outside(rules, number) {
         return false;
@@ -123,16 +126,16 @@ fn is_split(rules: &Rules, number: u32) -> bool
 /// The rule stands in order.
 fn stands(rules: &Rules, number: u32) -> bool
     requires { number < length (rules_of rules.now) }
-    ensures { result ≡ S.stands (bodies_of (rules_of rules.now)) (blocks_of (rules_of rules.now)) number }
+    ensures { result ≡ S.stands (bodies_in rules.now) (blocks_in rules.now) number }
 {
     body_calls_only(rules, number) && !is_split(rules, number)
 }
 
-/// The table stands in order, as `check` needs it: the rules of a block stand side by side, and each rule calls only
-/// earlier rules and those of its block. A caller that knows this of its table needn't ask; the first rule of each block
-/// is compared with all earlier rules.
+/// The table stands in order: the rules of a block stand side by side, and each rule calls only earlier rules and
+/// those of its block. A caller that knows this of its table needn't ask; the first rule of each block is compared with
+/// all earlier rules.
 pub fn is_in_order(rules: &Rules) -> bool
-    ensures { IsTrue result ↔ IsInOrder (bodies_of (rules_of rules.now)) (blocks_of (rules_of rules.now)) }
+    ensures { IsTrue result ↔ IsInOrder (bodies_in rules.now) (blocks_in rules.now) }
 {
     for number in 0..rules.len() as u32 {
         if !stands(rules, number) {
@@ -171,7 +174,7 @@ fn all_call_within(parts: &[Peg], count: usize) -> bool
     true
 }
 
-/// The pattern calls rules of the table alone, as `check_pattern` needs it.
+/// The pattern calls rules of the table alone.
 pub fn calls_are_rules(rules: &Rules, peg: &Peg) -> bool
     ensures { IsTrue result ↔ ((r : ℕ) → calls (core_of peg.now) r ≡ true → r < length (rules_of rules.now)) }
 {

@@ -3,7 +3,7 @@ use Rattle.std.proofs.Common.{◌≡◌, ℕ, ◌+◌, ◌-◌, ◌^◌, refl, a
 use Rattle.std.specs.Prelude.{true, false, nat_eq, if◌then◌else◌}
 use Rattle.rpl_core.specs.Forest.{Forest, NoTree, joined}
 use Rattle.rpl_core.specs.Meaning.{Outcome, Open, Fail, At, HaltAt, more, prefixed, or_else, turns, ends_here}
-use Rattle.rpl_plain.specs.Seen.{capped}
+use Rattle.rpl_plain.specs.Outcomes.{capped}
 
 -- the greatest work
 abbrev top : ℕ

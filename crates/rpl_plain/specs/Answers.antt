@@ -12,9 +12,9 @@ answer_of (V.At i n cs) = R.Matched n i (map caught_of cs.items)
 answer_of (V.Fail n) = R.Failed n
 
 -- the answer is the definition's, and there is none where that is unfinished
-abbrev pub Answers : R.Answer → Option A.Answer → Type 0
-Answers x (Some a) = x ≡ answer_of a
-Answers x None = x ≡ R.Unfinished
+abbrev pub IsAnswer : R.Answer → Option A.Answer → Type 0
+IsAnswer x (Some a) = x ≡ answer_of a
+IsAnswer x None = x ≡ R.Unfinished
 
 -- how a run has ended that is over in this state, after n steps
 abbrev pub ended_as : ℕ → M.State → R.Answer

@@ -3,9 +3,8 @@ ghost use Rattle.std.specs.Prelude.{◌≡◌, ◌+◌, ◌-◌, ◌^◌, ◌<�
 ghost use Rattle.rpl_core.specs.Core as C;
 ghost use Rattle.rpl_core.specs.Meaning as M;
 ghost use Rattle.rpl_core.specs.View.{core_of, cores};
-ghost use Rattle.rpl_core.specs.Table.{bodies_of};
-ghost use Rattle.rpl_core.specs.Listed.{rules_of};
-ghost use Rattle.rpl_plain.specs.Seen.{outcome_of, capped};
+ghost use Rattle.rpl_core.specs.Listed.{bodies_in};
+ghost use Rattle.rpl_plain.specs.Outcomes.{IsOutcome, outcome_of};
 ghost use Rattle.rpl_plain.specs.Below.{core_at, all_at, first_at};
 
 use crate::forest::{Forest, noted};
@@ -26,7 +25,7 @@ pub fn evaluate(
     e: &Peg,
     place: usize,
 ) -> Result<Outcome, AllocError>
-    ensures { IfOk result (λ o. outcome_of o ≡ capped (M.peg depth (bodies_of (rules_of rules.now)) text.now (core_of e.now) place)) }
+    ensures { IfOk result (IsOutcome (M.peg depth (bodies_in rules.now) text.now (core_of e.now) place)) }
 {
     evaluate_core(alloc, depth, rules, text, e, place)
 }
@@ -52,7 +51,7 @@ fn evaluate_core(
     e: &Peg,
     place: usize,
 ) -> Result<Outcome, AllocError>
-    ensures { IfOk result (λ o. outcome_of o ≡ capped (core_at depth (bodies_of (rules_of rules.now)) text.now (core_of e.now) place)) }
+    ensures { IfOk result (IsOutcome (core_at depth (bodies_in rules.now) text.now (core_of e.now) place)) }
 {
     match e {
         Peg::Set(set) => Ok(one_char(set, text, place)),
@@ -116,7 +115,7 @@ fn evaluate_turns(
     body: &Peg,
     place: usize,
 ) -> Result<Outcome, AllocError>
-    ensures { IfOk result (λ o. outcome_of o ≡ capped (core_at depth (bodies_of (rules_of rules.now)) text.now (C.Many (core_of body.now)) place)) }
+    ensures { IfOk result (IsOutcome (core_at depth (bodies_in rules.now) text.now (C.Many (core_of body.now)) place)) }
 {
     match evaluate_core(alloc, depth, rules, text, body, place)? {
         Outcome::Open => Ok(Outcome::Open),
@@ -150,7 +149,7 @@ fn evaluate_call(
     rule: u32,
     place: usize,
 ) -> Result<Outcome, AllocError>
-    ensures { IfOk result (λ o. outcome_of o ≡ capped (core_at depth (bodies_of (rules_of rules.now)) text.now (C.Call rule) place)) }
+    ensures { IfOk result (IsOutcome (core_at depth (bodies_in rules.now) text.now (C.Call rule) place)) }
 {
     match rules.get(rule) {
         None => Ok(Outcome::Open),
@@ -175,7 +174,8 @@ fn evaluate_all(
     from: usize,
     place: usize,
 ) -> Result<Outcome, AllocError>
-    ensures { IfOk result (λ o. outcome_of o ≡ capped (all_at depth (bodies_of (rules_of rules.now)) text.now (cores (drop from parts.now)) place)) }
+    ensures { IfOk result
+        (IsOutcome (all_at depth (bodies_in rules.now) text.now (cores (drop from parts.now)) place)) }
 {
     if from >= parts.len() {
         return Ok(Outcome::At {
@@ -210,7 +210,8 @@ fn evaluate_first(
     from: usize,
     place: usize,
 ) -> Result<Outcome, AllocError>
-    ensures { IfOk result (λ o. outcome_of o ≡ capped (first_at depth (bodies_of (rules_of rules.now)) text.now (cores (drop from parts.now)) place)) }
+    ensures { IfOk result
+        (IsOutcome (first_at depth (bodies_in rules.now) text.now (cores (drop from parts.now)) place)) }
 {
     if from >= parts.len() {
         return Ok(Outcome::Fail { work: 1 });
@@ -251,7 +252,8 @@ fn evaluate_lengths(
     place: usize,
 ) -> Result<Outcome, AllocError>
     requires { length + count < 2 ^ 64 }
-    ensures { IfOk result (λ o. outcome_of o ≡ capped (M.lengths count length (core_at depth (bodies_of (rules_of rules.now)) text.now (core_of body.now)) place)) }
+    ensures { IfOk result (IsOutcome
+        (M.lengths count length (core_at depth (bodies_in rules.now) text.now (core_of body.now)) place)) }
 {
     if count == 0 {
         return Ok(Outcome::Fail { work: 0 });

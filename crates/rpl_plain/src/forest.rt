@@ -1,7 +1,7 @@
 // Trees side by side, as nested values.
 ghost use Rattle.std.specs.Prelude.{◌≡◌, IfOk};
 ghost use Rattle.rpl_core.specs.Forest as F;
-ghost use Rattle.rpl_plain.specs.Seen.{forest_of};
+ghost use Rattle.rpl_plain.specs.Outcomes.{forest_of};
 
 use rpl_text::Chars;
 use std::alloc::{AllocError, Global};

@@ -1,5 +1,6 @@
 // The machine's steps on a list of characters, one at a time.
-ghost use Rattle.std.specs.Prelude.{if◌then◌else◌, ◌≡◌, ◌<◌, ◌≤◌, ◌+◌, [], ◌∷◌, ◌++◌, length, take, map, reverse, slice_get, slice_index_or, OnOk, IfOk, Some, None, true, ◌^◌, nat_eq, nat_lt};
+ghost use Rattle.std.specs.Prelude.{if◌then◌else◌, ◌≡◌, ◌<◌, ◌≤◌, ◌+◌, ◌^◌, nat_eq, nat_lt, true, OnOk, IfOk};
+ghost use Rattle.std.specs.Prelude.{Some, None, [], ◌∷◌, ◌++◌, length, take, map, reverse, slice_get, slice_index_or};
 ghost use Rattle.rpl_core.specs.Core.{fits};
 ghost use Rattle.rpl_core.specs.Forest.{Finish, begins, finishes};
 ghost use Rattle.rpl_core.specs.Machine as M;
@@ -7,7 +8,7 @@ ghost use Rattle.rpl_core.specs.Run as Run;
 ghost use Rattle.rpl_core.specs.Numbers.{instr_of};
 ghost use Rattle.rpl_core.specs.Program.{instructions, sets_of, labels_of};
 ghost use Rattle.rpl_plain.specs.Shown.{state_of, stack_of, captures_of, caught_of, entry_of};
-ghost use Rattle.rpl_plain.specs.Answers.{Answers, answer_of, ended_as};
+ghost use Rattle.rpl_plain.specs.Answers.{IsAnswer, answer_of, ended_as};
 
 use rpl_core::{Instr, Program};
 use rpl_text::Chars;
@@ -74,7 +75,9 @@ fn holds(program: &Program, set: u32, c: char) -> bool
 
 /// The place behind the character at the place, if that is in the set with this number.
 fn next(program: &Program, set: u32, text: &[char], place: usize) -> Option<usize>
-    ensures { result ≡ (if fits (slice_get text.now place) (slice_index_or (sets_of program.now) set []) then Some (place + 1) else None) }
+    ensures { result ≡
+        (if fits (slice_get text.now place) (slice_index_or (sets_of program.now) set []) then Some (place + 1)
+        else None) }
 {
     if place < text.len() && holds(program, set, text[place]) {
         Some(place + 1)
@@ -170,7 +173,9 @@ impl Machine {
 
     /// Goes on if the test holds, else is failing.
     fn go_if(&mut self, holds: bool, address: usize, place: usize)
-        ensures { state_of self.new ≡ (if holds then M.Going address place (stack_of self.old) (captures_of self.old) else M.Failing (stack_of self.old) (captures_of self.old)) }
+        ensures { state_of self.new ≡
+            (if holds then M.Going address place (stack_of self.old) (captures_of self.old)
+            else M.Failing (stack_of self.old) (captures_of self.old)) }
     {
         if holds {
             self.go(address, place);
@@ -196,7 +201,8 @@ impl Machine {
 
     /// Adds a capture and goes on at the address and the place.
     fn note(&mut self, one: Caught, address: usize, place: usize) -> Result<(), AllocError>
-        ensures { OnOk result (state_of self.new ≡ M.Going address place (stack_of self.old) (captures_of self.old ++ caught_of one ∷ [])) }
+        ensures { OnOk result (state_of self.new ≡
+            M.Going address place (stack_of self.old) (captures_of self.old ++ caught_of one ∷ [])) }
     {
         self.caught.push(one)?;
         self.stage = Stage::Going { address, place };
@@ -205,7 +211,8 @@ impl Machine {
 
     /// Adds an entry and goes on at the address and the place.
     fn enter(&mut self, entry: Entry, address: usize, place: usize) -> Result<(), AllocError>
-        ensures { OnOk result (state_of self.new ≡ M.Going address place (entry_of entry ∷ stack_of self.old) (captures_of self.old)) }
+        ensures { OnOk result (state_of self.new ≡
+            M.Going address place (entry_of entry ∷ stack_of self.old) (captures_of self.old)) }
     {
         self.stack.push(entry)?;
         self.stage = Stage::Going { address, place };
@@ -233,7 +240,8 @@ impl Machine {
 
     /// The step of `commit`.
     fn commit(&mut self, to: usize, place: usize)
-        ensures { state_of self.new ≡ M.on_retry (stack_of self.old) (captures_of self.old) (λ a j n rest. M.Going to place rest (captures_of self.old)) }
+        ensures { state_of self.new ≡ M.on_retry (stack_of self.old) (captures_of self.old)
+            (λ a j n rest. M.Going to place rest (captures_of self.old)) }
     {
         match self.stack.pop() {
             None => self.stop(),
@@ -244,7 +252,8 @@ impl Machine {
 
     /// The step of `failtwice`.
     fn fail_twice(&mut self)
-        ensures { state_of self.new ≡ M.on_retry (stack_of self.old) (captures_of self.old) (λ a j n rest. M.Failing rest (captures_of self.old)) }
+        ensures { state_of self.new ≡ M.on_retry (stack_of self.old) (captures_of self.old)
+            (λ a j n rest. M.Failing rest (captures_of self.old)) }
     {
         match self.stack.pop() {
             None => self.stop(),
@@ -255,7 +264,8 @@ impl Machine {
 
     /// The step of `backcommit`.
     fn back_commit(&mut self, to: usize)
-        ensures { state_of self.new ≡ M.on_retry (stack_of self.old) (captures_of self.old) (λ a j n rest. M.Going to j rest (take n (captures_of self.old))) }
+        ensures { state_of self.new ≡ M.on_retry (stack_of self.old) (captures_of self.old)
+            (λ a j n rest. M.Going to j rest (take n (captures_of self.old))) }
     {
         match self.stack.pop() {
             None => self.stop(),
@@ -266,7 +276,9 @@ impl Machine {
 
     /// The step of `partialcommit`.
     fn partial_commit(&mut self, to: usize, place: usize) -> Result<(), AllocError>
-        ensures { OnOk result (state_of self.new ≡ M.on_retry (stack_of self.old) (captures_of self.old) (λ a j n rest. M.Going to place (M.Retry a place (length (captures_of self.old)) ∷ rest) (captures_of self.old))) }
+        ensures { OnOk result (state_of self.new ≡ M.on_retry (stack_of self.old) (captures_of self.old)
+            (λ a j n rest.
+            M.Going to place (M.Retry a place (length (captures_of self.old)) ∷ rest) (captures_of self.old))) }
     {
         match self.stack.pop() {
             None => {
@@ -286,7 +298,10 @@ impl Machine {
 
     /// The step of `meet`.
     fn meet(&mut self, to: usize, place: usize)
-        ensures { state_of self.new ≡ M.on_retry (stack_of self.old) (captures_of self.old) (λ a j n rest. if nat_eq place j then M.Going to j rest (take n (captures_of self.old)) else M.Failing (stack_of self.old) (captures_of self.old)) }
+        ensures { state_of self.new ≡ M.on_retry (stack_of self.old) (captures_of self.old)
+            (λ a j n rest.
+            if nat_eq place j then M.Going to j rest (take n (captures_of self.old))
+            else M.Failing (stack_of self.old) (captures_of self.old)) }
     {
         match self.stack.last() {
             None => self.stop(),
@@ -303,7 +318,8 @@ impl Machine {
 
     /// The step of `return`.
     fn go_back(&mut self, place: usize)
-        ensures { state_of self.new ≡ M.on_return (stack_of self.old) (captures_of self.old) (λ a rest. M.Going a place rest (captures_of self.old)) }
+        ensures { state_of self.new ≡ M.on_return (stack_of self.old) (captures_of self.old)
+            (λ a rest. M.Going a place rest (captures_of self.old)) }
     {
         match self.stack.pop() {
             None => self.stop(),
@@ -314,7 +330,10 @@ impl Machine {
 
     /// The step of `halt`, which stands at the address.
     fn halt(&mut self, address: usize, place: usize) -> Result<(), AllocError>
-        ensures { OnOk result (state_of self.new ≡ (if nat_lt (finishes (captures_of self.old)) (begins (captures_of self.old)) then M.Going address place (stack_of self.old) (captures_of self.old ++ Finish place ∷ []) else M.Ended place (captures_of self.old))) }
+        ensures { OnOk result (state_of self.new ≡
+            (if nat_lt (finishes (captures_of self.old)) (begins (captures_of self.old))
+            then M.Going address place (stack_of self.old) (captures_of self.old ++ Finish place ∷ [])
+            else M.Ended place (captures_of self.old))) }
     {
         if count_finishes(&self.caught) < count_begins(&self.caught) {
             self.note(Caught::Finish { place }, address, place)
@@ -335,7 +354,10 @@ impl Machine {
         place: usize,
     ) -> Result<(), AllocError>
         requires { address + 1 < 2 ^ 64 }
-        ensures { OnOk result (state_of self.new ≡ M.act (Some (instr_of (sets_of program.now) (labels_of program.now) instr)) text.now address place (stack_of self.old) (captures_of self.old)) }
+        ensures { OnOk result (state_of self.new ≡
+            M.act
+            (Some (instr_of (sets_of program.now) (labels_of program.now) instr))
+            text.now address place (stack_of self.old) (captures_of self.old)) }
     {
         let after = address + 1;
         match instr {
@@ -437,7 +459,7 @@ pub fn run(
     text: &[char],
     budget: u64,
 ) -> Result<Option<Answer>, AllocError>
-    ensures { IfOk result (Answers (Run.run (instructions program.now) text.now budget)) }
+    ensures { IfOk result (IsAnswer (Run.run (instructions program.now) text.now budget)) }
 {
     let mut machine = Machine::new(alloc);
     let mut steps = 0;

@@ -2,7 +2,7 @@
 ghost use Rattle.std.specs.Prelude.{◌≡◌, ◌+◌, ◌-◌, ◌^◌, min, IfOk};
 ghost use Rattle.rpl_core.specs.Meaning as M;
 ghost use Rattle.rpl_core.specs.Forest.{NoTree};
-ghost use Rattle.rpl_plain.specs.Seen.{forest_of, outcome_of, capped};
+ghost use Rattle.rpl_plain.specs.Outcomes.{forest_of, outcome_of, capped};
 
 use crate::forest::{Forest, joined, tree};
 use rpl_text::Chars;

@@ -7,12 +7,12 @@ use Rattle.rpl_core.specs.Outcome.{as_match, work_of, depth}
 use Rattle.rpl_core.specs.Meaning.{peg}
 use Rattle.rpl_core.specs.Instr.{Instr}
 use Rattle.rpl_core.specs.Run.{Answer, Matched, Failed, run, steps_of}
-use Rattle.rpl_simulation.specs.Laws.{EndsIn, RunsAs, Tells, AnswerLaw}
+use Rattle.rpl_simulation.specs.Laws.{EndsWithin, RunsAs, Tells, AnswerLaw}
 use Rattle.rpl_simulation.proofs.Whole.{simulation_holds}
 
 module _ (code : List Instr) (t : List ℕ) (b : ℕ) where
   -- a run is unfinished below its steps, and has its answer from there on
-  by_bound : (o : Outcome) (w : ℕ) (answer : ℕ → Answer) → work_of o ≡ w → ((n : ℕ) → steps_of (answer n) ≡ n) → ((n : ℕ) → n ≤ 4 * w + 2 → Tells o b (answer n)) → EndsIn code t w answer → Tells o b (run code t b)
+  by_bound : (o : Outcome) (w : ℕ) (answer : ℕ → Answer) → work_of o ≡ w → ((n : ℕ) → steps_of (answer n) ≡ n) → ((n : ℕ) → n ≤ 4 * w + 2 → Tells o b (answer n)) → EndsWithin code t w answer → Tells o b (run code t b)
   by_bound o w answer work long tells k =
       let n = long k.steps in
       elim (cases_lt b (steps_of (answer k.steps))) [

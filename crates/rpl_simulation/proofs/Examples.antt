@@ -6,8 +6,9 @@ use Rattle.rpl_core.specs.Core.{Core, Set, Seq, Choice, Many, Not, Call, Capture
 use Rattle.rpl_core.specs.Meaning.{Open}
 use Rattle.rpl_core.specs.Outcome.{outcome}
 use Rattle.rpl_simulation.specs.Static.{may_halt, predicates_stay, NoPredicateHalts}
-use Rattle.rpl_simulation.specs.Ending.{may_be_empty, CallsBelow, IsTidy, Ends}
-use Rattle.rpl_simulation.proofs.Ending.{ends_holds}
+use Rattle.rpl_simulation.specs.Static.{may_be_empty}
+use Rattle.rpl_simulation.specs.Termination.{CallsBelow, IsTidy, Terminates}
+use Rattle.rpl_simulation.proofs.Termination.{ends_holds}
 
 -- one character
 abbrev char : ℕ → Core
@@ -27,7 +28,7 @@ each P h zero p e = let s : rule ≡ p = cc in subst (P 0) s h
 each P h (suc r) p e = absurd (cc)
 
 -- their evaluations end
-ends : Ends (λ r. false) (λ r. 0) (rule ∷ []) goal
+ends : Terminates (λ r. false) (λ r. 0) (rule ∷ []) goal
 ends = record {
   empties = λ r p e m. each (λ q x. may_be_empty (λ y. false) x ≡ false) refl r p e;
   low = λ r lt. omega arith;

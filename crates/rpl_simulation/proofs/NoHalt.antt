@@ -10,7 +10,7 @@ use Rattle.rpl_simulation.proofs.Heads.{or_parts}
 module _ (h : ℕ → Bool) where
   mutual
     -- no predicate in it halts
-    stays : (e : Core) → may_halt h e ≡ false → predicates_stay h e ≡ true
+    pub stays : (e : Core) → may_halt h e ≡ false → predicates_stay h e ≡ true
     stays (Set s) q = refl
     stays (Seq ps) q = all_stay ps q
     stays (Choice ps) q = all_stay ps q

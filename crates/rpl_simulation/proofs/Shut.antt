@@ -4,7 +4,7 @@ use Rattle.std.specs.Prelude.{Bool, true, false, nat_eq, nat_le, if◌then◌els
 use Rattle.rpl_core.specs.Core.{fits, Core, Set, Seq, Choice, Many, Not, And, Behind, Call, Capture, Note, Start, End, Halt, Cores, NoMore, Then}
 use Rattle.rpl_core.specs.Forest.{Forest, NoTree}
 use Rattle.rpl_core.specs.Meaning.{Outcome, Open, Fail, At, HaltAt, more, prefixed, then_do, or_else, turns, if_fails, if_matches, under, ends_here, lengths, level, level_all, level_first}
-use Rattle.rpl_simulation.specs.Ending.{IsPlain, ArePlain}
+use Rattle.rpl_simulation.proofs.Plain.{Plain, ArePlain}
 use Rattle.rpl_simulation.proofs.Onward.{Onward}
 
 -- an outcome that is not open
@@ -92,7 +92,7 @@ shut_lengths (suc n) k body i h =
 
 -- a plain core needs no depth
 mutual
-  pub plain_shut : (below : Core → ℕ → Outcome) (R : List Core) (t : List ℕ) (e : Core) → IsPlain e → (i : ℕ) → Shut (level below R t e i)
+  pub plain_shut : (below : Core → ℕ → Outcome) (R : List Core) (t : List ℕ) (e : Core) → Plain e → (i : ℕ) → Shut (level below R t e i)
   plain_shut below R t (Set s) h i = shut_if (fits (slice_get t i) s) (At 1 (i + 1) NoTree) (Fail 1) tt tt
   plain_shut below R t (Seq ps) h i = shut_more 1 (level_all below R t ps i) (plain_all_shut below R t ps h i)
   plain_shut below R t (Choice ps) h i = plain_first_shut below R t ps h i

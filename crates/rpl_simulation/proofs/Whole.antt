@@ -14,7 +14,7 @@ use Rattle.rpl_core.specs.Run.{Answer, Matched, Failed, Unfinished, one_later, r
 use Rattle.rpl_core.specs.Code.{code, size}
 use Rattle.rpl_core.specs.Programs.{bodies, address, program, by_goal, by_rule, IsCode}
 use Rattle.rpl_simulation.specs.Static.{may_halt, NoPredicateHalts}
-use Rattle.rpl_simulation.specs.Laws.{EndsIn, RunsAs, SimulationLaw}
+use Rattle.rpl_simulation.specs.Laws.{EndsWithin, RunsAs, SimulationLaw}
 use Rattle.rpl_simulation.proofs.Steps.{HasAt, has_front, has_back, leads_last, Does}
 use Rattle.rpl_simulation.proofs.Cases.{fetch}
 use Rattle.rpl_simulation.proofs.Sound.{sound}
@@ -77,7 +77,7 @@ module _ (prog : List Instr) (t : List ℕ) where
   stops (suc n) (Going a i st cs) r o e = one_more n _ (act (slice_get prog a) t a i st cs) r (λ b. refl) refl (stops n (act (slice_get prog a) t a i st cs) r o e)
 
   -- the answer of n steps and no fewer, at most so many for the work
-  ends_in : (n w : ℕ) (r : State) (answer : ℕ → Answer) → n ≤ 4 * w + 2 → ((m : ℕ) → answer_of m r ≡ answer m) → ((m : ℕ) → answer m ≢ Unfinished) → ((m : ℕ) → steps_of (answer m) ≡ m) → Stops n start_state r → EndsIn prog t w answer
+  ends_in : (n w : ℕ) (r : State) (answer : ℕ → Answer) → n ≤ 4 * w + 2 → ((m : ℕ) → answer_of m r ≡ answer m) → ((m : ℕ) → answer m ≢ Unfinished) → ((m : ℕ) → steps_of (answer m) ≡ m) → Stops n start_state r → EndsWithin prog t w answer
   ends_in n w r answer le same over long k =
       let l = long k.steps in
       let ends : EndsAs prog t (answer k.steps) = record { ended = over k.steps; enough = λ b h. k.enough b (omega arith) ∙ same k.steps; short = λ b h. k.short b (omega arith) } in

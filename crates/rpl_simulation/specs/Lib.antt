@@ -1,3 +1,3 @@
 pub mod Static
-pub mod Ending
+pub mod Termination
 pub mod Laws

@@ -1,29 +1,49 @@
--- What of a core may halt, which shows without a text.
+-- What of a core shows without a text: whether it may be empty, and whether it may halt.
 use Rattle.std.specs.Prelude.{◌≡◌, ℕ, Bool, true, false, ◌||◌, ◌&&◌, not, List, Some, slice_get}
-use Rattle.rpl_core.specs.Core.{Core, Set, Seq, Choice, Many, Not, And, Behind, Call, Capture, Note, Start, End, Halt, Cores, NoMore, Then}
+use Rattle.rpl_core.specs.Core.{Core, Set, Seq, Choice, Many, Not, And, Behind, Call, Capture, Note, Start, End, Halt}
+use Rattle.rpl_core.specs.Core.{Cores, NoMore, Then}
+use Rattle.rpl_core.specs.Parts.{some_inside, some_of}
 use Rattle.rpl_core.specs.Programs.{Reaches}
 
--- the core may end the whole match, where just the rules of h may
+-- the core may succeed and take nothing, where just the rules of m may
 abbrev mutual
-  pub may_halt : (ℕ → Bool) → Core → Bool
-  may_halt h (Set s) = false
-  may_halt h (Seq ps) = any_may_halt h ps
-  may_halt h (Choice ps) = any_may_halt h ps
-  may_halt h (Many p) = may_halt h p
-  may_halt h (Not p) = may_halt h p
-  may_halt h (And p) = may_halt h p
-  may_halt h (Behind l m p) = may_halt h p
-  may_halt h (Call r) = h r
-  may_halt h (Capture c p) = may_halt h p
-  may_halt h (Note x) = false
-  may_halt h Start = false
-  may_halt h End = false
-  may_halt h Halt = true
+  pub may_be_empty : (ℕ → Bool) → Core → Bool
+  may_be_empty m (Set s) = false
+  may_be_empty m (Seq ps) = all_may_be_empty m ps
+  may_be_empty m (Choice ps) = any_may_be_empty m ps
+  may_be_empty m (Many p) = true
+  may_be_empty m (Not p) = true
+  may_be_empty m (And p) = true
+  may_be_empty m (Behind l n p) = true
+  may_be_empty m (Call r) = m r
+  may_be_empty m (Capture c p) = may_be_empty m p
+  may_be_empty m (Note x) = true
+  may_be_empty m Start = true
+  may_be_empty m End = true
+  may_be_empty m Halt = false
+
+  -- all parts may
+  pub all_may_be_empty : (ℕ → Bool) → Cores → Bool
+  all_may_be_empty m NoMore = true
+  all_may_be_empty m (Then p ps) = may_be_empty m p && all_may_be_empty m ps
 
   -- some part may
-  pub any_may_halt : (ℕ → Bool) → Cores → Bool
-  any_may_halt h NoMore = false
-  any_may_halt h (Then p ps) = may_halt h p || any_may_halt h ps
+  pub any_may_be_empty : (ℕ → Bool) → Cores → Bool
+  any_may_be_empty m NoMore = false
+  any_may_be_empty m (Then p ps) = may_be_empty m p || any_may_be_empty m ps
+
+-- the core may end the whole match, where just the rules of h may
+abbrev pub halts_here : (ℕ → Bool) → Core → Bool
+halts_here h (Call r) = h r
+halts_here h Halt = true
+halts_here h _ = false
+
+abbrev pub may_halt : (ℕ → Bool) → Core → Bool
+may_halt h = some_inside (halts_here h)
+
+-- some part may
+abbrev pub any_may_halt : (ℕ → Bool) → Cores → Bool
+any_may_halt h = some_of (halts_here h)
 
 -- no body of a predicate in the core may halt
 abbrev mutual

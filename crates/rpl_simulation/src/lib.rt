@@ -5,7 +5,7 @@
 //! contract is a law about the definitions alone, whose statement stands in `specs/Laws.antt`.
 #![tactic(auto)]
 
-ghost use Rattle.rpl_simulation.specs.Laws.{SimulationLaw, AnswerLaw, NoHaltLaw, OneTreeLaw, EndsLaw};
+ghost use Rattle.rpl_simulation.specs.Laws.{SimulationLaw, AnswerLaw, NoHaltLaw, OneTreeLaw, TerminationLaw};
 
 /// The code of a goal, no predicate of which may halt, runs on each text as the goal means, where the meaning isn't
 /// open: it ends at the same place with just the trees of the meaning, or fails, after at most four times the work of
@@ -35,6 +35,6 @@ pub fn one_tree_law()
 /// The meaning of a goal is never open, on any text, where the table and the goal are such that evaluations end: no
 /// repeated body may be empty, no rule calls itself before it has taken a character, each call is a rule of the table,
 /// and the body of a look-behind has no call and no repetition.
-pub fn ends_law()
-    ensures { EndsLaw }
+pub fn termination_law()
+    ensures { TerminationLaw }
 {}

@@ -1,5 +1,6 @@
 -- The trees that a flat list of nodes stands for, where a number stands for the text that it names.
-use Rattle.std.specs.Prelude.{◌≡◌, ℕ, zero, suc, List, [], ◌∷◌, ◌++◌, take, drop, length, All, Option, None, Some, IsSome}
+use Rattle.std.specs.Prelude.{◌≡◌, ℕ, zero, suc, List, [], ◌∷◌, ◌++◌, take, drop, length, All, Option, None, Some}
+use Rattle.std.specs.Prelude.{IsSome}
 use Rattle.rpl_core.specs.Forest.{Forest, NoTree, Tree, Noted, flat}
 use Rattle.rpl_core.specs.Captures.{all_named}
 use Rattle.rpl_core.specs.declared.caught.Caught.{Caught}

@@ -1,6 +1,8 @@
 -- Whether each rule of a table stands in order, and whether a pattern calls rules of the table alone.
-use Rattle.std.specs.Prelude.{ℕ, zero, suc, ◌-◌, Bool, true, false, ◌||◌, ◌&&◌, not, nat_lt, List, Option, Some, None, slice_get}
-use Rattle.rpl_core.specs.Core.{Core, Set, Seq, Choice, Many, Not, And, Behind, Call, Capture, Note, Start, End, Halt, Cores, NoMore, Then}
+use Rattle.std.specs.Prelude.{ℕ, zero, suc, ◌-◌, Bool, true, false, ◌||◌, ◌&&◌, not, nat_lt, List, Option, Some}
+use Rattle.std.specs.Prelude.{None, slice_get}
+use Rattle.rpl_core.specs.Core.{Core, Set, Seq, Choice, Many, Not, And, Behind, Call, Capture, Note, Start, End, Halt}
+use Rattle.rpl_core.specs.Core.{Cores, NoMore, Then}
 use Rattle.rpl_core.specs.Order.{block_at, same_block, joins_next}
 
 -- each rule that the core calls passes the test
@@ -36,7 +38,8 @@ may_call blocks r s = nat_lt s r || same_block (block_at (slice_get blocks r)) (
 -- one of the first n rules is in the block of the rule k
 abbrev pub has_mate : List (Option ℕ) → ℕ → ℕ → Bool
 has_mate blocks k zero = false
-has_mate blocks k (suc n) = same_block (block_at (slice_get blocks k)) (block_at (slice_get blocks n)) || has_mate blocks k n
+has_mate blocks k (suc n) =
+    same_block (block_at (slice_get blocks k)) (block_at (slice_get blocks n)) || has_mate blocks k n
 
 -- the rule k is in the block of an earlier rule, and not in that of the rule before it
 abbrev pub is_split : List (Option ℕ) → ℕ → Bool

@@ -23,6 +23,7 @@ closed place b [] = b
 closed place b (at ∷ more) = record { nodes = close_node at place (slice_get b.nodes at) b.nodes; open_at = more }
 
 abbrev pub taken_in : Built → Caught → Built
-taken_in b (Begin label place) = record { nodes = b.nodes ++ opened label place ∷ []; open_at = length b.nodes ∷ b.open_at }
+taken_in b (Begin label place) =
+    record { nodes = b.nodes ++ opened label place ∷ []; open_at = length b.nodes ∷ b.open_at }
 taken_in b (Finish place) = closed place b b.open_at
 taken_in b (Note text place) = record { nodes = b.nodes ++ noted text place ∷ []; open_at = b.open_at }

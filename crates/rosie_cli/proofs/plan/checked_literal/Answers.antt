@@ -8,4 +8,4 @@ pub check_pattern-requires : goal.check_pattern-requires
 check_pattern-requires c = no_calls_in (core_of c.args.goal) c.requires.literal.0 c.requires.literal.1 (length c.args.rules.now)
 
 pub unreachable-requires : goal.unreachable-requires
-unreachable-requires c = is_faultless (bodies_of c.args.rules.now) (core_of c.args.goal) c.requires.literal.0 (ap bodies_of c.requires.rules) c.requires.literal.1 c.in-Err.field-0 c.in-Err.ensures.memory c.in-Err.ensures.exactly
+unreachable-requires c = is_faultless (bodies_of c.args.rules.now) (core_of c.args.goal) c.requires.literal.0 c.requires.literal.1 c.in-Err.field-0 c.in-Err.ensures.memory c.in-Err.ensures.exactly

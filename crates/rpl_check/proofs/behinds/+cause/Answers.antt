@@ -1,5 +1,5 @@
 use Rattle.std.proofs.Common.{◌∙◌, ap}
-use Rattle.rpl_check.specs.Faults.{first_cause}
+use Rattle.rpl_check.specs.Causes.{first_cause}
 use Rattle.rpl_core.proofs.Walk.{seq_core, choice_core}
 use Rattle.rpl_check.proofs.behinds.+cause.Goals as goal
 

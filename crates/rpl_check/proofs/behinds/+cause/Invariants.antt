@@ -1,5 +1,5 @@
 use Rattle.std.proofs.Common.{◌≡◌, drop}
-use Rattle.rpl_check.specs.Faults.{first_cause_in}
+use Rattle.rpl_check.specs.Causes.{first_cause_in}
 use Rattle.rpl_core.specs.View.{cores}
 use Rattle.rpl_check.proofs.behinds.+cause.Given as goal
 

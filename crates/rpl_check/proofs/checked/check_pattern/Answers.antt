@@ -1,15 +1,14 @@
-use Rattle.std.proofs.Common.{◌≡◌, ℕ, ◌<◌, None, subst, sym}
+use Rattle.std.proofs.Common.{◌≡◌, ℕ, ◌<◌, subst, sym}
 use Rattle.std.proofs.lemmas.List.{length-map}
 use Rattle.std.specs.Prelude.{true}
 use Rattle.rpl_core.specs.Programs.{calls}
 use Rattle.rpl_core.specs.Table.{bodies_of}
 use Rattle.rpl_core.specs.View.{core_of}
 use Rattle.rpl_core.specs.declared.rules.Rule.{Rule}
-use Rattle.rpl_check.specs.Answers.{IsDue, fault_named}
-use Rattle.rpl_check.specs.Checked.{IsAccepted}
-use Rattle.rpl_check.specs.Faults.{goal_fault}
-use Rattle.rpl_check.specs.Marked.{marked}
-use Rattle.rpl_check.proofs.Accepting.{of_facts, whole_of}
+use Rattle.rpl_check.specs.inside.Accepted.{IsAccepted}
+use Rattle.rpl_core.specs.inside.Marks.{marked}
+use Rattle.rpl_check.proofs.Exists.{facts_with}
+use Rattle.rpl_check.proofs.Accepting.{whole_of}
 use Rattle.rpl_check.proofs.checked.check_pattern.Goals as goal
 
 pub returns-in-Ok-clause-exactly : goal.returns-in-Ok-clause-exactly
@@ -17,14 +16,14 @@ returns-in-Ok-clause-exactly c =
     let m = marked c.checked.inside.empties.items in
     let h = marked c.checked.inside.halting.items in
     let a = subst (λ x. IsAccepted (bodies_of x) m h) c.checked.view_is c.checked.invariant in
-    λ d. of_facts (bodies_of c.args.checked.now) m h a.empties a.halting d (λ x y. goal_fault x y (core_of c.args.peg) ≡ None) (rw (c.deref.ensures.value, c.deref-2.ensures.value) at c.in-Ok.ensures.exactly)
+    (facts_with (bodies_of c.args.checked.now) a.calls m h a.empties a.halting, rw (c.deref.ensures.value, c.deref-2.ensures.value) at c.in-Ok.ensures.exactly)
 
 pub returns-in-Err-clause-exactly : goal.returns-in-Err-clause-exactly
 returns-in-Err-clause-exactly c =
     let m = marked c.checked.inside.empties.items in
     let h = marked c.checked.inside.halting.items in
     let a = subst (λ x. IsAccepted (bodies_of x) m h) c.checked.view_is c.checked.invariant in
-    λ d. of_facts (bodies_of c.args.checked.now) m h a.empties a.halting d (λ x y. IsDue (goal_fault x y (core_of c.args.peg)) (fault_named c.in-Err.fault)) (rw (c.deref.ensures.value, c.deref-2.ensures.value) at c.in-Err.ensures.exactly)
+    (facts_with (bodies_of c.args.checked.now) a.calls m h a.empties a.halting, rw (c.deref.ensures.value, c.deref-2.ensures.value) at c.in-Err.ensures.exactly)
 
 pub returns-in-Ok-clause-whole : goal.returns-in-Ok-clause-whole
 returns-in-Ok-clause-whole c =

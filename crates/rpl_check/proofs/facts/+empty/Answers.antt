@@ -1,6 +1,6 @@
 use Rattle.std.proofs.Common.{◌∙◌, ap}
-use Rattle.rpl_simulation.specs.Ending.{may_be_empty}
-use Rattle.rpl_check.specs.Marked.{marked}
+use Rattle.rpl_simulation.specs.Static.{may_be_empty}
+use Rattle.rpl_core.specs.inside.Marks.{marked}
 use Rattle.rpl_core.proofs.Walk.{seq_core, choice_core}
 use Rattle.rpl_check.proofs.facts.+empty.Goals as goal
 

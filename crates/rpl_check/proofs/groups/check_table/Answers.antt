@@ -4,8 +4,8 @@ use Rattle.rpl_core.specs.Listed.{rules_of}
 use Rattle.rpl_core.specs.Table.{blocks_of, bodies_of}
 use Rattle.rpl_core.specs.declared.rules.Rule.{Rule}
 use Rattle.rpl_check.specs.Answers.{fault_named}
-use Rattle.rpl_check.specs.Faults.{group_fault, fault_from, table_fault}
-use Rattle.rpl_check.specs.Marked.{marked}
+use Rattle.rpl_check.specs.Blocks.{group_fault, fault_from, table_fault}
+use Rattle.rpl_core.specs.inside.Marks.{marked}
 use Rattle.rpl_check.proofs.Firsts.{group_joins, group_ends, groups_done, due_first, none_first}
 use Rattle.rpl_check.proofs.Ordering.{calls_end}
 use Rattle.rpl_check.proofs.groups.check_table.Goals as goal

@@ -2,9 +2,9 @@ use Rattle.std.proofs.Common.{◌≡◌, ℕ, ◌-◌, ◌≤◌, length}
 use Rattle.std.specs.Prelude.{Bool}
 use Rattle.rpl_core.specs.Listed.{rules_of}
 use Rattle.rpl_core.specs.Table.{blocks_of, bodies_of}
-use Rattle.rpl_check.specs.Faults.{group_fault, table_fault, fault_from}
-use Rattle.rpl_check.specs.Marked.{marked}
-use Rattle.rpl_check.specs.Rounds.{CallsBefore, Reach}
+use Rattle.rpl_check.specs.Blocks.{group_fault, table_fault, fault_from}
+use Rattle.rpl_core.specs.inside.Marks.{marked}
+use Rattle.rpl_check.specs.inside.Rounds.{CallsBefore, Reach}
 use Rattle.rpl_check.proofs.groups.check_table.Given as goal
 
 abbrev pub invariant-loop-number : goal.invariant-loop-number

@@ -1,10 +1,10 @@
 use Rattle.std.proofs.Common.{◌≡◌, ◌+◌, ◌∙◌, sym, ap, subst, drop}
 use Rattle.std.specs.Prelude.{OnOk, IfOk, ◌||◌, ◌&&◌, true, false}
 use Rattle.rpl_core.specs.View.{core_of, cores}
-use Rattle.rpl_simulation.specs.Ending.{may_be_empty, all_may_be_empty}
+use Rattle.rpl_simulation.specs.Static.{may_be_empty, all_may_be_empty}
 use Rattle.rpl_check.specs.Facts.{calls_here, front_calls_here, any_calls_here}
-use Rattle.rpl_check.specs.Marked.{marked}
-use Rattle.rpl_check.specs.Search.{Finds}
+use Rattle.rpl_core.specs.inside.Marks.{marked}
+use Rattle.rpl_check.specs.inside.Search.{Finds}
 use Rattle.rpl_check.proofs.Finding.{finds_none, finds_as, finds_then}
 use Rattle.rpl_check.proofs.Fronts.{front_on, front_stops, front_over, any_on, any_over, any_empty}
 use Rattle.rpl_core.proofs.Walk.{drop_here, seq_core, choice_core}

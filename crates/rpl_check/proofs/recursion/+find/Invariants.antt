@@ -1,10 +1,10 @@
 use Rattle.std.proofs.Common.{◌≡◌, drop}
 use Rattle.std.specs.Prelude.{◌||◌}
 use Rattle.rpl_core.specs.View.{cores}
-use Rattle.rpl_simulation.specs.Ending.{all_may_be_empty, any_may_be_empty}
+use Rattle.rpl_simulation.specs.Static.{all_may_be_empty, any_may_be_empty}
 use Rattle.rpl_check.specs.Facts.{front_calls_here, any_calls_here}
-use Rattle.rpl_check.specs.Marked.{marked}
-use Rattle.rpl_check.specs.Search.{Finds}
+use Rattle.rpl_core.specs.inside.Marks.{marked}
+use Rattle.rpl_check.specs.inside.Search.{Finds}
 use Rattle.rpl_check.specs.declared.recursion.Search.{Search}
 use Rattle.rpl_check.proofs.recursion.+find.Given as goal
 

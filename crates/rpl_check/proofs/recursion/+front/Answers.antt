@@ -1,7 +1,8 @@
 use Rattle.std.proofs.Common.{◌∙◌, ap}
-use Rattle.rpl_simulation.specs.Ending.{may_be_empty}
-use Rattle.rpl_check.specs.Marked.{marked, marked_from}
-use Rattle.rpl_check.specs.Search.{calls_within, within_or_none}
+use Rattle.rpl_simulation.specs.Static.{may_be_empty}
+use Rattle.rpl_core.specs.inside.Marks.{marked}
+use Rattle.rpl_check.specs.inside.Search.{marked_from}
+use Rattle.rpl_check.specs.inside.Search.{calls_within, within_or_none}
 use Rattle.rpl_core.proofs.Walk.{seq_core, choice_core}
 use Rattle.rpl_check.proofs.recursion.+front.Goals as goal
 

@@ -1,6 +1,7 @@
 use Rattle.std.proofs.Common.{sym, ◌∙◌}
 use Rattle.rpl_core.specs.Listed.{rules_of}
-use Rattle.rpl_check.specs.Marked.{marked, marked_from}
+use Rattle.rpl_core.specs.inside.Marks.{marked}
+use Rattle.rpl_check.specs.inside.Search.{marked_from}
 use Rattle.rpl_check.proofs.Clean.{rule_within, no_rule_calls}
 use Rattle.rpl_check.proofs.recursion.calls_clean.Goals as goal
 

@@ -2,8 +2,8 @@ use Rattle.std.proofs.Common.{◌≡◌, ◌++◌, ◌∙◌, ap, sym, subst, ta
 use Rattle.std.proofs.Math.Seq.{take-append_seam}
 use Rattle.rpl_core.specs.Listed.{rules_of}
 use Rattle.rpl_core.specs.Table.{bodies_of}
-use Rattle.rpl_check.specs.Marked.{marked}
-use Rattle.rpl_check.specs.Search.{AreClean}
+use Rattle.rpl_core.specs.inside.Marks.{marked}
+use Rattle.rpl_check.specs.inside.Search.{AreClean}
 use Rattle.rpl_check.proofs.recursion.clean_rules.Goals as goal
 
 pub returns-clause-clean : goal.returns-clause-clean

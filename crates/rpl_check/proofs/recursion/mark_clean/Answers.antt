@@ -2,7 +2,7 @@ use Rattle.std.proofs.Common.{◌≡◌, ◌-◌, arith}
 use Rattle.std.specs.Prelude.{false}
 use Rattle.rpl_core.specs.Listed.{rules_of}
 use Rattle.rpl_core.specs.Table.{bodies_of}
-use Rattle.rpl_check.specs.Marked.{marked}
+use Rattle.rpl_core.specs.inside.Marks.{marked}
 use Rattle.rpl_check.proofs.Clean.{clean_more, open_still}
 use Rattle.rpl_check.proofs.recursion.mark_clean.Goals as goal
 

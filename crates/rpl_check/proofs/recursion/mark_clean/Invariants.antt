@@ -2,8 +2,8 @@ use Rattle.std.proofs.Common.{◌≡◌, ℕ, ◌-◌, ◌<◌, ◌≤◌}
 use Rattle.std.specs.Prelude.{false}
 use Rattle.rpl_core.specs.Listed.{rules_of}
 use Rattle.rpl_core.specs.Table.{bodies_of}
-use Rattle.rpl_check.specs.Marked.{marked}
-use Rattle.rpl_check.specs.Search.{AreClean}
+use Rattle.rpl_core.specs.inside.Marks.{marked}
+use Rattle.rpl_check.specs.inside.Search.{AreClean}
 use Rattle.rpl_check.proofs.recursion.mark_clean.Given as goal
 
 abbrev pub invariant-loop-number : goal.invariant-loop-number

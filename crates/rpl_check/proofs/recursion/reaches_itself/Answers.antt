@@ -3,8 +3,8 @@ use Rattle.std.proofs.lemmas.List.{get_or_read, nil_from_length, length-replicat
 use Rattle.std.specs.Prelude.{false}
 use Rattle.rpl_core.specs.Listed.{rules_of}
 use Rattle.rpl_core.specs.Table.{bodies_of}
-use Rattle.rpl_check.specs.Marked.{marked}
-use Rattle.rpl_check.specs.Rounds.{CallsBefore}
+use Rattle.rpl_core.specs.inside.Marks.{marked}
+use Rattle.rpl_check.specs.inside.Rounds.{CallsBefore}
 use Rattle.rpl_check.specs.declared.recursion.Search.{Search}
 use Rattle.rpl_check.proofs.Following.{follow_begins, follow_on, follow_ends}
 use Rattle.rpl_check.proofs.Settling.{no_marks}

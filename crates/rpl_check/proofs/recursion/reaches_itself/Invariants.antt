@@ -1,8 +1,8 @@
 use Rattle.std.proofs.Common.{◌+◌, ◌-◌, length}
 use Rattle.rpl_core.specs.Listed.{rules_of}
 use Rattle.rpl_core.specs.Table.{bodies_of}
-use Rattle.rpl_check.specs.Marked.{marked}
-use Rattle.rpl_check.specs.Search.{unmarked}
+use Rattle.rpl_core.specs.inside.Marks.{marked}
+use Rattle.rpl_core.specs.inside.Marks.{unmarked}
 use Rattle.rpl_check.proofs.Following.{Followed}
 use Rattle.rpl_check.proofs.recursion.reaches_itself.Given as goal
 

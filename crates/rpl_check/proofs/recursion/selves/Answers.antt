@@ -1,9 +1,9 @@
 use Rattle.std.proofs.Common.{sym, ap, subst, ◌∙◌, ◌++◌, ◌∷◌, ◌-◌, ◌+◌, [], append_assoc, arith}
 use Rattle.rpl_core.specs.Listed.{rules_of}
 use Rattle.rpl_core.specs.Table.{bodies_of}
-use Rattle.rpl_check.specs.Faults.{selves}
-use Rattle.rpl_check.specs.Marked.{marked}
-use Rattle.rpl_check.specs.Search.{AreClean}
+use Rattle.rpl_check.specs.Blocks.{selves}
+use Rattle.rpl_core.specs.inside.Marks.{marked}
+use Rattle.rpl_check.specs.inside.Search.{AreClean}
 use Rattle.rpl_check.proofs.Selves.{self_hit, self_miss}
 use Rattle.rpl_check.proofs.recursion.selves.Goals.{then-branch+in_ok-push, else-branch}
 use Rattle.rpl_check.proofs.recursion.selves.Goals as goal

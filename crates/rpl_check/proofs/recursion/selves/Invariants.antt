@@ -2,9 +2,9 @@ use Rattle.std.proofs.Common.{◌≡◌, ℕ, ◌-◌, ◌≤◌, ◌++◌}
 use Rattle.std.specs.Prelude.{Bool}
 use Rattle.rpl_core.specs.Listed.{rules_of}
 use Rattle.rpl_core.specs.Table.{bodies_of}
-use Rattle.rpl_check.specs.Faults.{selves}
-use Rattle.rpl_check.specs.Marked.{marked}
-use Rattle.rpl_check.specs.Rounds.{Reach}
+use Rattle.rpl_check.specs.Blocks.{selves}
+use Rattle.rpl_core.specs.inside.Marks.{marked}
+use Rattle.rpl_check.specs.inside.Rounds.{Reach}
 use Rattle.rpl_check.proofs.recursion.selves.Given as goal
 
 abbrev pub invariant-loop-number : goal.invariant-loop-number

@@ -1,8 +1,8 @@
 use Rattle.std.proofs.Common.{◌-◌, length}
 use Rattle.rpl_core.specs.Listed.{rules_of}
 use Rattle.rpl_core.specs.Table.{bodies_of}
-use Rattle.rpl_check.specs.Marked.{marked, count}
-use Rattle.rpl_check.specs.Rounds.{test_of, IsUnder, Grows}
+use Rattle.rpl_core.specs.inside.Marks.{marked, count}
+use Rattle.rpl_check.specs.inside.Rounds.{test_of, IsUnder, Grows}
 use Rattle.rpl_check.proofs.rounds.close.Given as goal
 
 abbrev pub invariant-loop-fact : goal.invariant-loop-fact

@@ -3,7 +3,7 @@ use Rattle.std.specs.Prelude.{true}
 use Rattle.rpl_core.specs.Listed.{rules_of}
 use Rattle.rpl_core.specs.Table.{bodies_of, blocks_of}
 use Rattle.rpl_core.specs.Order.{joins_next}
-use Rattle.rpl_check.specs.Rounds.{test_of, AreKnown, CallsBefore}
+use Rattle.rpl_check.specs.inside.Rounds.{test_of, AreKnown, CallsBefore}
 use Rattle.rpl_check.proofs.rounds.close_all.Given as goal
 
 abbrev pub invariant-loop-number : goal.invariant-loop-number

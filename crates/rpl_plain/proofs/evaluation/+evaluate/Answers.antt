@@ -9,7 +9,7 @@ use Rattle.rpl_core.specs.Table.{bodies_of}
 use Rattle.rpl_core.specs.Listed.{rules_of}
 use Rattle.rpl_core.specs.declared.rules.Rule.{Rule}
 use Rattle.rpl_core.proofs.Rows.{seq_view, choice_view}
-use Rattle.rpl_plain.specs.Seen.{outcome_of, forest_of, capped}
+use Rattle.rpl_plain.specs.Outcomes.{outcome_of, forest_of, capped}
 use Rattle.rpl_plain.specs.Below.{below, core_at, all_at, first_at}
 use Rattle.rpl_plain.proofs.Capped.{capped_more, first_fails, first_matches, first_halts, turn_matches, one_length}
 use Rattle.rpl_plain.proofs.Levels.{below_is, length_here}

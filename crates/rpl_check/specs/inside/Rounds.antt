@@ -2,12 +2,12 @@
 use Rattle.std.specs.Prelude.{◌≡◌, ℕ, ◌<◌, ◌≤◌, Bool, true, List, length, Some, slice_get}
 use Rattle.rpl_core.specs.Core.{Core}
 use Rattle.rpl_core.specs.Programs.{calls}
-use Rattle.rpl_simulation.specs.Ending.{may_be_empty}
+use Rattle.rpl_simulation.specs.Static.{may_be_empty}
 use Rattle.rpl_simulation.specs.Static.{may_halt}
 use Rattle.rpl_check.specs.declared.facts.Fact as F
 use Rattle.rpl_check.specs.declared.facts.Fact.TheVariants as V
 use Rattle.rpl_check.specs.Facts.{Solves, IsLeast, Follows, passes}
-use Rattle.rpl_check.specs.Marked.{marked}
+use Rattle.rpl_core.specs.inside.Marks.{marked}
 
 -- the test of a fact
 abbrev pub test_of : F.Fact → (ℕ → Bool) → Core → Bool
@@ -41,3 +41,7 @@ pub record AreKnown (test : (ℕ → Bool) → Core → Bool) (R : List Core) (m
 -- each rule reaches just these before a character
 abbrev pub Reach : List Core → (ℕ → Bool) → (ℕ → ℕ → Bool) → Type 0
 Reach R m reach = (r : ℕ) → IsLeast (Follows R m r) (reach r)
+
+-- whichever they are
+abbrev pub OverReach : List Core → (ℕ → Bool) → ((ℕ → ℕ → Bool) → Type 0) → Type 0
+OverReach R m P = (reach : ℕ → ℕ → Bool) → Reach R m reach → P reach

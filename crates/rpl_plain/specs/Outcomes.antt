@@ -1,5 +1,5 @@
 -- How contracts see an outcome of the plain evaluation.
-use Rattle.std.specs.Prelude.{◌^◌, ◌-◌, min}
+use Rattle.std.specs.Prelude.{◌≡◌, ◌^◌, ◌-◌, min}
 use Rattle.rpl_core.specs.Forest as F
 use Rattle.rpl_core.specs.Meaning.{Outcome, Open, Fail, At, HaltAt}
 use Rattle.rpl_plain.specs.declared.forest.Forest.{Forest, NoTree, Tree', Noted'}
@@ -23,3 +23,7 @@ capped Open = Open
 capped (Fail w) = Fail (min w (2 ^ 64 - 1))
 capped (At w j f) = At (min w (2 ^ 64 - 1)) j f
 capped (HaltAt w j f) = HaltAt (min w (2 ^ 64 - 1)) j f
+
+-- it is this outcome, so counted
+abbrev pub IsOutcome : Outcome → R.Outcome → Type 0
+IsOutcome o result = outcome_of result ≡ capped o

@@ -1,33 +1,9 @@
--- What of a table and a goal makes every evaluation end, which shows without a text.
-use Rattle.std.specs.Prelude.{◌≡◌, ℕ, ◌<◌, Bool, true, false, ◌||◌, ◌&&◌, List, length, Some, slice_get}
-use Rattle.rpl_core.specs.Core.{Core, Set, Seq, Choice, Many, Not, And, Behind, Call, Capture, Note, Start, End, Halt, Cores, NoMore, Then}
-
--- the core may succeed and take nothing, where just the rules of m may
-abbrev mutual
-  pub may_be_empty : (ℕ → Bool) → Core → Bool
-  may_be_empty m (Set s) = false
-  may_be_empty m (Seq ps) = all_may_be_empty m ps
-  may_be_empty m (Choice ps) = any_may_be_empty m ps
-  may_be_empty m (Many p) = true
-  may_be_empty m (Not p) = true
-  may_be_empty m (And p) = true
-  may_be_empty m (Behind l n p) = true
-  may_be_empty m (Call r) = m r
-  may_be_empty m (Capture c p) = may_be_empty m p
-  may_be_empty m (Note x) = true
-  may_be_empty m Start = true
-  may_be_empty m End = true
-  may_be_empty m Halt = false
-
-  -- all parts may
-  pub all_may_be_empty : (ℕ → Bool) → Cores → Bool
-  all_may_be_empty m NoMore = true
-  all_may_be_empty m (Then p ps) = may_be_empty m p && all_may_be_empty m ps
-
-  -- some part may
-  pub any_may_be_empty : (ℕ → Bool) → Cores → Bool
-  any_may_be_empty m NoMore = false
-  any_may_be_empty m (Then p ps) = may_be_empty m p || any_may_be_empty m ps
+-- What of a table and a goal makes every evaluation end.
+use Rattle.std.specs.Prelude.{◌≡◌, ℕ, ◌<◌, Bool, true, false, List, length, Some, slice_get}
+use Rattle.rpl_core.specs.Core.{Core, Set, Seq, Choice, Many, Not, And, Behind, Call, Capture, Note, Start, End, Halt}
+use Rattle.rpl_core.specs.Core.{Cores, NoMore, Then}
+use Rattle.rpl_core.specs.Lengths.{has_call, has_repetition}
+use Rattle.rpl_simulation.specs.Static.{may_be_empty}
 
 -- what is asked only where the part before may be empty
 abbrev pub IfEmpty : Bool → Type 0 → Type 0
@@ -61,26 +37,9 @@ abbrev mutual
   EachCallsBelow m rank k NoMore = Unit {0}
   EachCallsBelow m rank k (Then p ps) = CallsBelow m rank k p × EachCallsBelow m rank k ps
 
--- no call and no repetition
-abbrev mutual
-  pub IsPlain : Core → Type 0
-  IsPlain (Set s) = Unit {0}
-  IsPlain (Seq ps) = ArePlain ps
-  IsPlain (Choice ps) = ArePlain ps
-  IsPlain (Many p) = ⊥
-  IsPlain (Not p) = IsPlain p
-  IsPlain (And p) = IsPlain p
-  IsPlain (Behind l n p) = IsPlain p
-  IsPlain (Call r) = ⊥
-  IsPlain (Capture c p) = IsPlain p
-  IsPlain (Note x) = Unit {0}
-  IsPlain Start = Unit {0}
-  IsPlain End = Unit {0}
-  IsPlain Halt = Unit {0}
-
-  pub ArePlain : Cores → Type 0
-  ArePlain NoMore = Unit {0}
-  ArePlain (Then p ps) = IsPlain p × ArePlain ps
+-- the core has no call and no repetition
+abbrev pub IsPlain : Core → Type 0
+IsPlain p = (has_call p ≡ false) × (has_repetition p ≡ false)
 
 -- each call is one of n rules, no repeated body may be empty, and each body of a look-behind is plain
 abbrev mutual
@@ -105,7 +64,7 @@ abbrev mutual
 
 -- A table and a goal whose evaluations end: the rules of m are all that may be empty, the ranks are below the number
 -- of rules and fall along the calls that come before a character, and all is tidy.
-pub record Ends (m : ℕ → Bool) (rank : ℕ → ℕ) (R : List Core) (g : Core) : Type 0 where
+pub record Terminates (m : ℕ → Bool) (rank : ℕ → ℕ) (R : List Core) (g : Core) : Type 0 where
   pub empties : (r : ℕ) (p : Core) → slice_get R r ≡ Some p → m r ≡ false → may_be_empty m p ≡ false
   pub low : (r : ℕ) → r < length R → rank r < length R
   pub falls : (r : ℕ) (p : Core) → slice_get R r ≡ Some p → CallsBelow m rank (rank r) p

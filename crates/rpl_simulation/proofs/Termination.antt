@@ -7,8 +7,10 @@ use Rattle.rpl_core.specs.Core.{fits, Core, Set, Seq, Choice, Many, Not, And, Be
 use Rattle.rpl_core.specs.Forest.{NoTree}
 use Rattle.rpl_core.specs.Meaning.{Outcome, Open, Fail, At, HaltAt, turns, called, level, level_all, level_first, no_depth, peg}
 use Rattle.rpl_core.specs.Outcome.{depth, as_match}
-use Rattle.rpl_simulation.specs.Ending.{may_be_empty, IfEmpty, CallsBelow, AllCallBelow, EachCallsBelow, IsPlain, ArePlain, IsTidy, AreTidy}
-use Rattle.rpl_simulation.specs.Laws.{EndsLaw}
+use Rattle.rpl_simulation.specs.Static.{may_be_empty}
+use Rattle.rpl_simulation.specs.Termination.{IfEmpty, CallsBelow, AllCallBelow, EachCallsBelow, IsTidy, AreTidy}
+use Rattle.rpl_simulation.proofs.Plain.{Plain, ArePlain, plain_of}
+use Rattle.rpl_simulation.specs.Laws.{TerminationLaw}
 use Rattle.rpl_simulation.proofs.Onward.{fewest, Onward, peg_onward}
 use Rattle.rpl_simulation.proofs.Shut.{Shut, shut_more, shut_then, shut_turns, shut_or, shut_not, shut_and, shut_under, shut_if, shut_lengths, plain_shut}
 
@@ -40,7 +42,7 @@ module _ (m : ℕ → Bool) (rank : ℕ → ℕ) (R : List Core) (t : List ℕ)
 
   -- a plain core calls no rule
   mutual
-    plain_ranks : (k : ℕ) (e : Core) → IsPlain e → CallsBelow m rank k e
+    plain_ranks : (k : ℕ) (e : Core) → Plain e → CallsBelow m rank k e
     plain_ranks k (Set s) h = tt
     plain_ranks k (Seq ps) h = plain_all_ranks k ps h
     plain_ranks k (Choice ps) h = plain_each_ranks k ps h
@@ -72,7 +74,7 @@ module _ (m : ℕ → Bool) (rank : ℕ → ℕ) (R : List Core) (t : List ℕ)
     any_ranks (Many p) h = any_ranks p h.1
     any_ranks (Not p) h = any_ranks p h
     any_ranks (And p) h = any_ranks p h
-    any_ranks (Behind l n p) h = plain_ranks (length R) p h
+    any_ranks (Behind l n p) h = plain_ranks (length R) p (plain_of p h.0 h.1)
     any_ranks (Call r) h = low r h
     any_ranks (Capture c p) h = any_ranks p h
     any_ranks (Note x) h = tt
@@ -138,7 +140,7 @@ module _ (m : ℕ → Bool) (rank : ℕ → ℕ) (R : List Core) (t : List ℕ)
       level_shut (Many p) k i d h le s1 = shut_many p k i d le s1 (level_shut p k i d.1 h le s1)
       level_shut (Not p) k i d h le s1 = shut_not (level below R t p i) i (level_shut p k i d h le s1)
       level_shut (And p) k i d h le s1 = shut_and (level below R t p i) i (level_shut p k i d h le s1)
-      level_shut (Behind l x p) k i d h le s1 = shut_more 1 _ (shut_lengths (x + 1 - l) l (level below R t p) i (plain_shut below R t p d))
+      level_shut (Behind l x p) k i d h le s1 = shut_more 1 _ (shut_lengths (x + 1 - l) l (level below R t p) i (plain_shut below R t p (plain_of p d.0 d.1)))
       level_shut (Call r) k i d h le s1 = shut_called r k i h d le s1 (slice_get R r) refl
       level_shut (Capture c p) k i d h le s1 = shut_under c i (level below R t p i) (level_shut p k i d h le s1)
       level_shut (Note x) k i d h le s1 = tt
@@ -171,7 +173,7 @@ module _ (m : ℕ → Bool) (rank : ℕ → ℕ) (R : List Core) (t : List ℕ)
       (λ n1 z e k i d h le s. let y : n ≡ n1 = omega arith in peg_shut n e k i d h le (subst (λ v. Serves v k i) (sym y) s))
 
 -- the meaning is whole
-pub ends_holds : EndsLaw
+pub ends_holds : TerminationLaw
 ends_holds m rank R g t c = never (peg (depth t R) R t g 0) shut
   where
     enough : height (length R) (length t - 0) + length R ≤ depth t R

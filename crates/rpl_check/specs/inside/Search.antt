@@ -1,10 +1,16 @@
 -- How the rules of a block that reach themselves before a character are found.
-use Rattle.std.specs.Prelude.{◌≡◌, ℕ, suc, ◌+◌, ◌-◌, ◌≤◌, Bool, true, false, ◌||◌, ◌&&◌, not, nat_eq, nat_lt, nat_le, List, [], ◌∷◌, length, Option, Some, None}
-use Rattle.rpl_core.specs.Core.{Core, Set, Seq, Choice, Many, Not, And, Behind, Call, Capture, Note, Start, End, Halt, Cores, NoMore, Then}
-use Rattle.rpl_simulation.specs.Ending.{may_be_empty}
-use Rattle.rpl_check.specs.Marked.{marked}
-use Rattle.rpl_check.specs.Rounds.{Reach}
+use Rattle.std.specs.Prelude.{◌≡◌, ℕ, ◌+◌, ◌-◌, ◌≤◌, Bool, true, false, ◌||◌, ◌&&◌, not, nat_eq, nat_lt, nat_le}
+use Rattle.std.specs.Prelude.{List, [], ◌∷◌, length, Option, Some, None, slice_index_or}
+use Rattle.rpl_core.specs.Core.{Core, Set, Seq, Choice, Many, Not, And, Behind, Call, Capture, Note, Start, End, Halt}
+use Rattle.rpl_core.specs.Core.{Cores, NoMore, Then}
+use Rattle.rpl_simulation.specs.Static.{may_be_empty, all_may_be_empty, any_may_be_empty}
+use Rattle.rpl_core.specs.inside.Marks.{marked, unmarked, waits}
+use Rattle.rpl_check.specs.inside.Rounds.{OverReach}
 use Rattle.rpl_check.specs.declared.recursion.Search.{Search}
+
+-- the rule stands before a, or the list, which begins there, marks it
+abbrev pub marked_from : ℕ → List Bool → ℕ → Bool
+marked_from a marks r = nat_lt r a || slice_index_or marks (r - a) false
 
 -- each rule that the core may call before it has taken a character is in w, where just the rules of m may be empty
 abbrev mutual
@@ -38,20 +44,22 @@ abbrev pub within_or_none : Bool → Bool → Option Bool
 within_or_none true empty = Some empty
 within_or_none false empty = None
 
+-- whether the core may be empty, where each rule that it may call before a character is in w
+abbrev pub clean_core : (m w : ℕ → Bool) → Core → Option Bool
+clean_core m w p = within_or_none (calls_within m w p) (may_be_empty m p)
+
+-- so it is with parts in turn
+abbrev pub clean_all : (m w : ℕ → Bool) → Cores → Option Bool
+clean_all m w ps = within_or_none (front_calls_within m w ps) (all_may_be_empty m ps)
+
+-- and with a choice of the parts
+abbrev pub clean_each : (m w : ℕ → Bool) → Cores → Option Bool
+clean_each m w ps = within_or_none (each_calls_within m w ps) (any_may_be_empty m ps)
+
 -- the marked rules of a block that begins at a don't reach themselves
 abbrev pub AreClean : List Core → (ℕ → Bool) → ℕ → List Bool → Type 0
-AreClean R m a clean = (reach : ℕ → ℕ → Bool) → Reach R m reach → (r : ℕ) → a ≤ r → marked clean (r - a) ≡ true → reach r r ≡ false
-
--- how many rules have no mark
-abbrev pub unmarked : List Bool → ℕ
-unmarked [] = 0
-unmarked (true ∷ bs) = unmarked bs
-unmarked (false ∷ bs) = suc (unmarked bs)
-
--- the rule is in the list
-abbrev pub waits : List ℕ → ℕ → Bool
-waits [] r = false
-waits (q ∷ qs) r = nat_eq q r || waits qs r
+AreClean R m a clean =
+    OverReach R m (λ reach. (r : ℕ) → a ≤ r → marked clean (r - a) ≡ true → reach r r ≡ false)
 
 -- the rule is one of the block
 abbrev pub in_block : Search → ℕ → Bool

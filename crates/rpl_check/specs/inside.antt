@@ -1,0 +1,4 @@
+-- Words of private functions alone. No public contract cites them.
+pub mod Rounds
+pub mod Search
+pub mod Accepted
