@@ -10,19 +10,14 @@ use Rattle.rpl_lexer.specs.declared.bounds.Bounds.{Bounds}
 use Rattle.rpl_lexer.specs.declared.token.TokenKind.TheVariants as K
 use Rattle.rpl_lexer.specs.declared.front.Stand.TheVariants.{Found}
 use Rattle.rpl_lexer.specs.Bytes.{is_digit, is_space, run, past, begins, has}
-use Rattle.rpl_lexer.specs.Numbers.{value, narrow}
+use Rattle.rpl_text.specs.Numbers.{value, narrow}
 use Rattle.rpl_lexer.specs.Braces.{digits_from, parts, part, is_wide, number_in, bounds_in, begins_bounds}
 use Rattle.rpl_lexer.specs.Fronts.{stands}
 use Rattle.rpl_lexer.specs.Forms.{each}
+use Rattle.rpl_lexer.specs.Written.{Spells, WritesBounds, exactly, at_least, between, BoundsBack}
 use Rattle.rpl_lexer.proofs.Spans.{left, right, drop_zero}
 use Rattle.rpl_lexer.proofs.Places.{parts_comma, parts_plain}
 use Rattle.rpl_lexer.proofs.Stood.{bounds_stand}
-
--- digits that spell a number
-pub record Spells (n : ℕ) (ds : List ℕ) : Type 0 where
-  pub digits : each is_digit ds ≡ true
-  pub some : 0 < length ds
-  pub number : narrow (value 0 ds) ≡ Some n
 
 run_none : (p : ℕ → Bool) (x : List ℕ) → begins p x ≡ false → run p x ≡ 0
 run_none p [] h = refl
@@ -181,3 +176,25 @@ open_read ds r n h =
     let i = length ds + 1 in
     let f : nat_lt i (i + 0) ≡ false = grind (arith, nat_tests) in
     comma_read ds [] r n None h refl (ap (λ b. if not b then None else narrow (value 0 (part bs (record { start = i; end = i + 0 })))) f)
+
+-- ---- all ways to write bounds
+
+token_at : (w v : List ℕ) (r : List ℕ) (k n : ℕ) → w ++ 125 ∷ r ≡ v → k ≡ n → stands (123 ∷ v) ≡ Found K.Bounds k → stands (123 ∷ w ++ 125 ∷ r) ≡ Found K.Bounds n
+token_at w v r k n e f h = ap (λ x. stands (123 ∷ x)) e ∙ (h ∙ ap (λ x. Found K.Bounds x) f)
+
+pub bounds_back : (w r : List ℕ) (b : Bounds) → WritesBounds w b → BoundsBack w b r
+bounds_back w r b (exactly ds n h) = record { token = plain_stands ds r n h; numbers = plain_read ds r n h }
+bounds_back w r b (at_least ds n h) =
+    let e : (ds ++ 44 ∷ []) ++ 125 ∷ r ≡ ds ++ 44 ∷ 125 ∷ r = append_assoc ds (44 ∷ []) (125 ∷ r) in
+    let l = length-append ds (44 ∷ []) in
+    record {
+      token = token_at (ds ++ 44 ∷ []) (ds ++ 44 ∷ 125 ∷ r) r _ _ e (omega (arith, l)) (comma_stands ds [] r n h refl refl);
+      numbers = ap bounds_in e ∙ open_read ds r n h;
+    }
+bounds_back w r b (between ds es n m h k) =
+    let e : (ds ++ 44 ∷ es) ++ 125 ∷ r ≡ ds ++ 44 ∷ (es ++ 125 ∷ r) = append_assoc ds (44 ∷ es) (125 ∷ r) in
+    let l = length-append ds (44 ∷ es) in
+    record {
+      token = token_at (ds ++ 44 ∷ es) (ds ++ 44 ∷ (es ++ 125 ∷ r)) r _ _ e (omega (arith, l)) (comma_stands ds es r n h k.digits (ap is_some k.number));
+      numbers = ap bounds_in e ∙ both_read ds es r n m h k;
+    }

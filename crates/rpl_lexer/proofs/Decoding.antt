@@ -10,7 +10,8 @@ use Rattle.rpl_text.specs.Escapes.{escape, placed, escape_from}
 use Rattle.rpl_text.proofs.Walks.{some_step, none_step, index_at, place_at, at_suc, get_below, at_le, at_end}
 use Rattle.rpl_text.proofs.Cuts.{at-drop}
 use Rattle.rpl_text.proofs.Escaped.{escape_plain, drop_front}
-use Rattle.rpl_lexer.specs.Payloads.{unescaped, decoded, Decodes}
+use Rattle.rpl_lexer.specs.Payloads.{unescaped, decoded}
+use Rattle.rpl_lexer.specs.inside.Decoding.{Decodes}
 
 decoded-nil : (k : ℕ) → decoded k [] ≡ []
 unfolding decoded

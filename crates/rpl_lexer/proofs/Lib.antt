@@ -1,4 +1,3 @@
-pub mod Wide
 pub mod Walks
 pub mod Words
 pub mod Places

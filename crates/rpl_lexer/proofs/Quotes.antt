@@ -16,7 +16,7 @@ use Rattle.rpl_lexer.specs.Enclosed.{plus, close, bad, by_bad, by_close}
 use Rattle.rpl_lexer.specs.Fronts.{stands}
 use Rattle.rpl_lexer.specs.Forms.{each}
 use Rattle.rpl_lexer.specs.Payloads.{unescaped, decoded}
-use Rattle.rpl_lexer.specs.Written.{is_bare, Writes, nothing, bare, escaped, ReadsBack}
+use Rattle.rpl_lexer.specs.Written.{is_bare, is_inner, Writes, nothing, bare, escaped, ReadsBack}
 use Rattle.std.proofs.lemmas.List.{append-nil}
 use Rattle.rpl_lexer.proofs.Walks.{plus_none}
 use Rattle.rpl_lexer.proofs.Spans.{left, right}
@@ -25,18 +25,22 @@ use Rattle.rpl_lexer.proofs.Decoding.{decoded-cons, skipped}
 -- ---- what an escape is made of
 
 -- a letter and digits, none of which ends a text, and an escape whatever follows
-record Shape (c : ℕ) (e : List ℕ) : Type 0 where
-  letter : ℕ
-  digits : List ℕ
-  is : e ≡ letter ∷ digits
-  ascii : letter < 128
-  line : nat_eq letter 10 ≡ false
-  plain : each is_bare digits ≡ true
-  low : each (λ b. nat_lt b 128) digits ≡ true
-  stays : (y : List ℕ) → escape (e ++ y) ≡ Some (c, length e)
+pub record Shape (c : ℕ) (e : List ℕ) : Type 0 where
+  pub letter : ℕ
+  pub digits : List ℕ
+  pub is : e ≡ letter ∷ digits
+  pub ascii : letter < 128
+  pub line : nat_eq letter 10 ≡ false
+  pub plain : each is_bare digits ≡ true
+  pub inner : each is_inner digits ≡ true
+  pub low : each (λ b. nat_lt b 128) digits ≡ true
+  pub stays : (y : List ℕ) → escape (e ++ y) ≡ Some (c, length e)
 
 digit_bare : (c : ℕ) → digit_value c < 16 → is_bare c ≡ true
 digit_bare c h = grind (arith, nat_tests)
+
+digit_inner : (c : ℕ) → digit_value c < 16 → is_inner c ≡ true
+digit_inner c h = grind (arith, nat_tests)
 
 digit_low : (c : ℕ) → digit_value c < 16 → nat_lt c 128 ≡ true
 digit_low c h = grind (arith, nat_tests)
@@ -50,6 +54,7 @@ none_pair c n e = absurd (cc)
 -- so many digits, and the same number whatever follows
 record Digits (n v w : ℕ) (ds : List ℕ) : Type 0 where
   plain : each is_bare ds ≡ true
+  inner : each is_inner ds ≡ true
   low : each (λ b. nat_lt b 128) ds ≡ true
   stays : (y : List ℕ) → hex n v (ds ++ y) ≡ Some w
 
@@ -61,7 +66,7 @@ and_both : (a b : Bool) → a ≡ true → b ≡ true → (a && b) ≡ true
 and_both a b h g = rw (h, g) refl
 
 hex_digits : (n v w : ℕ) (ds : List ℕ) → hex n v ds ≡ Some w → length ds ≡ n → Digits n v w ds
-hex_digits zero v w [] h e = record { plain = refl; low = refl; stays = λ y. hex-zero v y ∙ sym (hex-zero v []) ∙ h }
+hex_digits zero v w [] h e = record { plain = refl; inner = refl; low = refl; stays = λ y. hex-zero v y ∙ sym (hex-zero v []) ∙ h }
 hex_digits zero v w (d ∷ ds) h e = absurd (omega (arith, e))
 hex_digits (suc n) v w [] h e = none_some w (sym (hex-nil n v) ∙ h)
 hex_digits (suc n) v w (d ∷ ds) h e =
@@ -72,6 +77,7 @@ hex_digits (suc n) v w (d ∷ ds) h e =
           let g = hex_digits n (16 * v + digit_value d) w ds (sym (ap (λ b. if b then hex n (16 * v + digit_value d) ds else None) t) ∙ f) (omega (arith, e)) in
           record {
             plain = and_both (is_bare d) (each is_bare ds) (digit_bare d lt) g.plain;
+            inner = and_both (is_inner d) (each is_inner ds) (digit_inner d lt) g.inner;
             low = and_both (nat_lt d 128) (each (λ b. nat_lt b 128) ds) (digit_low d lt) g.low;
             stays = λ y. hex-cons n v d (ds ++ y) ∙ ap (λ b. if b then hex n (16 * v + digit_value d) (ds ++ y) else None) t ∙ g.stays y;
           }
@@ -120,6 +126,7 @@ one_letter c d v ds lt l e f =
       ascii = lt;
       line = l;
       plain = ap (each is_bare) z;
+      inner = ap (each is_inner) z;
       low = ap (each (λ b. nat_lt b 128)) z;
       stays = λ y. f (ds ++ y) ∙ e;
     }
@@ -149,6 +156,7 @@ more_digits c d n last ds lt l e f =
       ascii = lt;
       line = l;
       plain = g.plain;
+      inner = g.inner;
       low = g.low;
       stays = λ y. f (ds ++ y) ∙ ap (numbered n last) (g.stays y) ∙ k.gives;
     }
@@ -165,7 +173,7 @@ kept_below d h = grind (arith, nat_tests)
 kept_line : (d : ℕ) → is_kept d ≡ true → nat_eq d 10 ≡ false
 kept_line d h = grind (arith, nat_tests)
 
-shape : (c : ℕ) (e : List ℕ) → escape e ≡ Some (c, length e) → Shape c e
+pub shape : (c : ℕ) (e : List ℕ) → escape e ≡ Some (c, length e) → Shape c e
 shape c [] h = none_pair c 0 (sym escape-nil ∙ h)
 shape c (d ∷ ds) h =
     let s = sym (escape-cons d ds) ∙ h in

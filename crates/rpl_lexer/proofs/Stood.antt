@@ -1,6 +1,6 @@
 -- Brackets and bounds of which it is known how they are written stand where they are written.
-use Rattle.std.proofs.Common.{◌≡◌, ℕ, suc, ◌+◌, ◌-◌, List, [], ◌∷◌, ◌++◌, None, length, take, refl, sym, ap, ◌∙◌, arith, append_assoc, length-append}
-use Rattle.std.specs.Prelude.{Bool, true, false, not, ◌&&◌, ◌||◌, is_some, nat_eq}
+use Rattle.std.proofs.Common.{◌≡◌, ℕ, suc, ◌+◌, ◌-◌, List, [], ◌∷◌, ◌++◌, None, length, take, Some, refl, sym, ap, subst, ◌∙◌, arith, append_assoc, length-append}
+use Rattle.std.specs.Prelude.{Bool, true, false, ◌&&◌, is_some, nat_eq}
 use Rattle.std.proofs.Math.Seq.{take-append-add}
 use Rattle.std.proofs.lemmas.Bool.Decides.{nat_tests}
 use Rattle.rpl_text.specs.Escapes.{escape}
@@ -12,15 +12,14 @@ use Rattle.rpl_lexer.specs.Bytes.{has}
 use Rattle.rpl_lexer.specs.Enclosed.{plus, close, bad, by_bad, by_close}
 use Rattle.rpl_lexer.specs.Braces.{parts, is_wide, begins_bounds, brace_stands}
 use Rattle.rpl_lexer.specs.Fronts.{stands}
+use Rattle.rpl_lexer.specs.Written.{is_inner, InBracket, nothing_in, inner_in, escaped_in, bracket_in}
+use Rattle.rpl_lexer.proofs.Spans.{left, right}
 use Rattle.rpl_lexer.proofs.Walks.{plus_none}
-use Rattle.rpl_lexer.proofs.Quotes.{one_plus, plus_more, take_one}
+use Rattle.rpl_lexer.specs.Forms.{each}
+use Rattle.rpl_lexer.proofs.Quotes.{one_plus, plus_more, take_one, shape}
 use Rattle.rpl_lexer.proofs.Ways.{Braced, opening, unmet, wide_least, wide_most, met, braced}
 
 -- ---- brackets
-
--- a byte that means nothing to the walk over a bracket
-abbrev pub is_inner : ℕ → Bool
-is_inner b = not (nat_eq b 10 || (nat_eq b 92 || (nat_eq b 91 || nat_eq b 93)))
 
 -- what may stand in a bracket: such bytes, escapes, and further brackets
 pub data Bracketed : List ℕ → Type 0 where
@@ -101,6 +100,28 @@ bracket_stands u r b =
     let f : bad false (take (length u + 1) (u ++ 93 ∷ r)) ≡ None = ap (bad false) t ∙ h.fine (93 ∷ []) refl in
     let n : 1 + (length u + 1) ≡ length u + 2 = omega arith in
     ap (by_close K.Bracket (u ++ 93 ∷ r)) (h.closes 0 (93 ∷ r)) ∙ ap (by_bad K.Bracket (length u + 1)) f ∙ ap (λ x. Found K.Bracket x) n
+
+-- ---- the same in words of its own
+
+all_inner : (ds u : List ℕ) → each is_inner ds ≡ true → Bracketed u → Bracketed (ds ++ u)
+all_inner [] u h b = b
+all_inner (d ∷ ds) u h b = inner d (ds ++ u) (left (is_inner d) (each is_inner ds) h) (all_inner ds u (right (is_inner d) (each is_inner ds) h) b)
+
+escaped_bracketed : (c : ℕ) (e u : List ℕ) → escape e ≡ Some (c, length e) → Bracketed u → Bracketed (92 ∷ e ++ u)
+escaped_bracketed c e u h b =
+    let k = shape c e h in
+    let before : (x : List ℕ) → k.letter ∷ ((k.digits ++ u) ++ x) ≡ e ++ (u ++ x) = λ x. ap (λ y. k.letter ∷ y) (append_assoc k.digits u x) ∙ ap (λ y. y ++ (u ++ x)) (sym k.is) in
+    subst (λ y. Bracketed (92 ∷ (y ++ u))) (sym k.is)
+    (hidden k.letter (k.digits ++ u) k.line (λ x. ap (λ y. is_some (escape y)) (before x) ∙ ap is_some (k.stays (u ++ x))) (all_inner k.digits u k.inner b))
+
+bracketed : (u : List ℕ) → InBracket u → Bracketed u
+bracketed [] nothing_in = nothing
+bracketed w (inner_in b u h k) = inner b u h (bracketed u k)
+bracketed w (escaped_in c e u h k) = escaped_bracketed c e u h (bracketed u k)
+bracketed w (bracket_in v u h k) = nested v u (bracketed v h) (bracketed u k)
+
+pub in_bracket_stands : (u r : List ℕ) → InBracket u → stands (91 ∷ u ++ 93 ∷ r) ≡ Found K.Bracket (length u + 2)
+in_bracket_stands u r h = bracket_stands u r (bracketed u h)
 
 -- ---- bounds
 

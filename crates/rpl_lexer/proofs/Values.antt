@@ -10,7 +10,7 @@ use Rattle.rpl_lexer.specs.declared.front.Stand.TheVariants.{Found}
 use Rattle.rpl_lexer.specs.declared.enclosed.Enclosure.{Enclosure}
 use Rattle.rpl_lexer.specs.declared.enclosed.Enclosure.TheVariants.{Quotes, Brackets}
 use Rattle.rpl_lexer.specs.Bytes.{is_digit, is_word, run, past, has}
-use Rattle.rpl_lexer.specs.Numbers.{value, narrow}
+use Rattle.rpl_text.specs.Numbers.{value, narrow}
 use Rattle.rpl_lexer.specs.Enclosed.{kind_of}
 use Rattle.rpl_lexer.specs.Fronts.{stands}
 use Rattle.rpl_lexer.specs.Cut.{IsToken}

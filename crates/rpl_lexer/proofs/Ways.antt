@@ -12,7 +12,7 @@ use Rattle.rpl_lexer.specs.declared.bounds.Parts.{Parts}
 use Rattle.rpl_lexer.specs.Bytes.{is_letter, is_digit, is_word, run, past, has}
 use Rattle.rpl_lexer.specs.Keywords.{is_keyword}
 use Rattle.rpl_lexer.specs.Signs.{punct}
-use Rattle.rpl_lexer.specs.Numbers.{value, narrow}
+use Rattle.rpl_text.specs.Numbers.{value, narrow}
 use Rattle.rpl_lexer.specs.Enclosed.{close, bad, kind_of, by_bad, by_close, enclosed}
 use Rattle.rpl_lexer.specs.Braces.{parts, is_wide, bounds_by, begins_bounds, brace_stands}
 use Rattle.rpl_lexer.specs.Fronts.{first_name, qualifies, name_stands, number_stands, stands}

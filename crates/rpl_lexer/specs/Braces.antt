@@ -1,6 +1,8 @@
 -- What a brace begins, from behind it: bounds where a digit or a comma comes next but for blanks, else the sign.
--- Bounds are a number or none, perhaps a comma and a number or none, and the closing brace; spaces and tabs may stand between.
-use Rattle.std.specs.Prelude.{ℕ, ◌+◌, ◌≤◌, Bool, true, false, ◌||◌, not, nat_eq, nat_lt, is_some, List, Option, None, if◌then◌else◌, drop, slice_range}
+-- Bounds are a number or none, perhaps a comma and a number or none, and the closing brace; spaces and tabs may stand
+-- between.
+use Rattle.std.specs.Prelude.{ℕ, ◌+◌, Bool, true, false, ◌||◌, not, nat_eq, nat_lt, is_some, List, Option, None}
+use Rattle.std.specs.Prelude.{if◌then◌else◌, drop, slice_range}
 use Rattle.rpl_lexer.specs.declared.token.TokenKind.TheVariants as K
 use Rattle.rpl_lexer.specs.declared.fault.LexKind.TheVariants.{BadChar, NumberTooWide}
 use Rattle.rpl_lexer.specs.declared.front.Stand.{Stand}
@@ -9,7 +11,7 @@ use Rattle.rpl_lexer.specs.declared.bounds.Span.{Span}
 use Rattle.rpl_lexer.specs.declared.bounds.Parts.{Parts}
 use Rattle.rpl_lexer.specs.declared.bounds.Bounds.{Bounds}
 use Rattle.rpl_lexer.specs.Bytes.{is_digit, is_space, past, begins, has}
-use Rattle.rpl_lexer.specs.Numbers.{value, narrow}
+use Rattle.rpl_text.specs.Numbers.{value, narrow}
 
 -- the digits, perhaps none, that stand behind blanks from the place i on
 abbrev pub digits_from : List ℕ → ℕ → Span
@@ -28,11 +30,6 @@ parts bs =
     let least = digits_from bs 0 in
     let c = past is_space bs least.end in
     parts_by bs least c (has bs c 44)
-
--- the span lies within n bytes
-pub record IsWithin (n : ℕ) (p : Span) : Type 0 where
-  pub order : p.start ≤ p.end
-  pub inside : p.end ≤ n
 
 abbrev pub is_empty : Span → Bool
 is_empty p = not (nat_lt p.start p.end)

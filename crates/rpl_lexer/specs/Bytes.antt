@@ -1,5 +1,6 @@
 -- Kinds of bytes, and how far they go. All that decides about a token is ASCII, so bytes stand here for characters.
-use Rattle.std.specs.Prelude.{ℕ, suc, ◌+◌, Bool, false, ◌&&◌, ◌||◌, nat_eq, nat_le, List, [], ◌∷◌, Some, None, if◌then◌else◌, drop, slice_get}
+use Rattle.std.specs.Prelude.{ℕ, suc, ◌+◌, Bool, false, ◌&&◌, ◌||◌, nat_eq, nat_le, List, [], ◌∷◌, Some, None}
+use Rattle.std.specs.Prelude.{if◌then◌else◌, drop, slice_get}
 use Rattle.rpl_lexer.specs.declared.bytes.Class.{Class}
 use Rattle.rpl_lexer.specs.declared.bytes.Class.TheVariants as C
 

@@ -1,6 +1,7 @@
 -- The cut of a text as a function, for definitions that go on from the tokens of a text. The law `cut_computes` says
 -- that it gives just the tokens of `IsCut`, and else just the first fault.
-use Rattle.std.specs.Prelude.{◌≡◌, ◌⊎◌, ℕ, zero, suc, ◌+◌, nat_eq, if◌then◌else◌, List, [], ◌∷◌, length, drop, Result, Ok, Err}
+use Rattle.std.specs.Prelude.{◌≡◌, ◌⊎◌, ℕ, zero, suc, ◌+◌, nat_eq, if◌then◌else◌, List, [], ◌∷◌, length, drop, Result}
+use Rattle.std.specs.Prelude.{Ok, Err}
 use Rattle.rpl_lexer.specs.Cut.{start, IsCut, FailsAt}
 use Rattle.rpl_lexer.specs.Fronts.{stands}
 use Rattle.rpl_lexer.specs.declared.fault.LexFault.{LexFault}

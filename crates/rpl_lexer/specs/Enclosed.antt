@@ -1,5 +1,6 @@
 -- Texts and brackets, from behind what opens them: `"` is 34, `[` 91, `]` 93, the backslash 92, the line feed 10.
-use Rattle.std.specs.Prelude.{ℕ, ◌+◌, ◌-◌, Bool, false, not, ◌&&◌, nat_eq, is_some, List, [], ◌∷◌, Option, Some, None, if◌then◌else◌, take}
+use Rattle.std.specs.Prelude.{ℕ, ◌+◌, ◌-◌, Bool, false, not, ◌&&◌, nat_eq, is_some, List, [], ◌∷◌, Option, Some, None}
+use Rattle.std.specs.Prelude.{if◌then◌else◌, take}
 use Rattle.rpl_text.specs.Escapes.{escape}
 use Rattle.rpl_lexer.specs.declared.enclosed.Enclosure.{Enclosure}
 use Rattle.rpl_lexer.specs.declared.enclosed.Enclosure.TheVariants.{Quotes, Brackets}
@@ -35,7 +36,8 @@ ends e n hidden b = not hidden && (nat_eq n 0 && closes e b)
 abbrev pub depth_after : Enclosure → (n : ℕ) → (hidden : Bool) → ℕ → ℕ
 depth_after e n hidden b = if hidden then n else (if opens e b then n + 1 else (if closes e b then n - 1 else n))
 
--- how many bytes come up to the closing one and with it, where n more are open; none where the line or the text ends before
+-- how many bytes come up to the closing one and with it, where n more are open; none where the line or the text ends
+-- before
 abbrev pub close : Enclosure → (n : ℕ) → (hidden : Bool) → List ℕ → Option ℕ
 close e n hidden [] = None
 close e n hidden (b ∷ bs) =

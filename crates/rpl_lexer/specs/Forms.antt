@@ -1,5 +1,7 @@
--- The forms of tokens as spans of a text: which bytes are one of each kind, and where it fits. What stands at a place is the longest that fits there.
-use Rattle.std.specs.Prelude.{◌≡◌, ℕ, ◌+◌, ◌<◌, ◌≤◌, Bool, true, false, ◌&&◌, nat_eq, is_some, List, [], ◌∷◌, ◌++◌, Some, None, length, take, drop}
+-- The forms of tokens as spans of a text: which bytes are one of each kind, and where it fits. What stands at a place
+-- is the longest that fits there.
+use Rattle.std.specs.Prelude.{◌≡◌, ℕ, ◌+◌, ◌<◌, ◌≤◌, Bool, true, false, ◌&&◌, nat_eq, is_some, List, [], ◌∷◌, ◌++◌}
+use Rattle.std.specs.Prelude.{Some, None, length, take, drop}
 use Rattle.rpl_lexer.specs.declared.token.TokenKind.{TokenKind}
 use Rattle.rpl_lexer.specs.declared.token.TokenKind.TheVariants as K
 use Rattle.rpl_lexer.specs.declared.enclosed.Enclosure.{Enclosure}
@@ -37,7 +39,8 @@ pub record AreDigits (w : List ℕ) : Type 0 where
   pub some : 0 < length w
   pub digits : each is_digit w ≡ true
 
--- an opening byte, and then bytes of which just the last closes it, without a line feed and with no backslash that begins no escape
+-- an opening byte, and then bytes of which just the last closes it, without a line feed and with no backslash that
+-- begins no escape
 pub record IsEnclosed (e : Enclosure) (opening : ℕ) (w : List ℕ) : Type 0 where
   pub rest : List ℕ
   pub is : w ≡ opening ∷ rest

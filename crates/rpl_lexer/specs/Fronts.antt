@@ -1,14 +1,14 @@
 -- Which token stands at the front of some bytes, and how long it is; or which fault, and how far behind the front.
-use Rattle.std.specs.Prelude.{◌≢◌, ℕ, ◌+◌, ◌<◌, ◌≤◌, Bool, not, ◌&&◌, nat_eq, is_some, List, [], ◌∷◌, if◌then◌else◌, take, drop}
+use Rattle.std.specs.Prelude.{ℕ, ◌+◌, Bool, not, ◌&&◌, nat_eq, is_some, List, [], ◌∷◌, if◌then◌else◌, take, drop}
 use Rattle.rpl_lexer.specs.declared.token.TokenKind.TheVariants as K
-use Rattle.rpl_lexer.specs.declared.fault.LexKind.TheVariants.{NoMemory, BadChar, NumberTooWide}
+use Rattle.rpl_lexer.specs.declared.fault.LexKind.TheVariants.{BadChar, NumberTooWide}
 use Rattle.rpl_lexer.specs.declared.front.Stand.{Stand}
 use Rattle.rpl_lexer.specs.declared.front.Stand.TheVariants.{Found, Fault}
 use Rattle.rpl_lexer.specs.declared.enclosed.Enclosure.TheVariants.{Quotes, Brackets}
 use Rattle.rpl_lexer.specs.Bytes.{is_letter, is_digit, is_word, run, past, begins, has}
 use Rattle.rpl_lexer.specs.Keywords.{is_keyword}
 use Rattle.rpl_lexer.specs.Signs.{punct}
-use Rattle.rpl_lexer.specs.Numbers.{value, narrow}
+use Rattle.rpl_text.specs.Numbers.{value, narrow}
 use Rattle.rpl_lexer.specs.Enclosed.{enclosed}
 use Rattle.rpl_lexer.specs.Braces.{brace_stands}
 
@@ -34,7 +34,9 @@ name_stands s =
 
 -- what stands where a digit comes first
 unfoldable pub number_stands : List ℕ → Stand
-number_stands s = if is_some (narrow (value 0 (take (run is_digit s) s))) then Found K.Number (run is_digit s) else Fault NumberTooWide 0
+number_stands s =
+    if is_some (narrow (value 0 (take (run is_digit s) s))) then Found K.Number (run is_digit s)
+    else Fault NumberTooWide 0
 
 -- what stands at the front: `"` is 34, `[` 91, `{` 123
 unfoldable pub stands : List ℕ → Stand
@@ -47,8 +49,3 @@ stands (b ∷ bs) =
     else (if nat_eq b 123 then brace_stands bs
     else (if is_some (punct b) then Found K.Sign 1
     else Fault BadChar 0)))))
-
--- a token has at least one byte, and at most n; a fault stands before the end
-abbrev pub Within : ℕ → Stand → Type 0
-Within n (Found kind len) = (0 < len) × (len ≤ n)
-Within n (Fault kind skip) = (skip < n) × (kind ≢ NoMemory)

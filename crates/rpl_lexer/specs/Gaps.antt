@@ -1,5 +1,6 @@
 -- Blanks and comments, which stand between tokens. A comment goes from `--` up to the line feed.
-use Rattle.std.specs.Prelude.{ℕ, suc, Bool, true, false, not, ◌&&◌, nat_eq, List, [], ◌∷◌, Option, Some, None, if◌then◌else◌}
+use Rattle.std.specs.Prelude.{ℕ, suc, Bool, true, false, not, ◌&&◌, nat_eq, List, [], ◌∷◌, Option, Some, None}
+use Rattle.std.specs.Prelude.{if◌then◌else◌}
 use Rattle.rpl_lexer.specs.Bytes.{is_blank, begins}
 
 -- a dash stands at the front

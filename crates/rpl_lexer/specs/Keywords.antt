@@ -2,7 +2,8 @@
 use Rattle.std.specs.Prelude.{ℕ, Bool, is_some, List, [], ◌∷◌, Option, Some, None, if◌then◌else◌, codes}
 use Rattle.std.specs.Str.{bytes_eq}
 use Rattle.rpl_lexer.specs.declared.keyword.Keyword.{Keyword}
-use Rattle.rpl_lexer.specs.declared.keyword.Keyword.TheVariants.{Rpl, Package, Import, As, Alias, Local, Grammar, In, End}
+use Rattle.rpl_lexer.specs.declared.keyword.Keyword.TheVariants.{Rpl, Package, Import, As, Alias, Local, Grammar, In}
+use Rattle.rpl_lexer.specs.declared.keyword.Keyword.TheVariants.{End}
 
 -- how a keyword is spelled
 abbrev pub word_of : Keyword → List ℕ

@@ -1,5 +1,6 @@
 -- What holds of tokens and cuts, whatever the text.
-use Rattle.std.specs.Prelude.{◌≡◌, ◌≢◌, ℕ, List, ◌∷◌, Some, slice_get, slice_index, IsUtf8, IsCharBoundary}
+use Rattle.std.specs.Prelude.{◌≡◌, ◌≢◌, ℕ, ◌+◌, List, ◌∷◌, ◌++◌, Some, length, slice_get, slice_index, IsUtf8}
+use Rattle.std.specs.Prelude.{IsCharBoundary}
 use Rattle.rpl_lexer.specs.declared.token.Token.{Token}
 use Rattle.rpl_lexer.specs.declared.token.TokenKind.{TokenKind}
 use Rattle.rpl_lexer.specs.declared.token.TokenKind.TheVariants as K
@@ -12,11 +13,13 @@ use Rattle.rpl_lexer.specs.Fronts.{stands}
 use Rattle.rpl_lexer.specs.Cut.{End, Chain, IsCut, IsToken}
 use Rattle.rpl_lexer.specs.Forms.{Fits, Longest}
 use Rattle.rpl_lexer.specs.Payloads.{span, keyword_of, punct_of}
-use Rattle.rpl_lexer.specs.Written.{Writes, ReadsBack}
+use Rattle.rpl_lexer.specs.Written.{Writes, ReadsBack, InBracket, WritesBounds, BoundsBack}
+use Rattle.rpl_lexer.specs.declared.bounds.Bounds.{Bounds}
 
 -- a text has one cut: its tokens, or those before its first fault and that fault
 abbrev pub OneCut : Type 0
-OneCut = (s : List ℕ) (ts us : List Token) (e f : End) → Chain s 0 0 ts e → Chain s 0 0 us f → (ts ≡ us) × (e ≡ f)
+OneCut =
+    (s : List ℕ) (ts us : List Token) (e f : End) → Chain s 0 0 ts e → Chain s 0 0 us f → (ts ≡ us) × (e ≡ f)
 
 -- each token of a cut stands in the text where it says
 abbrev pub TokensStand : Type 0
@@ -24,7 +27,8 @@ TokensStand = (s : List ℕ) (ts : List Token) (i : ℕ) (t : Token) → IsCut s
 
 -- a token begins and ends between characters
 abbrev pub BetweenCharacters : Type 0
-BetweenCharacters = (s : List ℕ) (t : Token) → IsUtf8 s → IsToken s t → IsCharBoundary s t.start × IsCharBoundary s t.end
+BetweenCharacters =
+    (s : List ℕ) (t : Token) → IsUtf8 s → IsToken s t → IsCharBoundary s t.start × IsCharBoundary s t.end
 
 -- what stands at a place is the longest of all the forms that fit there, and of its kind alone
 abbrev pub LongestForm : Type 0
@@ -38,11 +42,22 @@ NoForm =
 
 -- a Keyword is spelled as a keyword and a Sign as a sign, so that what is said of them is never a default
 abbrev pub KeywordsTold : Type 0
-KeywordsTold = (s : List ℕ) (t : Token) → t.kind ≡ K.Keyword → IsToken s t → keyword_named (span s t) ≡ Some (keyword_of s t)
+KeywordsTold =
+    (s : List ℕ) (t : Token) → t.kind ≡ K.Keyword → IsToken s t → keyword_named (span s t) ≡ Some (keyword_of s t)
 
 abbrev pub SignsTold : Type 0
-SignsTold = (s : List ℕ) (t : Token) → t.kind ≡ K.Sign → IsToken s t → punct (slice_index s t.start) ≡ Some (punct_of s t)
+SignsTold =
+    (s : List ℕ) (t : Token) → t.kind ≡ K.Sign → IsToken s t → punct (slice_index s t.start) ≡ Some (punct_of s t)
 
--- what is written between quotes by characters and escapes is one text, whatever follows it, and is read as what it stands for
+-- what is written between quotes by characters and escapes is one text, whatever follows it, and is read as what it
+-- stands for
 abbrev pub WrittenReadsBack : Type 0
 WrittenReadsBack = (w cs r : List ℕ) → Writes w cs → ReadsBack w cs r
+
+-- what is written between brackets by bytes, escapes and further brackets is one bracket, whatever follows it
+abbrev pub BracketStands : Type 0
+BracketStands = (u r : List ℕ) → InBracket u → stands (91 ∷ u ++ 93 ∷ r) ≡ Found K.Bracket (length u + 2)
+
+-- what is written between braces as numbers, without blanks, is one token of bounds, whatever follows it, and says them
+abbrev pub BoundsReadBack : Type 0
+BoundsReadBack = (w r : List ℕ) (b : Bounds) → WritesBounds w b → BoundsBack w b r

@@ -2,8 +2,8 @@ pub mod Bytes
 pub mod Gaps
 pub mod Keywords
 pub mod Signs
-pub mod Numbers
 pub mod Enclosed
+pub mod Nesting
 pub mod Braces
 pub mod Fronts
 pub mod Cut
@@ -12,3 +12,4 @@ pub mod Forms
 pub mod Written
 pub mod Laws
 pub mod Cutting
+pub mod inside

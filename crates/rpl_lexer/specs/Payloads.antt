@@ -1,6 +1,6 @@
 -- What a token says to the grammar.
-use Rattle.std.specs.Prelude.{◌≡◌, ◌<◌, ℕ, zero, suc, ◌+◌, nat_eq, List, [], ◌∷◌, Option, Some, None, unwrap_or, if◌then◌else◌, drop, slice_range, slice_index, chars}
-use Rattle.rpl_text.specs.Places.{index, IsPlace}
+use Rattle.std.specs.Prelude.{ℕ, zero, suc, ◌+◌, nat_eq, List, [], ◌∷◌, Option, Some, None, unwrap_or, if◌then◌else◌}
+use Rattle.std.specs.Prelude.{drop, slice_range, slice_index, chars}
 use Rattle.rpl_text.specs.Escapes.{escape}
 use Rattle.rpl_lexer.specs.declared.token.Token.{Token}
 use Rattle.rpl_lexer.specs.declared.token.TokenKind.{TokenKind}
@@ -13,7 +13,7 @@ use Rattle.rpl_lexer.specs.declared.bounds.Bounds.{Bounds as Numbers}
 use Rattle.rpl_lexer.specs.Bytes.{is_word, run}
 use Rattle.rpl_lexer.specs.Keywords.{keyword_named}
 use Rattle.rpl_lexer.specs.Signs.{punct}
-use Rattle.rpl_lexer.specs.Numbers.{value}
+use Rattle.rpl_text.specs.Numbers.{value}
 use Rattle.rpl_lexer.specs.Braces.{bounds_in}
 use Rattle.rpl_lexer.specs.Fronts.{first_name}
 
@@ -87,22 +87,3 @@ payload_by K.Sign s t = Sign (punct_of s t)
 
 abbrev pub payload : List ℕ → Token → Payload
 payload s t = payload_by t.kind s t
-
--- a token as the grammar sees it
-pub record Seen : Type 0 where
-  pub start : ℕ
-  pub payload : Payload
-
-abbrev pub seen : List ℕ → Token → Seen
-seen s t = record { start = t.start; payload = payload s t }
-
-abbrev pub seen_all : List ℕ → List Token → List Seen
-seen_all s [] = []
-seen_all s (t ∷ ts) = seen s t ∷ seen_all s ts
-
--- ---- one step of the reading of a text
-
--- from the byte place p on a character is read, and what is behind it stands at the place q; or the text is done
-abbrev pub Decodes : List ℕ → ℕ → Option (ℕ × ℕ) → Type 0
-Decodes t p None = decoded 0 (drop (index t p) t) ≡ []
-Decodes t p (Some (c, q)) = (decoded 0 (drop (index t p) t) ≡ c ∷ decoded 0 (drop (index t q) t)) × IsPlace t q × (p < q)

@@ -1,7 +1,9 @@
 -- The bytes that are tokens alone.
 use Rattle.std.specs.Prelude.{ℕ, nat_eq, Option, Some, None, if◌then◌else◌}
 use Rattle.rpl_lexer.specs.declared.punct.Punct.{Punct}
-use Rattle.rpl_lexer.specs.declared.punct.Punct.TheVariants.{OpenBrace, CloseBrace, OpenParen, CloseParen, Slash, Ampersand, Bang, Greater, Less, Star, Plus, Question, Dot, Caret, Dollar, Tilde, Equals, Comma, Colon}
+use Rattle.rpl_lexer.specs.declared.punct.Punct.TheVariants.{OpenBrace, CloseBrace, OpenParen, CloseParen, Slash}
+use Rattle.rpl_lexer.specs.declared.punct.Punct.TheVariants.{Ampersand, Bang, Greater, Less, Star, Plus, Question, Dot}
+use Rattle.rpl_lexer.specs.declared.punct.Punct.TheVariants.{Caret, Dollar, Tilde, Equals, Comma, Colon}
 
 -- the sign that a byte is, where it is one
 abbrev pub punct : ℕ → Option Punct

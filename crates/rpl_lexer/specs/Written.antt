@@ -1,8 +1,14 @@
--- How a text may be written between quotes: each character as it is, or by an escape. All by characters.
-use Rattle.std.specs.Prelude.{◌≡◌, ℕ, ◌+◌, Bool, true, not, ◌||◌, nat_eq, List, [], ◌∷◌, ◌++◌, Some, length, encode_utf8_all}
+-- How texts, brackets and bounds may be written. Texts are written by characters, the others by bytes.
+use Rattle.std.specs.Prelude.{◌≡◌, ℕ, ◌+◌, ◌<◌, Bool, true, false, not, ◌||◌, nat_eq, List, [], ◌∷◌, ◌++◌, Some, None}
+use Rattle.std.specs.Prelude.{length, encode_utf8_all}
 use Rattle.rpl_text.specs.Escapes.{escape}
+use Rattle.rpl_text.specs.Numbers.{value, narrow}
+use Rattle.rpl_lexer.specs.declared.bounds.Bounds.{Bounds}
 use Rattle.rpl_lexer.specs.declared.token.TokenKind.TheVariants as K
 use Rattle.rpl_lexer.specs.declared.front.Stand.TheVariants.{Found}
+use Rattle.rpl_lexer.specs.Braces.{bounds_in}
+use Rattle.rpl_lexer.specs.Bytes.{is_digit}
+use Rattle.rpl_lexer.specs.Forms.{each}
 use Rattle.rpl_lexer.specs.Fronts.{stands}
 use Rattle.rpl_lexer.specs.Payloads.{decoded}
 
@@ -20,3 +26,38 @@ pub data Writes : (w cs : List ℕ) → Type 0 where
 pub record ReadsBack (w cs r : List ℕ) : Type 0 where
   pub token : stands (34 ∷ encode_utf8_all w ++ 34 ∷ r) ≡ Found K.Text (length (encode_utf8_all w) + 2)
   pub text : decoded 0 (w ++ 34 ∷ []) ≡ cs
+
+-- ---- brackets
+
+-- neither a bracket, nor a backslash, nor the line feed
+abbrev pub is_inner : ℕ → Bool
+is_inner b = not (nat_eq b 10 || (nat_eq b 92 || (nat_eq b 91 || nat_eq b 93)))
+
+-- what may stand in a bracket: such bytes, escapes, and further brackets
+pub data InBracket : List ℕ → Type 0 where
+  nothing_in : InBracket []
+  inner_in : (b : ℕ) (u : List ℕ) → is_inner b ≡ true → InBracket u → InBracket (b ∷ u)
+  escaped_in : (c : ℕ) (e u : List ℕ) → escape e ≡ Some (c, length e) → InBracket u → InBracket (92 ∷ e ++ u)
+  bracket_in : (v u : List ℕ) → InBracket v → InBracket u → InBracket (91 ∷ v ++ 93 ∷ u)
+
+-- ---- bounds
+
+-- digits that spell a number
+pub record Spells (n : ℕ) (ds : List ℕ) : Type 0 where
+  pub digits : each is_digit ds ≡ true
+  pub some : 0 < length ds
+  pub number : narrow (value 0 ds) ≡ Some n
+
+-- between braces the bytes w stand for the bounds
+pub data WritesBounds : (w : List ℕ) → Bounds → Type 0 where
+  exactly : (ds : List ℕ) (n : ℕ) → Spells n ds →
+      WritesBounds ds (record { least = Some n; comma = false; most = None })
+  at_least : (ds : List ℕ) (n : ℕ) → Spells n ds →
+      WritesBounds (ds ++ 44 ∷ []) (record { least = Some n; comma = true; most = None })
+  between : (ds es : List ℕ) (n m : ℕ) → Spells n ds → Spells m es →
+      WritesBounds (ds ++ 44 ∷ es) (record { least = Some n; comma = true; most = Some m })
+
+-- what is so written is one token, whatever follows it, and says those numbers
+pub record BoundsBack (w : List ℕ) (b : Bounds) (r : List ℕ) : Type 0 where
+  pub token : stands (123 ∷ w ++ 125 ∷ r) ≡ Found K.Bounds (length w + 2)
+  pub numbers : bounds_in (w ++ 125 ∷ r) ≡ b

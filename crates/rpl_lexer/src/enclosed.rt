@@ -2,7 +2,8 @@
 ghost use Rattle.std.specs.Prelude.{◌≡◌, ◌+◌, ◌^◌, ◌<◌, ◌≤◌, ◌&&◌, not, is_some, length, drop, take, false, IfSome};
 ghost use Rattle.rpl_text.specs.Escapes.{escape};
 ghost use Rattle.rpl_lexer.specs.Enclosed.{opens, closes, hides, ends, depth_after, close, bad, kind_of, enclosed};
-ghost use Rattle.rpl_lexer.specs.Fronts.{Within};
+ghost use Rattle.rpl_lexer.specs.Nesting.{nesting};
+ghost use Rattle.rpl_lexer.specs.inside.Spans.{Within};
 
 use crate::bytes::{behind, front_of};
 use crate::fault::LexKind;
@@ -96,6 +97,22 @@ fn close_len(enclosure: Enclosure, bytes: &[u8]) -> Option<usize>
         hidden = hides(hidden, b);
     }
     None
+}
+
+/// How many brackets are open at once.
+pub(crate) fn nesting(bytes: &[u8]) -> usize
+    ensures value { result ≡ nesting bytes.now }
+    ensures inside { result ≤ length bytes.now }
+{
+    let mut most = 0;
+    let mut depth = 0;
+    let mut hidden = false;
+    for i in 0..bytes.len() {
+        depth = depth_after(Enclosure::Brackets, depth, hidden, bytes[i]);
+        hidden = hides(hidden, bytes[i]);
+        most = most.max(depth);
+    }
+    most
 }
 
 /// Whether a backslash stands before the bytes that begins no escape.

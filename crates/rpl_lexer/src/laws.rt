@@ -1,6 +1,7 @@
 // What holds of the definitions alone.
 ghost use Rattle.rpl_lexer.specs.Cutting.{CutOrFault, CutComputes, FaultComputes, CutFound, FaultFound};
-ghost use Rattle.rpl_lexer.specs.Laws.{OneCut, TokensStand, BetweenCharacters, LongestForm, NoForm, KeywordsTold, SignsTold, WrittenReadsBack};
+ghost use Rattle.rpl_lexer.specs.Laws.{OneCut, TokensStand, BetweenCharacters, LongestForm, NoForm};
+ghost use Rattle.rpl_lexer.specs.Laws.{KeywordsTold, SignsTold, WrittenReadsBack, BracketStands, BoundsReadBack};
 
 /// Each text has one cut: its tokens, or those before its first fault, and that fault. One of the two there always is.
 pub fn one_cut()
@@ -34,10 +35,12 @@ pub fn words_and_signs()
     ensures signs { SignsTold }
 {}
 
-/// What is written between quotes, by characters and escapes, is one Text, whatever follows it, and is
-/// read as what it stands for.
+/// What is written between quotes, by characters and escapes, is one Text, whatever follows it, and is read as what it
+/// stands for. So are brackets one Bracket, and numbers between braces one Bounds.
 pub fn written_reads_back()
-    ensures { WrittenReadsBack }
+    ensures texts { WrittenReadsBack }
+    ensures brackets { BracketStands }
+    ensures bounds { BoundsReadBack }
 {}
 
 /// The cut of a text as a function gives its tokens exactly where it has a cut, and else its first fault.

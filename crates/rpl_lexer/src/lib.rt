@@ -30,7 +30,9 @@ pub use laws::{
     boundaries, cut_computes, longest_form, no_form, one_cut, tokens_stand, words_and_signs,
     written_reads_back,
 };
-pub use payload::{bounds_of, decode_text, halves_of, keyword_of, number_of, punct_of, token_text};
+pub use payload::{
+    bounds_of, decode_text, halves_of, keyword_of, nesting_of, number_of, punct_of, token_text,
+};
 pub use punct::Punct;
 pub use rpl_text::NoMemory;
 pub use token::{Token, TokenKind, Tokens};

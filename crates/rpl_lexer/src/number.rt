@@ -1,6 +1,6 @@
 // Numbers of any length.
 ghost use Rattle.std.specs.Prelude.{◌≡◌};
-ghost use Rattle.rpl_lexer.specs.Numbers.{value, narrow};
+ghost use Rattle.rpl_text.specs.Numbers.{value, narrow};
 
 /// The number that digits spell, where 64 bits hold it.
 pub(crate) fn number(digits: &[u8]) -> Option<u64>

@@ -1,15 +1,20 @@
 // What tokens say.
-ghost use Rattle.std.specs.Prelude.{◌≡◌, ◌+◌, ◌<◌, ◌≤◌, Some, IfOk, chars, string_bytes, length, slice_index, slice_range, drop};
+ghost use Rattle.std.specs.Prelude.{◌≡◌, ◌+◌, ◌<◌, ◌≤◌, ◌^◌, Some, IfOk, chars, string_bytes, length, slice_index};
+ghost use Rattle.std.specs.Prelude.{slice_range, drop};
 ghost use Rattle.rpl_text.specs.Places.{index, IsPlace, step_from};
 ghost use Rattle.rpl_lexer.specs.Bytes.{is_word, run};
 ghost use Rattle.rpl_lexer.specs.Keywords.{keyword_named};
 ghost use Rattle.rpl_lexer.specs.Signs.{punct};
-ghost use Rattle.rpl_lexer.specs.Payloads.{span, inner, decoded, text_of, prefix_of, name_of, keyword_of, punct_of, number_of, bounds_of, Decodes};
+ghost use Rattle.rpl_lexer.specs.Nesting.{nesting};
+ghost use Rattle.rpl_lexer.specs.Payloads.{span, inner, decoded, text_of, prefix_of, name_of, keyword_of, punct_of};
+ghost use Rattle.rpl_lexer.specs.Payloads.{number_of, bounds_of};
+ghost use Rattle.rpl_lexer.specs.inside.Decoding.{Decodes};
 ghost use Rattle.rpl_lexer.specs.Cut.{IsToken};
 
 use crate::NoMemory;
 use crate::bounds::{Bounds, bounds_in};
 use crate::bytes::{Class, run_len};
+use crate::enclosed::nesting;
 use crate::keyword::{Keyword, keyword_named};
 use crate::number::number;
 use crate::punct::Punct;
@@ -87,6 +92,16 @@ pub fn bounds_of(text: &str, token: Token) -> Bounds
     ensures { result ≡ bounds_of text.now token }
 {
     bounds_in(inner(text, token).as_bytes())
+}
+
+/// How many brackets are open at once in a Bracket: 1 in `[a]`, 2 in `[[a]]`. An escaped one doesn't count.
+pub fn nesting_of(text: &str, token: Token) -> usize
+    requires kind { token.kind ≡ TokenKind.Bracket }
+    requires stands { IsToken text.now token }
+    ensures value { result ≡ nesting (span text.now token) }
+    ensures small { result < 2 ^ 63 }
+{
+    nesting(token_text(text, token).as_bytes())
 }
 
 /// The character at a place, and the next place.

@@ -4,7 +4,7 @@ ghost use Rattle.rpl_lexer.specs.Cut.{IsToken};
 
 use crate::{
     Bounds, Keyword, LexFault, LexKind, Punct, Token, TokenKind as K, Tokens, bounds_of,
-    decode_text, halves_of, keyword_of, lex, number_of, punct_of, token_text,
+    decode_text, halves_of, keyword_of, lex, nesting_of, number_of, punct_of, token_text,
 };
 use std::alloc::{AllocError, Global};
 use std::process::Abort;
@@ -414,6 +414,10 @@ fn other_tokens(rt: HostRuntime) -> Result<(), Fail> {
     let token = first(rt.alloc(), text)?;
     assert_eq!(rt; token.kind, K::Qualified);
     assert_eq!(rt; halves_of(text, token), ("net", "ip_4"));
+    let text = "[[a] && [[b]\\[\\]]]";
+    let token = first(rt.alloc(), text)?;
+    assert_eq!(rt; token.kind, K::Bracket);
+    assert_eq!(rt; nesting_of(text, token), 3);
     Ok(())
 }
 

@@ -10,7 +10,8 @@ use Rattle.rpl_lexer.specs.declared.punct.Punct.TheVariants.{OpenBrace, CloseBra
 use Rattle.rpl_lexer.specs.declared.token.Token.{Token}
 use Rattle.rpl_lexer.specs.declared.token.TokenKind.{TokenKind}
 use Rattle.rpl_lexer.specs.declared.token.TokenKind.TheVariants as K
-use Rattle.rpl_parser.specs.Levels.{Level, popped, sign_level, level_by, level_after, reach_by, colon_next, too_deep, All_low, Low}
+use Rattle.rpl_parser.specs.Levels.{Level, popped, sign_level, level_by, level_after, reach_by, colon_next, too_deep}
+use Rattle.rpl_parser.specs.inside.Low.{All_low, Low}
 use Rattle.rpl_parser.specs.Tokens.{AllStand}
 
 pub stands_at : (s : List ℕ) (ts : List Token) (i : ℕ) (d : Token) → AllStand s ts → i < length ts → IsToken s (get_or ts i d)

@@ -1,6 +1,5 @@
 pub mod Loops
 pub mod Readings
-pub mod Nests
 pub mod Deep
 pub mod Converted
 pub mod Faults

@@ -10,7 +10,7 @@ use Rattle.rpl_lexer.specs.declared.punct.Punct.TheVariants.{Slash, Ampersand}
 use Rattle.rpl_syntax.specs.declared.token.Token.TheVariants as T
 use Rattle.rpl_parser.specs.declared.refusal.Refusal.{Refusal}
 use Rattle.rpl_parser.specs.declared.refusal.Refusal.TheVariants as errors
-use Rattle.rpl_parser.specs.Gives.{Fails}
+use Rattle.rpl_parser.specs.inside.Gives.{Fails}
 
 pub item_is : (d : ℕ) (s : List Token) → d ≢ 0 → read_item d s ≡ item_of (read_item (d - 1)) (read_exp (d - 1)) s
 item_is zero s h = absurd (h refl)

@@ -7,7 +7,7 @@ use Rattle.rpl_syntax.specs.Reading.{read}
 use Rattle.rpl_syntax.specs.View.{expr_of}
 use Rattle.rpl_syntax.specs.declared.expr.Expr.{Expr}
 use Rattle.rpl_syntax.proofs.Unique.{sound}
-use Rattle.rpl_parser.specs.Gives.{Fails}
+use Rattle.rpl_parser.specs.inside.Gives.{Fails}
 use Rattle.rpl_parser.specs.Levels.{ground_level, too_deep}
 use Rattle.rpl_parser.specs.Patterns.{IsPattern, IsPatternFault}
 use Rattle.rpl_parser.specs.Tokens.{tokens_of, first_place, first_bad}

@@ -7,7 +7,7 @@ use Rattle.regex_class.specs.Ranges.{Range}
 use Rattle.rpl_classes.specs.Brackets.{bracket_of}
 use Rattle.rpl_classes.specs.declared.fault.SetFault.{SetFault}
 use Rattle.rpl_lexer.specs.Braces.{parts_by, part, number_in, bounds_in}
-use Rattle.rpl_lexer.specs.Numbers.{value, narrow}
+use Rattle.rpl_text.specs.Numbers.{value, narrow}
 use Rattle.rpl_lexer.specs.Cut.{Done, IsCut}
 use Rattle.rpl_lexer.specs.Payloads.{span, bounds_of, inner, payload_by}
 use Rattle.rpl_lexer.specs.declared.token.Token.{Token}
@@ -20,12 +20,12 @@ use Rattle.rpl_syntax.specs.Expression.{Expr}
 use Rattle.rpl_syntax.specs.Grammar.{Reads}
 use Rattle.rpl_syntax.specs.Printed.{printed}
 use Rattle.rpl_syntax.specs.Braces.{again, plain}
-use Rattle.rpl_syntax.specs.Texts.{Allowed, Says, Say, IsReadAs, HasFewTokens}
+use Rattle.rpl_syntax.specs.Texts.{Allowed, least_of, Says, Say, IsReadAs, HasFewTokens}
 use Rattle.rpl_syntax.proofs.Back.{printed_reads_back}
 use Rattle.rpl_syntax.proofs.Held.{read_held}
 use Rattle.rpl_parser.specs.Levels.{ground_level, too_deep}
 use Rattle.rpl_parser.specs.Patterns.{IsPattern}
-use Rattle.rpl_parser.specs.Tokens.{capped, capped_most, is_bad, least_of, class_token, class_fault, token_by, tokens_of, fault_by, or_then, first_bad}
+use Rattle.rpl_parser.specs.Tokens.{capped, capped_most, is_bad, class_token, class_fault, token_by, tokens_of, fault_by, or_then, first_bad}
 use Rattle.rpl_parser.specs.declared.fault.ParseFault.{ParseFault}
 
 -- ---- bounds, by the lower number, whether there is a comma, and the number behind it
@@ -37,7 +37,7 @@ abbrev most_by : ℕ → Bool → Option ℕ → Option ℕ
 most_by l c o = if c then o else Some l
 
 abbrev capped_by : ℕ → Bool → Option ℕ → Option ℕ
-capped_by l c o = if c then capped_most o else Some (capped l)
+capped_by l c o = capped_most (most_by l c o)
 
 low_capped : (n : ℕ) → n ≤ 255 → n ≡ capped n
 low_capped n le = omega arith

@@ -3,12 +3,15 @@
 -- `!`, `>`, `<` and a name with a colon behind it raise the level by one. `(` and `{` push the base and raise the
 -- level and the base with it; `)` and `}` take the base off again. `&` raises the base. `/` and every atom of one
 -- token set the level back to the base. A bracket's own nesting counts on top of the level where it stands.
-use Rattle.std.specs.Prelude.{ℕ, ◌+◌, ◌-◌, ◌≤◌, Bool, true, false, nat_eq, nat_lt, List, [], ◌∷◌, Option, Some, None, if◌then◌else◌, max}
+use Rattle.std.specs.Prelude.{ℕ, ◌+◌, Bool, true, false, nat_lt, List, [], ◌∷◌, Option, Some, None, if◌then◌else◌}
 use Rattle.rpl_lexer.specs.declared.punct.Punct.{Punct}
-use Rattle.rpl_lexer.specs.declared.punct.Punct.TheVariants.{OpenBrace, CloseBrace, OpenParen, CloseParen, Slash, Ampersand, Bang, Greater, Less, Dot, Caret, Dollar, Tilde, Colon}
+use Rattle.rpl_lexer.specs.declared.punct.Punct.TheVariants.{OpenBrace, CloseBrace, OpenParen, CloseParen, Slash}
+use Rattle.rpl_lexer.specs.declared.punct.Punct.TheVariants.{Ampersand, Bang, Greater, Less, Dot, Caret, Dollar, Tilde}
+use Rattle.rpl_lexer.specs.declared.punct.Punct.TheVariants.{Colon}
 use Rattle.rpl_lexer.specs.declared.token.Token.{Token}
 use Rattle.rpl_lexer.specs.declared.token.TokenKind.{TokenKind}
 use Rattle.rpl_lexer.specs.declared.token.TokenKind.TheVariants as K
+use Rattle.rpl_lexer.specs.Nesting.{nesting}
 use Rattle.rpl_lexer.specs.Payloads.{span, punct_of}
 
 pub record Level : Type 0 where
@@ -64,34 +67,6 @@ level_by _ s t colon l = l
 abbrev pub level_after : List ℕ → Token → (colon : Bool) → Level → Level
 level_after s t colon l = level_by t.kind s t colon l
 
--- ---- brackets
-
--- a bracket so far: a backslash hides the next byte, so many are open, so many were at once
-pub record Nest : Type 0 where
-  pub hidden : Bool
-  pub inside : ℕ
-  pub most : ℕ
-
-abbrev pub no_nest : Nest
-no_nest = record { hidden = false; inside = 0; most = 0 }
-
--- behind one more byte: the backslash is 92, `[` 91, `]` 93
-abbrev pub nest_after : Nest → ℕ → Nest
-nest_after n b =
-    if n.hidden then record n { hidden = false }
-    else (if nat_eq b 92 then record n { hidden = true }
-    else (if nat_eq b 91 then record { hidden = false; inside = n.inside + 1; most = max n.most (n.inside + 1) }
-    else (if nat_eq b 93 then record n { inside = n.inside - 1 }
-    else n)))
-
-abbrev pub nest_all : Nest → List ℕ → Nest
-nest_all n [] = n
-nest_all n (b ∷ bs) = nest_all (nest_after n b) bs
-
--- how many brackets are open at once in a bracket
-abbrev pub nesting : List ℕ → ℕ
-nesting bs = (nest_all no_nest bs).most
-
 -- the level that a token reaches where it stands, beside the level behind it
 abbrev pub reach_by : TokenKind → List ℕ → Token → Level → Level → ℕ
 reach_by K.Bracket s t before behind = before.level + nesting (span s t)
@@ -118,13 +93,3 @@ too_deep s l [] = None
 too_deep s l (t ∷ ts) =
     let u = level_after s t (colon_next s ts) l in
     if nat_lt 100 (reach_by t.kind s t l u) then Some t.start else too_deep s u ts
-
--- no number is above 100
-abbrev pub All_low : List ℕ → Type 0
-All_low [] = Unit {0}
-All_low (b ∷ bs) = (b ≤ 100) × All_low bs
-
-pub record Low (l : Level) : Type 0 where
-  pub base : l.base ≤ 100
-  pub level : l.level ≤ 100
-  pub bases : All_low l.bases

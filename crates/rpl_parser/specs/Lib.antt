@@ -1,15 +1,11 @@
-pub mod Gives
 pub mod Levels
 pub mod Tokens
-pub mod Stacks
 pub mod Patterns
 pub mod Spelling
 pub mod Lines
-pub mod Statements
 pub mod Pieces
 pub mod Walks
 pub mod Order
 pub mod ModuleFaults
 pub mod Bodies
-pub mod Walked
 pub mod inside

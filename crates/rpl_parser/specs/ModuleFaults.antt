@@ -29,7 +29,8 @@ IsClosed _ r = Unit {0}
 -- the first pieces are these statements, and behind them stands the rest
 abbrev pub PiecesAre : List ℕ → List Lexeme → List Placed → (rest : List Lexeme) → Type 0
 PiecesAre s ts [] rest = ts ≡ rest
-PiecesAre s ts (l ∷ ls) rest = Stands s (first_of s ts) l × IsClosed l.line (tokens_of s (others_of s ts)) × PiecesAre s (others_of s ts) ls rest
+PiecesAre s ts (l ∷ ls) rest =
+    Stands s (first_of s ts) l × IsClosed l.line (tokens_of s (others_of s ts)) × PiecesAre s (others_of s ts) ls rest
 
 -- a module can begin with these statements
 pub record MayBegin (ls : List Placed) : Type 0 where
@@ -50,9 +51,12 @@ pub record HasPlace (s : List ℕ) (before : List Placed) (p q : List Lexeme) : 
 abbrev pub PieceFault : ParseKind → List ℕ → (before : List Placed) → (p q : List Lexeme) → ParseFault → Type 0
 PieceFault NoMemory s before p q f = ⊥
 PieceFault TooDeep s before p q f = too_deep s ground_level p ≡ Some f.at
-PieceFault Syntax s before p q f = (too_deep s ground_level p ≡ None) × (HasPlace s before p q → ⊥) × (f.at ≡ first_place p)
-PieceFault (BadBounds least most) s before p q f = (too_deep s ground_level p ≡ None) × HasPlace s before p q × (first_bad s p ≡ Some f)
-PieceFault (Class fault) s before p q f = (too_deep s ground_level p ≡ None) × HasPlace s before p q × (first_bad s p ≡ Some f)
+PieceFault Syntax s before p q f =
+    (too_deep s ground_level p ≡ None) × (HasPlace s before p q → ⊥) × (f.at ≡ first_place p)
+PieceFault (BadBounds least most) s before p q f =
+    (too_deep s ground_level p ≡ None) × HasPlace s before p q × (first_bad s p ≡ Some f)
+PieceFault (Class fault) s before p q f =
+    (too_deep s ground_level p ≡ None) × HasPlace s before p q × (first_bad s p ≡ Some f)
 PieceFault Version s before p q f = ⊥
 
 -- some pieces are statements that may stand so, each without a fault, and the next is at fault

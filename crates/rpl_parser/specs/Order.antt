@@ -57,7 +57,8 @@ rule_lines (r ∷ rs) q = rule_line r ∷ rule_lines rs q
 abbrev pub part_lines : Part → List Placed → List Placed
 part_lines (Alone r) q = rule_line r ∷ q
 part_lines (Whole o vs c) q = placed o L.Opens ∷ rule_lines vs (placed c L.Closes ∷ q)
-part_lines (Halves o hs i vs c) q = placed o L.Opens ∷ rule_lines hs (placed i L.Splits ∷ rule_lines vs (placed c L.Closes ∷ q))
+part_lines (Halves o hs i vs c) q =
+    placed o L.Opens ∷ rule_lines hs (placed i L.Splits ∷ rule_lines vs (placed c L.Closes ∷ q))
 
 abbrev pub parts_lines : List Part → List Placed
 parts_lines [] = []

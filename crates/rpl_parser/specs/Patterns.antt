@@ -24,8 +24,10 @@ abbrev pub FaultBy : ParseKind → List ℕ → List Token → ParseFault → Ty
 FaultBy NoMemory s ts f = ⊥
 FaultBy TooDeep s ts f = too_deep s ground_level ts ≡ Some f.at
 FaultBy Syntax s ts f = (too_deep s ground_level ts ≡ None) × Unreadable s ts × (f.at ≡ first_place ts)
-FaultBy (BadBounds least most) s ts f = (too_deep s ground_level ts ≡ None) × ((x : Expr) × Reads (tokens_of s ts) x) × (first_bad s ts ≡ Some f)
-FaultBy (Class fault) s ts f = (too_deep s ground_level ts ≡ None) × ((x : Expr) × Reads (tokens_of s ts) x) × (first_bad s ts ≡ Some f)
+FaultBy (BadBounds least most) s ts f =
+    (too_deep s ground_level ts ≡ None) × ((x : Expr) × Reads (tokens_of s ts) x) × (first_bad s ts ≡ Some f)
+FaultBy (Class fault) s ts f =
+    (too_deep s ground_level ts ≡ None) × ((x : Expr) × Reads (tokens_of s ts) x) × (first_bad s ts ≡ Some f)
 FaultBy Version s ts f = ⊥
 
 abbrev pub IsPatternFault : List ℕ → List Token → ParseFault → Type 0

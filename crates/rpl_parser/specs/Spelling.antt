@@ -76,7 +76,8 @@ abbrev pub spell_statement : Statement → List Token
 spell_statement (RplLine a b) = T.Keyword W.Rpl ∷ T.Number a ∷ T.Sign P.Dot ∷ T.Number b ∷ []
 spell_statement (PackageLine n at) = T.Keyword W.Package ∷ T.Name n at ∷ []
 spell_statement (ImportLine es) = T.Keyword W.Import ∷ spell_entries es
-spell_statement (BindingLine local alias n at e) = spell_if local W.Local (spell_if alias W.Alias (T.Name n at ∷ T.Sign P.Equals ∷ spell_exp e []))
+spell_statement (BindingLine local alias n at e) =
+    spell_if local W.Local (spell_if alias W.Alias (T.Name n at ∷ T.Sign P.Equals ∷ spell_exp e []))
 spell_statement (BoundaryLine e) = T.Sign P.Tilde ∷ T.Sign P.Equals ∷ spell_exp e []
 spell_statement GrammarLine = T.Keyword W.Grammar ∷ []
 spell_statement InLine = T.Keyword W.In ∷ []

@@ -1,7 +1,8 @@
 -- What the tokens of a text are to the grammar. A payload is one whatever the token spells: a bracket without a set
 -- gives the empty set, and a number above 256 gives 256. So a text has its reading, or none, before its sets and
 -- numbers are looked at; where none of them is bad, they are those that the text spells.
-use Rattle.std.specs.Prelude.{◌≡◌, ℕ, ◌+◌, ◌-◌, ◌^◌, Bool, false, ◌||◌, nat_lt, List, [], ◌∷◌, Option, Some, None, Result, Ok, Err, if◌then◌else◌, chars, slice_get, min}
+use Rattle.std.specs.Prelude.{◌≡◌, ℕ, ◌+◌, ◌-◌, ◌^◌, Bool, false, ◌||◌, nat_lt, List, [], ◌∷◌, Option, Some, None}
+use Rattle.std.specs.Prelude.{Result, Ok, Err, if◌then◌else◌, chars, slice_get, min}
 use Rattle.std.specs.Option.{unwrap_or}
 use Rattle.regex_class.specs.Ranges.{Range}
 use Rattle.rpl_classes.specs.Brackets.{bracket_of}
@@ -13,6 +14,7 @@ use Rattle.rpl_lexer.specs.declared.bounds.Bounds.{Bounds}
 use Rattle.rpl_lexer.specs.declared.token.Token.{Token}
 use Rattle.rpl_lexer.specs.declared.token.TokenKind.{TokenKind}
 use Rattle.rpl_lexer.specs.declared.token.TokenKind.TheVariants as K
+use Rattle.rpl_syntax.specs.Texts.{least_of, most_of}
 use Rattle.rpl_syntax.specs.declared.token.Token.{Token as Seen}
 use Rattle.rpl_syntax.specs.declared.token.Token.TheVariants as T
 use Rattle.rpl_parser.specs.declared.fault.ParseFault.{ParseFault}
@@ -22,33 +24,27 @@ use Rattle.rpl_parser.specs.declared.fault.ParseKind.TheVariants.{BadBounds, Cla
 abbrev pub AllStand : List ℕ → List Token → Type 0
 AllStand s ts = (i : ℕ) (t : Token) → slice_get ts i ≡ Some t → IsToken s t
 
--- ---- bounds: `{n}` is n and n, `{n,m}` n and m, `{n,}` n and none, `{,m}` 0 and m, `{,}` 0 and none
+-- ---- bounds: their numbers are those that the tokens of a text say, where none is above 256
 
 abbrev pub capped : ℕ → ℕ
 capped n = min n 256
-
-abbrev pub least_of : Bounds → ℕ
-least_of b = unwrap_or b.least 0
-
--- the upper number, or the lower one once more
-abbrev pub most_of : Bounds → ℕ
-most_of b = unwrap_or b.most (least_of b)
 
 abbrev pub capped_most : Option ℕ → Option ℕ
 capped_most None = None
 capped_most (Some m) = Some (capped m)
 
-abbrev pub upper_of : Bounds → Option ℕ
-upper_of b = if b.comma then capped_most b.most else Some (capped (least_of b))
+-- the upper number, or the lower one once more
+abbrev pub top_of : Bounds → ℕ
+top_of b = unwrap_or b.most (least_of b)
 
 abbrev pub bounds_token : Bounds → Seen
-bounds_token b = T.Bounds (capped (least_of b)) (upper_of b)
+bounds_token b = T.Bounds (capped (least_of b)) (capped_most (most_of b))
 
 abbrev pub is_bad : Bounds → Bool
-is_bad b = nat_lt (most_of b) (least_of b) || (nat_lt 255 (least_of b) || nat_lt 255 (most_of b))
+is_bad b = nat_lt (top_of b) (least_of b) || (nat_lt 255 (least_of b) || nat_lt 255 (top_of b))
 
 abbrev pub bounds_fault : (at : ℕ) → Bounds → Option ParseFault
-bounds_fault at b = if is_bad b then Some (record { at = at; kind = BadBounds (least_of b) (most_of b) }) else None
+bounds_fault at b = if is_bad b then Some (record { at = at; kind = BadBounds (least_of b) (top_of b) }) else None
 
 -- ---- brackets
 

@@ -1,6 +1,7 @@
 -- Reading a module statement by statement: which may stand where, and the first fault. The law `one_module` says that
 -- this gives just the modules of `Order`, and the first faults of `ModuleFaults`.
-use Rattle.std.specs.Prelude.{◌≡◌, ◌≢◌, ℕ, zero, suc, Bool, true, false, List, [], ◌∷◌, ◌++◌, length, take, drop, Option, Some, None, Result, Ok, Err, if◌then◌else◌}
+use Rattle.std.specs.Prelude.{◌≡◌, ◌≢◌, ℕ, zero, suc, Bool, true, false, List, [], ◌∷◌, ◌++◌, length, take, drop}
+use Rattle.std.specs.Prelude.{Option, Some, None, Result, Ok, Err, if◌then◌else◌}
 use Rattle.rpl_lexer.specs.declared.token.Token.{Token as Lexeme}
 use Rattle.rpl_syntax.specs.Grammar.{unprefixed}
 use Rattle.rpl_syntax.specs.Modules.{Rule, Entry, One, Block, Said}
@@ -85,7 +86,8 @@ abbrev pub place : Walk → (at : ℕ) → (closes : Bool) → Line → Option W
 place w at c (L.Version a b) = versioned w w.stage (record { at = at; major = a; minor = b })
 place w at c (L.Package n) = packaged w w.stage (unprefixed n at)
 place w at c (L.Imports es) = imported w w.stage es
-place w at c (L.Binds local alias n x) = bound w w.stage (record { name = n; at = at; local = local; alias = alias; body = x })
+place w at c (L.Binds local alias n x) =
+    bound w w.stage (record { name = n; at = at; local = local; alias = alias; body = x })
 place w at c L.Opens = opened w w.stage c
 place w at c L.Splits = split w w.stage
 place w at c L.Closes = closed w w.stage
@@ -113,7 +115,8 @@ by_level (Some at) r = Err (record { at = at; kind = TooDeep })
 
 -- behind one more piece, or its first fault: the level, the syntax, then the first bad bounds or bracket
 abbrev pub step : List ℕ → Walk → (closes : Bool) → List Lexeme → Result Walk ParseFault
-step s w c p = by_level (too_deep s ground_level p) (by_line (first_place p) (first_bad s p) w c (line_of (tokens_of s p)))
+step s w c p =
+    by_level (too_deep s ground_level p) (by_line (first_place p) (first_bad s p) w c (line_of (tokens_of s p)))
 
 abbrev pub by_version : Said → Option Numbered → Result Said ParseFault
 by_version m None = Ok m
@@ -132,7 +135,8 @@ walk zero s w ts = finish w
 walk (suc n) s w [] = finish w
 walk (suc n) s w (t ∷ ts) =
     let k = piece_len (tokens_of s (t ∷ ts)) in
-    go_on (step s w (closes_later (tokens_of s (drop k (t ∷ ts)))) (take k (t ∷ ts))) (λ v. walk n s v (drop k (t ∷ ts)))
+    let rest = drop k (t ∷ ts) in
+    go_on (step s w (closes_later (tokens_of s rest)) (take k (t ∷ ts))) (λ v. walk n s v rest)
 
 -- the module that a text with these tokens spells, or its first fault
 abbrev pub module_of : List ℕ → List Lexeme → Result Said ParseFault

@@ -1,3 +1,8 @@
 -- Words of the private contracts: nothing here is needed to read what the crate promises.
+pub mod Gives
+pub mod Low
 pub mod Refusals
 pub mod Roles
+pub mod Stacks
+pub mod Statements
+pub mod Walked

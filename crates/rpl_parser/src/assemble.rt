@@ -1,6 +1,6 @@
 // What is put together of expressions that are read.
 ghost use Rattle.std.specs.Prelude.{◌≡◌, Some};
-ghost use Rattle.rpl_parser.specs.Gives.{Gives};
+ghost use Rattle.rpl_parser.specs.inside.Gives.{Gives};
 ghost use Rattle.rpl_syntax.specs.Expression as M;
 ghost use Rattle.rpl_syntax.specs.Expression.{one, chosen};
 ghost use Rattle.rpl_syntax.specs.Grammar.{unprefixed, prefixed};

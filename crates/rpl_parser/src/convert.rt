@@ -3,7 +3,8 @@ ghost use Rattle.std.specs.Prelude.{◌≡◌, IfOk, chars};
 ghost use Rattle.rpl_classes.specs.Brackets.{bracket_of};
 ghost use Rattle.rpl_lexer.specs.Cut.{IsToken};
 ghost use Rattle.rpl_lexer.specs.declared.token.TokenKind.TheVariants.{Name as NameKind, Qualified as QualifiedKind};
-ghost use Rattle.rpl_parser.specs.Tokens.{AllStand, capped, least_of, most_of, upper_of, bounds_token, bounds_fault};
+ghost use Rattle.rpl_parser.specs.Tokens.{AllStand, capped, capped_most, top_of, bounds_token, bounds_fault};
+ghost use Rattle.rpl_syntax.specs.Texts.{least_of, most_of};
 ghost use Rattle.rpl_parser.specs.Tokens.{class_token, class_fault, place_in, place_behind, token_by, tokens_of};
 ghost use Rattle.rpl_parser.specs.Tokens.{fault_by, or_then, first_bad};
 
@@ -31,15 +32,15 @@ fn least(bounds: Bounds) -> u64
 }
 
 /// The upper number, or the lower one once more.
-fn most(bounds: Bounds) -> u64
-    ensures { result ≡ most_of bounds }
+fn top(bounds: Bounds) -> u64
+    ensures { result ≡ top_of bounds }
 {
     bounds.most.unwrap_or(least(bounds))
 }
 
 /// How often at most, where there is a limit.
 fn upper(bounds: Bounds) -> Option<u32>
-    ensures { result ≡ upper_of bounds }
+    ensures { result ≡ capped_most (most_of bounds) }
 {
     if !bounds.comma {
         return Some(cap(least(bounds)));
@@ -136,7 +137,7 @@ fn bounds_token(bounds: Bounds) -> Token
 fn bounds_bad(at: usize, bounds: Bounds) -> Option<ParseFault>
     ensures { result ≡ bounds_fault at bounds }
 {
-    let (least, most) = (least(bounds), most(bounds));
+    let (least, most) = (least(bounds), top(bounds));
     if most < least || least > 255 || most > 255 {
         return Some(ParseFault {
             at,

@@ -1,7 +1,7 @@
 // The descent: each function reads one nonterminal of the grammar with one token ahead. `depth` is a bound on nesting
 // that the number of tokens always meets; the level that is counted before keeps calls from nesting deep.
 ghost use Rattle.std.specs.Prelude.{◌≡◌, suc, ◌∷◌, length, Some};
-ghost use Rattle.rpl_parser.specs.Gives.{Gives};
+ghost use Rattle.rpl_parser.specs.inside.Gives.{Gives};
 ghost use Rattle.rpl_syntax.specs.Reading.{read, item_of, read_item, read_exp, seq_of, parts_of};
 ghost use Rattle.rpl_syntax.specs.View.{expr_of, shown};
 ghost use Rattle.rpl_syntax.specs.declared.token.Token.TheVariants as T;
@@ -157,7 +157,8 @@ fn choice<'a>(
     depth: usize,
 ) -> Result<(Exprs, &'a [Token]), Refusal>
     ensures { Gives (λ x. (shown x.0, x.1.now)) result
-        (parts_of (suc (length tokens.now)) raw (seq_of (read_item depth)) (read_exp depth raw) (shown first) tokens.now) }
+        (parts_of (suc (length tokens.now)) raw
+            (seq_of (read_item depth)) (read_exp depth raw) (shown first) tokens.now) }
 {
     let mut parts = Exprs::new(alloc);
     let mut items = first;

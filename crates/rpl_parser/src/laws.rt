@@ -40,7 +40,8 @@ pub fn patterns_are_readings()
 /// What is printed of a pattern is that pattern with the braces that printing adds, where it isn't nested too deep; but
 /// for the places of names, nothing else changes.
 pub fn printed_again()
-    ensures { (s : List ℕ) (ts us : List Lexeme) (x : Expr) → IsUtf8 s → IsCut s ts → IsPattern s ts x → HasFewTokens x →
+    ensures { (s : List ℕ) (ts us : List Lexeme) (x : Expr) →
+        IsUtf8 s → IsCut s ts → IsPattern s ts x → HasFewTokens x →
         IsCut (encode_utf8_all (printed x)) us → too_deep (encode_utf8_all (printed x)) ground_level us ≡ None →
         (y : Expr) × IsPattern (encode_utf8_all (printed x)) us y × (plain y ≡ plain (again x)) }
 {}

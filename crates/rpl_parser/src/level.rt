@@ -1,72 +1,18 @@
 // How deep tokens are nested.
-ghost use Rattle.std.specs.Prelude.{◌≡◌, ◌<◌, ◌≤◌, ◌+◌, ◌^◌, IfOk, OnOk, length, drop};
+ghost use Rattle.std.specs.Prelude.{◌≡◌, ◌<◌, IfOk, OnOk, drop};
 ghost use Rattle.rpl_lexer.specs.Cut.{IsToken};
 ghost use Rattle.rpl_lexer.specs.declared.punct.Punct.TheVariants.{Slash, Bang, OpenParen, CloseParen, Ampersand};
-ghost use Rattle.rpl_parser.specs.Levels.{ground_level, sign_level, level_after, nest_after, nesting, Level, reach_by, colon_by, colon_next, too_deep};
-ghost use Rattle.rpl_parser.specs.Stacks.{level_of, nest_of};
+ghost use Rattle.rpl_parser.specs.Levels.{ground_level, sign_level, level_after, Level, reach_by, colon_by};
+ghost use Rattle.rpl_parser.specs.Levels.{colon_next, too_deep};
+ghost use Rattle.rpl_parser.specs.inside.Stacks.{level_of};
 ghost use Rattle.rpl_parser.specs.Tokens.{AllStand};
 
-use rpl_lexer::{Punct, Token, TokenKind, punct_of, token_text};
+use rpl_lexer::{Punct, Token, TokenKind, nesting_of, punct_of};
 use smallvec::SmallVec;
 use std::alloc::{AllocError, Global};
 
 /// The greatest level.
 const MOST_LEVEL: u64 = 100;
-
-/// A bracket so far.
-#[derive(Clone, Copy)]
-pub struct Brackets {
-    hidden: bool,
-    inside: u64,
-    most: u64,
-}
-
-impl Brackets {
-    /// Behind one more byte.
-    fn past(self, byte: u8) -> Brackets
-        requires { self.inside + 1 < 2 ^ 64 }
-        ensures { nest_of result ≡ nest_after (nest_of self) byte }
-    {
-        if self.hidden {
-            return Brackets {
-                hidden: false,
-                ..self
-            };
-        }
-        match byte {
-            b'\\' => Brackets {
-                hidden: true,
-                ..self
-            },
-            b'[' => Brackets {
-                hidden: false,
-                inside: self.inside + 1,
-                most: self.most.max(self.inside + 1),
-            },
-            b']' => Brackets {
-                inside: self.inside.saturating_sub(1),
-                ..self
-            },
-            _ => self,
-        }
-    }
-}
-
-/// How many brackets are open at once in a bracket.
-fn open_at_once(bytes: &[u8]) -> u64
-    ensures value { result ≡ nesting bytes.now }
-    ensures bound { result ≤ length bytes.now }
-{
-    let mut brackets = Brackets {
-        hidden: false,
-        inside: 0,
-        most: 0,
-    };
-    for byte in bytes {
-        brackets = brackets.past(*byte);
-    }
-    brackets.most
-}
 
 /// The level, the base to which it goes back, and the bases of the open groups.
 #[derive(Drop)]
@@ -183,7 +129,7 @@ fn reach(text: &str, token: Token, before: u64, behind: u64) -> u64
     ensures { (b u : Level) → b.level ≡ before → u.level ≡ behind → result ≡ reach_by token.kind text.now token b u }
 {
     match token.kind {
-        TokenKind::Bracket => before + open_at_once(token_text(text, token).as_bytes()),
+        TokenKind::Bracket => before + nesting_of(text, token) as u64,
         _ => behind,
     }
 }

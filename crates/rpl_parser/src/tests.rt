@@ -1,4 +1,4 @@
-// Patterns and modules worked by hand, with their faults. What patterns stand for is tried in `rpl_parser_rows`.
+// Patterns and modules worked by hand, with their faults. What patterns stand for is tried in `rpl_parser_cases`.
 use crate::{ParseFault, ParseKind, parse_module, parse_pattern};
 use rpl_classes::SetFault;
 use rpl_lexer::lex;

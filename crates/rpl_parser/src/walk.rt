@@ -1,11 +1,12 @@
 // The order of statements: what a module says so far, and which statement may come next.
 ghost use Rattle.std.specs.Prelude.{◌≡◌, Some};
-ghost use Rattle.rpl_parser.specs.Gives.{Gives};
+ghost use Rattle.rpl_parser.specs.inside.Gives.{Gives};
 ghost use Rattle.rpl_parser.specs.Pieces.{closes_later};
 ghost use Rattle.rpl_parser.specs.Tokens.{AllStand, tokens_of};
-ghost use Rattle.rpl_parser.specs.Walks.{begun, versioned, packaged, imported, in_block, ruled, bound, opened, split, shut, closed, place, by_version, finish, Answers};
-ghost use Rattle.rpl_parser.specs.Walked.{walk_of};
-ghost use Rattle.rpl_parser.specs.Statements.{line_seen};
+ghost use Rattle.rpl_parser.specs.Walks.{begun, versioned, packaged, imported, in_block, ruled, bound, opened, split};
+ghost use Rattle.rpl_parser.specs.Walks.{shut, closed, place, by_version, finish, Answers};
+ghost use Rattle.rpl_parser.specs.inside.Walked.{walk_of};
+ghost use Rattle.rpl_parser.specs.inside.Statements.{line_seen};
 ghost use Rattle.rpl_syntax.specs.Modules.{rule_of, said};
 
 use crate::fault::{ParseFault, ParseKind};

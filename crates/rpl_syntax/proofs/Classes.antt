@@ -20,7 +20,8 @@ use Rattle.rpl_classes.specs.Lists.{Reading, and_then, changed}
 use Rattle.rpl_classes.specs.Brackets.{more, joined, body, inside, bracket, marked, outermost, bracket_of}
 use Rattle.rpl_classes.proofs.Normal.{norm-nil, norm_normal, norm_whole, norm_normal_same, normal_same}
 use Rattle.rpl_classes.proofs.Operations.{others_members, others_normal, nil_normal}
-use Rattle.rpl_lexer.proofs.Stood.{is_inner, Bracketed, nothing, inner, hidden, nested}
+use Rattle.rpl_lexer.specs.Written.{is_inner}
+use Rattle.rpl_lexer.proofs.Stood.{Bracketed, nothing, inner, hidden, nested}
 use Rattle.rpl_syntax.specs.Printed.{digit_char, four_digits, point_text, range_text, ranges_text, members_text, caret_text, class_text}
 use Rattle.rpl_syntax.proofs.Hexes.{point_digits, point_read}
 

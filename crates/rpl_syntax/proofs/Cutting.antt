@@ -10,7 +10,7 @@ use Rattle.rpl_lexer.specs.declared.token.TokenKind.TheVariants as K
 use Rattle.rpl_lexer.specs.Bytes.{is_word, run}
 use Rattle.rpl_lexer.specs.Keywords.{keyword_named}
 use Rattle.rpl_lexer.specs.Signs.{punct}
-use Rattle.rpl_lexer.specs.Numbers.{value}
+use Rattle.rpl_text.specs.Numbers.{value}
 use Rattle.rpl_lexer.specs.Braces.{bounds_in}
 use Rattle.rpl_lexer.specs.Gaps.{gap}
 use Rattle.rpl_lexer.specs.Fronts.{first_name}

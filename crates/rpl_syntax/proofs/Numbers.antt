@@ -11,13 +11,14 @@ use Rattle.std.proofs.lemmas.Str.Ascii.{IsAscii-nil, IsAscii-cons}
 use Rattle.rpl_lexer.specs.declared.bounds.Bounds.{Bounds as Numbers}
 use Rattle.rpl_lexer.specs.declared.token.TokenKind.TheVariants as K
 use Rattle.rpl_lexer.specs.Bytes.{is_digit}
-use Rattle.rpl_lexer.specs.Numbers.{value, narrow}
+use Rattle.rpl_text.specs.Numbers.{value, narrow}
 use Rattle.rpl_lexer.specs.Braces.{bounds_in}
 use Rattle.rpl_lexer.specs.Cut.{IsToken}
 use Rattle.rpl_lexer.specs.Forms.{each}
 use Rattle.rpl_lexer.specs.Payloads as P
 use Rattle.rpl_lexer.proofs.Spans.{drop_zero}
-use Rattle.rpl_lexer.proofs.Bounded.{Spells, plain_stands, plain_read, comma_stands, both_read, open_read}
+use Rattle.rpl_lexer.specs.Written.{Spells}
+use Rattle.rpl_lexer.proofs.Bounded.{plain_stands, plain_read, comma_stands, both_read, open_read}
 use Rattle.rpl_syntax.specs.declared.token.Token.{Token}
 use Rattle.rpl_syntax.specs.declared.token.Token.TheVariants as T
 use Rattle.rpl_syntax.specs.Texts.{Allowed, Says}

@@ -6,7 +6,8 @@ use Rattle.std.proofs.lemmas.List.{append-nil, length-drop}
 use Rattle.std.proofs.lemmas.Bool.Decides.{nat_tests}
 use Rattle.rpl_syntax.specs.declared.expr.Expr.{Expr}
 use Rattle.rpl_syntax.specs.View.{expr_of, exprs_all}
-use Rattle.rpl_syntax.specs.Printed.{items_printed, parts_printed, item_of_group, part_of_choice, item_printed}
+use Rattle.rpl_syntax.specs.Printed.{items_printed, parts_printed}
+use Rattle.rpl_syntax.specs.inside.Pieces.{item_of_group, part_of_choice, item_printed}
 
 abbrev pub is_more : List Expr → Bool
 is_more [] = false

@@ -7,7 +7,8 @@ use Rattle.rpl_syntax.specs.Expression.{Expr, Text, Class, Any, Start, End, Boun
 use Rattle.rpl_syntax.specs.Grammar.{sign_mark, leaf_token, quant_token}
 use Rattle.rpl_syntax.specs.Trees.{named, body_of, quant_of, item_tree, exp_tree, seq_tree, choice_tree}
 use Rattle.rpl_syntax.specs.Readable.{Good, Good_items, Good_choice, Good_parts}
-use Rattle.rpl_syntax.specs.Printed.{printed, item_printed, body_printed, items_printed, parts_printed, name_text, quant_text, sign_char}
+use Rattle.rpl_syntax.specs.Printed.{printed, items_printed, parts_printed, name_text, quant_text, sign_char}
+use Rattle.rpl_syntax.specs.inside.Pieces.{item_printed, body_printed}
 use Rattle.rpl_syntax.specs.Writing.{mark, token_text, write_exp, write_seq, write_item, write_atom}
 
 abbrev name_by : Option (List ℕ) → List ℕ → List ℕ

@@ -8,7 +8,9 @@
 use Rattle.std.specs.Prelude.{◌≡◌, ℕ, Bool, true, false, List, [], ◌∷◌, Option, Some, None}
 use Rattle.regex_class.specs.Ranges.{Range}
 use Rattle.rpl_lexer.specs.declared.punct.Punct.{Punct}
-use Rattle.rpl_lexer.specs.declared.punct.Punct.TheVariants.{Bang, Greater, Less, Colon, Slash, Ampersand, OpenParen, CloseParen, OpenBrace, CloseBrace, Star, Plus, Question, Dot, Caret, Dollar, Tilde}
+use Rattle.rpl_lexer.specs.declared.punct.Punct.TheVariants.{Bang, Greater, Less, Colon, Slash, Ampersand, OpenParen}
+use Rattle.rpl_lexer.specs.declared.punct.Punct.TheVariants.{CloseParen, OpenBrace, CloseBrace, Star, Plus, Question}
+use Rattle.rpl_lexer.specs.declared.punct.Punct.TheVariants.{Dot, Caret, Dollar, Tilde}
 use Rattle.rpl_syntax.specs.declared.token.Token.{Token}
 use Rattle.rpl_syntax.specs.declared.token.Token.TheVariants as T
 use Rattle.rpl_syntax.specs.declared.name.QName.{QName}

@@ -9,3 +9,4 @@ pub mod Printed
 pub mod Writing
 pub mod Texts
 pub mod Modules
+pub mod inside

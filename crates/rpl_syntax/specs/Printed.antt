@@ -1,11 +1,13 @@
 -- The printed text of an expression, as characters.
-use Rattle.std.specs.Prelude.{ℕ, zero, suc, ◌+◌, ◌-◌, ◌/◌, ◌%◌, Bool, true, false, ◌||◌, nat_eq, nat_lt, List, [], ◌∷◌, ◌++◌, Option, Some, None, if◌then◌else◌}
+use Rattle.std.specs.Prelude.{ℕ, zero, suc, ◌+◌, ◌-◌, ◌/◌, ◌%◌, Bool, true, false, ◌||◌, nat_eq, nat_lt, List, [], ◌∷◌}
+use Rattle.std.specs.Prelude.{◌++◌, Option, Some, None, if◌then◌else◌}
 use Rattle.std.specs.Fmt.{decimal}
 use Rattle.regex_class.specs.Ranges.{Range}
 use Rattle.rpl_syntax.specs.declared.expr.Sign.{Sign}
 use Rattle.rpl_syntax.specs.declared.expr.Sign.TheVariants.{Not, Ahead, Behind}
 use Rattle.rpl_syntax.specs.declared.name.QName.{QName}
-use Rattle.rpl_syntax.specs.Expression.{Expr, Text, Class, Any, Start, End, Boundary, Name, Cooked, Raw, Choice, Both, Prefix, Repeat, Macro, Marked, Note, Exprs, Nil, Cons}
+use Rattle.rpl_syntax.specs.Expression.{Expr, Text, Class, Any, Start, End, Boundary, Name, Cooked, Raw, Choice, Both}
+use Rattle.rpl_syntax.specs.Expression.{Prefix, Repeat, Macro, Marked, Note, Exprs, Nil, Cons}
 
 -- a hexadecimal digit, where ten is this letter
 abbrev pub digit_char : (letter : ℕ) → ℕ → ℕ
@@ -31,7 +33,8 @@ literal_text s = 34 ∷ quoted s ++ 34 ∷ []
 
 -- `\UXXXXXXXX`, in upper case
 abbrev pub four_digits : ℕ → List ℕ
-four_digits n = digit_char 65 (n / 4096) ∷ digit_char 65 (n / 256 % 16) ∷ digit_char 65 (n / 16 % 16) ∷ digit_char 65 (n % 16) ∷ []
+four_digits n =
+    digit_char 65 (n / 4096) ∷ digit_char 65 (n / 256 % 16) ∷ digit_char 65 (n / 16 % 16) ∷ digit_char 65 (n % 16) ∷ []
 
 unfoldable pub point_text : ℕ → List ℕ
 point_text c = 92 ∷ 85 ∷ four_digits (c / 65536) ++ four_digits (c % 65536)
@@ -61,7 +64,8 @@ name_text q = elim q.prefix [ None ↦ q.name | Some p ↦ p ++ 46 ∷ q.name ]
 -- `*`, `+`, `?`, `{n}`, `{n,m}` or `{n,}`
 abbrev pub bounds_text : (least : ℕ) (most : Option ℕ) → List ℕ
 bounds_text l None = 123 ∷ decimal l ++ 44 ∷ 125 ∷ []
-bounds_text l (Some m) = if nat_eq l m then 123 ∷ decimal l ++ 125 ∷ [] else 123 ∷ decimal l ++ 44 ∷ decimal m ++ 125 ∷ []
+bounds_text l (Some m) =
+    if nat_eq l m then 123 ∷ decimal l ++ 125 ∷ [] else 123 ∷ decimal l ++ 44 ∷ decimal m ++ 125 ∷ []
 
 abbrev pub quant_text : (least : ℕ) (most : Option ℕ) → List ℕ
 quant_text zero None = 42 ∷ []
@@ -123,22 +127,5 @@ abbrev mutual
   pub parts_printed : Exprs → List ℕ
   parts_printed Nil = []
   parts_printed (Cons p Nil) = printed p
-  parts_printed (Cons p (Cons q rest)) = in_braces (is_joined p) (printed p) ++ 32 ∷ 47 ∷ 32 ∷ parts_printed (Cons q rest)
-
--- as an item
-abbrev pub item_printed : Expr → List ℕ
-item_printed p = in_braces (is_joined p) (printed p)
-
--- under a quantifier
-abbrev pub body_printed : Expr → List ℕ
-body_printed p = in_braces (is_compound p) (printed p)
-
--- an item of a group, and whether another follows
-abbrev pub item_of_group : (more : Bool) → Expr → List ℕ
-item_of_group true p = item_printed p ++ 32 ∷ []
-item_of_group false p = item_printed p
-
--- a part of a choice, and whether another follows
-abbrev pub part_of_choice : (more : Bool) → Expr → List ℕ
-part_of_choice true p = item_printed p ++ 32 ∷ 47 ∷ 32 ∷ []
-part_of_choice false p = printed p
+  parts_printed (Cons p (Cons q rest)) =
+    in_braces (is_joined p) (printed p) ++ 32 ∷ 47 ∷ 32 ∷ parts_printed (Cons q rest)

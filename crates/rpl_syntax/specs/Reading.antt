@@ -1,8 +1,11 @@
 -- Reading from left to right with one token ahead: how the tokens that spell an expression are found to do so.
 -- The law `one_reading` says that this is the reading of the grammar.
-use Rattle.std.specs.Prelude.{ℕ, zero, suc, ◌+◌, Bool, true, false, List, [], ◌∷◌, length, Option, Some, None, if◌then◌else◌}
+use Rattle.std.specs.Prelude.{ℕ, zero, suc, ◌+◌, Bool, true, false, List, [], ◌∷◌, length, Option, Some, None}
+use Rattle.std.specs.Prelude.{if◌then◌else◌}
 use Rattle.rpl_lexer.specs.declared.punct.Punct.{Punct}
-use Rattle.rpl_lexer.specs.declared.punct.Punct.TheVariants.{Bang, Greater, Less, Colon, Slash, Ampersand, OpenParen, CloseParen, OpenBrace, CloseBrace, Star, Plus, Question, Dot, Caret, Dollar, Tilde}
+use Rattle.rpl_lexer.specs.declared.punct.Punct.TheVariants.{Bang, Greater, Less, Colon, Slash, Ampersand, OpenParen}
+use Rattle.rpl_lexer.specs.declared.punct.Punct.TheVariants.{CloseParen, OpenBrace, CloseBrace, Star, Plus, Question}
+use Rattle.rpl_lexer.specs.declared.punct.Punct.TheVariants.{Dot, Caret, Dollar, Tilde}
 use Rattle.rpl_syntax.specs.declared.token.Token.{Token}
 use Rattle.rpl_syntax.specs.declared.token.Token.TheVariants as T
 use Rattle.rpl_syntax.specs.declared.expr.Sign.{Sign}
@@ -62,7 +65,9 @@ abbrev pub applied : (name : List ℕ) (at : ℕ) → Expr × List Token → Opt
 applied n at x = Some (M.Macro (unprefixed n at) x.0, x.1)
 
 -- an item, from the readings of the items and groups in it
-abbrev pub item_of : (List Token → Option (Expr × List Token)) → (Bool → List Token → Option (Exprs × List Token)) → List Token → Option (Expr × List Token)
+abbrev pub item_of :
+    (List Token → Option (Expr × List Token)) → (Bool → List Token → Option (Exprs × List Token)) →
+    List Token → Option (Expr × List Token)
 item_of below group (T.Name n at ∷ T.Sign Colon ∷ r) = below r >>= applied n at
 item_of below group (T.Text s ∷ r) = Some (quantified (M.Text s) r)
 item_of below group (T.Class s negated ∷ r) = Some (quantified (M.Class s negated) r)
@@ -83,7 +88,8 @@ item_of below group r = None
 abbrev pub items_of : ℕ → (List Token → Option (Expr × List Token)) → List Token → Option (Exprs × List Token)
 items_of zero item s = None
 items_of (suc n) item s =
-    item s >>= λ x. if begins x.1 then (items_of n item x.1 >>= λ xs. Some (Cons x.0 xs.0, xs.1)) else Some (one x.0, x.1)
+    item s >>= λ x.
+    if begins x.1 then (items_of n item x.1 >>= λ xs. Some (Cons x.0 xs.0, xs.1)) else Some (one x.0, x.1)
 
 abbrev pub colon : List Token → Bool
 colon (T.Sign Colon ∷ r) = true
@@ -103,7 +109,9 @@ joins (T.Sign Ampersand ∷ r) = true
 joins r = false
 
 -- the parts of a choice, the first of which has the items xs
-abbrev pub parts_of : ℕ → (raw : Bool) → (List Token → Option (Exprs × List Token)) → (List Token → Option (Exprs × List Token)) → Exprs → List Token → Option (Exprs × List Token)
+abbrev pub parts_of :
+    ℕ → (raw : Bool) → (List Token → Option (Exprs × List Token)) → (List Token → Option (Exprs × List Token)) →
+    Exprs → List Token → Option (Exprs × List Token)
 parts_of zero raw seq exp xs s = None
 parts_of (suc n) raw seq exp xs (T.Sign Slash ∷ r) =
     seq r >>= λ ys. parts_of n raw seq exp ys.0 ys.1 >>= λ ps. Some (Cons (joined raw xs) ps.0, ps.1)
@@ -114,10 +122,13 @@ parts_of (suc n) raw seq exp xs r = Some (one (joined raw xs), r)
 abbrev pub seq_of : (List Token → Option (Expr × List Token)) → List Token → Option (Exprs × List Token)
 seq_of item s = items_of (length s) item s
 
-abbrev pub content_of : (raw : Bool) → (List Token → Option (Exprs × List Token)) → (List Token → Option (Exprs × List Token)) → List Token → Option (Exprs × List Token)
+abbrev pub content_of :
+    (raw : Bool) → (List Token → Option (Exprs × List Token)) → (List Token → Option (Exprs × List Token)) →
+    List Token → Option (Exprs × List Token)
 content_of raw seq exp s =
     seq s >>= λ xs.
-    if joins xs.1 then (parts_of (suc (length xs.1)) raw seq exp xs.0 xs.1 >>= λ ps. Some (one (chosen ps.0), ps.1)) else Some xs
+    if joins xs.1 then (parts_of (suc (length xs.1)) raw seq exp xs.0 xs.1 >>= λ ps. Some (one (chosen ps.0), ps.1))
+    else Some xs
 
 -- nested no deeper than d
 abbrev mutual

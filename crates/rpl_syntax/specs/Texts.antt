@@ -1,7 +1,8 @@
 -- When a text is read as an expression: it is cut into tokens without a fault, and what they say is a spelling of it.
 -- Which expressions can be written: those that hold nothing but what a text can say. And when what is printed of one is
 -- read as that expression. How deep anything is nested isn't asked.
-use Rattle.std.specs.Prelude.{◌≡◌, ◌≤◌, ℕ, Bool, true, false, List, [], ◌∷◌, length, Option, Some, None, Ok, if◌then◌else◌, encode_utf8_all}
+use Rattle.std.specs.Prelude.{◌≡◌, ◌≤◌, ℕ, Bool, true, false, List, [], ◌∷◌, length, Option, Some, None, Ok}
+use Rattle.std.specs.Prelude.{if◌then◌else◌, encode_utf8_all}
 use Rattle.std.specs.Option.{unwrap_or}
 use Rattle.std.specs.Str.{all_scalars}
 use Rattle.regex_class.specs.Ranges.{Range}
@@ -15,7 +16,8 @@ use Rattle.rpl_lexer.specs.declared.bounds.Bounds.{Bounds as Numbers}
 use Rattle.rpl_lexer.specs.declared.token.Token.{Token as Lexeme}
 use Rattle.rpl_syntax.specs.declared.token.Token.{Token}
 use Rattle.rpl_syntax.specs.declared.token.Token.TheVariants as T
-use Rattle.rpl_syntax.specs.Expression.{Expr, Text, Class, Any, Start, End, Boundary, Name, Cooked, Raw, Choice, Both, Prefix, Repeat, Macro, Marked, Note, Exprs, Nil, Cons}
+use Rattle.rpl_syntax.specs.Expression.{Expr, Text, Class, Any, Start, End, Boundary, Name, Cooked, Raw, Choice, Both}
+use Rattle.rpl_syntax.specs.Expression.{Prefix, Repeat, Macro, Marked, Note, Exprs, Nil, Cons}
 use Rattle.rpl_syntax.specs.Grammar.{Reads, spell_exp}
 use Rattle.rpl_syntax.specs.Printed.{printed}
 use Rattle.rpl_syntax.specs.Braces.{again, plain}
@@ -41,7 +43,8 @@ Says at (P.Name n) t = t ≡ T.Name n at
 Says at (P.Qualified p n) t = t ≡ T.Qualified p n at
 Says at (P.Keyword w) t = t ≡ T.Keyword w
 Says at (P.Text s) t = t ≡ T.Text s
-Says at (P.Bracket s) t = (ranges : List Range) × (negated : Bool) × (bracket_of s ≡ Ok (ranges, negated)) × (t ≡ T.Class ranges negated)
+Says at (P.Bracket s) t =
+    (ranges : List Range) × (negated : Bool) × (bracket_of s ≡ Ok (ranges, negated)) × (t ≡ T.Class ranges negated)
 Says at (P.Bounds b) t = Allowed (least_of b) (most_of b) × (t ≡ T.Bounds (least_of b) (most_of b))
 Says at (P.Number n) t = t ≡ T.Number n
 Says at (P.Sign k) t = t ≡ T.Sign k

@@ -2,7 +2,9 @@
 use Rattle.std.specs.Prelude.{List, [], ◌∷◌}
 use Rattle.rpl_syntax.specs.Expression as M
 use Rattle.rpl_syntax.specs.declared.expr.Exprs.{Exprs}
-use Rattle.rpl_syntax.specs.declared.expr.Expr.{Expr, Text, Class, Any, Start, End, Boundary, Name, Cooked', Raw', Choice', Both', Prefix', Repeat', Macro', Marked', Note, Row_of-Expr, end_of-Expr, more_of-Expr}
+use Rattle.rpl_syntax.specs.declared.expr.Expr.{Expr, Text, Class, Any, Start, End, Boundary, Name, Cooked', Raw'}
+use Rattle.rpl_syntax.specs.declared.expr.Expr.{Choice', Both', Prefix', Repeat', Macro', Marked', Note, Row_of-Expr}
+use Rattle.rpl_syntax.specs.declared.expr.Expr.{end_of-Expr, more_of-Expr}
 
 abbrev mutual
   pub expr_of : Expr → M.Expr

@@ -3,11 +3,14 @@
 use Rattle.std.specs.Prelude.{ℕ, List, [], ◌∷◌, ◌++◌}
 use Rattle.std.specs.Fmt.{decimal}
 use Rattle.rpl_lexer.specs.declared.punct.Punct.{Punct}
-use Rattle.rpl_lexer.specs.declared.punct.Punct.TheVariants.{OpenBrace, CloseBrace, OpenParen, CloseParen, Slash, Ampersand, Bang, Greater, Less, Star, Plus, Question, Dot, Caret, Dollar, Tilde, Equals, Comma, Colon}
+use Rattle.rpl_lexer.specs.declared.punct.Punct.TheVariants.{OpenBrace, CloseBrace, OpenParen, CloseParen, Slash}
+use Rattle.rpl_lexer.specs.declared.punct.Punct.TheVariants.{Ampersand, Bang, Greater, Less, Star, Plus, Question, Dot}
+use Rattle.rpl_lexer.specs.declared.punct.Punct.TheVariants.{Caret, Dollar, Tilde, Equals, Comma, Colon}
 use Rattle.rpl_lexer.specs.Keywords.{word_of}
 use Rattle.rpl_syntax.specs.declared.token.Token.{Token}
 use Rattle.rpl_syntax.specs.declared.token.Token.TheVariants as T
-use Rattle.rpl_syntax.specs.Grammar.{Exp, Last, Or, And, Seq, Single, More, Item, Signed, Applied, Plain, Times, Atom, One, Group, leaf_token, quant_token, sign_mark, opener, closer}
+use Rattle.rpl_syntax.specs.Grammar.{Exp, Last, Or, And, Seq, Single, More, Item, Signed, Applied, Plain, Times, Atom}
+use Rattle.rpl_syntax.specs.Grammar.{One, Group, leaf_token, quant_token, sign_mark, opener, closer}
 use Rattle.rpl_syntax.specs.Printed.{literal_text, class_text, bounds_text}
 
 -- the character of a sign

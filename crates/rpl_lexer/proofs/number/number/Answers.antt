@@ -1,5 +1,5 @@
 use Rattle.std.proofs.Common.{◌+◌, ◌*◌, arith, ◌∙◌}
-use Rattle.rpl_lexer.proofs.Wide.{too_wide, none_wide, some_value}
+use Rattle.rpl_text.proofs.Wide.{too_wide, none_wide, some_value}
 use Rattle.rpl_lexer.proofs.number.number.Goals as goal
 
 pub returns-in_err-tens : goal.returns-in_err-tens

@@ -1,5 +1,5 @@
 use Rattle.std.proofs.Common.{◌≡◌, ◌<◌, ◌^◌, drop}
-use Rattle.rpl_lexer.specs.Numbers.{value}
+use Rattle.rpl_text.specs.Numbers.{value}
 use Rattle.rpl_lexer.proofs.number.number.Given as goal
 
 abbrev pub invariant-loop-i : goal.invariant-loop-i

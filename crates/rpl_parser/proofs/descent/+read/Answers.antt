@@ -5,7 +5,7 @@ use Rattle.std.proofs.lemmas.Result.{err_from_is_err_and}
 use Rattle.rpl_syntax.specs.Reading.{item_of, items_of, parts_of, read_item, read_exp, seq_of, joins, begins}
 use Rattle.rpl_syntax.specs.Expression as M
 use Rattle.rpl_syntax.specs.View.{shown, expr_of, exprs_all}
-use Rattle.rpl_parser.specs.Gives.{Gives}
+use Rattle.rpl_parser.specs.inside.Gives.{Gives}
 use Rattle.rpl_parser.proofs.Readings.{item_is, exp_is, not_joined, content_some, content_none, fails_by, some_is}
 use Rattle.rpl_parser.proofs.Loops.{with_front, front_none, seq_step, seq_last, parts_step, parts_last, parts_both, parts_none}
 use Rattle.rpl_parser.proofs.descent.+read.Goals as goal

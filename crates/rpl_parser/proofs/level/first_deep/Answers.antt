@@ -4,7 +4,7 @@ use Rattle.std.proofs.lemmas.Bool.Decides.{nat_tests}
 use Rattle.rpl_lexer.specs.declared.token.Token.{Token}
 use Rattle.rpl_lexer.specs.declared.token.TokenKind.TheVariants as K
 use Rattle.rpl_parser.specs.Levels.{level_after, reach_by}
-use Rattle.rpl_parser.specs.Stacks.{level_of}
+use Rattle.rpl_parser.specs.inside.Stacks.{level_of}
 use Rattle.rpl_parser.proofs.Deep.{stands_at, low_after, deep_on}
 use Rattle.rpl_parser.proofs.level.first_deep.Goals as goal
 

@@ -1,6 +1,7 @@
 use Rattle.std.proofs.Common.{◌≡◌, drop}
-use Rattle.rpl_parser.specs.Levels.{ground_level, too_deep, Low}
-use Rattle.rpl_parser.specs.Stacks.{level_of}
+use Rattle.rpl_parser.specs.Levels.{ground_level, too_deep}
+use Rattle.rpl_parser.specs.inside.Low.{Low}
+use Rattle.rpl_parser.specs.inside.Stacks.{level_of}
 use Rattle.rpl_parser.proofs.level.first_deep.Given as goal
 
 -- the level is low, and what is found from here on is found from the start

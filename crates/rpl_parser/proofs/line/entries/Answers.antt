@@ -1,5 +1,5 @@
 use Rattle.std.proofs.Common.{◌≡◌, ◌+◌, ◌-◌, suc, length, Some, sym, ap, subst, ◌∙◌, arith}
-use Rattle.rpl_parser.specs.Gives.{Gives}
+use Rattle.rpl_parser.specs.inside.Gives.{Gives}
 use Rattle.rpl_parser.specs.Lines.{entries_of, all_of}
 use Rattle.rpl_parser.proofs.Entries.{with_front, front_none, entries_step, entries_last}
 use Rattle.rpl_parser.proofs.line.entries.Goals as goal

@@ -1,6 +1,6 @@
 use Rattle.std.proofs.Common.{sym, ap, subst, ◌≢◌, ◌∙◌}
 use Rattle.rpl_syntax.specs.Reading.{read}
-use Rattle.rpl_parser.specs.Gives.{Fails}
+use Rattle.rpl_parser.specs.inside.Gives.{Fails}
 use Rattle.rpl_parser.specs.Patterns.{IsPatternFault}
 use Rattle.rpl_parser.specs.declared.fault.ParseKind.TheVariants.{NoMemory}
 use Rattle.rpl_parser.proofs.Shallow.{read_answered, refused}

@@ -1,6 +1,6 @@
 use Rattle.std.proofs.Common.{length}
 use Rattle.rpl_parser.specs.Tokens.{AllStand}
-use Rattle.rpl_parser.specs.Walked.{walk_of}
+use Rattle.rpl_parser.specs.inside.Walked.{walk_of}
 use Rattle.rpl_parser.specs.Walks.{module_of}
 use Rattle.rpl_parser.proofs.Walking.{Left}
 use Rattle.rpl_parser.proofs.statements.read_all.Given as goal

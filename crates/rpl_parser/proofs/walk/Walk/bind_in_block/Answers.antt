@@ -1,5 +1,5 @@
 use Rattle.rpl_syntax.specs.Modules.{rule_of, rules_of}
-use Rattle.rpl_parser.specs.Walked.{walk_of}
+use Rattle.rpl_parser.specs.inside.Walked.{walk_of}
 use Rattle.rpl_parser.proofs.Pushed.{rules_pushed, in_block_is}
 use Rattle.rpl_parser.proofs.walk.Walk.bind_in_block.Goals as goal
 

@@ -1,6 +1,6 @@
 use Rattle.rpl_syntax.specs.Modules.{rule_of, entries_of}
 use Rattle.rpl_syntax.specs.declared.module.Item.TheVariants as I
-use Rattle.rpl_parser.specs.Walked.{walk_of}
+use Rattle.rpl_parser.specs.inside.Walked.{walk_of}
 use Rattle.rpl_parser.proofs.Pushed.{items_pushed, ruled_is}
 use Rattle.rpl_parser.proofs.walk.Walk.bind_outside.Goals as goal
 

@@ -1,7 +1,7 @@
 use Rattle.std.proofs.Common.{ap}
 use Rattle.rpl_syntax.specs.Modules.{rules_of, entries_of}
 use Rattle.rpl_syntax.specs.declared.module.Item.TheVariants as I
-use Rattle.rpl_parser.specs.Walked.{walk_of}
+use Rattle.rpl_parser.specs.inside.Walked.{walk_of}
 use Rattle.rpl_parser.proofs.Pushed.{items_pushed, shut_is}
 use Rattle.rpl_parser.proofs.walk.Walk.shut.Goals as goal
 

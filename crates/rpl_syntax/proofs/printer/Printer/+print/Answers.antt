@@ -1,7 +1,8 @@
 use Rattle.std.proofs.Common.{◌≡◌, ◌++◌, ◌+◌, sym, ap, subst, ◌∙◌, OnOk}
 use Rattle.std.specs.Prelude.{nat_lt}
 use Rattle.rpl_syntax.specs.View.{expr_of, exprs_all}
-use Rattle.rpl_syntax.specs.Printed.{printed, items_printed, parts_printed, item_of_group, part_of_choice}
+use Rattle.rpl_syntax.specs.Printed.{printed, items_printed, parts_printed}
+use Rattle.rpl_syntax.specs.inside.Pieces.{item_of_group, part_of_choice}
 use Rattle.rpl_syntax.proofs.Rows.{cooked_view, raw_view, choice_view}
 use Rattle.rpl_syntax.proofs.Remaining.{items_step, parts_step}
 use Rattle.rpl_syntax.proofs.printer.Printer.+print.Goals as goal

@@ -1,4 +1,5 @@
-// Made-up texts: a pattern is built by templates, `P` being what was built before, `L` an atom and `W` any word; so some are patterns, and
+// Made-up texts: a pattern is built by templates, `P` being what was built before, `L` an atom and `W` any word; so
+// some are patterns, and
 // some are not.
 use rand::RngExt;
 use rand::seq::IndexedRandom;

@@ -6,7 +6,8 @@ use rpl_syntax::{Binding, Bindings, Import, ImportAs, Item, Module};
 use std::alloc::Global;
 use std::test::Fail;
 
-/// A module, and the form of what it says: its package, its imports, its rules and its blocks, each with its byte place. The hidden
+/// A module, and the form of what it says: its package, its imports, its rules and its blocks, each with its byte
+/// place. The hidden
 /// rules of a block stand before the `|`.
 static MODULES: [(&str, &str); 16] = [
     ("", ""),
