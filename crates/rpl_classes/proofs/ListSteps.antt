@@ -6,7 +6,7 @@ use Rattle.rpl_text.specs.Places.{index}
 use Rattle.rpl_text.specs.Escapes.{escape}
 use Rattle.rpl_classes.specs.Symbols.{Placed, escaped, symbols, symbols_from, first, place, rest, is_plain, begins}
 use Rattle.rpl_classes.specs.Lists.{Reading, changed, is_member, char_of, each}
-use Rattle.rpl_classes.specs.Scanned.{Passed, RangeFound}
+use Rattle.rpl_classes.specs.inside.Scanned.{Passed, RangeFound}
 use Rattle.rpl_classes.specs.declared.symbols.Symbol.{Symbol}
 use Rattle.rpl_classes.specs.declared.symbols.Symbol.TheVariants.{Plain, Escaped, End}
 use Rattle.rpl_classes.specs.declared.fault.SetFault.TheVariants.{BadRange, BadSet}

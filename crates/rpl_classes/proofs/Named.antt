@@ -1,24 +1,31 @@
 -- Classes by their names.
-use Rattle.std.proofs.Common.{◌≡◌, ℕ, zero, suc, ◌<◌, List, [], ◌∷◌, Option, Some, None, refl, subst, sym, ap, ◌∙◌, arith, inl, inr}
+use Rattle.std.proofs.Common.{◌≡◌, ℕ, zero, suc, List, [], ◌∷◌, Option, Some, None, refl, subst, sym, ap, ◌∙◌, arith, inl, inr}
 use Rattle.std.specs.Prelude.{Bool, true, false, ◌≢◌, nat_lt, ◌||◌, ◌&&◌, if◌then◌else◌, MatchOption, Result, Ok, Err}
 use Rattle.std.specs.Result.{IsErrAnd}
 use Rattle.rpl_classes.specs.Faults.{IsNamed}
 use Rattle.rpl_classes.specs.declared.fault.SetFault.{SetFault}
 use Rattle.rpl_classes.specs.declared.fault.SetFault.TheVariants.{NoMemory, UnknownClass}
 use Rattle.std.specs.Str.{bytes_eq}
-use Rattle.std.specs.Option.{option_map}
+use Rattle.std.specs.Option.{option_map, option_or}
+use Rattle.std.specs.Str.{IsAscii, IsUtf8, chars}
+use Rattle.std.specs.Prelude.{encode_utf8_all, IfOk, IfSome}
+use Rattle.std.proofs.lemmas.Str.{chars-IsAscii, encodes-IsAscii, encodes-chars}
+use Rattle.std.specs.List.{list_all}
+use Rattle.std.proofs.lemmas.Str.Ascii.{IsAscii-nil, IsAscii-cons}
+use Rattle.rpl_unicode.specs.Named.{members}
+use Rattle.rpl_unicode.specs.Faults.{IsClass}
+use Rattle.rpl_unicode.specs.declared.fault.ClassFault.TheVariants as U
 use Rattle.std.specs.Cmp.Lexicographic.{bytes_decides}
-use Rattle.std.proofs.lemmas.Bool.{cases_Bool, cases_order, and_right, lt-ltb, false_from_ne_true}
+use Rattle.std.proofs.lemmas.Bool.{and_parts, ltb-true, cases_Bool, cases_order, and_right, false_from_ne_true}
 use Rattle.std.proofs.lemmas.Bool.Decides.{nat_tests}
 use Rattle.regex_class.specs.Ranges.{Range, in_range, in_ranges}
 use Rattle.regex_class.proofs.RangesLemmas.{in_range_tells, in_ranges-nil, in_ranges-cons}
-use Rattle.rpl_classes.specs.Sets.{HasJust}
-use Rattle.rpl_classes.specs.Norm.{norm}
-use Rattle.rpl_classes.specs.Algebra.{singles}
-use Rattle.rpl_classes.specs.Classes.{in_class, name_of, first_named, class_named, class_set, set_named}
+use Rattle.rpl_classes.specs.Sets.{is_char, IsNormal, HasJust}
+use Rattle.rpl_classes.specs.Algebra.{singles, set_of}
+use Rattle.rpl_classes.specs.Classes.{in_class, name_of, first_named, class_named, test_named}
 use Rattle.rpl_classes.specs.declared.classes.NamedClass.{NamedClass}
 use Rattle.rpl_classes.specs.declared.classes.NamedClass.TheVariants.{Alpha, Digit, Alnum, Upper, Lower, Space, Blank, Punct, Xdigit, Cntrl, Graph, Print}
-use Rattle.rpl_classes.proofs.Normal.{norm_just, norm_alike}
+use Rattle.rpl_classes.proofs.Normal.{norm_just, norm_normal, norm_only}
 
 no_name : (ks : List NamedClass) (name : List ℕ) → ((k : NamedClass) → name_of k ≢ name) → first_named ks name ≡ None
 no_name [] name h = refl
@@ -85,50 +92,93 @@ singles_members p (suc n) c = ap (λ l. in_ranges l c) (singles-suc p n) ∙ eli
   | inr h ↦ ap (λ b. in_ranges (if b then (n, n) ∷ singles p n else singles p n) c) h ∙ singles_members p n c ∙ without_one p n c h
 ]
 
-class_ascii : (k : NamedClass) (c : ℕ) → in_class k c ≡ true → c < 128
-class_ascii Alpha c h = grind (arith, nat_tests)
-class_ascii Digit c h = grind (arith, nat_tests)
-class_ascii Alnum c h = grind (arith, nat_tests)
-class_ascii Upper c h = grind (arith, nat_tests)
-class_ascii Lower c h = grind (arith, nat_tests)
-class_ascii Space c h = grind (arith, nat_tests)
-class_ascii Blank c h = grind (arith, nat_tests)
-class_ascii Punct c h = grind (arith, nat_tests)
-class_ascii Xdigit c h = grind (arith, nat_tests)
-class_ascii Cntrl c h = grind (arith, nat_tests)
-class_ascii Graph c h = grind (arith, nat_tests)
-class_ascii Print c h = grind (arith, nat_tests)
+char_low : (c : ℕ) → is_char c ≡ true → nat_lt c 0x11_0000 ≡ true
+char_low c h = grind (arith, nat_tests)
 
-guarded : (p : ℕ → Bool) (n c : ℕ) → (p c ≡ true → c < n) → (nat_lt c n && p c) ≡ p c
-guarded p n c h = elim (cases_Bool (p c)) [
-  | inl e ↦ ap (λ b. b && p c) (lt-ltb c n (h e))
-  | inr f ↦ and_right (nat_lt c n) (p c) f ∙ sym f
-]
+-- of the characters those of the numbers that pass a test are the ones that pass it
+singles_just : (p : ℕ → Bool) → HasJust (singles p 0x11_0000) p
+singles_just p c e = singles_members p 0x11_0000 c ∙ ap (λ b. b && p c) (char_low c e)
 
--- a class's set has just its characters
-pub class_just : (k : NamedClass) → HasJust (class_set k) (in_class k)
-unfolding class_set
-class_just k c e = norm_just (singles (in_class k) 128) c e ∙ singles_members (in_class k) 128 c ∙ guarded (in_class k) 128 c (class_ascii k c)
+-- the set of a test, and the only list that is it
+pub set_just : (p : ℕ → Bool) → HasJust (set_of p) p
+unfolding set_of
+set_just p c e = norm_just (singles p 0x11_0000) c e ∙ singles_just p c e
 
--- ranges with just the characters of a class are its set
-pub class_only : (k : NamedClass) (rs : List Range) → HasJust rs (in_class k) → norm rs ≡ class_set k
-unfolding class_set
-class_only k rs h = norm_alike rs (singles (in_class k) 128) (λ c e. h c e ∙ sym (singles_members (in_class k) 128 c ∙ guarded (in_class k) 128 c (class_ascii k c)))
+pub set_normal : (p : ℕ → Bool) → IsNormal (set_of p)
+unfolding set_of
+set_normal p = norm_normal (singles p 0x11_0000)
 
--- the name of a class finds its set
-pub set_found : (k : NamedClass) (name : List ℕ) → name_of k ≡ name → set_named name ≡ Some (class_set k)
-set_found k name e = ap (option_map class_set) (ap class_named (sym e) ∙ own_name k)
+pub set_only : (p : ℕ → Bool) (s : List Range) → IsNormal s → HasJust s p → s ≡ set_of p
+unfolding set_of
+set_only p s n h = norm_only (singles p 0x11_0000) s n (λ c e. h c e ∙ sym (singles_just p c e))
 
-pub set_missing : (name : List ℕ) → ((k : NamedClass) → name_of k ≢ name) → set_named name ≡ None
-set_missing name h = ap (option_map class_set) (sym (no_class name h))
+-- ---- names: a class's own name is ASCII, so it is the same in bytes and in characters
 
--- a name whose class is there, and what its set is
-pub named_set : (k : NamedClass) (name : List ℕ) (rs s : List Range) → name_of k ≡ name → HasJust rs (in_class k) → s ≡ norm rs → IsNamed (set_named name) (Ok s)
-named_set k name rs s e h q = subst (λ o. IsNamed o (Ok s)) (sym (set_found k name e)) (q ∙ class_only k rs h)
+ascii_from : (bs : List ℕ) → list_all (λ b. nat_lt b 128) bs ≡ true → IsAscii bs
+ascii_from [] h = IsAscii-nil
+ascii_from (b ∷ bs) h = let p = and_parts (nat_lt b 128) (list_all (λ x. nat_lt x 128) bs) h in IsAscii-cons b bs (ltb-true b 128 p.0) (ascii_from bs p.1)
 
-pub named_memory : (k : NamedClass) (name : List ℕ) (r : Result (List Range) SetFault) → name_of k ≡ name → IsErrAnd r (λ e. e ≡ NoMemory) → IsNamed (set_named name) r
-named_memory k name (Ok s) e h = absurd h
-named_memory k name (Err f) e h = subst (λ o. IsNamed o (Err f)) (sym (set_found k name e)) h
+ascii_name : (k : NamedClass) → IsAscii (name_of k)
+ascii_name Alpha = ascii_from (name_of Alpha) refl
+ascii_name Digit = ascii_from (name_of Digit) refl
+ascii_name Alnum = ascii_from (name_of Alnum) refl
+ascii_name Upper = ascii_from (name_of Upper) refl
+ascii_name Lower = ascii_from (name_of Lower) refl
+ascii_name Space = ascii_from (name_of Space) refl
+ascii_name Blank = ascii_from (name_of Blank) refl
+ascii_name Punct = ascii_from (name_of Punct) refl
+ascii_name Xdigit = ascii_from (name_of Xdigit) refl
+ascii_name Cntrl = ascii_from (name_of Cntrl) refl
+ascii_name Graph = ascii_from (name_of Graph) refl
+ascii_name Print = ascii_from (name_of Print) refl
 
-pub named_missing : (name : List ℕ) → ((k : NamedClass) → name_of k ≢ name) → IsNamed (set_named name) (Err (UnknownClass 0))
-named_missing name h = subst (λ o. IsNamed o (Err (UnknownClass 0))) (sym (set_missing name h)) refl
+pub test_found : (k : NamedClass) (bs : List ℕ) → name_of k ≡ bs → test_named (chars bs) ≡ Some (in_class k)
+test_found k bs e =
+    let name : class_named (chars bs) ≡ Some k = ap class_named (ap chars (sym e) ∙ chars-IsAscii (name_of k) (ascii_name k)) ∙ own_name k in
+    ap (λ (o : Option NamedClass). option_or (option_map in_class o) (members (chars bs))) name
+
+pub test_other : (bs : List ℕ) → IsUtf8 bs → ((k : NamedClass) → name_of k ≢ bs) → test_named (chars bs) ≡ members (chars bs)
+test_other bs u h =
+    let name : class_named (chars bs) ≡ None = sym (no_class (chars bs) (λ k e. h k (sym (encodes-IsAscii (name_of k) (ascii_name k)) ∙ (ap encode_utf8_all e ∙ encodes-chars bs u)))) in
+    ap (λ (o : Option NamedClass). option_or (option_map in_class o) (members (chars bs))) name
+
+-- ---- what a call answers that looks for a name
+
+pub named_as : (o q : Option (ℕ → Bool)) (r : Result (List Range) SetFault) → q ≡ o → IsNamed (option_map set_of o) r → IsNamed (option_map set_of q) r
+named_as o q r e h = subst (λ x. IsNamed (option_map set_of x) r) (sym e) h
+
+pub named_test : (p : ℕ → Bool) (q : Option (ℕ → Bool)) (s : List Range) → q ≡ Some p → IsNormal s → HasJust s p → IsNamed (option_map set_of q) (Ok s)
+named_test p q s e n h = named_as (Some p) q (Ok s) e (set_only p s n h)
+
+pub named_memory : (p : ℕ → Bool) (q : Option (ℕ → Bool)) (r : Result (List Range) SetFault) → q ≡ Some p → IsErrAnd r (λ e. e ≡ NoMemory) → IsNamed (option_map set_of q) r
+named_memory p q (Ok s) e h = absurd h
+named_memory p q (Err f) e h = named_as (Some p) q (Err f) e h
+
+pub named_normal : (o : Option (ℕ → Bool)) (r : Result (List Range) SetFault) → IsNamed (option_map set_of o) r → IfOk r IsNormal
+named_normal (Some p) (Ok s) h = subst IsNormal (sym h) (set_normal p)
+named_normal None (Ok s) h = absurd h
+named_normal (Some p) (Err e) h = tt
+named_normal None (Err e) h = tt
+
+pub named_members : (o : Option (ℕ → Bool)) (r : Result (List Range) SetFault) → IsNamed (option_map set_of o) r → IfOk r (λ s. IfSome o (HasJust s))
+named_members (Some p) (Ok s) h = subst (λ l. HasJust l p) (sym h) (set_just p)
+named_members None (Ok s) h = absurd h
+named_members (Some p) (Err e) h = tt
+named_members None (Err e) h = tt
+
+-- a set that Unicode has a name for
+pub class_normal : (o : Option (ℕ → Bool)) (s : List Range) → IsClass o (Ok s) → IsNormal s
+class_normal (Some p) s h = h.normal
+class_normal None s h = absurd h
+
+pub class_named_so : (o : Option (ℕ → Bool)) (s t : List Range) → t ≡ s → IsClass o (Ok s) → IsNamed (option_map set_of o) (Ok t)
+class_named_so (Some p) s t e h = e ∙ set_only p s h.normal h.members
+class_named_so None s t e h = absurd h
+
+pub class_memory : (o : Option (ℕ → Bool)) → IsNamed (option_map set_of o) (Err NoMemory)
+class_memory (Some p) = refl
+class_memory None = λ n. absurd (n refl)
+
+pub class_unknown : (o : Option (ℕ → Bool)) → IsClass o (Err U.UnknownClass) → IsNamed (option_map set_of o) (Err (UnknownClass 0))
+class_unknown (Some p) h = absurd (cc h)
+class_unknown None h = λ _. refl

@@ -1,23 +1,19 @@
 -- Names of classes, found piece by piece.
-use Rattle.std.proofs.Common.{Option, Some, None, ◌++◌, ap₂, inl, inr, ◌≡◌, ℕ, ◌-◌, ◌<◌, List, [], ◌∷◌, take, drop, refl, sym, ap, ◌∙◌, arith}
-use Rattle.std.specs.Prelude.{Bool, true, false, ◌&&◌, if◌then◌else◌, slice_range, Ok, Err, chars, encode_utf8_all, IsUtf8}
-use Rattle.std.proofs.lemmas.Str.{encode_ascii, encodes-chars}
-use Rattle.std.proofs.lemmas.Bool.Decides.{nat_tests}
+use Rattle.std.proofs.Common.{Option, Some, None, ◌≡◌, ℕ, ◌-◌, List, [], ◌∷◌, take, drop, refl, sym, ap, ◌∙◌, arith}
+use Rattle.std.specs.Prelude.{Bool, true, false, ◌&&◌, if◌then◌else◌, slice_range, Ok, Err}
 use Rattle.regex_class.specs.Ranges.{Range}
 use Rattle.rpl_classes.specs.Algebra.{others}
 use Rattle.rpl_classes.specs.Classes.{set_named}
 use Rattle.rpl_classes.specs.Faults.{IsNamed}
 use Rattle.rpl_classes.specs.declared.fault.SetFault.{SetFault}
 use Rattle.rpl_classes.specs.declared.fault.SetFault.TheVariants.{UnknownClass}
-use Rattle.rpl_classes.specs.declared.symbols.Symbol.{Symbol}
-use Rattle.rpl_classes.specs.declared.symbols.Symbol.TheVariants.{Plain, Escaped, End}
-use Rattle.std.proofs.lemmas.Bool.{and_from, cond-true, cond-false, true_from_ne_false, cases_Bool, false_from_ne_true}
+use Rattle.std.proofs.lemmas.Bool.{and_from, cond-true, cond-false, true_from_ne_false, false_from_ne_true}
 use Rattle.rpl_text.specs.Places.{index, IsPlace}
-use Rattle.rpl_classes.specs.Symbols.{Placed, symbols_from, first, place, rest, begins}
+use Rattle.rpl_classes.specs.Symbols.{symbols_from, first, place, rest, begins}
 use Rattle.rpl_classes.specs.Lists.{Reading, changed, char_of}
 use Rattle.rpl_classes.specs.Brackets.{is_word, word, past_word, is_name, named, name, class}
-use Rattle.rpl_classes.specs.Scanned.{Passed, Worded, NameFound, ClassFound}
-use Rattle.rpl_classes.proofs.Steps.{word-nil, word-cons, past_word-cons}
+use Rattle.rpl_classes.specs.inside.Scanned.{Passed, Worded, NameFound, ClassFound}
+use Rattle.rpl_classes.proofs.Steps.{word-cons, past_word-cons}
 use Rattle.rpl_classes.proofs.ListSteps.{shape, place_from}
 
 past_none : (t : List ℕ) (p : ℕ) → is_word (first (symbols_from t p)) ≡ false → past_word (symbols_from t p) ≡ symbols_from t p
@@ -58,23 +54,6 @@ name_found t p e c q h w n a p1 b p2 =
       order = w.past.forward;
       behind = record { left = ap rest after ∙ p2.left; next = p2.next; forward = omega (arith, w.past.forward, p1.forward, p2.forward) };
     }
-
--- a name is ASCII: its bytes are its characters
-word_ascii : (x : Symbol) → is_word x ≡ true → char_of x < 128
-word_ascii (Plain c) h = grind (arith, nat_tests)
-word_ascii (Escaped c) h = absurd (cc)
-word_ascii End h = absurd (cc)
-
-word_bytes : (s : List Placed) → encode_utf8_all (word s) ≡ word s
-word_bytes [] = ap encode_utf8_all word-nil ∙ sym word-nil
-word_bytes (x ∷ s) = elim (cases_Bool (is_word x.1)) [
-  | inl h ↦ let e = word-cons x s ∙ cond-true (is_word x.1) (char_of x.1 ∷ word s) [] h in
-      ap encode_utf8_all e ∙ ap₂ ◌++◌ (encode_ascii (char_of x.1) (word_ascii x.1 h)) (word_bytes s) ∙ sym e
-  | inr h ↦ let e = word-cons x s ∙ cond-false (is_word x.1) (char_of x.1 ∷ word s) [] h in ap encode_utf8_all e ∙ sym e
-]
-
-pub name_bytes : (bs w : List ℕ) (s : List Placed) → IsUtf8 bs → chars bs ≡ w → word s ≡ w → bs ≡ word s
-name_bytes bs w s u a b = sym (encodes-chars bs u) ∙ ap encode_utf8_all (a ∙ sym b) ∙ word_bytes s
 
 -- what a found class reads as
 pub class_reads : (t : List ℕ) (p at : ℕ) (negated : Bool) (o e q : ℕ) → ClassFound t p negated o e q

@@ -1,9 +1,9 @@
 -- The members of what is done with sets, and that a class with these members is it.
-use Rattle.std.proofs.Common.{length, take, ◌≡◌, ℕ, zero, suc, ◌+◌, ◌<◌, ◌≤◌, List, [], ◌∷◌, ◌++◌, min, max, refl, sym, ap, ap₂, ◌∙◌, arith, subst}
+use Rattle.std.proofs.Common.{◌≡◌, ℕ, zero, suc, ◌+◌, ◌≤◌, List, [], ◌∷◌, ◌++◌, min, max, refl, sym, ap, ap₂, ◌∙◌, arith, subst}
 use Rattle.std.specs.Prelude.{Result, Ok, Err, IfOk, Bool, true, false, nat_eq, nat_le, ◌||◌, ◌&&◌, not}
 use Rattle.std.proofs.lemmas.Bool.Decides.{nat_tests}
-use Rattle.regex_class.specs.Ranges.{Range, in_range, in_ranges, range_at, IsCanonical, HasExactly}
-use Rattle.regex_class.proofs.RangesLemmas.{or_assoc, in_ranges-push, in_ranges-more, in_range_tells, in_ranges-nil, in_ranges-cons, in_ranges-append, or-false, same_members-same}
+use Rattle.regex_class.specs.Ranges.{Range, in_range, in_ranges, IsCanonical, HasExactly}
+use Rattle.regex_class.proofs.RangesLemmas.{in_ranges-push, in_range_tells, in_ranges-nil, in_ranges-cons, in_ranges-append, or-false, same_members-same}
 use Rattle.rpl_classes.specs.Sets.{is_char, IsNormal, HasJust}
 use Rattle.rpl_classes.specs.Norm.{norm}
 use Rattle.rpl_classes.specs.Algebra.{shares, all_shares, both, outside, others, without}
@@ -168,27 +168,6 @@ all_without a = ap (λ l. without l a) (sym norm_whole) ∙ same_members-same _ 
     without_members (norm ((0, 0x10_ffff) ∷ [])) a c
     ∙ ap (λ x. is_char c && (x && not (in_ranges a c))) (norm_members ((0, 0x10_ffff) ∷ []) c ∙ whole c)
     ∙ drop_whole (is_char c) (not (in_ranges a c)) ∙ sym (others_members a c))
-
-pub cut_none : (ps : List Range) → ps ≡ [] → HasExactly ps (λ c. is_char c && in_ranges [] c)
-cut_none ps e c le = ap (λ l. in_ranges l c) e ∙ in_ranges-nil c ∙ nothing (is_char c) ∙ ap (λ b. is_char c && b) (sym (in_ranges-nil c))
-
-parted : (r : Range) (c : ℕ) → c ≤ 0x10_ffff → (in_range (r.0, min r.1 0xd7ff) c || in_range (max r.0 0xe000, r.1) c) ≡ (is_char c && in_range r c)
-parted r c le = grind (arith, nat_tests, in_range_tells (r.0, min r.1 0xd7ff) c, in_range_tells (max r.0 0xe000, r.1) c, in_range_tells r c)
-
-pub cut_more : (old ps rs : List Range) (i : ℕ) (r : Range) → i < length rs → r ≡ range_at rs i → HasExactly old (λ c. is_char c && in_ranges (take i rs) c)
-    → ps ≡ (old ++ (r.0, min r.1 0xd7ff) ∷ []) ++ (max r.0 0xe000, r.1) ∷ [] → HasExactly ps (λ c. is_char c && in_ranges (take (i + 1) rs) c)
-cut_more old ps rs i r lt s h e c le =
-    ap (λ l. in_ranges l c) e ∙ in_ranges-push (old ++ (r.0, min r.1 0xd7ff) ∷ []) (max r.0 0xe000, r.1) c
-    ∙ ap (λ b. b || in_range (max r.0 0xe000, r.1) c) (in_ranges-push old (r.0, min r.1 0xd7ff) c)
-    ∙ sym (or_assoc (in_ranges old c) (in_range (r.0, min r.1 0xd7ff) c) (in_range (max r.0 0xe000, r.1) c))
-    ∙ ap₂ ◌||◌ (h c le) (parted r c le)
-    ∙ spread (is_char c) (in_ranges (take i rs) c) (in_range r c)
-    ∙ ap (λ (x : Range). is_char c && (in_ranges (take i rs) c || in_range x c)) s
-    ∙ ap (λ b. is_char c && b) (sym (in_ranges-more rs i c lt))
-
--- a class of the parts of some ranges is their normal form
-pub norm_from_cut : (u ps rs : List Range) → IsCanonical u → HasExactly ps (λ c. is_char c && in_ranges rs c) → HasExactly u (in_ranges ps) → u ≡ norm rs
-norm_from_cut u ps rs k h g = norm_from_class u rs k (λ c le. g c le ∙ h c le)
 
 -- the members of a set that was made, where it was
 pub range_made : {E : Type 0} (low high : ℕ) (r : Result (List Range) E) → IfOk r (λ s. s ≡ norm ((low, high) ∷ [])) → IfOk r (λ s. HasJust s (λ c. nat_le low c && nat_le c high))

@@ -11,7 +11,7 @@ use Rattle.rpl_text.proofs.Walks.{some_step, none_step, index_at, place_at, at_s
 use Rattle.rpl_text.proofs.Cuts.{at-drop}
 use Rattle.rpl_text.proofs.Escaped.{escape_plain, drop_front}
 use Rattle.rpl_classes.specs.Symbols.{escaped, symbols, symbols_from}
-use Rattle.rpl_classes.specs.Scanned.{Scanned}
+use Rattle.rpl_classes.specs.inside.Scanned.{Scanned}
 use Rattle.rpl_classes.specs.declared.symbols.Symbol.TheVariants.{Plain, Escaped, End}
 
 pub symbols-nil : (p : ℕ) → symbols 0 p [] ≡ (p, End) ∷ []

@@ -7,7 +7,7 @@ use Rattle.rpl_text.proofs.Walks.{at_le, at_end, get_below}
 use Rattle.rpl_classes.specs.Symbols.{Placed, symbols_from, is_blank, past_blanks}
 use Rattle.rpl_classes.specs.Lists.{char_of}
 use Rattle.rpl_classes.specs.Brackets.{is_word, word, past_word}
-use Rattle.rpl_classes.specs.Scanned.{behind, GoesOn, Scanned}
+use Rattle.rpl_classes.specs.inside.Scanned.{behind, GoesOn, Scanned}
 use Rattle.rpl_classes.specs.declared.symbols.Symbol.{Symbol}
 use Rattle.rpl_classes.specs.declared.symbols.Symbol.TheVariants.{Plain, Escaped, End}
 

@@ -1,6 +1,7 @@
 -- What is done with sets, on any lists of ranges. Each answer is a normal form.
 use Rattle.std.specs.Prelude.{ℕ, zero, suc, ◌+◌, ◌-◌, Bool, ◌&&◌, nat_le, if◌then◌else◌, List, [], ◌∷◌, ◌++◌, min, max}
 use Rattle.regex_class.specs.Ranges.{Range, in_ranges}
+use Rattle.rpl_unicode.specs.Folding.{folds_with}
 use Rattle.rpl_classes.specs.Norm.{norm}
 
 -- what a range shares with each of the ranges
@@ -36,6 +37,10 @@ unfoldable pub singles : (ℕ → Bool) → ℕ → List Range
 singles p zero = []
 singles p (suc n) = if p n then (n, n) ∷ singles p n else singles p n
 
+-- the set of the characters that pass a test
+unfoldable pub set_of : (ℕ → Bool) → List Range
+set_of p = norm (singles p 0x11_0000)
+
 -- the other case of an ASCII letter, and any other character itself
 abbrev pub other_case : ℕ → ℕ
 other_case c = if nat_le 0x41 c && nat_le c 0x5a then c + 32 else (if nat_le 0x61 c && nat_le c 0x7a then c - 32 else c)
@@ -43,3 +48,7 @@ other_case c = if nat_le 0x41 c && nat_le c 0x5a then c + 32 else (if nat_le 0x6
 -- the characters of a set, and the other case of each ASCII letter in it
 unfoldable pub widened : List Range → List Range
 widened rs = norm (rs ++ singles (λ c. in_ranges rs (other_case c)) 128)
+
+-- the characters that share a simple folding with one of a set
+unfoldable pub folded : List Range → List Range
+folded rs = set_of (folds_with (in_ranges rs))

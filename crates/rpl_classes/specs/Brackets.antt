@@ -1,4 +1,6 @@
 -- The set of a bracket: a class, a compound of brackets, or a list. `[` is 91, `]` 93, `^` 94, `:` 58, `-` 45, `&` 38.
+-- A definition whose parts call one another takes the reader of the inner part, and a number that bounds how many there
+-- are. `Laws` says the same without a number, and that any number that is large enough gives the same.
 use Rattle.std.specs.Prelude.{ℕ, zero, suc, Bool, true, false, ◌&&◌, ◌||◌, nat_eq, if◌then◌else◌, List, [], ◌∷◌, ◌++◌, Option, Some, None, Result, Ok, Err}
 use Rattle.regex_class.specs.Ranges.{Range}
 use Rattle.rpl_classes.specs.Norm.{norm}
@@ -47,12 +49,14 @@ name p s = named p (set_named (word s)) (rest (rest (past_word s)))
 abbrev pub class : ℕ → List Placed → Reading
 class p s = if begins 94 (rest s) then changed others (name p (rest (rest s))) else name p (rest s)
 
--- ---- compounds, with b the reader of a bracket and n a number of brackets that is large enough
+-- ---- compounds, with b the reader of a bracket, and at most n members
 
--- further brackets side by side, behind those that have the ranges a
+-- further brackets side by side, behind those that have the ranges a: the union of all of them
 unfoldable pub more : (List Placed → Reading) → ℕ → List Range → List Placed → Reading
 more b zero a s = Ok (norm a, s)
-more b (suc n) a s = if begins 91 (past_blanks s) then and_then (b (past_blanks s)) (λ c r. more b n (a ++ c) r) else Ok (norm a, s)
+more b (suc n) a s =
+    if begins 91 (past_blanks s) then and_then (b (past_blanks s)) (λ c r. more b n (a ++ c) r)
+    else Ok (norm a, s)
 
 -- brackets side by side are a union
 abbrev pub union : (List Placed → Reading) → ℕ → List Placed → Reading
@@ -64,8 +68,10 @@ joined b zero a s = Err (BadSet (place (past_blanks s)))
 joined b (suc n) a s =
     let r = past_blanks s in
     if begins 93 r then Ok (a, rest r)
-    else (if begins 38 r && begins 38 (rest r) then and_then (union b n (rest (rest r))) (λ c q. joined b n (both a c) q)
-    else (if begins 45 r && begins 45 (rest r) then and_then (union b n (rest (rest r))) (λ c q. joined b n (without a c) q)
+    else (if begins 38 r && begins 38 (rest r)
+    then and_then (union b n (rest (rest r))) (λ c q. joined b n (both a c) q)
+    else (if begins 45 r && begins 45 (rest r)
+    then and_then (union b n (rest (rest r))) (λ c q. joined b n (without a c) q)
     else Err (BadSet (place r))))
 
 abbrev pub compound : (List Placed → Reading) → ℕ → List Placed → Reading

@@ -1,10 +1,11 @@
--- The named classes: those of the POSIX C locale (IEEE Std 1003.1, LC_CTYPE), each by the standard's own words.
+-- The named classes: those of the POSIX C locale (IEEE Std 1003.1, LC_CTYPE), each by the standard's own words, and
+-- beside them what Unicode has a name for.
 use Rattle.std.specs.Prelude.{ℕ, Bool, not, ◌&&◌, ◌||◌, nat_eq, nat_le, List, [], ◌∷◌, Option, Some, None, if◌then◌else◌, codes}
 use Rattle.std.specs.Str.{bytes_eq}
-use Rattle.std.specs.Option.{option_map}
+use Rattle.std.specs.Option.{option_map, option_or}
 use Rattle.regex_class.specs.Ranges.{Range}
-use Rattle.rpl_classes.specs.Norm.{norm}
-use Rattle.rpl_classes.specs.Algebra.{singles}
+use Rattle.rpl_unicode.specs.Named.{members}
+use Rattle.rpl_classes.specs.Algebra.{set_of}
 use Rattle.rpl_classes.specs.declared.classes.NamedClass.{NamedClass}
 use Rattle.rpl_classes.specs.declared.classes.NamedClass.TheVariants.{Alpha, Digit, Alnum, Upper, Lower, Space, Blank, Punct, Xdigit, Cntrl, Graph, Print}
 
@@ -36,12 +37,14 @@ in_class Lower c = is_lower c
 in_class Digit c = is_digit c
 in_class Alpha c = is_alpha c
 in_class Alnum c = is_alnum c
-in_class Xdigit c = is_digit c || ((nat_le 0x41 c && nat_le c 0x46) || (nat_le 0x61 c && nat_le c 0x66))  -- digits, A to F, a to f
+-- digits, A to F, a to f
+in_class Xdigit c = is_digit c || ((nat_le 0x41 c && nat_le c 0x46) || (nat_le 0x61 c && nat_le c 0x66))
 in_class Graph c = is_graph c
 in_class Punct c = is_graph c && not (is_alnum c)  -- visible, and neither letter nor digit
 in_class Print c = is_graph c || nat_eq c 0x20  -- visible, and the space
 in_class Blank c = nat_eq c 0x20 || nat_eq c 0x9  -- space and tab
-in_class Space c = nat_eq c 0x20 || (nat_le 0x9 c && nat_le c 0xd)  -- space, tab, line feed, vertical tab, form feed, carriage return
+-- space, tab, line feed, vertical tab, form feed, carriage return
+in_class Space c = nat_eq c 0x20 || (nat_le 0x9 c && nat_le c 0xd)
 in_class Cntrl c = nat_le c 0x1f || nat_eq c 0x7f  -- what ASCII has that isn't printed
 
 -- a class's name between the colons of a bracket
@@ -66,12 +69,15 @@ first_named (k ∷ ks) name = if bytes_eq (name_of k) name then Some k else firs
 
 -- the class with a name, where there is one
 unfoldable pub class_named : List ℕ → Option NamedClass
-class_named = first_named (Alpha ∷ Digit ∷ Alnum ∷ Upper ∷ Lower ∷ Space ∷ Blank ∷ Punct ∷ Xdigit ∷ Cntrl ∷ Graph ∷ Print ∷ [])
+class_named =
+    first_named
+    (Alpha ∷ Digit ∷ Alnum ∷ Upper ∷ Lower ∷ Space ∷ Blank ∷ Punct ∷ Xdigit ∷ Cntrl ∷ Graph ∷ Print ∷ [])
 
--- a class as a set, all of whose characters are ASCII
-unfoldable pub class_set : NamedClass → List Range
-class_set k = norm (singles (in_class k) 128)
+-- the test of the characters that a name stands for: that of the class with just this name, or else what the name
+-- stands for in Unicode, where it stands for a set
+abbrev pub test_named : List ℕ → Option (ℕ → Bool)
+test_named name = option_or (option_map in_class (class_named name)) (members name)
 
 -- the set with a name, where there is one
 abbrev pub set_named : List ℕ → Option (List Range)
-set_named name = option_map class_set (class_named name)
+set_named name = option_map set_of (test_named name)

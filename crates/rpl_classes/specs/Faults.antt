@@ -10,7 +10,7 @@ abbrev pub IsNamed : Option (List Range) → Result (List Range) SetFault → Ty
 IsNamed (Some s) (Ok t) = t ≡ s
 IsNamed None (Ok t) = ⊥
 IsNamed (Some s) (Err e) = e ≡ NoMemory
-IsNamed None (Err e) = e ≡ UnknownClass 0
+IsNamed None (Err e) = e ≢ NoMemory → e ≡ UnknownClass 0
 
 -- a bracket's set and its mark, or the first fault; or memory ran out
 abbrev pub IsRead : Result (List Range × Bool) SetFault → Result Bracket SetFault → Type 0

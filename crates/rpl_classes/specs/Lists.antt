@@ -35,7 +35,9 @@ char_of End = 0
 
 -- the list is x-y and nothing else
 abbrev pub is_range : List Placed → Bool
-is_range s = is_member (first s) && (begins 45 (rest s) && (is_member (first (rest (rest s))) && begins 93 (rest (rest (rest s)))))
+is_range s =
+    is_member (first s)
+    && (begins 45 (rest s) && (is_member (first (rest (rest s))) && begins 93 (rest (rest (rest s)))))
 
 -- the range of such a list, whose ends may not fall
 abbrev pub range_list : List Placed → Reading

@@ -14,7 +14,8 @@ join r (s ∷ ss) =
 unfoldable pub add : ℕ → ℕ → List Range → List Range
 add low high ss = if nat_le low high then join (low, high) ss else ss
 
--- the one sorted list of ranges that don't touch, hold no surrogates, and have just the characters of the ranges as members
+-- the one sorted list of ranges that don't touch, hold no surrogates, and have just the characters of the ranges as
+-- members
 unfoldable pub norm : List Range → List Range
 norm [] = []
 norm (r ∷ rs) = add r.0 (min r.1 0xd7ff) (add (max r.0 0xe000) (min r.1 0x10_ffff) (norm rs))

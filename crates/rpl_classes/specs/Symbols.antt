@@ -14,7 +14,8 @@ abbrev pub escaped : ℕ → Option (ℕ × ℕ) → (ℕ → List Placed) → L
 escaped p None rest = (p, End) ∷ []
 escaped p (Some (c, k)) rest = (p, Escaped c) ∷ rest k
 
--- the symbols from a byte place on, behind k characters that belong to an escape; End is last, at the text's end or at a backslash that begins no escape
+-- the symbols from a byte place on, behind k characters that belong to an escape; End is last, at the text's end or at
+-- a backslash that begins no escape
 unfoldable pub symbols : ℕ → ℕ → List ℕ → List Placed
 symbols k p [] = (p, End) ∷ []
 symbols (suc k) p (c ∷ cs) = symbols k (p + len_utf8 c) cs

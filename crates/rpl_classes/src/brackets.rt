@@ -1,13 +1,16 @@
 // Brackets: classes, compounds and lists.
-ghost use Rattle.std.specs.Prelude.{◌≡◌, ℕ, ◌+◌, ◌<◌, ◌≤◌, slice_range, false, chars, MatchOption, IfOk};
+ghost use Rattle.std.specs.Prelude.{◌≡◌, ◌+◌, ◌≤◌, slice_range, false, chars, if◌then◌else◌, MatchOption, IfOk};
 ghost use Rattle.rpl_text.specs.Places.{index, IsPlace};
-ghost use Rattle.rpl_classes.specs.Symbols.{symbols_from, size};
-ghost use Rattle.rpl_classes.specs.Brackets.{is_name, is_class, class, union, compound, body, bracket, bracket_of};
-ghost use Rattle.rpl_classes.specs.Scanned.{NameFound, ClassFound, Gives, Ends, with_place, AcceptsTwice};
+ghost use Rattle.rpl_classes.specs.Symbols.{symbols_from};
+ghost use Rattle.rpl_classes.specs.Algebra.{others};
+ghost use Rattle.rpl_classes.specs.Brackets.{is_name, is_class, class, bracket_of};
+ghost use Rattle.rpl_classes.specs.Laws.{reading, content};
+ghost use Rattle.rpl_classes.specs.inside.Scanned.{NameFound, ClassFound, Gives, with_place};
+ghost use Rattle.rpl_classes.specs.inside.Stack.{signed, Begins, IsMarked, GivesSet};
 ghost use Rattle.rpl_classes.specs.Faults.{IsRead};
-ghost use Rattle.rpl_classes.specs.Operators.{applied, OperatorAt};
 
 use crate::NoMemory;
+use crate::compounds::compound_set;
 use crate::fault::SetFault;
 use crate::lists::list_at;
 use crate::set::Set;
@@ -30,7 +33,8 @@ struct ClassText {
 /// The name of a class at a place, where `:` and `]` follow it: its end, and the place behind.
 fn name_at(text: &str, start: usize) -> Option<(usize, usize)>
     requires { IsPlace (chars text.now) start }
-    ensures { MatchOption result (is_name (symbols_from (chars text.now) start) ≡ false) (λ r. NameFound (chars text.now) start r.0 r.1) }
+    ensures { let t = chars text.now in
+        MatchOption result (is_name (symbols_from t start) ≡ false) (λ r. NameFound t start r.0 r.1) }
 {
     let end = skip_word(text, start);
     if end == start {
@@ -44,7 +48,9 @@ fn name_at(text: &str, start: usize) -> Option<(usize, usize)>
 /// The class at a place behind a bracket's `[`.
 fn class_at(text: &str, place: usize) -> Option<ClassText>
     requires { IsPlace (chars text.now) place }
-    ensures { MatchOption result (is_class (symbols_from (chars text.now) place) ≡ false) (λ r. ClassFound (chars text.now) place r.negated r.start r.end r.next) }
+    ensures { let t = chars text.now in
+        MatchOption result (is_class (symbols_from t place) ≡ false)
+        (λ r. ClassFound t place r.negated r.start r.end r.next) }
 {
     let name = accept(text, place, ':')?;
     let mark = accept(text, name, '^');
@@ -63,7 +69,7 @@ fn part(text: &str, from: usize, to: usize) -> &str
     requires from { IsPlace (chars text.now) from }
     requires to { IsPlace (chars text.now) to }
     requires order { from ≤ to }
-    ensures { chars result.now ≡ slice_range (chars text.now) (index (chars text.now) from) (index (chars text.now) to) }
+    ensures { let t = chars text.now in chars result.now ≡ slice_range t (index t from) (index t to) }
 {
     Text::new(text).slice(from, to)
 }
@@ -92,118 +98,65 @@ fn class_set(
     }
 }
 
-/// What joins two unions of brackets.
-#[derive(Clone, Copy)]
-enum Operator {
-    Both,
-    Without,
-}
-
-impl Operator {
-    fn apply(self, alloc: Global, left: &Set, right: &Set) -> Result<Set, NoMemory>
-        ensures { IfOk result (λ s. s ≡ applied self left.now right.now) }
-    {
-        match self {
-            Operator::Both => left.both(alloc, right),
-            Operator::Without => left.without(alloc, right),
-        }
+/// The set, or its complement where a `^` says so.
+pub(crate) fn signed_set(alloc: Global, negated: bool, set: Set) -> Result<Set, NoMemory>
+    ensures { IfOk result (λ s. s ≡ (if negated then others set else set)) }
+{
+    if negated {
+        set.complement(alloc)
+    } else {
+        Ok(set)
     }
 }
 
-/// The place behind a character that stands twice.
-fn accept_twice(text: &str, place: usize, c: char) -> Option<usize>
-    requires { IsPlace (chars text.now) place }
-    ensures { AcceptsTwice (chars text.now) place c result }
-{
-    let next = accept(text, place, c)?;
-    accept(text, next, c)
+/// What stands at a bracket's place.
+pub(crate) enum Begun {
+    /// The whole bracket: its set, and the place behind its `]`.
+    Whole(Set, usize),
+    /// A compound: whether a `^` stands before it, and the place of its first member.
+    Compound(bool, usize),
 }
 
-/// The operator at a place, and the place behind it.
-fn operator_at(text: &str, place: usize) -> Option<(Operator, usize)>
+/// What stands behind a bracket's `[` and `^`: a list, or a compound up to its first member.
+fn content_at(alloc: Global, text: &str, negated: bool, place: usize) -> Result<Begun, SetFault>
     requires { IsPlace (chars text.now) place }
-    ensures { OperatorAt (chars text.now) place result }
+    ensures value { let t = chars text.now in Begins t place (signed negated (content (symbols_from t place))) result }
+    ensures mark { IfOk result (IsMarked negated) }
 {
-    if let Some(next) = accept_twice(text, place, '&') {
-        return Some((Operator::Both, next));
+    let start = skip_blanks(text, place);
+    if accept(text, start, '[').is_some() {
+        return Ok(Begun::Compound(negated, start));
     }
-    let next = accept_twice(text, place, '-')?;
-    Some((Operator::Without, next))
+    let (set, next) = list_at(alloc, text, place)?;
+    Ok(Begun::Whole(signed_set(alloc, negated, set)?, next))
 }
 
-/// A bracket at a place, with its `]`.
-#[cycle(bracket)]
-fn bracket_at(alloc: Global, text: &str, place: usize) -> Result<(Set, usize), SetFault>
+/// The bracket at a place, up to its first member where it is a compound.
+pub(crate) fn begin_at(alloc: Global, text: &str, place: usize) -> Result<Begun, SetFault>
     requires { IsPlace (chars text.now) place }
-    ensures value { (n : ℕ) → size (chars text.now) < place + n → Gives (chars text.now) result (bracket n (symbols_from (chars text.now) place)) }
-    ensures place { Ends (chars text.now) place result }
+    ensures { let t = chars text.now in Begins t (place + 1) (reading (symbols_from t place)) result }
 {
     let Some(inside) = accept(text, place, '[') else {
         return Err(SetFault::BadSet { at: place });
     };
     if let Some(found) = class_at(text, inside) {
-        return Ok((class_set(alloc, text, place, inside, found)?, found.next));
+        let set = class_set(alloc, text, place, inside, found)?;
+        return Ok(Begun::Whole(set, found.next));
     }
     let Some(behind) = accept(text, inside, '^') else {
-        return body_at(alloc, text, inside);
+        return content_at(alloc, text, false, inside);
     };
-    let (set, next) = body_at(alloc, text, behind)?;
-    Ok((set.complement(alloc)?, next))
+    content_at(alloc, text, true, behind)
 }
 
-/// What stands behind a bracket's `[` and `^`, with the `]`: a compound or a list.
-#[cycle(bracket)]
-fn body_at(alloc: Global, text: &str, place: usize) -> Result<(Set, usize), SetFault>
+/// The set of what stands behind the outermost `[` and `^`.
+fn content_set(alloc: Global, text: &str, place: usize) -> Result<Set, SetFault>
     requires { IsPlace (chars text.now) place }
-    ensures value { (n k : ℕ) → size (chars text.now) < place + n → size (chars text.now) < place + k → Gives (chars text.now) result (body (bracket n) k (symbols_from (chars text.now) place)) }
-    ensures place { Ends (chars text.now) place result }
+    ensures { let t = chars text.now in GivesSet t (content (symbols_from t place)) result }
 {
-    let start = skip_blanks(text, place);
-    if accept(text, start, '[').is_none() {
-        return list_at(alloc, text, place);
-    }
-    compound_at(alloc, text, place)
-}
-
-/// Unions of brackets joined by operators, with the `]`.
-#[cycle(bracket)]
-fn compound_at(alloc: Global, text: &str, place: usize) -> Result<(Set, usize), SetFault>
-    requires { IsPlace (chars text.now) place }
-    ensures value { (n k : ℕ) → size (chars text.now) < place + n → size (chars text.now) < place + k → Gives (chars text.now) result (compound (bracket n) k (symbols_from (chars text.now) place)) }
-    ensures place { Ends (chars text.now) place result }
-{
-    let (mut set, mut at) = union_at(alloc, text, place)?;
-    loop {
-        let here = skip_blanks(text, at);
-        if let Some(next) = accept(text, here, ']') {
-            return Ok((set, next));
-        }
-        let Some((operator, next)) = operator_at(text, here) else {
-            return Err(SetFault::BadSet { at: here });
-        };
-        let (other, end) = union_at(alloc, text, next)?;
-        set = operator.apply(alloc, &set, &other)?;
-        at = end;
-    }
-}
-
-/// Brackets side by side, with blanks between them.
-#[cycle(bracket)]
-fn union_at(alloc: Global, text: &str, place: usize) -> Result<(Set, usize), SetFault>
-    requires { IsPlace (chars text.now) place }
-    ensures value { (n k : ℕ) → size (chars text.now) < place + n → size (chars text.now) < place + k → Gives (chars text.now) result (union (bracket n) k (symbols_from (chars text.now) place)) }
-    ensures place { Ends (chars text.now) place result }
-{
-    let (set, mut at) = bracket_at(alloc, text, skip_blanks(text, place))?;
-    let mut ranges = Vec::from_slice(alloc, set.ranges())?;
-    loop {
-        let here = skip_blanks(text, at);
-        let Some(_) = accept(text, here, '[') else {
-            return Ok((Set::from_ranges(alloc, &ranges)?, at));
-        };
-        let (more, end) = bracket_at(alloc, text, here)?;
-        ranges.extend_from_slice(more.ranges())?;
-        at = end;
+    match content_at(alloc, text, false, place)? {
+        Begun::Whole(set, _) => Ok(set),
+        Begun::Compound(_, first) => compound_set(alloc, text, first),
     }
 }
 
@@ -222,7 +175,8 @@ pub struct Bracket {
 /// is `[`, of brackets side by side and of the operators `&&` and `--`, from left to right; or else
 /// a list of characters and escapes, of which `x-y` alone is a range. The first fault by place is
 /// answered. A text that is no bracket is BadSet where it goes wrong, at its end at the latest;
-/// what stands behind the matching `]` isn't looked at.
+/// what stands behind the matching `]` isn't looked at. Brackets may stand in one another to any
+/// depth: no call nests with them.
 pub fn read_bracket(alloc: Global, text: &str) -> Result<Bracket, SetFault>
     ensures { IsRead (bracket_of (chars text.now)) result }
 {
@@ -237,12 +191,12 @@ pub fn read_bracket(alloc: Global, text: &str) -> Result<Bracket, SetFault>
         });
     }
     let Some(behind) = accept(text, inside, '^') else {
-        let (set, _) = body_at(alloc, text, inside)?;
+        let set = content_set(alloc, text, inside)?;
         return Ok(Bracket {
             set,
             negated: false,
         });
     };
-    let (set, _) = body_at(alloc, text, behind)?;
+    let set = content_set(alloc, text, behind)?;
     Ok(Bracket { set, negated: true })
 }

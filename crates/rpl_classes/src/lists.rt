@@ -4,7 +4,7 @@ ghost use Rattle.rpl_text.specs.Places.{IsPlace};
 ghost use Rattle.rpl_classes.specs.Norm.{norm};
 ghost use Rattle.rpl_classes.specs.Symbols.{symbols_from, begins, rest};
 ghost use Rattle.rpl_classes.specs.Lists.{is_range, changed, each, list};
-ghost use Rattle.rpl_classes.specs.Scanned.{TakesMember, RangeFound, StepsList, Gives, Ends};
+ghost use Rattle.rpl_classes.specs.inside.Scanned.{TakesMember, RangeFound, StepsList, Gives, Ends};
 
 use crate::fault::SetFault;
 use crate::set::Set;
@@ -42,7 +42,9 @@ struct RangeList {
 /// The list of three at a place, with its `]`.
 fn range_at(text: &str, place: usize) -> Option<RangeList>
     requires { IsPlace (chars text.now) place }
-    ensures { MatchOption result (is_range (symbols_from (chars text.now) place) ≡ false) (λ r. RangeFound (chars text.now) place r.low r.dash r.high r.next) }
+    ensures { let t = chars text.now in
+        MatchOption result (is_range (symbols_from t place) ≡ false)
+        (λ r. RangeFound t place r.low r.dash r.high r.next) }
 {
     let (low, dash) = member_at(text, place)?;
     let behind = accept(text, dash, '-')?;
@@ -59,7 +61,8 @@ fn range_at(text: &str, place: usize) -> Option<RangeList>
 /// Whether a `-` stands at a place by no escape, neither first nor last in its list.
 fn is_inner_dash(text: &str, place: usize, is_first: bool) -> bool
     requires { IsPlace (chars text.now) place }
-    ensures { let s = symbols_from (chars text.now) place in result ≡ (begins 45 s && (not is_first && not (begins 93 (rest s)))) }
+    ensures { let s = symbols_from (chars text.now) place in
+        result ≡ (begins 45 s && (not is_first && not (begins 93 (rest s)))) }
 {
     match accept(text, place, '-') {
         Some(next) => !is_first && accept(text, next, ']').is_none(),

@@ -1,18 +1,21 @@
 // A set of characters: its ranges, and two masks for the test of an ASCII character.
-ghost use Rattle.std.specs.Prelude.{◌≡◌, ℕ, ◌≤◌, ◌||◌, ◌&&◌, ◌↔◌, [], ◌∷◌, ◌++◌, not, nat_eq, nat_le, IfOk, OnOk, IsTrue};
-ghost use Rattle.regex_class.specs.Ranges.{in_ranges, HasExactly};
-ghost use Rattle.rpl_classes.specs.Sets.{is_char, IsNormal, HasJust};
+ghost use Rattle.std.specs.Prelude.{◌≡◌, ℕ, ◌≤◌, ◌||◌, ◌&&◌, ◌↔◌, [], ◌∷◌, ◌++◌, not, nat_eq, nat_le, IfOk, IfSome, OnOk, IsTrue, chars};
+ghost use Rattle.std.specs.Option.{option_map};
+ghost use Rattle.regex_class.specs.Ranges.{in_ranges};
+ghost use Rattle.rpl_unicode.specs.Named.{members};
+ghost use Rattle.rpl_unicode.specs.Folding.{folds_with};
+ghost use Rattle.rpl_classes.specs.Sets.{IsNormal, HasJust};
 ghost use Rattle.rpl_classes.specs.Norm.{norm};
-ghost use Rattle.rpl_classes.specs.Algebra.{both, others, without, other_case, widened};
-ghost use Rattle.rpl_classes.specs.Classes.{in_class, name_of, set_named};
+ghost use Rattle.rpl_classes.specs.Algebra.{both, others, without, set_of, other_case, widened, folded};
+ghost use Rattle.rpl_classes.specs.Classes.{test_named, set_named};
 ghost use Rattle.rpl_classes.specs.Faults.{IsNamed};
-ghost use Rattle.rpl_classes.specs.declared.classes.NamedClass.{NamedClass};
 
 use crate::NoMemory;
 use crate::bits::bitmap;
 use crate::classes::NamedClass;
 use crate::fault::SetFault;
 use regex_class::{Class, ClassRange};
+use rpl_unicode::{ClassFault, RangeList, characters, class_ranges, folds_of};
 use std::alloc::Global;
 use std::marker::Model;
 
@@ -35,7 +38,8 @@ impl Model for Set {
 
     ghost view = { λ a. a.class.ranges.items };
 
-    ghost invariant = { λ a. IsNormal a.class.ranges.items × ((j : ℕ) → j < 2 → IsBitmap (64 * j) a.class.ranges.items (get_or a.masks j 0)) };
+    ghost invariant = { λ a. IsNormal a.class.ranges.items
+        × ((j : ℕ) → j < 2 → IsBitmap (64 * j) a.class.ranges.items (get_or a.masks j 0)) };
 }
 
 /// The set of a class that is normal, with its masks.
@@ -47,21 +51,31 @@ fn sealed(class: Class) -> Set
     Set { class, masks }
 }
 
-/// The ranges without their surrogates, each in two parts.
-fn cut(alloc: Global, ranges: &[ClassRange]) -> Result<Vec<ClassRange>, NoMemory>
-    ensures { IfOk result (λ v. HasExactly v.items (λ c. is_char c && in_ranges ranges.now c)) }
+/// The set with a list of ranges that is normal.
+fn listed(list: RangeList) -> Set
+    requires { IsNormal list }
+    ensures { result ≡ list }
 {
-    let mut parts = Vec::new(alloc);
-    for range in ranges {
-        parts.push((range.0, range.1.min(0xd7ff)))?;
-        parts.push((range.0.max(0xe000), range.1))?;
+    sealed(Class {
+        ranges: list.into_vec(),
+    })
+}
+
+/// What a name stands for in Unicode.
+fn unicode_set(alloc: Global, name: &str) -> Result<Set, SetFault>
+    ensures { IsNamed (option_map set_of (members (chars name.now))) result }
+{
+    match class_ranges(alloc, name) {
+        Ok(list) => Ok(listed(list)),
+        Err(ClassFault::NoMemory) => Err(SetFault::NoMemory),
+        Err(ClassFault::UnknownClass) => Err(SetFault::UnknownClass { at: 0 }),
     }
-    Ok(parts)
 }
 
 /// Adds one number, where the test says so.
 fn push_where(ranges: &mut Vec<ClassRange>, number: u32, test: bool) -> Result<(), NoMemory>
-    ensures { OnOk result ((c : ℕ) → in_ranges ranges.new.items c ≡ (in_ranges ranges.old.items c || (test && nat_eq c number))) }
+    ensures { OnOk result ((c : ℕ) →
+        in_ranges ranges.new.items c ≡ (in_ranges ranges.old.items c || (test && nat_eq c number))) }
 {
     if test {
         ranges.push((number, number))?;
@@ -71,7 +85,8 @@ fn push_where(ranges: &mut Vec<ClassRange>, number: u32, test: bool) -> Result<(
 
 /// The ranges of a class, and the other case of each ASCII letter in it.
 fn with_cases(alloc: Global, class: &Class) -> Result<Vec<ClassRange>, NoMemory>
-    ensures { IfOk result (λ v. (c : ℕ) → in_ranges v.items c ≡ (in_ranges class.now.ranges.items c || in_ranges class.now.ranges.items (other_case c))) }
+    ensures { let own = class.now.ranges.items in
+        IfOk result (λ v. (c : ℕ) → in_ranges v.items c ≡ (in_ranges own c || in_ranges own (other_case c))) }
 {
     let mut ranges = Vec::from_slice(alloc, &class.ranges)?;
     for k in 0..26 {
@@ -104,8 +119,7 @@ impl Set {
         ensures normal { IfOk result IsNormal }
         ensures members { IfOk result (λ s. HasJust s (in_ranges ranges.now)) }
     {
-        let class = Class::new(cut(alloc, ranges)?)?;
-        Ok(sealed(class))
+        Ok(listed(characters(alloc, ranges)?))
     }
 
     /// The characters from `low` to `high`, both included.
@@ -118,16 +132,17 @@ impl Set {
         Set::from_ranges(alloc, &[(low as u32, high as u32)])
     }
 
-    /// The class of the POSIX C locale with this name. UnknownClass, with the place 0, exactly where
-    /// there is none.
+    /// The characters that a name stands for: a class of the POSIX C locale by its own name, spelled exactly so, or
+    /// else a binary property, a general category or a script of Unicode by its long or short name, in any case and
+    /// with any `_`. UnknownClass, with the place 0, exactly where the name stands for neither.
     pub fn named(alloc: Global, name: &str) -> Result<Set, SetFault>
-        ensures value { IsNamed (set_named name.now) result }
+        ensures value { IsNamed (set_named (chars name.now)) result }
         ensures normal { IfOk result IsNormal }
-        ensures members { IfOk result (λ s. (k : NamedClass) × (name_of k ≡ name.now) × HasJust s (in_class k)) }
+        ensures members { IfOk result (λ s. IfSome (test_named (chars name.now)) (HasJust s)) }
     {
         match NamedClass::from_name(name) {
             Some(class) => Ok(Set::from_ranges(alloc, class.ranges())?),
-            None => Err(SetFault::UnknownClass { at: 0 }),
+            None => unicode_set(alloc, name),
         }
     }
 
@@ -176,10 +191,21 @@ impl Set {
     pub fn widen_ci(&self, alloc: Global) -> Result<Set, NoMemory>
         ensures ranges { IfOk result (λ s. s ≡ widened self.now) }
         ensures normal { IfOk result IsNormal }
-        ensures members { IfOk result (λ s. HasJust s (λ c. in_ranges self.now c || in_ranges self.now (other_case c))) }
+        ensures members { let own = self.now in
+            IfOk result (λ s. HasJust s (λ c. in_ranges own c || in_ranges own (other_case c))) }
     {
         let ranges = with_cases(alloc, &self.class)?;
         Ok(sealed(Class::new(ranges)?))
+    }
+
+    /// The set with all characters that share a simple folding with one in it, in any script. One character stands
+    /// for one: foldings to several characters are left out.
+    pub fn fold(&self, alloc: Global) -> Result<Set, NoMemory>
+        ensures ranges { IfOk result (λ s. s ≡ folded self.now) }
+        ensures normal { IfOk result IsNormal }
+        ensures members { IfOk result (λ s. HasJust s (folds_with (in_ranges self.now))) }
+    {
+        Ok(listed(folds_of(alloc, &self.class.ranges)?))
     }
 
     /// The same set once more.

@@ -3,7 +3,7 @@ ghost use Rattle.std.specs.Prelude.{◌≡◌, chars};
 ghost use Rattle.rpl_text.specs.Places.{index, IsPlace, step_from};
 ghost use Rattle.rpl_classes.specs.Symbols.{symbols_from, is_plain, is_blank, past_blanks};
 ghost use Rattle.rpl_classes.specs.Brackets.{is_word};
-ghost use Rattle.rpl_classes.specs.Scanned.{Scanned, Accepts, Skipped, Worded};
+ghost use Rattle.rpl_classes.specs.inside.Scanned.{Scanned, Accepts, Skipped, Worded};
 
 use rpl_text::{Text, read_escape};
 

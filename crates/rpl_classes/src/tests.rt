@@ -1,4 +1,4 @@
-// Values from outside: the table of the POSIX C locale, and brackets worked by hand.
+// Values from outside: the table of the POSIX C locale, Unicode's own files, and brackets worked by hand.
 use crate::{Bracket, Set, SetFault, read_bracket};
 use std::process::Abort;
 use std::test::Fail;
@@ -29,8 +29,41 @@ fn posix_classes(rt: HostRuntime) -> Result<(), Fail> {
     for (name, want) in classes {
         expect_set(&rt, &Set::named(rt.alloc(), name)?, want, name);
     }
-    let missing = Set::named(rt.alloc(), "Alpha").err();
-    assert_eq!(rt; missing, Some(SetFault::UnknownClass { at: 0 }));
+    for missing in ["nosuchclass", "", "alphé", "alpha:"] {
+        let fault = Set::named(rt.alloc(), missing).err();
+        assert_eq!(rt; fault, Some(SetFault::UnknownClass { at: 0 }), "{missing}");
+    }
+    Ok(())
+}
+
+// From UnicodeData.txt, Scripts.txt, PropList.txt and CaseFolding.txt.
+#[test]
+fn unicode_classes(rt: HostRuntime) -> Result<(), Fail> {
+    let upper = Set::named(rt.alloc(), "Lu")?;
+    assert_eq!(rt; upper.ranges().first().copied(), Some((65, 90)));
+    assert_eq!(rt; upper.ranges().get(1).copied(), Some((192, 214)));
+    assert!(rt; Set::named(rt.alloc(), "uppercase_LETTER")?.same(&upper));
+    expect_set(&rt, &Set::named(rt.alloc(), "Cs")?, &[], "Cs");
+    let assigned = Set::named(rt.alloc(), "Any")?;
+    assert!(rt; assigned.same(&Set::all(rt.alloc())?));
+    let spaces = [(0x9, 0xd), (0x20, 0x20), (0x85, 0x85), (0xa0, 0xa0)];
+    let white = Set::named(rt.alloc(), "White_Space")?;
+    assert_eq!(rt; white.ranges().get(..4), Some(spaces.as_slice()));
+    let Bracket { set, .. } = read_bracket(rt.alloc(), "[[:Greek:] -- [α]]")?;
+    assert!(rt; set.has('β') && !set.has('α') && !set.has('b'));
+    let folds: [(char, &[(u32, u32)]); 5] = [
+        ('k', &[(0x4b, 0x4b), (0x6b, 0x6b), (0x212a, 0x212a)]),
+        ('\u{17f}', &[(0x53, 0x53), (0x73, 0x73), (0x17f, 0x17f)]),
+        ('ς', &[(0x3a3, 0x3a3), (0x3c2, 0x3c3)]),
+        ('É', &[(0xc9, 0xc9), (0xe9, 0xe9)]),
+        ('1', &[(0x31, 0x31)]),
+    ];
+    for (c, want) in folds {
+        let set = Set::range(rt.alloc(), c, c)?;
+        expect_set(&rt, &set.fold(rt.alloc())?, want, "folds");
+    }
+    let sharp = Set::range(rt.alloc(), 'ß', 'ß')?.fold(rt.alloc())?;
+    assert!(rt; sharp.has('ß') && sharp.has('\u{1e9e}') && !sharp.has('s'));
     Ok(())
 }
 
@@ -132,7 +165,7 @@ fn brackets(rt: HostRuntime) -> Result<(), Fail> {
 fn refusals(rt: HostRuntime) {
     let cases = [
         ("[:abc:]", SetFault::UnknownClass { at: 0 }),
-        ("[[a] [:Digit:] x]", SetFault::UnknownClass { at: 5 }),
+        ("[[a] [:digits:] x]", SetFault::UnknownClass { at: 5 }),
         ("[z-a]", SetFault::BadRange { at: 2 }),
         ("[a-cx]", SetFault::BadRange { at: 2 }),
         ("[éa-c]", SetFault::BadRange { at: 4 }),
@@ -152,4 +185,24 @@ fn refusals(rt: HostRuntime) {
     for (text, want) in cases {
         assert_eq!(rt; read_bracket(rt.alloc(), text).err(), Some(want), "{text}");
     }
+}
+
+// Brackets in one another, on the stack that a thread has.
+#[test]
+fn nested_brackets(rt: HostRuntime) -> Result<(), Fail> {
+    for depth in [1_000, 100_000, 500_000] {
+        let mut text = String::new(rt.alloc());
+        for _ in 0..depth {
+            text.push('[')?;
+        }
+        let open = read_bracket(rt.alloc(), &text).err();
+        assert_eq!(rt; open, Some(SetFault::BadSet { at: text.len() }));
+        text.push('a')?;
+        for _ in 0..depth {
+            text.push(']')?;
+        }
+        let Bracket { set, negated } = read_bracket(rt.alloc(), &text)?;
+        assert!(rt; !negated && set.has('a') && !set.has('b'), "{depth}");
+    }
+    Ok(())
 }

@@ -4,8 +4,8 @@ use Rattle.std.specs.Prelude.{Bool, true, false, ◌&&◌, Result, Ok, Err, if�
 use Rattle.regex_class.specs.Ranges.{Range}
 use Rattle.rpl_classes.specs.Sets.{IsNormal}
 use Rattle.rpl_classes.specs.Norm.{norm}
-use Rattle.rpl_classes.specs.Algebra.{both, others, without}
-use Rattle.rpl_classes.specs.Classes.{class_named, class_set, set_named}
+use Rattle.rpl_classes.specs.Algebra.{both, others, without, set_of}
+use Rattle.rpl_classes.specs.Classes.{test_named, set_named}
 use Rattle.rpl_classes.specs.Symbols.{Placed, symbols_from, size, place, rest, begins, past_blanks}
 use Rattle.rpl_classes.specs.Lists.{Reading, and_then, changed, list, is_range, range_list, each}
 use Rattle.rpl_classes.specs.Brackets.{is_class, named, name, class, more, union, joined, compound, body, bracket, marked, outermost, bracket_of, word, past_word}
@@ -42,8 +42,8 @@ abbrev Some_normal : Option (List Range) → Type 0
 Some_normal None = Unit {0}
 Some_normal (Some a) = IsNormal a
 
-set_normal : (o : _) → Some_normal (option_map class_set o)
-unfolding class_set
+set_normal : (o : _) → Some_normal (option_map set_of o)
+unfolding set_of
 set_normal None = tt
 set_normal (Some k) = norm_normal _
 
@@ -54,7 +54,7 @@ named_sound p (Some a) s h = h
 class_sound : (p : ℕ) (s : List Placed) → Sound (class p s)
 class_sound p s =
     if_sound (begins 94 (rest s)) (changed others (name p (rest (rest s)))) (name p (rest s)) (changed_sound others (name p (rest (rest s))) others_normal)
-    (named_sound p (set_named (word (rest s))) (rest (rest (past_word (rest s)))) (set_normal (class_named (word (rest s)))))
+    (named_sound p (set_named (word (rest s))) (rest (rest (past_word (rest s)))) (set_normal (test_named (word (rest s)))))
 
 -- ---- compounds
 

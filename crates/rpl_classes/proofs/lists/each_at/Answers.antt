@@ -1,6 +1,6 @@
 use Rattle.std.proofs.Common.{Ok, subst, arith}
 use Rattle.std.specs.Prelude.{chars, nat_eq}
-use Rattle.rpl_classes.specs.Scanned.{StepsList}
+use Rattle.rpl_classes.specs.inside.Scanned.{StepsList}
 use Rattle.rpl_classes.proofs.Steps.{place_le}
 use Rattle.rpl_classes.proofs.lists.each_at.Goals as goal
 

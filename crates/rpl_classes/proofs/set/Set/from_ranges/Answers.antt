@@ -1,13 +1,10 @@
-use Rattle.std.proofs.Common.{◌∙◌, subst, sym}
-use Rattle.rpl_classes.specs.Sets.{IsNormal}
-use Rattle.rpl_classes.proofs.Operations.{norm_from_cut}
-use Rattle.rpl_classes.proofs.Normal.{norm_normal}
+use Rattle.std.proofs.Common.{◌∙◌}
+use Rattle.rpl_classes.proofs.Normal.{norm_only}
 use Rattle.rpl_classes.proofs.set.Set.from_ranges.Goals as goal
 
-pub sealed-requires : goal.sealed-requires
-sealed-requires c =
-    subst IsNormal (sym (norm_from_cut _ _ c.args.ranges.now c.in_ok-class.class.canonical c.in_ok-cut.ensures c.in_ok-class.ensures)) (norm_normal _)
+pub listed-requires : goal.listed-requires
+listed-requires c = c.in_ok-characters.ensures.normal
 
 pub returns-clause-ranges : goal.returns-clause-ranges
 returns-clause-ranges c =
-    c.sealed.ensures ∙ norm_from_cut _ _ c.args.ranges.now c.in_ok-class.class.canonical c.in_ok-cut.ensures c.in_ok-class.ensures
+    c.listed.ensures ∙ norm_only c.args.ranges.now c.in_ok-characters.field-0 c.in_ok-characters.ensures.normal c.in_ok-characters.ensures.members

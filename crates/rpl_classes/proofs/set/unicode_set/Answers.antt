@@ -1,0 +1,10 @@
+use Rattle.std.specs.Prelude.{chars}
+use Rattle.rpl_unicode.specs.Named.{members}
+use Rattle.rpl_classes.proofs.Named.{class_normal, class_named_so}
+use Rattle.rpl_classes.proofs.set.unicode_set.Goals as goal
+
+pub listed-requires : goal.listed-requires
+listed-requires c = class_normal (members (chars c.args.name.now)) _ c.in-Ok.ensures
+
+pub returns-in-Ok : goal.returns-in-Ok
+returns-in-Ok c = class_named_so (members (chars c.args.name.now)) c.in-Ok.list c.listed.result c.listed.ensures c.in-Ok.ensures

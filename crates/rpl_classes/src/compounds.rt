@@ -1,0 +1,257 @@
+// Compounds: brackets side by side and joined by operators. Those that are open are kept in a
+// stack, so that brackets may stand in one another to any depth. Ranges are collected as they come,
+// those to keep and those to take away: a set is made of them once, where the compound ends.
+ghost use Rattle.std.specs.Prelude.{◌≡◌, ◌≤◌, ◌++◌, [], chars, IfOk};
+ghost use Rattle.rpl_text.specs.Places.{IsPlace};
+ghost use Rattle.rpl_classes.specs.Norm.{norm};
+ghost use Rattle.rpl_classes.specs.Symbols.{symbols_from};
+ghost use Rattle.rpl_classes.specs.inside.Scanned.{AcceptsTwice};
+ghost use Rattle.rpl_classes.specs.inside.Operators.{OperatorAt};
+ghost use Rattle.rpl_classes.specs.inside.Stack.{left_set, joined_by, opened, framed, resume, Steps, GoesBehind, GivesSet};
+
+use crate::NoMemory;
+use crate::brackets::{Begun, begin_at, signed_set};
+use crate::fault::SetFault;
+use crate::set::Set;
+use crate::symbols::{accept, skip_blanks};
+use regex_class::ClassRange;
+use std::alloc::Global;
+
+/// What joins two unions of brackets.
+#[derive(Clone, Copy)]
+pub(crate) enum Operator {
+    Both,
+    Without,
+}
+
+/// The place behind a character that stands twice.
+fn accept_twice(text: &str, place: usize, c: char) -> Option<usize>
+    requires { IsPlace (chars text.now) place }
+    ensures { AcceptsTwice (chars text.now) place c result }
+{
+    let next = accept(text, place, c)?;
+    accept(text, next, c)
+}
+
+/// The operator at a place, and the place behind it.
+fn operator_at(text: &str, place: usize) -> Option<(Operator, usize)>
+    requires { IsPlace (chars text.now) place }
+    ensures { OperatorAt (chars text.now) place result }
+{
+    if let Some(next) = accept_twice(text, place, '&') {
+        return Some((Operator::Both, next));
+    }
+    let next = accept_twice(text, place, '-')?;
+    Some((Operator::Without, next))
+}
+
+/// The ranges that were joined so far, less those that were taken away again.
+#[derive(Drop)]
+pub(crate) struct Left {
+    kept: Vec<ClassRange>,
+    taken: Vec<ClassRange>,
+}
+
+impl Left {
+    /// Takes more ranges away.
+    fn less(self, ranges: &[ClassRange]) -> Result<Left, NoMemory>
+        ensures kept { IfOk result (λ l. l.kept.items ≡ self.kept.items) }
+        ensures taken { IfOk result (λ l. l.taken.items ≡ self.taken.items ++ ranges.now) }
+    {
+        let Left { kept, mut taken } = self;
+        taken.extend_from_slice(ranges)?;
+        Ok(Left { kept, taken })
+    }
+
+    /// What is left, as a set.
+    fn set(self, alloc: Global) -> Result<Set, NoMemory>
+        ensures { IfOk result (λ s. s ≡ left_set self) }
+    {
+        let kept = Set::from_ranges(alloc, &self.kept)?;
+        let taken = self.taken.as_slice();
+        if taken.is_empty() {
+            return Ok(kept);
+        }
+        kept.without(alloc, &Set::from_ranges(alloc, taken)?)
+    }
+}
+
+/// What stands before a union of a compound: the last operator, and what stands on its left.
+#[derive(Drop)]
+pub(crate) struct Before {
+    operator: Operator,
+    left: Left,
+}
+
+/// A union joined with what stands before it. To keep what is in both is to take the others away.
+fn joined(alloc: Global, before: Option<Before>, union: Vec<ClassRange>) -> Result<Left, NoMemory>
+    ensures { IfOk result (λ l. left_set l ≡ joined_by before (norm union.items)) }
+{
+    let Some(Before { operator, left }) = before else {
+        return Ok(Left {
+            kept: union,
+            taken: Vec::new(alloc),
+        });
+    };
+    match operator {
+        Operator::Without => left.less(&union),
+        Operator::Both => {
+            let others = Set::from_ranges(alloc, &union)?.complement(alloc)?;
+            left.less(others.ranges())
+        }
+    }
+}
+
+/// A compound whose `]` is still to come.
+#[derive(Drop)]
+pub(crate) struct Open {
+    /// A `^` stands before it.
+    negated: bool,
+    before: Option<Before>,
+    /// The ranges of the brackets side by side that were read last.
+    union: Vec<ClassRange>,
+}
+
+impl Open {
+    fn new(alloc: Global, negated: bool) -> Open
+        ensures negated { result.negated ≡ negated }
+        ensures before { result.before ≡ None }
+        ensures union { result.union.items ≡ [] }
+    {
+        Open {
+            negated,
+            before: None,
+            union: Vec::new(alloc),
+        }
+    }
+
+    /// One more bracket.
+    fn add(self, set: &Set) -> Result<Open, NoMemory>
+        ensures negated { IfOk result (λ o. o.negated ≡ self.negated) }
+        ensures before { IfOk result (λ o. o.before ≡ self.before) }
+        ensures union { IfOk result (λ o. o.union.items ≡ self.union.items ++ set.now) }
+    {
+        let Open {
+            negated,
+            before,
+            mut union,
+        } = self;
+        union.extend_from_slice(set.ranges())?;
+        Ok(Open {
+            negated,
+            before,
+            union,
+        })
+    }
+}
+
+/// What follows a member of a compound.
+pub(crate) enum Step {
+    /// Another member, at the place.
+    Member(Open, usize),
+    /// The compound's end: its set, and the place behind its `]`.
+    Closed(Set, usize),
+}
+
+/// What follows a member of a compound, whose set it is and whose end is the place.
+fn step_from(
+    alloc: Global,
+    text: &str,
+    compound: Open,
+    set: Set,
+    at: usize,
+) -> Result<Step, SetFault>
+    requires { IsPlace (chars text.now) at }
+    ensures { let t = chars text.now in Steps t at (framed compound (Ok (set, symbols_from t at))) result }
+{
+    let Open {
+        negated,
+        before,
+        union,
+    } = compound.add(&set)?;
+    let here = skip_blanks(text, at);
+    if accept(text, here, '[').is_some() {
+        return Ok(Step::Member(
+            Open {
+                negated,
+                before,
+                union,
+            },
+            here,
+        ));
+    }
+    let left = joined(alloc, before, union)?;
+    if let Some(next) = accept(text, here, ']') {
+        let set = left.set(alloc)?;
+        return Ok(Step::Closed(signed_set(alloc, negated, set)?, next));
+    }
+    let Some((operator, next)) = operator_at(text, here) else {
+        return Err(SetFault::BadSet { at: here });
+    };
+    let further = Open {
+        negated,
+        before: Some(Before { operator, left }),
+        union: Vec::new(alloc),
+    };
+    Ok(Step::Member(further, skip_blanks(text, next)))
+}
+
+/// What follows a bracket.
+pub(crate) enum Next {
+    /// Another bracket, at the place.
+    Bracket(usize),
+    /// The end of all: the whole set.
+    End(Set),
+}
+
+/// What follows a bracket whose set and end these are, in the last of the open compounds. Those that end here are
+/// closed.
+fn go_on(
+    alloc: Global,
+    text: &str,
+    stack: &mut Vec<Open>,
+    set: Set,
+    end: usize,
+) -> Result<Next, SetFault>
+    requires { IsPlace (chars text.now) end }
+    ensures { let t = chars text.now in let whole = resume stack.old.items (Ok (set, symbols_from t end)) in
+        GoesBehind t end whole stack.new.items result }
+{
+    let mut set = set;
+    let mut at = end;
+    while let Some(last) = stack.pop() {
+        match step_from(alloc, text, last, set, at)? {
+            Step::Member(compound, next) => {
+                stack.push(compound)?;
+                return Ok(Next::Bracket(next));
+            }
+            Step::Closed(closed, next) => {
+                set = closed;
+                at = next;
+            }
+        }
+    }
+    Ok(Next::End(set))
+}
+
+/// The set of a compound whose first member is at a place.
+pub(crate) fn compound_set(alloc: Global, text: &str, place: usize) -> Result<Set, SetFault>
+    requires { IsPlace (chars text.now) place }
+    ensures { let t = chars text.now in GivesSet t (opened t place) result }
+{
+    let mut stack = Vec::new(alloc);
+    stack.push(Open::new(alloc, false))?;
+    let mut at = place;
+    loop {
+        match begin_at(alloc, text, at)? {
+            Begun::Compound(negated, first) => {
+                stack.push(Open::new(alloc, negated))?;
+                at = first;
+            }
+            Begun::Whole(set, end) => match go_on(alloc, text, &mut stack, set, end)? {
+                Next::Bracket(next) => at = next,
+                Next::End(set) => return Ok(set),
+            },
+        }
+    }
+}

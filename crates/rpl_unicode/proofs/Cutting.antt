@@ -1,0 +1,60 @@
+-- Ranges without their surrogates.
+use Rattle.std.proofs.Common.{◌≡◌, ℕ, ◌+◌, ◌<◌, ◌≤◌, List, [], ◌∷◌, ◌++◌, length, take, min, max, refl, sym, ap, ap₂, ◌∙◌, arith, inl, inr}
+use Rattle.std.specs.Prelude.{Bool, true, false, ◌||◌, ◌&&◌, Result, Ok, Err, IfOk}
+use Rattle.regex_class.specs.declared.Class.{Class}
+use Rattle.std.proofs.lemmas.Bool.{cases_lt, and_parts, both_ways}
+use Rattle.std.proofs.lemmas.Bool.Decides.{nat_tests}
+use Rattle.regex_class.specs.Ranges.{Range, in_range, in_ranges, range_at, IsCanonical, HasExactly}
+use Rattle.regex_class.proofs.RangesLemmas.{or_assoc, in_range_tells, in_ranges-nil, in_ranges-push, in_ranges-more, in_ranges-above_max}
+use Rattle.rpl_text.specs.Characters.{is_char}
+use Rattle.rpl_unicode.specs.Ranges.{IsNormal, HasJust, IsListOf}
+
+spread : (x y z : Bool) → ((x && y) || (x && z)) ≡ (x && (y || z))
+spread true y z = refl
+spread false y z = refl
+
+nothing : (x : Bool) → false ≡ (x && false)
+nothing true = refl
+nothing false = refl
+
+pub char_below : (c : ℕ) → is_char c ≡ true → c ≤ 0x10_ffff
+char_below c h = grind (arith, nat_tests)
+
+pub cut_none : (ps : List Range) → ps ≡ [] → HasExactly ps (λ c. is_char c && in_ranges [] c)
+cut_none ps e c le = ap (λ l. in_ranges l c) e ∙ in_ranges-nil c ∙ nothing (is_char c) ∙ ap (λ b. is_char c && b) (sym (in_ranges-nil c))
+
+parted : (r : Range) (c : ℕ) → c ≤ 0x10_ffff → (in_range (r.0, min r.1 0xd7ff) c || in_range (max r.0 0xe000, r.1) c) ≡ (is_char c && in_range r c)
+parted r c le = grind (arith, nat_tests, in_range_tells (r.0, min r.1 0xd7ff) c, in_range_tells (max r.0 0xe000, r.1) c, in_range_tells r c)
+
+pub cut_more : (old ps rs : List Range) (i : ℕ) (r : Range) → i < length rs → r ≡ range_at rs i → HasExactly old (λ c. is_char c && in_ranges (take i rs) c)
+    → ps ≡ (old ++ (r.0, min r.1 0xd7ff) ∷ []) ++ (max r.0 0xe000, r.1) ∷ [] → HasExactly ps (λ c. is_char c && in_ranges (take (i + 1) rs) c)
+cut_more old ps rs i r lt s h e c le =
+    ap (λ l. in_ranges l c) e ∙ in_ranges-push (old ++ (r.0, min r.1 0xd7ff) ∷ []) (max r.0 0xe000, r.1) c
+    ∙ ap (λ b. b || in_range (max r.0 0xe000, r.1) c) (in_ranges-push old (r.0, min r.1 0xd7ff) c)
+    ∙ sym (or_assoc (in_ranges old c) (in_range (r.0, min r.1 0xd7ff) c) (in_range (max r.0 0xe000, r.1) c))
+    ∙ ap₂ ◌||◌ (h c le) (parted r c le)
+    ∙ spread (is_char c) (in_ranges (take i rs) c) (in_range r c)
+    ∙ ap (λ (x : Range). is_char c && (in_ranges (take i rs) c || in_range x c)) s
+    ∙ ap (λ b. is_char c && b) (sym (in_ranges-more rs i c lt))
+
+guarded : (x y : Bool) → x ≡ true → (x && y) ≡ y
+guarded true y e = refl
+guarded false y e = absurd (both_ways false refl e)
+
+-- a class of the parts of some ranges has just their characters
+pub cut_list : (u ps rs : List Range) → IsCanonical u → HasExactly u (in_ranges ps) → HasExactly ps (λ c. is_char c && in_ranges rs c) → IsListOf (in_ranges rs) u
+cut_list u ps rs k g h = record {
+  normal = record {
+    rises = k;
+    chars = λ c e. elim (cases_lt 0x10_ffff c) [
+      | inl lt ↦ absurd (both_ways (in_ranges u c) (in_ranges-above_max u c k lt) e)
+      | inr le ↦ (and_parts (is_char c) (in_ranges rs c) (sym (h c le) ∙ (sym (g c le) ∙ e))).0
+    ];
+  };
+  members = λ c e. g c (char_below c e) ∙ (h c (char_below c e) ∙ guarded (is_char c) (in_ranges rs c) e);
+}
+
+pub cut_made : {E : Type 0} (ps rs : List Range) (r : Result Class E) → IfOk r (λ k. HasExactly k.ranges.items (in_ranges ps)) → HasExactly ps (λ c. is_char c && in_ranges rs c)
+    → IfOk r (λ k. IsListOf (in_ranges rs) k.ranges.items)
+cut_made ps rs (Ok k) g h = cut_list k.ranges.items ps rs k.canonical g h
+cut_made ps rs (Err _) g h = tt

@@ -1,0 +1,4 @@
+pub mod Ranges
+pub mod Named
+pub mod Folding
+pub mod Faults

@@ -1,0 +1,25 @@
+// Why a name has no set.
+ghost use Rattle.std.specs.Prelude.{◌≡◌};
+ghost use Rattle.rpl_unicode.specs.declared.fault.ClassFault.TheVariants.{NoMemory as OutOfMemory};
+
+use crate::NoMemory;
+use thiserror::Error;
+
+/// Why a name has no set.
+#[derive(Clone, Copy, Debug, PartialEq, Eq, Error)]
+pub enum ClassFault {
+    /// Memory ran out.
+    #[error("out of memory")]
+    NoMemory,
+    /// No property, general category or script has the name.
+    #[error("unknown class")]
+    UnknownClass,
+}
+
+impl From<NoMemory> for ClassFault {
+    ghost from_gives = { λ _ fault. fault ≡ OutOfMemory };
+
+    fn from(_cause: NoMemory) -> ClassFault {
+        ClassFault::NoMemory
+    }
+}
