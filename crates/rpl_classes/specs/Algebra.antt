@@ -1,5 +1,6 @@
 -- What is done with sets, on any lists of ranges. Each answer is a normal form.
-use Rattle.std.specs.Prelude.{ℕ, zero, suc, ◌+◌, ◌-◌, Bool, ◌&&◌, nat_le, if◌then◌else◌, List, [], ◌∷◌, ◌++◌, min, max}
+use Rattle.std.specs.Prelude.{ℕ, zero, suc, ◌+◌, ◌-◌, Bool, ◌&&◌, nat_le, if◌then◌else◌, List, [], ◌∷◌, ◌++◌}
+use Rattle.std.specs.Prelude.{min, max}
 use Rattle.regex_class.specs.Ranges.{Range, in_ranges}
 use Rattle.rpl_unicode.specs.Folding.{folds_with}
 use Rattle.rpl_classes.specs.Norm.{norm}

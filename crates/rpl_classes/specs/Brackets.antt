@@ -1,7 +1,8 @@
 -- The set of a bracket: a class, a compound of brackets, or a list. `[` is 91, `]` 93, `^` 94, `:` 58, `-` 45, `&` 38.
 -- A definition whose parts call one another takes the reader of the inner part, and a number that bounds how many there
 -- are. `Laws` says the same without a number, and that any number that is large enough gives the same.
-use Rattle.std.specs.Prelude.{ℕ, zero, suc, Bool, true, false, ◌&&◌, ◌||◌, nat_eq, if◌then◌else◌, List, [], ◌∷◌, ◌++◌, Option, Some, None, Result, Ok, Err}
+use Rattle.std.specs.Prelude.{ℕ, zero, suc, Bool, true, false, ◌&&◌, ◌||◌, nat_eq, if◌then◌else◌, List, []}
+use Rattle.std.specs.Prelude.{◌∷◌, ◌++◌, Option, Some, None, Result, Ok, Err}
 use Rattle.regex_class.specs.Ranges.{Range}
 use Rattle.rpl_classes.specs.Norm.{norm}
 use Rattle.rpl_classes.specs.Algebra.{both, others, without}

@@ -1,13 +1,16 @@
 -- The named classes: those of the POSIX C locale (IEEE Std 1003.1, LC_CTYPE), each by the standard's own words, and
 -- beside them what Unicode has a name for.
-use Rattle.std.specs.Prelude.{ℕ, Bool, not, ◌&&◌, ◌||◌, nat_eq, nat_le, List, [], ◌∷◌, Option, Some, None, if◌then◌else◌, codes}
+use Rattle.std.specs.Prelude.{ℕ, Bool, not, ◌&&◌, ◌||◌, nat_eq, nat_le, List, [], ◌∷◌, Option, Some, None}
+use Rattle.std.specs.Prelude.{if◌then◌else◌, codes}
 use Rattle.std.specs.Str.{bytes_eq}
 use Rattle.std.specs.Option.{option_map, option_or}
 use Rattle.regex_class.specs.Ranges.{Range}
 use Rattle.rpl_unicode.specs.Named.{members}
 use Rattle.rpl_classes.specs.Algebra.{set_of}
 use Rattle.rpl_classes.specs.declared.classes.NamedClass.{NamedClass}
-use Rattle.rpl_classes.specs.declared.classes.NamedClass.TheVariants.{Alpha, Digit, Alnum, Upper, Lower, Space, Blank, Punct, Xdigit, Cntrl, Graph, Print}
+use Rattle.rpl_classes.specs.declared.classes.NamedClass.TheVariants.{Alpha, Digit, Alnum, Upper, Lower, Space}
+use Rattle.rpl_classes.specs.declared.classes.NamedClass.TheVariants.{Blank, Punct, Xdigit, Cntrl, Graph}
+use Rattle.rpl_classes.specs.declared.classes.NamedClass.TheVariants.{Print}
 
 -- A to Z, a to z, 0 to 9
 abbrev pub is_upper : ℕ → Bool

@@ -1,5 +1,6 @@
 -- A bracket's text as symbols: each a character as it stands or one that an escape gives, with its byte place.
-use Rattle.std.specs.Prelude.{ℕ, zero, suc, ◌+◌, Bool, false, ◌||◌, nat_eq, if◌then◌else◌, List, [], ◌∷◌, length, Option, Some, None, drop}
+use Rattle.std.specs.Prelude.{ℕ, zero, suc, ◌+◌, Bool, false, ◌||◌, nat_eq, if◌then◌else◌, List, [], ◌∷◌}
+use Rattle.std.specs.Prelude.{length, Option, Some, None, drop}
 use Rattle.std.specs.Char.{len_utf8}
 use Rattle.rpl_text.specs.Places.{at, index}
 use Rattle.rpl_text.specs.Escapes.{escape}

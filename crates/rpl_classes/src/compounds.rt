@@ -7,7 +7,8 @@ ghost use Rattle.rpl_classes.specs.Norm.{norm};
 ghost use Rattle.rpl_classes.specs.Symbols.{symbols_from};
 ghost use Rattle.rpl_classes.specs.inside.Scanned.{AcceptsTwice};
 ghost use Rattle.rpl_classes.specs.inside.Operators.{OperatorAt};
-ghost use Rattle.rpl_classes.specs.inside.Stack.{left_set, joined_by, opened, framed, resume, Steps, GoesBehind, GivesSet};
+ghost use Rattle.rpl_classes.specs.inside.Stack.{left_set, joined_by, opened, framed, resume, Steps};
+ghost use Rattle.rpl_classes.specs.inside.Stack.{GoesBehind, GivesSet};
 
 use crate::NoMemory;
 use crate::brackets::{Begun, begin_at, signed_set};

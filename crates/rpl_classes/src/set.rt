@@ -1,5 +1,6 @@
 // A set of characters: its ranges, and two masks for the test of an ASCII character.
-ghost use Rattle.std.specs.Prelude.{◌≡◌, ℕ, ◌≤◌, ◌||◌, ◌&&◌, ◌↔◌, [], ◌∷◌, ◌++◌, not, nat_eq, nat_le, IfOk, IfSome, OnOk, IsTrue, chars};
+ghost use Rattle.std.specs.Prelude.{◌≡◌, ℕ, ◌≤◌, ◌||◌, ◌&&◌, ◌↔◌, [], ◌∷◌, ◌++◌, not, nat_eq, nat_le, IfOk};
+ghost use Rattle.std.specs.Prelude.{IfSome, OnOk, IsTrue, chars};
 ghost use Rattle.std.specs.Option.{option_map};
 ghost use Rattle.regex_class.specs.Ranges.{in_ranges};
 ghost use Rattle.rpl_unicode.specs.Named.{members};

@@ -1,6 +1,7 @@
 -- What the scanner's steps say of the symbols of a text: the words of the private functions' contracts, which no reader
 -- needs to believe.
-use Rattle.std.specs.Prelude.{◌≡◌, ◌≢◌, ℕ, ◌+◌, ◌<◌, ◌≤◌, Bool, true, false, ◌&&◌, List, [], ◌∷◌, Option, Some, None, Result, Ok, Err, if◌then◌else◌, slice_get, slice_range}
+use Rattle.std.specs.Prelude.{◌≡◌, ◌≢◌, ℕ, ◌+◌, ◌<◌, ◌≤◌, Bool, true, false, ◌&&◌, List, [], ◌∷◌, Option, Some}
+use Rattle.std.specs.Prelude.{None, Result, Ok, Err, if◌then◌else◌, slice_get, slice_range}
 use Rattle.regex_class.specs.Ranges.{Range}
 use Rattle.rpl_text.specs.Places.{index, IsPlace}
 use Rattle.rpl_classes.specs.Symbols.{Placed, symbols_from, first, place, rest, begins}
