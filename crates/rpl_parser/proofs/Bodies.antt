@@ -104,4 +104,4 @@ pub bodies_written : (s : List ℕ) (ts : List Lexeme) (m : Said) → IsUtf8 s �
 bodies_written s ts m u c h =
     let all = lines_written s ts (outline_lines h.tree) u (λ i t e. tokens_stand s ts i t c e) h.spelled in
     subst (λ n. BodiesWritten n.items) (sym h.stands_for)
-      (parts_written h.tree.parts (past_imports h.tree.imports _ (past_title h.tree.title _ (past_version h.tree.version _ all))))
+    (parts_written h.tree.parts (past_imports h.tree.imports _ (past_title h.tree.title _ (past_version h.tree.version _ all))))

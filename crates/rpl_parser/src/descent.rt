@@ -158,7 +158,7 @@ fn choice<'a>(
 ) -> Result<(Exprs, &'a [Token]), Refusal>
     ensures { Gives (λ x. (shown x.0, x.1.now)) result
         (parts_of (suc (length tokens.now)) raw
-            (seq_of (read_item depth)) (read_exp depth raw) (shown first) tokens.now) }
+        (seq_of (read_item depth)) (read_exp depth raw) (shown first) tokens.now) }
 {
     let mut parts = Exprs::new(alloc);
     let mut items = first;

@@ -128,4 +128,4 @@ abbrev mutual
   parts_printed Nil = []
   parts_printed (Cons p Nil) = printed p
   parts_printed (Cons p (Cons q rest)) =
-    in_braces (is_joined p) (printed p) ++ 32 ∷ 47 ∷ 32 ∷ parts_printed (Cons q rest)
+      in_braces (is_joined p) (printed p) ++ 32 ∷ 47 ∷ 32 ∷ parts_printed (Cons q rest)
