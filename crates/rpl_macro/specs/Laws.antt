@@ -1,8 +1,8 @@
 -- What holds of the changes of case.
+use Rattle.rpl_classes.specs.Algebra.{folded}
 use Rattle.std.specs.Prelude.{◌≡◌, ℕ, false, List, [], ◌∷◌}
 use Rattle.rpl_syntax.specs.Expression.{Expr, Text, Class, Raw, Exprs, Nil, Cons}
 use Rattle.rpl_macro.specs.Casings.{recased, single}
-use Rattle.rpl_macro.specs.Fold.{folded}
 use Rattle.rpl_macro.specs.declared.casing.Casing.TheVariants.{Ascii, Folded}
 
 -- `ci` of what `ci` makes of an expression is that again

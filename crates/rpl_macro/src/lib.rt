@@ -7,7 +7,6 @@
 
 mod casing;
 mod fault;
-mod folds;
 mod kind;
 mod laws;
 mod recase;

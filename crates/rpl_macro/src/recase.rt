@@ -1,16 +1,15 @@
 // An expression in another casing.
+ghost use Rattle.rpl_classes.specs.Algebra.{folded};
 ghost use Rattle.std.specs.Prelude.{◌≡◌, [], ◌∷◌, IfOk, chars, false, if◌then◌else◌};
 ghost use Rattle.rpl_syntax.specs.View.{expr_of, exprs_all, shown};
 ghost use Rattle.rpl_syntax.specs.Expression as M;
 ghost use Rattle.rpl_macro.specs.Casings.{recased, recased_all, either_case, either_cases, every_case, single, has_letter, is_letter, keeps_text};
 ghost use Rattle.rpl_macro.specs.Casings as S;
 ghost use Rattle.rpl_macro.specs.Kinds.{kind_of};
-ghost use Rattle.rpl_macro.specs.Fold.{folded};
 ghost use Rattle.rpl_classes.specs.Norm.{norm};
 
 use crate::NoMemory;
 use crate::casing::Casing;
-use crate::folds::fold;
 use crate::kind::Macro;
 use rpl_classes::Set;
 use rpl_syntax::{Expr, Exprs, wrap};
@@ -64,7 +63,7 @@ fn every(alloc: Global, c: char) -> Result<Expr, NoMemory>
     ensures { IfOk result (λ e. expr_of e ≡ M.Class (folded (single c)) false) }
 {
     let alone = Set::range(alloc, c, c)?;
-    let set = fold(alloc, &alone)?;
+    let set = alone.fold(alloc)?;
     Ok(Expr::Class {
         set,
         negated: false,

@@ -1,0 +1,5 @@
+pub mod Sizes
+pub mod Inlining
+pub mod Forms
+pub mod Counting
+pub mod Rows

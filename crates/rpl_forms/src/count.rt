@@ -1,0 +1,253 @@
+// Sizes and depths of cores, from those of their parts: one function for each form.
+ghost use Rattle.std.specs.Prelude.{◌≡◌, ℕ, ◌≤◌, Bool, List, length, Option, true};
+ghost use Rattle.rpl_core.specs.Core as C;
+ghost use Rattle.rpl_core.specs.Core.{Core, Cores};
+ghost use Rattle.rpl_macro.specs.declared.casing.Casing.{Casing};
+ghost use Rattle.rpl_forms.specs.Forms.{macro_core};
+ghost use Rattle.rpl_forms.specs.Counting.{Adds, Counts, CountsAll, KnowsInners, seen};
+ghost use Rattle.rpl_forms.specs.Forms as F;
+ghost use Rattle.rpl_forms.specs.Inlining.{Inners};
+ghost use Rattle.rpl_forms.specs.Sizes.{deep, nodes};
+
+use crate::inner::count_call;
+use crate::size::{Count, HALT, Inner, MAX_DEPTH, MAX_SIZE};
+use rpl_macro::Macro;
+
+/// A core with no parts.
+pub fn leaf() -> Count
+    ensures { (p : Core) → nodes p ≡ 1 → deep p ≡ 1 → Counts result p }
+{
+    Count { size: 1, depth: 1 }
+}
+
+/// No cores.
+pub fn none() -> Count
+    ensures all { CountsAll result C.NoMore }
+    ensures start { (ps : Cores) → Adds result ps ps }
+{
+    Count { size: 0, depth: 0 }
+}
+
+/// One core around these.
+pub fn node(of: Count) -> Count
+    ensures seq { (ps : Cores) → CountsAll of ps → Counts result (C.Seq ps) }
+    ensures choice { (ps : Cores) → CountsAll of ps → Counts result (C.Choice ps) }
+    ensures many { (p : Core) → Counts of p → Counts result (C.Many p) }
+    ensures not { (p : Core) → Counts of p → Counts result (C.Not p) }
+    ensures and { (p : Core) → Counts of p → Counts result (C.And p) }
+    ensures capture { (p : Core) (c : List ℕ) → Counts of p → Counts result (C.Capture c p) }
+    ensures behind { (p : Core) (l m : ℕ) → Counts of p → Counts result (C.Behind l m p) }
+{
+    Count {
+        size: (of.size + 1).min(MAX_SIZE + 1),
+        depth: (of.depth + 1).min(MAX_DEPTH + 1),
+    }
+}
+
+/// One core before others.
+fn front(first: Count, rest: Count) -> Count
+    ensures { (p : Core) (ps : Cores) → Counts first p → CountsAll rest ps → CountsAll result (C.Then p ps) }
+{
+    Count {
+        size: (first.size + rest.size).min(MAX_SIZE + 1),
+        depth: first.depth.max(rest.depth),
+    }
+}
+
+/// One core more, of those that are left.
+pub fn add(sum: Count, next: Count) -> Count
+    ensures { (p : Core) (rest whole : Cores) → Counts next p → Adds sum (C.Then p rest) whole → Adds result rest whole }
+{
+    Count {
+        size: (sum.size + next.size).min(MAX_SIZE + 1),
+        depth: sum.depth.max(next.depth),
+    }
+}
+
+/// A core so many times, before others.
+fn copies(number: u32, part: Count, rest: Count) -> Count
+    ensures { (p : Core) (ps : Cores) → Counts part p → CountsAll rest ps → CountsAll result (F.copies number p ps) }
+{
+    if number == 0 {
+        return rest;
+    }
+    let size = number as u64 * part.size as u64 + rest.size as u64;
+    Count {
+        size: size.min(MAX_SIZE as u64 + 1) as u32,
+        depth: part.depth.max(rest.depth),
+    }
+}
+
+/// Two cores in turn.
+pub fn pair(first: Count, second: Count) -> Count
+    ensures { (p q : Core) → Counts first p → Counts second q → Counts result (F.pair p q) }
+{
+    let last = front(second, none());
+    let both = front(first, last);
+    node(both)
+}
+
+/// A core, or nothing.
+fn or_nothing(of: Count) -> Count
+    ensures { (p : Core) → Counts of p → Counts result (F.or_nothing p) }
+{
+    let last = front(leaf(), none());
+    let both = front(of, last);
+    node(both)
+}
+
+/// A text of so many characters.
+pub fn text(number: usize) -> Count
+    ensures { (c : Casing) (t : List ℕ) → length t ≡ number → Counts result (F.text_core c t) }
+{
+    if number < 2 {
+        return leaf();
+    }
+    Count {
+        size: number.min(MAX_SIZE as usize) as u32 + 1,
+        depth: 2,
+    }
+}
+
+/// So many times and more.
+fn endless(of: Count, least: u32) -> Count
+    ensures { (p : Core) → Counts of p → Counts result (F.endless p least) }
+{
+    let many = node(of);
+    if least == 0 {
+        return many;
+    }
+    let last = front(many, none());
+    let rest = copies(least - 1, of, last);
+    let all = front(of, rest);
+    node(all)
+}
+
+/// So many times, and up to some more.
+fn bounded(of: Count, least: u32, more: u32) -> Count
+    ensures { (p : Core) → Counts of p → Counts result (C.Seq (F.copies least p (F.copies more (F.or_nothing p) C.NoMore))) }
+{
+    let last = copies(more, or_nothing(of), none());
+    let all = copies(least, of, last);
+    node(all)
+}
+
+/// From `least` to `most` times, or `least` times and more.
+pub fn repeat(of: Count, least: u32, most: Option<u32>) -> Count
+    ensures { (p : Core) → Counts of p → Counts result (F.repeat p least most) }
+{
+    match most {
+        None => endless(of, least),
+        Some(most) => bounded(of, least, most.saturating_sub(least)),
+    }
+}
+
+/// A cooked group so many times and more, with the boundary between its turns.
+fn cooked_endless(boundary: Count, of: Count, least: u32) -> Count
+    ensures { (b p : Core) → Counts boundary b → Counts of p → Counts result (F.cooked_endless b p least) }
+{
+    let turn = pair(boundary, of);
+    let many = node(turn);
+    if least == 0 {
+        let some = pair(of, many);
+        return or_nothing(some);
+    }
+    let last = front(many, none());
+    let rest = copies(least - 1, turn, last);
+    let all = front(of, rest);
+    node(all)
+}
+
+/// One turn of a cooked group, some further ones, and up to some more.
+fn cooked_turns(boundary: Count, of: Count, further: u32, more: u32) -> Count
+    ensures { (b p : Core) → Counts boundary b → Counts of p → Counts result (F.cooked_turns b p further more) }
+{
+    let turn = pair(boundary, of);
+    let last = copies(more, or_nothing(turn), none());
+    let rest = copies(further, turn, last);
+    let all = front(of, rest);
+    node(all)
+}
+
+/// A cooked group from `least` to `most` times.
+fn cooked_bounded(boundary: Count, of: Count, least: u32, most: u32) -> Count
+    ensures { (b p : Core) → Counts boundary b → Counts of p → Counts result (F.cooked_bounded b p least most) }
+{
+    if least > 0 {
+        return cooked_turns(boundary, of, least - 1, most.saturating_sub(least));
+    }
+    if most == 0 {
+        return leaf();
+    }
+    let turns = cooked_turns(boundary, of, 0, most - 1);
+    or_nothing(turns)
+}
+
+/// A cooked group from `least` to `most` times, or `least` times and more.
+pub fn cooked_repeat(boundary: Count, of: Count, least: u32, most: Option<u32>) -> Count
+    ensures { (b p : Core) → Counts boundary b → Counts of p → Counts result (F.cooked_repeat b p least most) }
+{
+    match most {
+        None => cooked_endless(boundary, of, least),
+        Some(most) => cooked_bounded(boundary, of, least, most),
+    }
+}
+
+/// A tree around a core; behind a look-behind there are none.
+pub fn capture(inside: bool, of: Count) -> Count
+    ensures { (p : Core) (c : List ℕ) (I : Inners) → Counts of (seen inside I p) → Counts result (seen inside I (C.Capture c p)) }
+{
+    if inside {
+        return of;
+    }
+    node(of)
+}
+
+/// The characters that a search passes over.
+fn passed(of: Count) -> Count
+    ensures { (p : Core) → Counts of p → Counts result (F.passed p) }
+{
+    let not = node(of);
+    let step = pair(not, leaf());
+    node(step)
+}
+
+/// A search.
+fn found(inside: bool, of: Count) -> Count
+    ensures { (p : Core) (I : Inners) → Counts of (seen inside I p) → Counts result (seen inside I (F.found p)) }
+{
+    let before = passed(of);
+    let hit = capture(inside, of);
+    pair(before, hit)
+}
+
+/// A search that keeps what it passes over.
+fn kept(inside: bool, of: Count) -> Count
+    ensures { (p : Core) (I : Inners) → Counts of (seen inside I p) → Counts result (seen inside I (F.kept p)) }
+{
+    let before = capture(inside, passed(of));
+    let hit = capture(inside, of);
+    pair(before, hit)
+}
+
+/// A message and the end of the match.
+fn error(known: &[Option<Inner>], inside: bool) -> Count
+    ensures { (I : Inners) (t : List ℕ) → KnowsInners known.now I → Counts result (seen inside I (F.pair (C.Note t) (C.Call F.halt_rule))) }
+{
+    let end = count_call(known, inside, HALT);
+    pair(leaf(), end)
+}
+
+/// A macro of an argument with these counts.
+pub fn applied(known: &[Option<Inner>], inside: bool, kind: Option<Macro>, of: Count) -> Count
+    ensures { (I : Inners) (t : List ℕ) (p : Core) → KnowsInners known.now I → Counts of (seen inside I p) → Counts result (seen inside I (macro_core kind t p)) }
+{
+    match kind {
+        None | Some(Macro::Ci) | Some(Macro::Uci) => of,
+        Some(Macro::Find) => found(inside, of),
+        Some(Macro::FindAll) => repeat(found(inside, of), 1, None),
+        Some(Macro::KeepTo) => kept(inside, of),
+        Some(Macro::Message) => leaf(),
+        Some(Macro::Error) => error(known, inside),
+    }
+}

@@ -1,0 +1,267 @@
+// What stands for rules behind a look-behind: their bodies without captures and notes, and with the bodies of earlier
+// rules in place of calls. It is counted for each rule, and made only where a look-behind asks for it.
+ghost use Rattle.std.specs.Prelude.{◌≡◌, ◌<◌, ◌+◌, IfOk, IfSome, OnOk, Option, [], ◌∷◌, ◌++◌, length, slice_get, take};
+ghost use Rattle.rpl_core.specs.Core as C;
+ghost use Rattle.rpl_core.specs.Listed.{rules_of};
+ghost use Rattle.rpl_core.specs.View.{core_of, cores, listed};
+ghost use Rattle.rpl_forms.specs.Counting.{Adds, Counts, CountsAll, IsFirst, KnowsInners, KnowsNext, known_of, seen, seen_all};
+ghost use Rattle.rpl_forms.specs.Inlining.{Inners, called, inlined, inlined_all, inner};
+ghost use Rattle.rpl_forms.specs.Rows.{inners_of};
+
+use crate::NoMemory;
+use crate::count::{add, capture, leaf, node, none};
+use crate::size::{Count, Inner};
+use rpl_core::{Peg, Pegs, Rule, Rules};
+use std::alloc::Global;
+
+/// What is known of what stands for the rule with this number, where anything does.
+fn inner_of(known: &[Option<Inner>], rule: u32) -> Option<Inner>
+    ensures { result ≡ known_of (slice_get known.now rule) }
+{
+    match known.get(rule as usize) {
+        Some(inner) => *inner,
+        None => None,
+    }
+}
+
+/// The counts of a call, or of what stands for it.
+pub fn count_call(known: &[Option<Inner>], inside: bool, rule: u32) -> Count
+    ensures { (I : Inners) → KnowsInners known.now I → Counts result (seen inside I (C.Call rule)) }
+{
+    if !inside {
+        return leaf();
+    }
+    match inner_of(known, rule) {
+        Some(inner) => inner.count,
+        None => leaf(),
+    }
+}
+
+/// The counts of a pattern, or of what stands for it.
+#[cycle(weigh)]
+fn weigh(known: &[Option<Inner>], inside: bool, peg: &Peg) -> Count
+    ensures { (I : Inners) → KnowsInners known.now I → Counts result (seen inside I (core_of peg.now)) }
+{
+    match peg {
+        Peg::Set(_) | Peg::Note(_) | Peg::Start | Peg::End | Peg::Halt => leaf(),
+        Peg::Call(number) => count_call(known, inside, *number),
+        Peg::Many(body) => {
+            let of = weigh(known, inside, body);
+            node(of)
+        }
+        Peg::Not(body) => {
+            let of = weigh(known, inside, body);
+            node(of)
+        }
+        Peg::And(body) => {
+            let of = weigh(known, inside, body);
+            node(of)
+        }
+        Peg::Behind { body, .. } => {
+            let of = weigh(known, false, body);
+            node(of)
+        }
+        Peg::Capture(_, body) => {
+            let of = weigh(known, inside, body);
+            capture(inside, of)
+        }
+        Peg::Seq(parts) => {
+            let all = weigh_all(known, inside, parts.as_slice());
+            node(all)
+        }
+        Peg::Choice(parts) => {
+            let all = weigh_all(known, inside, parts.as_slice());
+            node(all)
+        }
+    }
+}
+
+/// Those of some patterns together.
+#[cycle(weigh)]
+fn weigh_all(known: &[Option<Inner>], inside: bool, parts: &[Peg]) -> Count
+    ensures { (I : Inners) → KnowsInners known.now I → CountsAll result (seen_all inside I (cores parts.now)) }
+{
+    let mut sum = none();
+    for part in parts {
+        sum = add(sum, weigh(known, inside, part));
+    }
+    sum
+}
+
+/// The rule that the pattern calls, where it is nothing but a call, or a node of one.
+fn called_alone(peg: &Peg) -> Option<u32>
+    ensures { IfSome result (λ r. (I : Inners) → inlined I (core_of peg.now) ≡ inlined I (C.Call r)) }
+{
+    match peg {
+        Peg::Call(rule) => Some(*rule),
+        Peg::Capture(_, body) => match &**body {
+            Peg::Call(rule) => Some(*rule),
+            _ => None,
+        },
+        _ => None,
+    }
+}
+
+/// The first rule of a chain of calls that ends at this body of the next rule: what stands for the one stands for the
+/// other. So a chain of names, however long, is followed in one step.
+fn first_in_chain(known: &[Option<Inner>], body: &Peg) -> u32
+    requires { length known.now < 0xffff_ffff }
+    ensures { (I : Inners) → KnowsInners known.now I → length known.now ≡ length I → IsFirst result I (core_of body.now) }
+{
+    let own = known.len() as u32;
+    let Some(rule) = called_alone(body) else {
+        return own;
+    };
+    match inner_of(known, rule) {
+        Some(inner) => inner.rule,
+        None => own,
+    }
+}
+
+/// What is known of what stands for the next rule, if anything does.
+fn next_inner(known: &[Option<Inner>], rule: &Rule) -> Option<Inner>
+    requires { length known.now < 0xffff_ffff }
+    ensures { (I : Inners) → KnowsInners known.now I → length known.now ≡ length I → KnowsNext I result (inner I rule.now.block (core_of rule.now.body)) }
+{
+    match rule.block {
+        Some(_) => None,
+        None => Some(Inner {
+            count: weigh(known, true, &rule.body),
+            rule: first_in_chain(known, &rule.body),
+        }),
+    }
+}
+
+/// Adds what is known of the next rule of a table.
+pub fn push_inner(known: &mut Vec<Option<Inner>>, rule: &Rule) -> Result<(), NoMemory>
+    requires { length known.old.items < 0xffff_ffff }
+    ensures knows { OnOk result ((I : Inners) → KnowsInners known.old.items I → length known.old.items ≡ length I → KnowsInners known.new.items (I ++ inner I rule.now.block (core_of rule.now.body) ∷ [])) }
+    ensures as_many { OnOk result (length known.new.items ≡ length known.old.items + 1) }
+{
+    let next = next_inner(known, rule);
+    known.push(next)?;
+    Ok(())
+}
+
+/// What is known of each rule of a table.
+pub fn inners(alloc: Global, rules: &Rules) -> Result<Vec<Option<Inner>>, NoMemory>
+    ensures knows { IfOk result (λ v. KnowsInners v.items (inners_of (rules_of rules.now))) }
+    ensures as_many { IfOk result (λ v. length v.items ≡ length (rules_of rules.now)) }
+{
+    let mut known = Vec::new(alloc);
+    for number in 0..rules.len() as u32 {
+        let Some(rule) = rules.get(number) else {
+            return Ok(known);
+        };
+        push_inner(&mut known, rule)?;
+    }
+    Ok(known)
+}
+
+/// A box with what stands for the pattern.
+#[cycle(inline)]
+fn boxed(
+    alloc: Global,
+    rules: &Rules,
+    known: &[Option<Inner>],
+    limit: u32,
+    body: &Peg,
+) -> Result<Box<Peg>, NoMemory>
+    requires { KnowsInners known.now (inners_of (rules_of rules.now)) }
+    ensures { IfOk result (λ b. core_of b.value ≡ inlined (take limit (inners_of (rules_of rules.now))) (core_of body.now)) }
+{
+    let body = inline(alloc, rules, known, limit, body)?;
+    Ok(Box::new(alloc, body)?)
+}
+
+/// What stands for each part.
+#[cycle(inline)]
+fn inline_all(
+    alloc: Global,
+    rules: &Rules,
+    known: &[Option<Inner>],
+    limit: u32,
+    parts: &[Peg],
+) -> Result<Pegs, NoMemory>
+    requires { KnowsInners known.now (inners_of (rules_of rules.now)) }
+    ensures { IfOk result (λ ps. cores (listed ps) ≡ inlined_all (take limit (inners_of (rules_of rules.now))) (cores parts.now)) }
+{
+    let mut others = Pegs::new(alloc);
+    for part in parts {
+        others.push(inline(alloc, rules, known, limit, part)?)?;
+    }
+    Ok(others)
+}
+
+/// What stands for a call: at once for the first rule of its chain.
+#[cycle(inline)]
+fn inline_call(
+    alloc: Global,
+    rules: &Rules,
+    known: &[Option<Inner>],
+    limit: u32,
+    number: u32,
+) -> Result<Peg, NoMemory>
+    requires { KnowsInners known.now (inners_of (rules_of rules.now)) }
+    ensures { IfOk result (λ p. core_of p ≡ called number (slice_get (take limit (inners_of (rules_of rules.now))) number)) }
+{
+    if number >= limit {
+        return Ok(Peg::Call(number));
+    }
+    let Some(inner) = inner_of(known, number) else {
+        return Ok(Peg::Call(number));
+    };
+    let Some(rule) = rules.get(inner.rule) else {
+        return Ok(Peg::Call(number));
+    };
+    inline(alloc, rules, known, inner.rule, &rule.body)
+}
+
+/// What stands for the pattern: no captures and notes, and for calls of the first `limit` rules what stands for them.
+#[cycle(inline)]
+fn inline(
+    alloc: Global,
+    rules: &Rules,
+    known: &[Option<Inner>],
+    limit: u32,
+    peg: &Peg,
+) -> Result<Peg, NoMemory>
+    requires { KnowsInners known.now (inners_of (rules_of rules.now)) }
+    ensures { IfOk result (λ p. core_of p ≡ inlined (take limit (inners_of (rules_of rules.now))) (core_of peg.now)) }
+{
+    match peg {
+        Peg::Set(set) => Ok(Peg::Set(set.copy(alloc)?)),
+        Peg::Seq(parts) => Ok(Peg::Seq(inline_all(alloc, rules, known, limit, parts.as_slice())?)),
+        Peg::Choice(parts) => {
+            let parts = inline_all(alloc, rules, known, limit, parts.as_slice())?;
+            Ok(Peg::Choice(parts))
+        }
+        Peg::Many(body) => Ok(Peg::Many(boxed(alloc, rules, known, limit, body)?)),
+        Peg::Not(body) => Ok(Peg::Not(boxed(alloc, rules, known, limit, body)?)),
+        Peg::And(body) => Ok(Peg::And(boxed(alloc, rules, known, limit, body)?)),
+        Peg::Behind { .. } => peg.copy(alloc),
+        Peg::Call(number) => inline_call(alloc, rules, known, limit, *number),
+        Peg::Capture(_, body) => inline(alloc, rules, known, limit, body),
+        Peg::Note(_) => Ok(Peg::Seq(Pegs::new(alloc))),
+        Peg::Start => Ok(Peg::Start),
+        Peg::End => Ok(Peg::End),
+        Peg::Halt => Ok(Peg::Halt),
+    }
+}
+
+/// A call, or what stands for it.
+pub fn call(
+    alloc: Global,
+    rules: &Rules,
+    known: &[Option<Inner>],
+    inside: bool,
+    rule: u32,
+) -> Result<Peg, NoMemory>
+    requires { KnowsInners known.now (inners_of (rules_of rules.now)) }
+    ensures { IfOk result (λ p. core_of p ≡ seen inside (inners_of (rules_of rules.now)) (C.Call rule)) }
+{
+    if !inside {
+        return Ok(Peg::Call(rule));
+    }
+    inline_call(alloc, rules, known, rules.len() as u32, rule)
+}
