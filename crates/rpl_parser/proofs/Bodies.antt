@@ -1,20 +1,17 @@
 -- The body of each rule of a module can be written.
-use Rattle.std.proofs.Common.{◌≡◌, ℕ, zero, suc, ◌≤◌, List, [], ◌∷◌, ◌++◌, length, take, drop, Option, Some, None, refl, sym, ap, subst, ◌∙◌, arith}
-use Rattle.std.specs.Prelude.{Bool, true, false, IsUtf8, slice_get}
+use Rattle.std.proofs.Common.{ℕ, suc, List, [], ◌∷◌, ◌++◌, length, Option, Some, None, refl, sym, subst, arith}
+use Rattle.std.specs.Prelude.{true, false, IsUtf8}
 use Rattle.std.proofs.lemmas.List.{length-append}
-use Rattle.rpl_lexer.specs.Cut.{IsCut, IsToken}
-use Rattle.rpl_lexer.specs.Payloads.{payload}
+use Rattle.rpl_lexer.specs.Cut.{IsCut}
 use Rattle.rpl_lexer.specs.declared.token.Token.{Token as Lexeme}
 use Rattle.rpl_lexer.proofs.Cuts.{tokens_stand}
 use Rattle.rpl_syntax.specs.declared.token.Token.{Token}
-use Rattle.rpl_syntax.specs.Expression.{joined}
-use Rattle.rpl_syntax.specs.Grammar.{Exp, content, spell_exp}
 use Rattle.rpl_syntax.specs.Modules.{Rule, Said}
 use Rattle.rpl_syntax.specs.Texts.{Say}
 use Rattle.rpl_syntax.proofs.Said.{All_fit, form_of, token_fit}
 use Rattle.rpl_syntax.proofs.Held.{tree_held}
 use Rattle.rpl_parser.specs.Bodies.{Written, RulesWritten, EntryWritten, BodiesWritten}
-use Rattle.rpl_parser.specs.Order.{Placed, placed, Title, Importing, Part, Alone, Whole, Halves, rule_lines, part_lines, parts_lines, import_lines, title_lines, version_lines, outline_lines, part_entry, part_entries, Stands, AreLines, IsModule}
+use Rattle.rpl_parser.specs.Order.{Placed, Title, Importing, Part, Alone, Whole, Halves, rule_lines, part_lines, parts_lines, import_lines, title_lines, version_lines, outline_lines, part_entry, part_entries, Stands, AreLines, IsModule}
 use Rattle.rpl_parser.specs.Spelling as S
 use Rattle.rpl_parser.specs.Spelling.{Line, Statement, spell_statement}
 use Rattle.rpl_parser.specs.Tokens.{AllStand, tokens_of}
