@@ -15,7 +15,7 @@ use Rattle.rpl_check.specs.inside.Rounds.{CallsBefore}
 use Rattle.rpl_check.specs.inside.Search.{AreClean, calls_within, front_calls_within, each_calls_within, within_or_none}
 use Rattle.rpl_check.proofs.Following.{no_self, from_cases}
 use Rattle.rpl_check.proofs.Settling.{set_cases}
-use Rattle.rpl_core.proofs.Bools.{clash, either, both, eq_of}
+use Rattle.rpl_core.proofs.Bools.{clash, either, both, eq_of, eq_self, left, paired, right}
 
 after : (a b : Bool) → (not a || b) ≡ true → a ≡ true → b ≡ true
 after true b e f = e
@@ -81,3 +81,57 @@ clean_more R m a n clean early le fit off calls old reach all r ar on = ⊎_elim
 -- and those before it are still open
 pub open_still : (a n i : ℕ) (clean : List Bool) → i < n - a → ((j : ℕ) → j < n + 1 - a → marked clean j ≡ false) → marked (slice_set clean (n - a) true) i ≡ false
 open_still a n i clean lt off = get_or-set_other clean (n - a) i true false (λ z. absurd (omega arith)) ∙ off i (omega arith)
+
+-- where a front isn't within, a call is outside
+outside : (a b : Bool) → (a && b) ≡ false → (a ≡ false) ⊎ ((a ≡ true) × (b ≡ false))
+outside true b e = inr (refl, e)
+outside false b e = inl refl
+
+or_not : (a b : Bool) → (not a || b) ≡ false → (a ≡ true) × (b ≡ false)
+or_not true b e = (refl, e)
+or_not false b e = absurd (cc)
+
+module _ (m w : ℕ → Bool) where
+  mutual
+    pub missed : (e : Core) → calls_within m w e ≡ false → (t : ℕ) × (calls_here m e t ≡ true) × (w t ≡ false)
+    missed (Set s) i = absurd (cc)
+    missed (Seq ps) i = front_missed ps i
+    missed (Choice ps) i = each_missed ps i
+    missed (Many p) i = missed p i
+    missed (Not p) i = missed p i
+    missed (And p) i = missed p i
+    missed (Behind a b p) i = missed p i
+    missed (Call r) i = (r, eq_self r, i)
+    missed (Capture x p) i = missed p i
+    missed (Note x) i = absurd (cc)
+    missed Start i = absurd (cc)
+    missed End i = absurd (cc)
+    missed Halt i = absurd (cc)
+
+    front_missed : (ps : Cores) → front_calls_within m w ps ≡ false → (t : ℕ) × (front_calls_here m ps t ≡ true) × (w t ≡ false)
+    front_missed NoMore i = absurd (cc)
+    front_missed (Then p ps) i =
+        ⊎_elim (λ off. let x = missed p off in (x.0, left (calls_here m p x.0) (may_be_empty m p && front_calls_here m ps x.0) x.1, x.2))
+        (λ y. let z = or_not (may_be_empty m p) (front_calls_within m w ps) y.1 in
+        let x = front_missed ps z.1 in
+        (x.0, right (calls_here m p x.0) (may_be_empty m p && front_calls_here m ps x.0) (paired (may_be_empty m p) (front_calls_here m ps x.0) z.0 x.1), x.2))
+        (outside (calls_within m w p) (not (may_be_empty m p) || front_calls_within m w ps) i)
+
+    each_missed : (ps : Cores) → each_calls_within m w ps ≡ false → (t : ℕ) × (any_calls_here m ps t ≡ true) × (w t ≡ false)
+    each_missed NoMore i = absurd (cc)
+    each_missed (Then p ps) i =
+        ⊎_elim (λ off. let x = missed p off in (x.0, left (calls_here m p x.0) (any_calls_here m ps x.0) x.1, x.2))
+        (λ y. let x = each_missed ps y.1 in (x.0, right (calls_here m p x.0) (any_calls_here m ps x.0) x.1, x.2))
+        (outside (calls_within m w p) (each_calls_within m w ps) i)
+
+none_within : (a b : Bool) → is_some (within_or_none a b) ≡ false → a ≡ false
+none_within true b e = absurd (cc)
+none_within false b e = refl
+
+-- a call of a rule whose front isn't within
+pub rule_missed : (rules : List Rule) (m w : ℕ → Bool) (k : ℕ) (rule : Rule) (o : Option Bool) → Some rule ≡ slice_get rules k → o ≡ within_or_none (calls_within m w (core_of rule.body)) (may_be_empty m (core_of rule.body)) → is_some o ≡ false → (t : ℕ) × (calls_at m (bodies_of rules) k t ≡ true) × (w t ≡ false)
+rule_missed rules m w k rule o is e none =
+    let p = core_of rule.body in
+    let body : slice_get (bodies_of rules) k ≡ Some p = slice_get-map (λ (r : Rule). core_of r.body) rules k ∙ sym (ap (option_map (λ (r : Rule). core_of r.body)) is) in
+    let x = missed m w p (none_within (calls_within m w p) (may_be_empty m p) (sym (ap is_some e) ∙ none)) in
+    (x.0, ap (passes (λ y. calls_here m y x.0)) body ∙ x.1, x.2)

@@ -8,6 +8,7 @@ pub mod Finding
 pub mod Fronts
 pub mod Following
 pub mod Clean
+pub mod Rings
 pub mod Selves
 pub mod Firsts
 pub mod Accepting

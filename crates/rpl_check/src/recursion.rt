@@ -7,7 +7,7 @@ ghost use Rattle.rpl_check.specs.Facts.{Follows, IsLeast, any_calls_here, calls_
 ghost use Rattle.rpl_check.specs.Blocks as B;
 ghost use Rattle.rpl_core.specs.inside.Marks.{marked};
 ghost use Rattle.rpl_check.specs.inside.Rounds.{CallsBefore, OverReach};
-ghost use Rattle.rpl_check.specs.inside.Search.{AreClean, Finds, marked_from};
+ghost use Rattle.rpl_check.specs.inside.Search.{AreClean, AreLeft, AreReached, Finds, ReachRule, marked_from};
 ghost use Rattle.rpl_check.specs.inside.Search.{clean_all, clean_core, clean_each, within_or_none};
 
 use crate::NoMemory;
@@ -194,7 +194,114 @@ fn find_calls_of(
     Ok(())
 }
 
-/// The rule reaches itself before a character: its calls are followed through the block.
+/// The rule calls only clean rules before a character.
+fn calls_clean(rules: &Rules, number: u32, empties: &[bool], clean: &[bool], start: u32) -> bool
+    ensures clean { result ≡ true → (r : ℕ) →
+        calls_at (marked empties.now) (bodies_in rules.now) number r ≡ true →
+        marked_from start clean.now r ≡ true }
+    ensures other { result ≡ false → (r : ℕ)
+        × (calls_at (marked empties.now) (bodies_in rules.now) number r ≡ true)
+        × (marked_from start clean.now r ≡ false) }
+{
+    match rules.get(number) {
+        Some(rule) => clean_front(&rule.body, empties, clean, start).is_some(),
+        None => true,
+    }
+}
+
+/// Marks a rule that the rule `number` reaches, if it calls one that reaches `number`: such a rule reaches itself. Those
+/// that don't reach `number`, as far as is known, are `away`.
+fn mark_caller(
+    rules: &Rules,
+    number: u32,
+    rule: u32,
+    start: u32,
+    end: u32,
+    empties: &[bool],
+    away: &mut [bool],
+    left: &mut [bool],
+)
+    requires within { (start ≤ rule) × (rule < end) }
+    requires calls { CallsBefore (bodies_in rules.now) end }
+    requires away_long { length away.old ≡ end - start }
+    requires left_long { length left.old ≡ end - start }
+    requires reached { OverReach (bodies_in rules.now) (marked empties.now) (λ reach. reach number rule ≡ true) }
+    requires away { ReachRule (bodies_in rules.now) (marked empties.now) start number away.old }
+    requires left { AreLeft (bodies_in rules.now) (marked empties.now) start left.old }
+    ensures away { ReachRule (bodies_in rules.now) (marked empties.now) start number away.new }
+    ensures left { AreLeft (bodies_in rules.now) (marked empties.now) start left.new }
+{
+    if calls_clean(rules, rule, empties, away, start) {
+        return;
+    }
+    let place = (rule - start) as usize;
+    away[place] = false;
+    left[place] = true;
+}
+
+/// Marks each such rule of the list, the last first.
+fn mark_callers(
+    rules: &Rules,
+    number: u32,
+    looked: &[u32],
+    start: u32,
+    end: u32,
+    empties: &[bool],
+    away: &mut [bool],
+    left: &mut [bool],
+)
+    requires calls { CallsBefore (bodies_in rules.now) end }
+    requires away_long { length away.old ≡ end - start }
+    requires left_long { length left.old ≡ end - start }
+    requires looked { AreReached (bodies_in rules.now) (marked empties.now) number start end looked.now }
+    requires away { ReachRule (bodies_in rules.now) (marked empties.now) start number away.old }
+    requires left { AreLeft (bodies_in rules.now) (marked empties.now) start left.old }
+    ensures { AreLeft (bodies_in rules.now) (marked empties.now) start left.new }
+{
+    let mut place = looked.len();
+    while place > 0 {
+        place -= 1;
+        mark_caller(
+            rules,
+            number,
+            looked[place],
+            start,
+            end,
+            empties,
+            away,
+            left,
+        );
+    }
+}
+
+/// Marks rules that reach themselves, where `number` does: of those that it reaches, each that calls it or calls another
+/// that was marked, the last that was looked at first. So a ring of rules is marked whole.
+fn mark_ring(
+    alloc: Global,
+    rules: &Rules,
+    number: u32,
+    looked: &[u32],
+    start: u32,
+    end: u32,
+    empties: &[bool],
+    left: &mut [bool],
+) -> Result<(), NoMemory>
+    requires within { (start ≤ number) × (number < end) }
+    requires calls { CallsBefore (bodies_in rules.now) end }
+    requires itself { OverReach (bodies_in rules.now) (marked empties.now) (λ reach. reach number number ≡ true) }
+    requires looked { AreReached (bodies_in rules.now) (marked empties.now) number start end looked.now }
+    requires long { length left.old ≡ end - start }
+    requires left { AreLeft (bodies_in rules.now) (marked empties.now) start left.old }
+    ensures { AreLeft (bodies_in rules.now) (marked empties.now) start left.new }
+{
+    let mut away = vec![in alloc; true; (end - start) as usize]?;
+    away[(number - start) as usize] = false;
+    mark_callers(rules, number, looked, start, end, empties, &mut away, left);
+    Ok(())
+}
+
+/// The rule reaches itself before a character: its calls are followed through the block. Where it does, others that are
+/// found to reach themselves on the way are marked.
 fn reaches_itself(
     alloc: Global,
     rules: &Rules,
@@ -202,34 +309,33 @@ fn reaches_itself(
     end: u32,
     number: u32,
     empties: &[bool],
+    left: &mut [bool],
 ) -> Result<bool, NoMemory>
     requires within { (start ≤ number) × (number < end) × (end ≤ length (rules_of rules.now)) }
     requires earlier { CallsBefore (bodies_in rules.now) start }
     requires calls { CallsBefore (bodies_in rules.now) end }
-    ensures { (k : ℕ → Bool) → IsLeast (Follows (bodies_in rules.now) (marked empties.now) number) k →
-        IfOk result (λ b. b ≡ k number) }
+    requires long { length left.old ≡ end - start }
+    requires left { AreLeft (bodies_in rules.now) (marked empties.now) start left.old }
+    ensures itself { OverReach (bodies_in rules.now) (marked empties.now)
+        (λ reach. IfOk result (λ b. b ≡ reach number number)) }
+    ensures left { AreLeft (bodies_in rules.now) (marked empties.now) start left.new }
 {
     let mut search = Search {
         start,
         marks: vec![in alloc; false; (end - start) as usize]?,
         waiting: Vec::new(alloc),
     };
+    let mut looked = Vec::new(alloc);
     find_calls_of(&mut search, rules, number, empties)?;
     while let Some(next) = search.waiting.pop() {
+        looked.push(next)?;
         find_calls_of(&mut search, rules, next, empties)?;
     }
-    Ok(search.marks[(number - start) as usize])
-}
-
-/// The rule calls only clean rules before a character.
-fn calls_clean(rules: &Rules, number: u32, empties: &[bool], clean: &[bool], start: u32) -> bool
-    ensures { result ≡ true → (r : ℕ) → calls_at (marked empties.now) (bodies_in rules.now) number r ≡ true →
-        marked_from start clean.now r ≡ true }
-{
-    match rules.get(number) {
-        Some(rule) => clean_front(&rule.body, empties, clean, start).is_some(),
-        None => true,
+    if !search.marks[(number - start) as usize] {
+        return Ok(false);
     }
+    mark_ring(alloc, rules, number, &looked, start, end, empties, left)?;
+    Ok(true)
 }
 
 /// Marks rules of a block that don't reach themselves, without a search: the last first, each rule that calls only
@@ -269,7 +375,7 @@ fn clean_rules(
     Ok(clean)
 }
 
-/// The rule reaches itself before a character. One that is clean doesn't.
+/// The rule reaches itself before a character. One that is clean doesn't, and one that is marked does.
 fn is_left_recursive(
     alloc: Global,
     rules: &Rules,
@@ -278,19 +384,56 @@ fn is_left_recursive(
     number: u32,
     empties: &[bool],
     clean: &[bool],
+    left: &mut [bool],
 ) -> Result<bool, NoMemory>
     requires within { (start ≤ number) × (number < end) × (end ≤ length (rules_of rules.now)) }
     requires earlier { CallsBefore (bodies_in rules.now) start }
     requires calls { CallsBefore (bodies_in rules.now) end }
-    requires long { length clean.now ≡ end - start }
+    requires clean_long { length clean.now ≡ end - start }
     requires clean { AreClean (bodies_in rules.now) (marked empties.now) start clean.now }
-    ensures { OverReach (bodies_in rules.now) (marked empties.now)
+    requires left_long { length left.old ≡ end - start }
+    requires left { AreLeft (bodies_in rules.now) (marked empties.now) start left.old }
+    ensures itself { OverReach (bodies_in rules.now) (marked empties.now)
         (λ reach. IfOk result (λ b. b ≡ reach number number)) }
+    ensures left { AreLeft (bodies_in rules.now) (marked empties.now) start left.new }
 {
-    if clean[(number - start) as usize] {
+    let place = (number - start) as usize;
+    if clean[place] {
         return Ok(false);
     }
-    reaches_itself(alloc, rules, start, end, number, empties)
+    if left[place] {
+        return Ok(true);
+    }
+    reaches_itself(alloc, rules, start, end, number, empties, left)
+}
+
+/// Lists the rules of a block that reach themselves, where the clean ones are marked, and marks them.
+fn list_selves(
+    alloc: Global,
+    rules: &Rules,
+    start: u32,
+    end: u32,
+    empties: &[bool],
+    clean: &[bool],
+    left: &mut [bool],
+) -> Result<Vec<u32>, NoMemory>
+    requires within { (start ≤ end) × (end ≤ length (rules_of rules.now)) }
+    requires earlier { CallsBefore (bodies_in rules.now) start }
+    requires calls { CallsBefore (bodies_in rules.now) end }
+    requires clean_long { length clean.now ≡ end - start }
+    requires clean { AreClean (bodies_in rules.now) (marked empties.now) start clean.now }
+    requires left_long { length left.old ≡ end - start }
+    requires left { AreLeft (bodies_in rules.now) (marked empties.now) start left.old }
+    ensures { OverReach (bodies_in rules.now) (marked empties.now)
+        (λ reach. IfOk result (λ v. v.items ≡ B.selves reach start (end - start))) }
+{
+    let mut list = Vec::new(alloc);
+    for number in start..end {
+        if is_left_recursive(alloc, rules, start, end, number, empties, clean, left)? {
+            list.push(number)?;
+        }
+    }
+    Ok(list)
 }
 
 /// The rules of a block that reach themselves before a character, in order.
@@ -308,11 +451,6 @@ pub(crate) fn selves(
         (λ reach. IfOk result (λ v. v.items ≡ B.selves reach start (end - start))) }
 {
     let clean = clean_rules(alloc, rules, start, end, empties)?;
-    let mut list = Vec::new(alloc);
-    for number in start..end {
-        if is_left_recursive(alloc, rules, start, end, number, empties, &clean)? {
-            list.push(number)?;
-        }
-    }
-    Ok(list)
+    let mut left = vec![in alloc; false; (end - start) as usize]?;
+    list_selves(alloc, rules, start, end, empties, &clean, &mut left)
 }

@@ -18,5 +18,5 @@ loop-number-preserved-then-calls_clean c =
       omega arith,
       omega arith,
       λ i lt. open_still a n i clean lt (λ j l. c.loop-number.invariant.2 j (omega arith)),
-      clean_more (bodies_of (rules_of c.args.rules.now)) (marked c.args.empties.now) a n clean c.requires.earlier (omega arith) (omega (arith, c.requires.long, c.loop-number.auto.clean)) off (c.calls_clean.ensures c.if-calls_clean.true) c.loop-number.invariant.3,
+      clean_more (bodies_of (rules_of c.args.rules.now)) (marked c.args.empties.now) a n clean c.requires.earlier (omega arith) (omega (arith, c.requires.long, c.loop-number.auto.clean)) off (c.calls_clean.ensures.clean c.if-calls_clean.true) c.loop-number.invariant.3,
     )

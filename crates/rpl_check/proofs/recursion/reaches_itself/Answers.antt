@@ -1,34 +1,49 @@
-use Rattle.std.proofs.Common.{◌≡◌, ◌+◌, ◌-◌, ◌<◌, ◌∙◌, ap, subst, length, arith, refl}
+use Rattle.std.proofs.Common.{◌≡◌, ℕ, ◌+◌, ◌-◌, ◌<◌, ◌∙◌, ap, subst, sym, length, arith, refl}
+use Rattle.std.proofs.lemmas.Bool.{false≢true}
 use Rattle.std.proofs.lemmas.List.{get_or_read, nil_from_length, length-replicate}
-use Rattle.std.specs.Prelude.{false}
-use Rattle.rpl_core.specs.Listed.{rules_of}
-use Rattle.rpl_core.specs.Table.{bodies_of}
-use Rattle.rpl_core.specs.inside.Marks.{marked}
-use Rattle.rpl_check.specs.inside.Rounds.{CallsBefore}
+use Rattle.std.specs.Prelude.{Bool, false}
+use Rattle.rpl_core.specs.Listed.{bodies_in}
+use Rattle.rpl_core.specs.inside.Marks.{marked, waits}
+use Rattle.rpl_check.specs.inside.Search.{AreReached}
 use Rattle.rpl_check.specs.declared.recursion.Search.{Search}
-use Rattle.rpl_check.proofs.Following.{follow_begins, follow_on, follow_ends}
+use Rattle.rpl_check.proofs.Following.{follow_begins, follow_on}
+use Rattle.rpl_check.proofs.Rings.{itself_is, looked_on, looked_reached}
 use Rattle.rpl_check.proofs.Settling.{no_marks}
 use Rattle.rpl_check.proofs.recursion.reaches_itself.Goals as goal
 
 pub loop-next-init : goal.loop-next-init
 loop-next-init c =
-    let R = bodies_of (rules_of c.args.rules.now) in
+    let R = bodies_in c.args.rules.now in
     let n = c.args.end - c.args.start in
-    let items = c.in_ok-vec.ensures.items_if_clones_equal (λ y e. e) in
-    follow_begins R (marked c.args.empties.now) c.args.number c.args.start n _ c.find_calls_of.new.search refl (ap length items ∙ length-replicate n false) (λ t. ap (λ l. marked l t) items ∙ no_marks n t) c.new.ensures.items c.in_ok-find_calls_of.ensures
+    let items = c.in_ok-vec.ensures.items_if_clones_equal (λ y e. e) in (
+      follow_begins R (marked c.args.empties.now) c.args.number c.args.start n _ c.find_calls_of.new.search refl (ap length items ∙ length-replicate n false) (λ t. ap (λ l. marked l t) items ∙ no_marks n t) c.new.ensures.items c.in_ok-find_calls_of.ensures,
+      λ q w. absurd (false≢true (sym (ap (λ l. waits l q) c.new-looked.ensures.items) ∙ w)),
+    )
 
 pub loop-next-preserved : goal.loop-next-preserved
 loop-next-preserved c =
-    let s1 : Search = record { start = c.loop-next.search.start; marks = c.loop-next.search.marks; waiting = c.pop.new.self } in
-    follow_on (bodies_of (rules_of c.args.rules.now)) (marked c.args.empties.now) c.args.number c.args.start (c.args.end - c.args.start) c.loop-next.search s1 c.find_calls_of-in-Some.new.search c.in-Some.next c.loop-next.invariant c.in-Some.ensures.items refl refl c.in_ok-find_calls_of-2.ensures
-
-pub returns : goal.returns
-returns c = λ k least.
-    let R = bodies_of (rules_of c.args.rules.now) in
+    let R = bodies_in c.args.rules.now in
+    let m = marked c.args.empties.now in
     let a = c.args.start in
     let n = c.args.end - a in
-    let marks = c.loop-next.search.marks.items in
-    let to : c.args.end ≡ a + n = omega arith in
-    let none = nil_from_length c.loop-next.search.waiting.items (let z = c.in_default.ensures.cases.0 in omega (arith, c.loop-next.search.waiting.ok.0)) in
-    let inside : c.args.number - a < length marks = omega (arith, c.loop-next.invariant.long) in
-    get_or_read marks _ _ inside c.index.ensures false ∙ follow_ends R (marked c.args.empties.now) c.args.number a n c.loop-next.search k c.requires.within.0 (omega arith) c.requires.earlier (subst (λ x. CallsBefore R x) to c.requires.calls) none c.loop-next.invariant least
+    let s1 : Search = record { start = c.loop-next.search.start; marks = c.loop-next.search.marks; waiting = c.pop.new.self } in (
+      follow_on R m c.args.number a n c.loop-next.search s1 c.find_calls_of-in-Some.new.search c.in-Some.next c.loop-next.invariant.0 c.in-Some.ensures.items refl refl c.in_ok-find_calls_of-2.ensures,
+      looked_on R m c.args.number a n c.loop-next.search s1 c.find_calls_of-in-Some.new.search c.in-Some.next c.loop-next.looked.items _ c.loop-next.invariant.0 c.loop-next.invariant.1 c.in-Some.ensures.items refl refl c.in_ok-find_calls_of-2.ensures c.in_ok-push.ensures.items,
+    )
+
+pub mark_ring-requires-clause-itself : goal.mark_ring-requires-clause-itself
+mark_ring-requires-clause-itself c = λ reach all.
+    sym (itself_is (bodies_in c.args.rules.now) (marked c.args.empties.now) c.args.number c.args.start c.args.end c.loop-next.search c.index.result.now c.requires.within.0 c.requires.within.1 c.requires.earlier c.requires.calls (nil_from_length c.loop-next.search.waiting.items (let z = c.in_default.ensures.cases.0 in omega (arith, c.loop-next.search.waiting.ok.0))) c.loop-next.invariant.0 (get_or_read c.loop-next.search.marks.items _ _ (omega (arith, c.loop-next.invariant.0.long)) c.index.ensures false) reach all) ∙ c.if-not-index.false
+
+pub mark_ring-requires-clause-looked : goal.mark_ring-requires-clause-looked
+mark_ring-requires-clause-looked c =
+    subst (AreReached (bodies_in c.args.rules.now) (marked c.args.empties.now) c.args.number c.args.start c.args.end) (sym c.deref.ensures.value)
+    (looked_reached (bodies_in c.args.rules.now) (marked c.args.empties.now) c.args.number c.args.start (c.args.end - c.args.start) c.loop-next.search c.args.end c.loop-next.looked.items (omega arith) c.loop-next.invariant.0 c.loop-next.invariant.1)
+
+pub returns-then-not-index-clause-itself : goal.returns-then-not-index-clause-itself
+returns-then-not-index-clause-itself c = λ reach all.
+    sym c.if-not-index.true ∙ itself_is (bodies_in c.args.rules.now) (marked c.args.empties.now) c.args.number c.args.start c.args.end c.loop-next.search c.index.result.now c.requires.within.0 c.requires.within.1 c.requires.earlier c.requires.calls (nil_from_length c.loop-next.search.waiting.items (let z = c.in_default.ensures.cases.0 in omega (arith, c.loop-next.search.waiting.ok.0))) c.loop-next.invariant.0 (get_or_read c.loop-next.search.marks.items _ _ (omega (arith, c.loop-next.invariant.0.long)) c.index.ensures false) reach all
+
+pub returns-clause-itself : goal.returns-clause-itself
+returns-clause-itself c = λ reach all.
+    sym c.if-not-index.false ∙ itself_is (bodies_in c.args.rules.now) (marked c.args.empties.now) c.args.number c.args.start c.args.end c.loop-next.search c.index.result.now c.requires.within.0 c.requires.within.1 c.requires.earlier c.requires.calls (nil_from_length c.loop-next.search.waiting.items (let z = c.in_default.ensures.cases.0 in omega (arith, c.loop-next.search.waiting.ok.0))) c.loop-next.invariant.0 (get_or_read c.loop-next.search.marks.items _ _ (omega (arith, c.loop-next.invariant.0.long)) c.index.ensures false) reach all
