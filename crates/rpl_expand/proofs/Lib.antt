@@ -1,0 +1,13 @@
+mod Examples
+pub mod Drops
+pub mod Parts
+pub mod Places
+pub mod Calls
+pub mod Ordering
+pub mod Rooting
+pub mod TableSteps
+pub mod Norms
+pub mod MacroLaw
+pub mod Still
+pub mod Printing
+pub mod Whole

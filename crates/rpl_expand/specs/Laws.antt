@@ -1,0 +1,106 @@
+-- What holds of every core.
+use Rattle.std.specs.Prelude.{◌≡◌, ℕ, Bool, true, false, ◌&&◌, not, List, [], ◌∷◌, Option, Some, None}
+use Rattle.regex_class.specs.Ranges.{Range}
+use Rattle.rpl_classes.specs.Algebra.{folded, widened}
+use Rattle.rpl_core.specs.Core.{Core, Seq, Cores, NoMore}
+use Rattle.rpl_core.specs.Lengths.{has_call, least}
+use Rattle.rpl_core.specs.Core as C
+use Rattle.rpl_forms.specs.Forms.{copies, halt_rule}
+use Rattle.rpl_forms.specs.Sizes.{nodes}
+use Rattle.rpl_macro.specs.Casings.{recased, set_in, single}
+use Rattle.rpl_macro.specs.Kinds.{kind_of, takes_text}
+use Rattle.rpl_macro.specs.declared.kind.Macro.{Macro}
+use Rattle.rpl_macro.specs.Laws.{HasNoLetters}
+use Rattle.rpl_macro.specs.Macros.{applied, halt}
+use Rattle.rpl_macro.specs.declared.casing.Casing.{Casing}
+use Rattle.rpl_macro.specs.declared.casing.Casing.TheVariants.{Plain, Ascii, Folded}
+use Rattle.rpl_macro.specs.declared.kind.Macro.TheVariants.{Error}
+use Rattle.rpl_syntax.specs.Expression.{Expr, Text, Class, Any, Start, End, Boundary, Name, Cooked, Raw, Choice, Both, Prefix, Repeat, Marked, Note, Exprs, Nil, Cons, one}
+use Rattle.rpl_syntax.specs.Expression as X
+use Rattle.rpl_syntax.specs.declared.name.QName.{QName}
+use Rattle.rpl_expand.specs.Expansion.{Scope, core, is_cooked}
+
+-- a group of one item is that item
+abbrev pub GroupOfOne : Type 0
+GroupOfOne = (c : Casing) (s : Scope) (p : Expr) → core c s (Raw (one p)) ≡ core c s p
+
+-- n turns, neither more nor less, are n copies; with one item they are no sequence but of that one
+abbrev pub ExactlyTurns : Type 0
+ExactlyTurns =
+    (c : Casing) (s : Scope) (p : Expr) (n : ℕ) → is_cooked p ≡ false
+    → core c s (Repeat p n (Some n)) ≡ Seq (copies n (core c s p) NoMore)
+
+-- a macro is not `error`
+abbrev pub is_error : Option Macro → Bool
+is_error (Some Error) = true
+is_error _ = false
+
+-- No name, `~` or `error` stands in the expression, no items stand side by side in `( )`, and no `( )` is repeated.
+abbrev mutual
+  pub is_still : Expr → Bool
+  is_still (Text t) = true
+  is_still (Class s negated) = true
+  is_still Any = true
+  is_still Start = true
+  is_still End = true
+  is_still Boundary = false
+  is_still (Name q) = false
+  is_still (Cooked Nil) = true
+  is_still (Cooked (Cons p Nil)) = is_still p
+  is_still (Cooked (Cons p (Cons q ps))) = false
+  is_still (Raw ps) = all_still ps
+  is_still (Choice ps) = all_still ps
+  is_still (Both p q) = is_still p && is_still q
+  is_still (Prefix s p) = is_still p
+  is_still (Repeat p l m) = not (is_cooked p) && is_still p
+  is_still (X.Macro q p) = not (is_error (kind_of q.name)) && is_still p
+  is_still (Marked m p) = is_still p
+  is_still (Note t) = true
+
+  pub all_still : Exprs → Bool
+  all_still Nil = true
+  all_still (Cons p ps) = is_still p && all_still ps
+
+-- the core of such an expression calls nothing
+abbrev pub StillCallsNothing : Type 0
+StillCallsNothing = (c : Casing) (s : Scope) (p : Expr) → is_still p ≡ true → has_call (core c s p) ≡ false
+
+-- `uci` of a text without letters has the core of that text
+abbrev pub UciKeepsOthers : Type 0
+UciKeepsOthers =
+    (s : Scope) (t : List ℕ) → HasNoLetters t → core Folded s (Text t) ≡ core Plain s (Text t)
+
+-- every choice in a core has a part
+abbrev mutual
+  pub HasParts : Core → Type 0
+  HasParts (C.Set s) = Unit {0}
+  HasParts (C.Seq ps) = AllHaveParts ps
+  HasParts (C.Choice NoMore) = ⊥
+  HasParts (C.Choice (C.Then p ps)) = HasParts p × AllHaveParts ps
+  HasParts (C.Many p) = HasParts p
+  HasParts (C.Not p) = HasParts p
+  HasParts (C.And p) = HasParts p
+  HasParts (C.Behind l m p) = HasParts p
+  HasParts (C.Call r) = Unit {0}
+  HasParts (C.Capture c p) = HasParts p
+  HasParts (C.Note x) = Unit {0}
+  HasParts C.Start = Unit {0}
+  HasParts C.End = Unit {0}
+  HasParts C.Halt = Unit {0}
+
+  pub AllHaveParts : Cores → Type 0
+  AllHaveParts NoMore = Unit {0}
+  AllHaveParts (C.Then p ps) = HasParts p × AllHaveParts ps
+
+-- Folding twice is folding once, and the fold of a set has both cases of its ASCII letters, whichever the set has.
+pub record FoldsOnce : Type 0 where
+  pub again : (r : List Range) → folded (folded r) ≡ folded r
+  pub cases_in : (r : List Range) → folded (widened r) ≡ folded r
+  pub cases_out : (r : List Range) → widened (folded r) ≡ folded r
+
+-- The macro that a name means has the core of the expression that its equation gives, where the name that `error` uses is
+-- bound to the built-in rule, as it is in every module.
+abbrev pub MacroIsEquation : Type 0
+MacroIsEquation =
+    FoldsOnce → (c : Casing) (s : Scope) (q : QName) (p : Expr) (k : Macro) → kind_of q.name ≡ Some k
+    → s.rule halt ≡ halt_rule → core c s (X.Macro q p) ≡ core c s (applied k p)

@@ -1,0 +1,111 @@
+-- The rule table, and the core of a pattern.
+use Rattle.std.specs.Prelude.{◌≡◌, ◌⊎◌, ℕ, ◌+◌, ◌<◌, ◌≤◌, Bool, true, false, List, [], ◌∷◌, ◌++◌, length, map, Option, Some, None, slice_get, codes, not}
+use Rattle.rpl_core.specs.Core.{Core, Set, Seq, Choice, Many, Not, And, Behind, Call, Capture, Start, End, Halt, NoMore, Then}
+use Rattle.rpl_core.specs.Order.{AreTogether, block_at}
+use Rattle.rpl_core.specs.Programs.{calls}
+use Rattle.rpl_syntax.specs.Expression.{Expr}
+use Rattle.rpl_syntax.specs.Expression as X
+use Rattle.rpl_syntax.specs.declared.name.QName.{QName}
+use Rattle.regex_class.specs.Ranges.{Range}
+use Rattle.rpl_macro.specs.declared.casing.Casing.TheVariants.{Plain}
+use Rattle.rpl_forms.specs.Forms.{pair, halt_rule}
+use Rattle.rpl_forms.specs.Inlining.{Inners, inner}
+use Rattle.rpl_forms.specs.Rows.{Row, inners_from}
+use Rattle.rpl_expand.specs.Expansion.{Scope, core}
+
+-- a statement that makes a rule, with its full name, its block, whether it makes a tree, and what holds where it stands
+pub record Statement : Type 0 where
+  pub name : List ℕ
+  pub block : Option ℕ
+  pub captures : Bool
+  pub rule : QName → ℕ
+  pub boundary : ℕ
+  pub body : Expr
+
+-- blanks, letters and digits, and punctuation of ASCII
+abbrev pub blank : Core
+blank = Set ((0x9, 0xd) ∷ (0x20, 0x20) ∷ [])
+
+abbrev pub word : Core
+word = Set ((0x30, 0x39) ∷ (0x41, 0x5a) ∷ (0x61, 0x7a) ∷ [])
+
+abbrev pub mark : Core
+mark = Set ((0x21, 0x2f) ∷ (0x3a, 0x40) ∷ (0x5b, 0x60) ∷ (0x7b, 0x7e) ∷ [])
+
+-- the boundary between two words
+abbrev pub boundary : Core
+boundary = Choice
+    (Then (pair blank (Many blank))
+    (Then (pair (And word) (Not (Behind 1 1 word)))
+    (Then (And mark)
+    (Then (Behind 1 1 mark)
+    (Then (pair (Behind 1 1 blank) (Not blank))
+    (Then End
+    (Then Start NoMore)))))))
+
+-- the tree around a body, if there is one
+abbrev pub captured : Bool → List ℕ → Core → Core
+captured true name p = Capture name p
+captured false name p = p
+
+abbrev pub scope_at : Inners → Statement → Scope
+scope_at I s = record { rule = s.rule; boundary = s.boundary; inners = I }
+
+abbrev pub body_of : Inners → Statement → Core
+body_of I s = captured s.captures s.name (core Plain (scope_at I s) s.body)
+
+abbrev pub row_of : Inners → Statement → Row
+row_of I s = record { name = s.name; block = s.block; body = body_of I s }
+
+-- the rows of some statements, behind rules that these stand for behind a look-behind
+abbrev pub rows : Inners → List Statement → List Row
+rows I [] = []
+rows I (s ∷ ss) = row_of I s ∷ rows (I ++ inner I s.block (body_of I s) ∷ []) ss
+
+-- the boundary and `halt`, which no statement makes
+abbrev pub built_in : (halt : List ℕ) → List Row
+built_in halt =
+    record { name = codes "~"; block = None; body = boundary }
+    ∷ record { name = halt; block = None; body = Halt } ∷ []
+
+-- the table of some statements; `halt` is the full name of the built-in rule
+abbrev pub table : (halt : List ℕ) → List Statement → List Row
+table halt ss = built_in halt ++ rows (inners_from [] (built_in halt)) ss
+
+-- the expression is the name of a rule that makes a tree
+abbrev pub has_root : (QName → Bool) → Expr → Bool
+has_root captures (X.Name q) = captures q
+has_root captures _ = false
+
+-- the core of a pattern, under its root capture unless it is the name of a rule that makes a tree
+abbrev pub goal : (captures : QName → Bool) → Scope → Expr → Core
+goal captures s e = captured (not (has_root captures e)) (codes "*") (core Plain s e)
+
+-- what a statement with the number n in the table is bound to: each of its names to an earlier rule, or to one of its
+-- block, and the boundary in force is an earlier rule
+pub record IsBound (blocks : List (Option ℕ)) (n : ℕ) (s : Statement) : Type 0 where
+  pub names : (q : QName) → (s.rule q < n) ⊎ AreTogether blocks n (s.rule q)
+  pub boundary : s.boundary < n
+
+-- the block of each rule of a table
+abbrev pub table_blocks : List Statement → List (Option ℕ)
+table_blocks ss = None ∷ None ∷ map (λ s. s.block) ss
+
+-- all of some statements are bound so, and the rules of a block stand side by side
+pub record AreBound (ss : List Statement) : Type 0 where
+  pub bound : (k : ℕ) (s : Statement) → slice_get ss k ≡ Some s → IsBound (table_blocks ss) (2 + k) s
+  pub side_by_side :
+      (r s q b : ℕ) → r ≤ s → s ≤ q → block_at (slice_get (table_blocks ss) r) ≡ Some b
+      → block_at (slice_get (table_blocks ss) q) ≡ Some b → block_at (slice_get (table_blocks ss) s) ≡ Some b
+
+-- what the names of a scope are bound to, its boundary and `halt` are rules of a table, and so is all that its rules call
+pub record IsOver (R : List Core) (s : Scope) : Type 0 where
+  pub names : (q : QName) → s.rule q < length R
+  pub boundary : s.boundary < length R
+  pub halt : halt_rule < length R
+  pub rules : (r t : ℕ) (p : Core) → slice_get R r ≡ Some p → calls p t ≡ true → t < length R
+
+-- each name that is said to make a tree is bound to a rule whose body is one
+abbrev pub MakeTrees : List Core → (QName → Bool) → Scope → Type 0
+MakeTrees R captures s =
+    (q : QName) → captures q ≡ true → (label : List ℕ) × (p : Core) × (slice_get R (s.rule q) ≡ Some (Capture label p))

@@ -1,0 +1,37 @@
+// What holds of every core.
+ghost use Rattle.std.specs.Prelude.{◌≤◌};
+ghost use Rattle.rpl_core.specs.Core.{Core};
+ghost use Rattle.rpl_core.specs.Lengths.{least};
+ghost use Rattle.rpl_expand.specs.Laws.{ExactlyTurns, GroupOfOne, HasParts, MacroIsEquation, StillCallsNothing, UciKeepsOthers};
+ghost use Rattle.rpl_forms.specs.Sizes.{nodes};
+
+/// The core of `{e}` is that of `e`.
+pub fn group_of_one()
+    ensures { GroupOfOne }
+{}
+
+/// `e{n}` has exactly n copies of the core of `e`, where `e` is no `( )` group.
+pub fn exactly_turns()
+    ensures { ExactlyTurns }
+{}
+
+/// An expression in which no items stand side by side outside `{ }`, and no name, `~` or `error`, has no call in its core.
+pub fn still_calls_nothing()
+    ensures { StillCallsNothing }
+{}
+
+/// A macro has the core of the expression that its equation gives.
+pub fn macro_is_equation()
+    ensures { MacroIsEquation }
+{}
+
+/// `uci` of a text without letters has the core of that text.
+pub fn uci_keeps_others()
+    ensures { UciKeepsOthers }
+{}
+
+/// A look-behind's least length, which stops at 65,536, is its body's own: a core asks for no more characters than it has
+/// nodes.
+pub fn least_within_nodes()
+    ensures { (p : Core) → HasParts p → least p ≤ nodes p }
+{}

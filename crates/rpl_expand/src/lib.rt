@@ -1,0 +1,30 @@
+//! The expansion of expressions to cores: names and macros are gone, boundaries stand between items, counts are written
+//! out, and look-behinds have what stands for the rules that they name.
+//!
+//! For whoever loads statements and wants the rule table, and for the command that wants the core of a pattern over it,
+//! or its printed text. The table and the goal are exactly the defined ones (`specs/Expansion.antt`, `specs/Table.antt`),
+//! and are refused exactly for the first core that is too large, before anything of its size is made. Calls nest as
+//! deep as the expression, and as the core, which is at most 1,024 deep. Besides, only memory can run out.
+#![tactic(auto)]
+
+mod build;
+mod built_in;
+mod fault;
+mod laws;
+mod measure;
+mod mode;
+mod print;
+mod scope;
+mod statement;
+mod table;
+
+pub use fault::ExpandFault;
+pub use laws::{
+    exactly_turns, group_of_one, least_within_nodes, macro_is_equation, still_calls_nothing,
+    uci_keeps_others,
+};
+pub use print::{print_peg, push_peg};
+pub use rpl_text::NoMemory;
+pub use scope::{Known, Scope};
+pub use statement::Statement;
+pub use table::{expand, expand_pattern, expand_statements};
