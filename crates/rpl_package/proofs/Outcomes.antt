@@ -1,0 +1,94 @@
+-- Steps of a loading, and what follows them.
+use Rattle.std.proofs.Common.{◌≡◌, ℕ, List, [], ◌∷◌, ◌++◌, refl, sym, ap, subst, ◌∙◌, true, false, true≢false}
+use Rattle.std.specs.Prelude.{Result, Ok, Err}
+use Rattle.std.specs.List.{Contains}
+use Rattle.std.proofs.lemmas.List.Elements.{Contains-append_left, Contains-append_right}
+use Rattle.rpl_scope.specs.Faults.{Or, ◌>>=◌, is_silent, StopIs, Gives}
+use Rattle.rpl_scope.specs.declared.fault.LoadFault.{LoadFault}
+use Rattle.rpl_scope.specs.declared.fault.LoadKind.{LoadKind}
+use Rattle.rpl_scope.specs.declared.fault.LoadKind.TheVariants as K
+use Rattle.rpl_scope.specs.declared.fault.Stop.{Stop}
+use Rattle.rpl_scope.specs.declared.fault.Stop.TheVariants.{Memory, Fault}
+use Rattle.rpl_package.specs.Asking.{Outcome, at_once, asked_then, and_then, each_in_turn, Explains, MayStop, Walks, KindAsks, StopAsks}
+use Rattle.rpl_package.specs.Reading.{IsQuiet}
+
+-- the same answer, and what one asks for the other asks for
+abbrev pub Follows : {A : Type 0} → Outcome A → Outcome A → Type 0
+Follows a b = (a.answer ≡ b.answer) × ((p : List ℕ) → Contains a.asked p → Contains b.asked p)
+
+pub same : {A : Type 0} (a b : Outcome A) → a ≡ b → Follows a b
+same a b h = subst (Follows a) h (refl, λ p c. c)
+
+pub trail : {A : Type 0} (a b c : Outcome A) → Follows a b → Follows b c → Follows a c
+trail a b c h k = (h.0 ∙ k.0, λ p x. k.1 p (h.1 p x))
+
+explains_on : {A : Type 0} (k : LoadKind) (f : LoadFault) (a b : Outcome A) → Follows a b → Explains k f a → Explains k f b
+explains_on K.NoMemory f a b h e = tt
+explains_on K.ReadFault f a b h e = h.1 f.file e
+explains_on _ f a b h e = sym h.0 ∙ e
+
+pub may_lead : {A : Type 0} (s : Stop) (a b : Outcome A) → Follows a b → MayStop s a → MayStop s b
+may_lead Memory a b h e = tt
+may_lead (Fault f) a b h e = explains_on f.kind f a b h e
+
+pub walks_lead : {X A : Type 0} (see : X → A) (res : Result X Stop) (a b : Outcome A) → Follows a b → Walks see res a → Walks see res b
+walks_lead see (Ok x) a b h e = sym h.0 ∙ e
+walks_lead see (Err s) a b h e = may_lead s a b h e
+
+explains_then : {A B : Type 0} (k : LoadKind) (f : LoadFault) (a : Outcome A) (next : A → Outcome B) → Explains k f a → Explains k f (and_then a next)
+explains_then K.NoMemory f a next e = tt
+explains_then K.ReadFault f a next e = Contains-append_left a.asked (asked_then a.answer next) f.file e
+explains_then _ f a next e = ap (λ r. r >>= λ x. (next x).answer) e
+
+-- what stops a step stops all that follows
+pub may_then : {A B : Type 0} (s : Stop) (a : Outcome A) (next : A → Outcome B) → MayStop s a → MayStop s (and_then a next)
+may_then Memory a next e = tt
+may_then (Fault f) a next e = explains_then f.kind f a next e
+
+-- behind a step that has an answer comes the next
+pub then_follows : {A B : Type 0} (a : Outcome A) (x : A) (next : A → Outcome B) → a.answer ≡ Ok x → Follows (next x) (and_then a next)
+then_follows a x next h = (
+  sym (ap (λ r. r >>= λ y. (next y).answer) h),
+  λ p c. Contains-append_right a.asked (asked_then a.answer next) p (subst (λ r. Contains (asked_then r next) p) (sym h) c),
+)
+
+-- ---- calls that read no file
+
+explains_loud : {A : Type 0} (k : LoadKind) (f : LoadFault) (r : Or A) → is_silent k ≡ false → r ≡ Err f → Explains k f (at_once r)
+explains_loud K.NoMemory f r h e = tt
+explains_loud K.ReadFault f r h e = absurd (true≢false h)
+explains_loud _ f r h e = e
+
+pub may : {A : Type 0} (s : Stop) (r : Or A) → StopIs s r → MayStop s (at_once r)
+may Memory r h = tt
+may (Fault f) r h = explains_loud f.kind f r h.0 h.1
+
+pub gives_walks : {X A : Type 0} (see : X → A) (res : Result X Stop) (r : Or A) → Gives see res r → Walks see res (at_once r)
+gives_walks see (Ok x) r h = h
+gives_walks see (Err s) r h = may s r h
+
+-- ---- a failed read
+
+explains_read : {A : Type 0} (k : LoadKind) (f : LoadFault) (a : Outcome A) → k ≡ K.ReadFault → KindAsks k f a.asked → Explains k f a
+explains_read K.ReadFault f a h c = c
+explains_read K.NoMemory f a h c = tt
+explains_read _ f a h c = absurd (cc)
+
+pub quiet : {A : Type 0} (s : Stop) (a : Outcome A) → IsQuiet s → StopAsks s a.asked → MayStop s a
+quiet Memory a h c = tt
+quiet (Fault f) a h c = explains_read f.kind f a h c
+
+-- ---- steps in turn, where the steps that are left are x and then zs
+
+module _ {A S : Type 0} (step : A → S → Outcome S) (ys zs : List A) (x : A) (m : S) (all : Outcome S) (front : ys ≡ x ∷ zs) (led : Follows (each_in_turn step ys m) all) where
+  left : Follows (and_then (step x m) (each_in_turn step zs)) all
+  left = trail _ _ all (same _ _ (ap (λ l. each_in_turn step l m) (sym front))) led
+
+  pub turn_on : (m1 : S) → (step x m).answer ≡ Ok m1 → Follows (each_in_turn step zs m1) all
+  turn_on m1 ok = trail _ _ all (then_follows (step x m) m1 (each_in_turn step zs) ok) left
+
+  pub turn_stop : (s : Stop) → MayStop s (step x m) → MayStop s all
+  turn_stop s stop = may_lead s _ all left (may_then s (step x m) (each_in_turn step zs) stop)
+
+pub turn_done : {A S : Type 0} (step : A → S → Outcome S) (ys : List A) (m : S) (all : Outcome S) → ys ≡ [] → Follows (each_in_turn step ys m) all → all.answer ≡ Ok m
+turn_done step ys m all none led = sym led.0 ∙ ap (λ l. (each_in_turn step l m).answer) none

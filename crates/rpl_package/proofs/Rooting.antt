@@ -1,0 +1,42 @@
+-- Steps of the roots.
+use Rattle.std.proofs.Common.{◌≡◌, ℕ, ◌+◌, ◌<◌, ◌≤◌, List, [], ◌∷◌, length, drop, get_or, Some, None, sym, ap, ◌∙◌, true, false}
+use Rattle.std.specs.Prelude.{if◌then◌else◌, Ok, is_some, nat_lt, encode_utf8_all}
+use Rattle.rosie_io.specs.Opening.{file_of}
+use Rattle.std.proofs.lemmas.List.{drop_all}
+use Rattle.rpl_syntax.specs.Modules.{Said}
+use Rattle.rpl_syntax.specs.declared.name.QName.{QName}
+use Rattle.rpl_scope.specs.Faults.{fault}
+use Rattle.rpl_scope.specs.Packages.{first_of}
+use Rattle.rpl_scope.specs.declared.fault.LoadKind.TheVariants.{Duplicate, TooManyPackages}
+use Rattle.rpl_scope.proofs.Checking.{front}
+use Rattle.rpl_package.specs.Asking.{at_once, and_then}
+use Rattle.rpl_package.specs.Loading.{World, State, own_text, walk}
+use Rattle.rpl_package.specs.Roots.{top_head, named_root, root_text, with_root, counted, next, asked_root, file_root, read_root}
+use Rattle.rpl_package.specs.declared.rooted.Root.{Root}
+use Rattle.rpl_package.proofs.Outcomes.{Follows, same, trail, then_follows}
+
+pub named_free : (w : World) (f : List ℕ) (t : Said) (q : QName) (s : State) → is_some (first_of q.name s.own.prefixes) ≡ false
+    → named_root w f t q s ≡ and_then (own_text w (walk w w.most) s.stock (top_head ∷ []) f None q.name t) (λ u. at_once (Ok (with_root q.name s.own u)))
+named_free w f t q s h =
+    ap (λ b. if b then at_once (fault f q.at (Duplicate q.name))
+    else and_then (own_text w (walk w w.most) s.stock (top_head ∷ []) f None q.name t) (λ u. at_once (Ok (with_root q.name s.own u)))) h
+
+pub roomy : (w : World) (f : List ℕ) (t : Said) (q : QName) (s : State) → nat_lt (length s.stock.modules + 1) w.most ≡ true
+    → Follows (named_root w f t q s) (root_text w f t (Some q) s)
+roomy w f t q s h = same _ _ (sym (ap (λ b. if b then named_root w f t q s else at_once (fault f q.at TooManyPackages)) h))
+
+-- the roots that are left, with the first of them
+pub counted_front : (k : ℕ) (rs : List Root) (i : ℕ) (r : Root) → i < length rs → r ≡ get_or rs i r
+    → counted k (drop i rs) ≡ (next k r, r) ∷ counted (next k r) (drop (i + 1) rs)
+counted_front k rs i r lt h = ap (counted k) (front rs i r lt h)
+
+pub counted_none : (k : ℕ) (rs : List Root) (i : ℕ) → length rs ≤ i → counted k (drop i rs) ≡ []
+counted_none k rs i le = ap (counted k) (drop_all i rs le)
+
+-- a file that is there, and is read
+pub file_led : (w : World) (p : List ℕ) (s : State) (bytes : List ℕ) (t : Said) → file_of (encode_utf8_all p) w.tree ≡ Some bytes → w.text p bytes ≡ Ok t
+    → Follows (root_text w p t t.name s) (and_then (asked_root w p) (file_root w p s))
+file_led w p s bytes t found read =
+    trail (root_text w p t t.name s) (read_root w p bytes s) (and_then (asked_root w p) (file_root w p s))
+    (then_follows (at_once (w.text p bytes)) t (λ u. root_text w p u u.name s) read)
+    (then_follows (asked_root w p) (Some bytes) (file_root w p s) (ap Ok found))

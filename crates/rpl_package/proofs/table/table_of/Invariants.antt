@@ -1,0 +1,12 @@
+use Rattle.std.proofs.Common.{◌≡◌, ◌≤◌, ◌+◌, ◌++◌, length, drop}
+use Rattle.rpl_scope.specs.Seen.{modules_seen}
+use Rattle.rpl_package.specs.Tables.{firsts_from, rows_from}
+use Rattle.rpl_package.proofs.table.table_of.Given as goal
+
+abbrev pub invariant-loop-module : goal.invariant-loop-module
+invariant-loop-module l =
+    record {
+      few : 2 + length l.rows.items ≤ 4294967295;
+      rows : l.rows.items ++ rows_from l.from l.blocks (modules_seen (drop l.module-index l.modules)) ≡ rows_from 0 0 (modules_seen l.modules);
+      firsts : l.firsts.items ++ firsts_from (2 + length l.rows.items) (modules_seen (drop l.module-index l.modules)) ≡ firsts_from 2 (modules_seen l.modules);
+    }

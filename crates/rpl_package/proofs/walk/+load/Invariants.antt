@@ -1,0 +1,38 @@
+use Rattle.std.proofs.Common.{◌≡◌, ◌+◌, ◌*◌, drop, false}
+use Rattle.rpl_package.specs.Loading.{world, walk, import_entries}
+use Rattle.rpl_package.specs.Kept.{Keeps}
+use Rattle.rpl_package.specs.Stocks.{stock_seen, state_seen}
+use Rattle.rpl_package.proofs.Outcomes.{Follows}
+use Rattle.rpl_package.proofs.walk.+load.Given as goal
+
+abbrev pub decreases-load_module : goal.decreases-load_module
+decreases-load_module g l = 6 * l.depth + 0
+
+abbrev pub decreases-reach : goal.decreases-reach
+decreases-reach g l = 6 * l.depth + 1
+
+abbrev pub decreases-enter_import : goal.decreases-enter_import
+decreases-enter_import g l = 6 * l.depth + 2
+
+abbrev pub decreases-enter_imports : goal.decreases-enter_imports
+decreases-enter_imports g l = 6 * l.depth + 3
+
+abbrev pub decreases-load_text : goal.decreases-load_text
+decreases-load_text g l = 6 * l.depth + 4
+
+abbrev pub decreases-load_own : goal.decreases-load_own
+decreases-load_own g l = 6 * l.depth + 5
+
+abbrev pub invariant-enter_imports-loop-import : goal.invariant-enter_imports-loop-import
+invariant-enter_imports-loop-import g l =
+    record {
+      tree : g.F.Source.tree l.files ≡ g.F.Source.tree l.fn.files;
+      reads : g.F.Source.faults l.files ≡ g.F.Source.faults l.fn.files;
+      opens : g.F.Source.failed_opens l.files ≡ g.F.Source.failed_opens l.fn.files;
+      closed : g.F.Source.is_open l.fn.files ≡ false → g.F.Source.is_open l.files ≡ false;
+      held : l.stock.held.items ≡ l.fn.stock.held.items;
+      kept : Keeps (stock_seen l.fn.stock) (stock_seen l.stock);
+      left : g.F.Source.tells → Follows
+          (import_entries (world (g.F.Source.tree l.fn.files) l.folders) (walk (world (g.F.Source.tree l.fn.files) l.folders) l.depth) l.fn.stock.held.items l.file (drop l.import-index l.imports) (state_seen l.stock l.own))
+          (import_entries (world (g.F.Source.tree l.fn.files) l.folders) (walk (world (g.F.Source.tree l.fn.files) l.folders) l.depth) l.fn.stock.held.items l.file l.imports (state_seen l.fn.stock l.fn.own));
+    }

@@ -1,0 +1,61 @@
+-- Loading step by step: the paths that are asked for on the way, and what comes of it.
+use Rattle.std.specs.Prelude.{◌≡◌, ℕ, List, [], ◌∷◌, ◌++◌, Result, Ok, Err}
+use Rattle.std.specs.List.{Contains}
+use Rattle.rpl_scope.specs.Faults.{Or, ◌>>=◌}
+use Rattle.rpl_scope.specs.declared.fault.LoadFault.{LoadFault}
+use Rattle.rpl_scope.specs.declared.fault.LoadKind.{LoadKind}
+use Rattle.rpl_scope.specs.declared.fault.LoadKind.TheVariants.{NoMemory, ReadFault}
+use Rattle.rpl_scope.specs.declared.fault.Stop.{Stop}
+use Rattle.rpl_scope.specs.declared.fault.Stop.TheVariants.{Memory, Fault}
+
+-- the paths that are asked for, in order, and the answer or the first fault
+pub record Outcome (A : Type 0) : Type 0 where
+  pub asked : List (List ℕ)
+  pub answer : Or A
+
+-- no path is asked for
+abbrev pub at_once : {A : Type 0} → Or A → Outcome A
+at_once r = record { asked = []; answer = r }
+
+abbrev pub asked_then : {A B : Type 0} → Or A → (A → Outcome B) → List (List ℕ)
+asked_then (Ok x) k = (k x).asked
+asked_then (Err f) k = []
+
+-- one step, and where it has no fault the next
+abbrev pub and_then : {A B : Type 0} → Outcome A → (A → Outcome B) → Outcome B
+and_then a k = record { asked = a.asked ++ asked_then a.answer k; answer = a.answer >>= λ x. (k x).answer }
+
+-- steps in turn, up to the first fault
+abbrev pub each_in_turn : {A S : Type 0} → (A → S → Outcome S) → List A → S → Outcome S
+each_in_turn step [] s = at_once (Ok s)
+each_in_turn step (x ∷ xs) s = and_then (step x s) (each_in_turn step xs)
+
+-- ---- what a call may answer
+
+-- a failed read is that of a path that is asked for; any other fault is the first one
+abbrev pub Explains : {A : Type 0} → LoadKind → LoadFault → Outcome A → Type 0
+Explains NoMemory f o = Unit {0}
+Explains ReadFault f o = Contains o.asked f.file
+Explains _ f o = o.answer ≡ Err f
+
+abbrev pub MayStop : {A : Type 0} → Stop → Outcome A → Type 0
+MayStop Memory o = Unit {0}
+MayStop (Fault f) o = Explains f.kind f o
+
+-- what came of a call, as it is seen, is the answer; or the call stops as it may
+abbrev pub Walks : {X A : Type 0} → (X → A) → Result X Stop → Outcome A → Type 0
+Walks view (Ok x) o = o.answer ≡ Ok (view x)
+Walks view (Err s) o = MayStop s o
+
+-- a call that stops for a failed read stops for one of these paths
+abbrev pub KindAsks : LoadKind → LoadFault → List (List ℕ) → Type 0
+KindAsks ReadFault f asked = Contains asked f.file
+KindAsks _ f asked = Unit {0}
+
+abbrev pub StopAsks : Stop → List (List ℕ) → Type 0
+StopAsks Memory asked = Unit {0}
+StopAsks (Fault f) asked = KindAsks f.kind f asked
+
+abbrev pub Asks : {X : Type 0} → Result X Stop → List (List ℕ) → Type 0
+Asks (Ok x) asked = Unit {0}
+Asks (Err s) asked = StopAsks s asked

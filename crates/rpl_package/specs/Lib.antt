@@ -1,0 +1,14 @@
+pub mod Answers
+pub mod Asking
+pub mod Goals
+pub mod Kept
+pub mod Loading
+pub mod Patterns
+pub mod Reading
+pub mod Roots
+pub mod Sets
+pub mod Stocks
+pub mod Tables
+pub mod Targets
+pub mod Texts
+pub mod Views

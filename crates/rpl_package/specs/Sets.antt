@@ -1,0 +1,8 @@
+-- How contracts see a set of packages.
+use Rattle.std.specs.Prelude.{Option}
+use Rattle.rpl_package.specs.Roots.{Packages}
+use Rattle.rpl_package.specs.Stocks.{stock_seen}
+use Rattle.rpl_package.specs.declared.set.PackageSet.{PackageSet}
+
+abbrev pub set_seen : PackageSet → Packages
+set_seen s = record { stock = stock_seen s.stock; top = s.top; roots = s.roots.items }

@@ -1,0 +1,26 @@
+//! Packages: a set of RPL texts, in which each import is loaded once, and what its names stand for.
+//!
+//! For the expansion and the commands. `load` reads the roots and all that they import; a `PackageSet` then tells what
+//! any name of any rule stands for, and the rule table. The first
+//! fault of all is answered, with its file and place, in the one order that `specs/` says; a read fault only where a
+//! read or an open failed. Every file is closed on every way out, and time is linear in the bytes that are read.
+#![tactic(auto)]
+
+mod edge;
+mod loading;
+mod locate;
+mod reading;
+mod resolve;
+mod rooted;
+mod set;
+mod stock;
+mod table;
+mod targets;
+mod walk;
+
+pub use edge::load;
+pub use rooted::{LibPath, Root, Roots};
+pub use rpl_macro::MacroFault;
+pub use rpl_scope::{LoadFault, LoadKind, NoMemory};
+pub use set::PackageSet;
+pub use targets::{NameFault, RuleHead, Target};

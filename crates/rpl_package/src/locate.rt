@@ -1,0 +1,77 @@
+// The file of an import.
+ghost use Rattle.std.specs.Prelude.{◌≡◌, IfOk, IfErr, false, [], ◌∷◌, encode_utf8_all};
+ghost use Rattle.rosie_io.specs.Opening.{file_of};
+ghost use Rattle.rpl_package.specs.Asking.{Asks};
+ghost use Rattle.rpl_package.specs.Loading.{file_in, find, tried};
+ghost use Rattle.rpl_package.specs.Reading.{ReadsFile, Locates, IsQuiet, HasCause};
+
+use crate::reading::Read;
+use rosie_io::{FileFault, Files, read_file};
+use rpl_scope::{LoadKind, NoMemory, Stop, fault_at};
+use rpl_text::Chars;
+use std::alloc::Global;
+
+/// The most bytes that a text may have.
+pub const MOST_BYTES: usize = 1_048_576;
+
+/// A file that is there.
+#[derive(Drop)]
+pub struct Located {
+    pub file: Chars,
+    pub read: Read,
+}
+
+/// The path of an import's file in a folder.
+fn file_in(alloc: Global, folder: &Chars, path: &Chars) -> Result<Chars, NoMemory>
+    ensures { IfOk result (λ file. file ≡ file_in folder.now path.now) }
+{
+    let mut text = String::from_str(alloc, folder.as_str())?;
+    text.push_str("/")?;
+    text.push_str(path.as_str())?;
+    text.push_str(".rpl")?;
+    Chars::from_str(alloc, &text)
+}
+
+/// What a file is read as, where it is there. It is closed afterwards.
+pub fn read_in<F: Files>(alloc: Global, files: &mut F, file: &Chars) -> Result<Option<Read>, Stop>
+    ensures found { F.tells → IfOk result (λ r. ReadsFile r (file_of (encode_utf8_all file.now) (F.tree files.old))) }
+    ensures quiet { IfErr result IsQuiet }
+    ensures asks { Asks result (file.now ∷ []) }
+    ensures cause { HasCause result (F.faults files.old) (F.faults files.new) (F.failed_opens files.old) (F.failed_opens files.new) }
+    ensures tree { F.tree files.new ≡ F.tree files.old }
+    ensures closed { F.is_open files.new ≡ false }
+{
+    match read_file(alloc, files, file.as_str(), MOST_BYTES) {
+        Ok(text) => Ok(Some(Read::Text(text))),
+        Err(FileFault::Missing) => Ok(None),
+        Err(FileFault::TooLong) => Ok(Some(Read::TooLong)),
+        Err(FileFault::NotText) => Ok(Some(Read::NotText)),
+        Err(FileFault::NoMemory) => Err(Stop::Memory),
+        Err(FileFault::ReadFault) => Err(fault_at(alloc, file, 0, LoadKind::ReadFault)),
+    }
+}
+
+/// The file of an import in the first folder that has it. It is closed afterwards.
+pub fn locate<F: Files>(
+    alloc: Global,
+    files: &mut F,
+    folders: &[Chars],
+    path: &Chars,
+) -> Result<Option<Located>, Stop>
+    ensures found { F.tells → IfOk result (λ l. Locates l (find (F.tree files.old) folders.now path.now)) }
+    ensures quiet { IfErr result IsQuiet }
+    ensures asks { F.tells → Asks result (tried (F.tree files.old) folders.now path.now) }
+    ensures cause { HasCause result (F.faults files.old) (F.faults files.new) (F.failed_opens files.old) (F.failed_opens files.new) }
+    ensures tree { F.tree files.new ≡ F.tree files.old }
+    ensures closed { F.is_open files.old ≡ false → F.is_open files.new ≡ false }
+{
+    for folder in folders {
+        let file = file_in(alloc, folder, path)?;
+        match read_in(alloc, files, &file) {
+            Err(stop) => return Err(stop),
+            Ok(Some(read)) => return Ok(Some(Located { file, read })),
+            Ok(None) => {}
+        }
+    }
+    Ok(None)
+}

@@ -1,0 +1,80 @@
+// The module that a text is read as.
+ghost use Rattle.std.specs.Prelude.{◌≡◌, ◌≢◌, ◌≤◌, ℕ, List, length, IfErr};
+ghost use Rattle.rpl_syntax.specs.Modules.{said};
+ghost use Rattle.rpl_lexer.specs.declared.fault.LexKind.TheVariants.{NoMemory as LexOut};
+ghost use Rattle.rpl_parser.specs.declared.fault.ParseKind.TheVariants.{NoMemory as ParseOut};
+ghost use Rattle.rpl_scope.specs.Faults.{Gives, IsStop, fault_at};
+ghost use Rattle.rpl_scope.specs.declared.fault.LoadKind.TheVariants.{Lex, Parse};
+ghost use Rattle.rpl_scope.specs.declared.fault.Stop.TheVariants.{Memory as OutOfMemory};
+ghost use Rattle.rpl_package.specs.Reading.{IsRead, IsLoud};
+ghost use Rattle.rpl_package.specs.Texts.{parsed, module_text};
+
+use rpl_lexer::{LexFault, LexKind, cut_computes, lex};
+use rpl_parser::{ParseFault, ParseKind, one_module, parse_module};
+use rpl_scope::{LoadKind, Stop, fault_at};
+use rpl_syntax::Module as Said;
+use rpl_text::Chars;
+use std::alloc::Global;
+
+/// What a file was read as.
+#[derive(Drop)]
+pub enum Read {
+    Text(String),
+    /// It has more than 1,048,576 bytes.
+    TooLong,
+    /// It isn't too long, and isn't UTF-8.
+    NotText,
+}
+
+/// The stop for a text that has no tokens.
+#[tactic(auto, using(rpl_scope::proofs::Stops::told))]
+pub fn lex_stop(alloc: Global, file: &Chars, fault: LexFault) -> Stop
+    ensures fault { fault.kind ≢ LexOut → IsStop result (fault_at file.now fault.at (Lex fault.kind)) }
+    ensures memory { fault.kind ≡ LexOut → result ≡ OutOfMemory }
+{
+    match fault.kind {
+        LexKind::NoMemory => Stop::Memory,
+        _ => fault_at(alloc, file, fault.at, LoadKind::Lex(fault.kind)),
+    }
+}
+
+/// The stop for a text that isn't read.
+#[tactic(auto, using(rpl_scope::proofs::Stops::told))]
+pub fn parse_stop(alloc: Global, file: &Chars, fault: ParseFault) -> Stop
+    ensures fault { fault.kind ≢ ParseOut → IsStop result (fault_at file.now fault.at (Parse fault.kind)) }
+    ensures memory { fault.kind ≡ ParseOut → result ≡ OutOfMemory }
+{
+    match fault.kind {
+        ParseKind::NoMemory => Stop::Memory,
+        _ => fault_at(alloc, file, fault.at, LoadKind::Parse(fault.kind)),
+    }
+}
+
+/// The module of a text that isn't too long.
+pub fn parse(alloc: Global, file: &Chars, text: &str) -> Result<Said, Stop>
+    ensures { Gives said result (parsed file.now text.now) }
+{
+    cut_computes();
+    one_module();
+    let tokens = match lex(alloc, text) {
+        Ok(tokens) => tokens,
+        Err(fault) => return Err(lex_stop(alloc, file, fault)),
+    };
+    match parse_module(alloc, text, &tokens) {
+        Ok(said) => Ok(said),
+        Err(fault) => Err(parse_stop(alloc, file, fault)),
+    }
+}
+
+/// The module of a file.
+#[tactic(auto, using(rpl_scope::proofs::Stops::told, crate::proofs::Causes::told_loud))]
+pub fn read_module(alloc: Global, file: &Chars, read: Read) -> Result<Said, Stop>
+    ensures gives { (bytes : List ℕ) → IsRead read bytes → Gives said result (module_text file.now bytes) }
+    ensures loud { IfErr result IsLoud }
+{
+    match read {
+        Read::Text(text) => parse(alloc, file, &text),
+        Read::TooLong => Err(fault_at(alloc, file, 0, LoadKind::FileTooLong)),
+        Read::NotText => Err(fault_at(alloc, file, 0, LoadKind::NotText)),
+    }
+}

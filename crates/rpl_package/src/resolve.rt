@@ -1,0 +1,303 @@
+// What the names of a set stand for.
+ghost use Rattle.std.specs.Prelude.{◌≡◌, ◌+◌};
+ghost use Rattle.rpl_scope.specs.Packages.{nth};
+ghost use Rattle.rpl_scope.specs.Seen.{modules_seen};
+ghost use Rattle.rpl_package.specs.Views.{rule_found};
+ghost use Rattle.rpl_package.specs.Stocks.{IsTable};
+ghost use Rattle.rpl_package.specs.Targets as T;
+
+use crate::set::PackageSet;
+use crate::table::{Row, Table};
+use crate::targets::{NameFault, RuleHead, Target};
+use rpl_scope::{Entry, Found, Module, Referent, Rule, find, find_plain};
+use rpl_syntax::{Expr, QName};
+
+/// The k-th rule of the module with this number.
+fn rule_in(modules: &[Module], number: u32, place: u32) -> Option<&Rule>
+    ensures { rule_found result ≡ T.rule_in (modules_seen modules.now) number place }
+{
+    match modules.get(number as usize) {
+        None => None,
+        Some(from) => from.rules.get(place as usize),
+    }
+}
+
+/// How many rules the module with this number has.
+fn rule_count(modules: &[Module], table: &Table, number: u32) -> u32
+    requires { IsTable table.now (modules_seen modules.now) }
+    ensures { result ≡ T.size_of (nth (modules_seen modules.now) number) }
+{
+    match modules.get(number as usize) {
+        None => 0,
+        Some(own) => {
+            let count = own.rules.len();
+            count as u32
+        }
+    }
+}
+
+/// The target of a rule, which has this place in that module.
+fn target_in(
+    modules: &[Module],
+    table: &Table,
+    number: u32,
+    place: u32,
+) -> Result<Target, NameFault>
+    requires { IsTable table.now (modules_seen modules.now) }
+    ensures { result ≡ T.target_in (modules_seen modules.now) number place }
+{
+    match rule_in(modules, number, place) {
+        None => Err(NameFault::Unknown),
+        Some(rule) => match table.firsts.get(number as usize) {
+            None => Err(NameFault::Unknown),
+            Some(first) => Ok(Target {
+                rule: *first + place,
+                captures: !rule.alias,
+            }),
+        },
+    }
+}
+
+/// The target of what a name of the module with this number stands for.
+fn target_of(
+    modules: &[Module],
+    table: &Table,
+    number: u32,
+    found: Found,
+) -> Result<Target, NameFault>
+    requires { IsTable table.now (modules_seen modules.now) }
+    ensures { result ≡ T.target (modules_seen modules.now) number found }
+{
+    match found {
+        Found::Unknown => Err(NameFault::Unknown),
+        Found::Hidden => Err(NameFault::Hidden),
+        Found::To(Referent::BuiltIn) => Ok(Target {
+            rule: 1,
+            captures: false,
+        }),
+        Found::To(Referent::Own(place)) => target_in(modules, table, number, place),
+        Found::To(
+            Referent::Of {
+                module: other,
+                rule,
+            },
+        ) => target_in(modules, table, other, rule),
+    }
+}
+
+/// Where a statement, or the pattern, stands.
+#[derive(Clone, Copy)]
+struct Site {
+    /// The number of its module.
+    owner: u32,
+    /// How many rules its module has before it.
+    start: u32,
+}
+
+/// Whether a statement of the module binds the name of an entry.
+fn binds(entry: Option<Entry>) -> bool
+    ensures { result ≡ T.binds entry }
+{
+    match entry {
+        None => false,
+        Some(entry) => matches!(entry.referent, Referent::Own(_)),
+    }
+}
+
+impl PackageSet {
+    ghost use Rattle.std.specs.Prelude.{None, Some, chars, false, length};
+    ghost use Rattle.rpl_package.specs.Sets.{set_seen};
+    ghost use Rattle.rpl_package.specs.Views.{row_found, rule_found, site_found, expr_found, head_found, head_seen, spot_found, site_seen};
+    ghost use Rattle.rpl_package.specs.Tables.{rows};
+    ghost use Rattle.rpl_package.specs.Targets as T;
+
+    /// The number of the module of the roots and the pattern.
+    pub fn top(&self) -> u32
+        ensures { result ≡ (set_seen self.now).top }
+    {
+        self.top
+    }
+
+    /// How many rules the rule table has. The first two are the boundary and the built-in `halt`.
+    pub fn rules(&self) -> u32
+        ensures { result ≡ 2 + length (rows (set_seen self.now).stock.modules) }
+    {
+        2 + self.table.rows.len() as u32
+    }
+
+    /// The row of a rule that a statement made.
+    fn row(&self, rule: u32) -> Option<&Row>
+        ensures { row_found result ≡ T.row_at (set_seen self.now) rule }
+    {
+        if rule < 2 {
+            return None;
+        }
+        self.table.rows.get((rule - 2) as usize)
+    }
+
+    /// The rule of a row.
+    fn rule_of(&self, row: &Row) -> Option<&Rule>
+        ensures { rule_found result ≡ T.rule_in (set_seen self.now).stock.modules row.now.from row.now.place }
+    {
+        rule_in(&self.stock.modules, row.from, row.place)
+    }
+
+    /// Where the pattern stands.
+    fn pattern_site(&self) -> Site
+        ensures { site_seen result ≡ T.pattern_site (set_seen self.now) }
+    {
+        Site {
+            owner: self.top,
+            start: rule_count(&self.stock.modules, &self.table, self.top),
+        }
+    }
+
+    /// Where the statement of a rule stands.
+    fn rule_site(&self, rule: u32) -> Option<Site>
+        ensures { site_found result ≡ T.rule_site (set_seen self.now) (T.row_at (set_seen self.now) rule) }
+    {
+        let row = self.row(rule)?;
+        let made = self.rule_of(row)?;
+        Some(Site {
+            owner: row.from,
+            start: made.start,
+        })
+    }
+
+    /// What a name stands for at a place.
+    fn resolve_at(&self, site: Site, name: &QName) -> Result<Target, NameFault>
+        ensures { result ≡ T.resolved_at (set_seen self.now) name.now (Some (site_seen site)) }
+    {
+        match self.stock.modules.get(site.owner as usize) {
+            None => Err(NameFault::Unknown),
+            Some(own) => {
+                let found = find(&self.stock.modules, own, site.start, name);
+                target_of(&self.stock.modules, &self.table, site.owner, found)
+            }
+        }
+    }
+
+    /// The target of a name that stands in the statement of a rule, or, with None, in the pattern.
+    pub fn resolve(&self, rule: Option<u32>, name: &QName) -> Result<Target, NameFault>
+        ensures { result ≡ T.resolved (set_seen self.now) rule name.now }
+    {
+        match rule {
+            None => self.resolve_at(self.pattern_site(), name),
+            Some(rule) => match self.rule_site(rule) {
+                None => Err(NameFault::Unknown),
+                Some(site) => self.resolve_at(site, name),
+            },
+        }
+    }
+
+    /// The expression of a rule's statement; None exactly where there is no such rule, or no statement made it.
+    pub fn body(&self, rule: u32) -> Option<&Expr>
+        ensures { expr_found result ≡ T.body (set_seen self.now) rule }
+    {
+        let row = self.row(rule)?;
+        let made = self.rule_of(row)?;
+        Some(&made.body)
+    }
+
+    /// The file and the byte place of a rule's statement; None exactly where there is no such rule, or no statement
+    /// made it.
+    pub fn spot(&self, rule: u32) -> Option<(&str, usize)>
+        ensures { spot_found result ≡ T.spot (set_seen self.now) rule }
+    {
+        let row = self.row(rule)?;
+        let made = self.rule_of(row)?;
+        let own = self.stock.modules.get(row.from as usize)?;
+        let file = own.texts.get(made.text as usize)?;
+        Some((file.as_str(), made.at))
+    }
+
+    /// What the mark of a boundary stands for at a place.
+    fn mark_at(&self, site: Site) -> Result<Target, NameFault>
+        ensures { result ≡ T.resolved_at (set_seen self.now) T.boundary_mark (Some (site_seen site)) }
+    {
+        match self.stock.modules.get(site.owner as usize) {
+            None => Err(NameFault::Unknown),
+            Some(own) => {
+                let found = find_plain(own, site.start, "~");
+                target_of(&self.stock.modules, &self.table, site.owner, found)
+            }
+        }
+    }
+
+    /// The boundary in force at a place.
+    fn boundary_at(&self, site: Site) -> u32
+        ensures { result ≡ T.or_first (T.resolved_at (set_seen self.now) T.boundary_mark (Some (site_seen site))) }
+    {
+        match self.mark_at(site) {
+            Ok(target) => target.rule,
+            Err(_) => 0,
+        }
+    }
+
+    /// The boundary in force at the statement of a rule, or, with None, for the pattern: that of the last statement
+    /// before it that gives its module one, or else the table's first rule. None exactly where there is no such rule,
+    /// or no statement made it.
+    pub fn boundary(&self, rule: Option<u32>) -> Option<u32>
+        ensures { result ≡ T.boundary (set_seen self.now) rule }
+    {
+        match rule {
+            None => Some(self.boundary_at(self.pattern_site())),
+            Some(rule) => match self.rule_site(rule) {
+                None => None,
+                Some(site) => Some(self.boundary_at(site)),
+            },
+        }
+    }
+
+    /// Whether a statement of the top module binds the name `halt`.
+    fn binds_halt(&self) -> bool
+        ensures { result ≡ T.binds_halt (set_seen self.now) }
+    {
+        match self.stock.modules.get(self.top as usize) {
+            None => false,
+            Some(own) => binds(own.names.get_text("halt")),
+        }
+    }
+
+    /// The full name of the built-in `halt`, which isn't that of a statement of the top module.
+    fn halt_name(&self) -> &'static str
+        ensures { chars result.now ≡ T.halt_name (set_seen self.now) }
+    {
+        if self.binds_halt() {
+            return "*.halt";
+        }
+        "halt"
+    }
+
+    /// What is known of a rule that no statement made.
+    fn built_in<'a>(&self, name: &'a str) -> RuleHead<'a>
+        ensures { head_seen result ≡ record { name = chars name.now; from = (set_seen self.now).top; block = None; captures = false } }
+    {
+        RuleHead {
+            name,
+            module: self.top,
+            block: None,
+            captures: false,
+        }
+    }
+
+    /// What is known of a rule; None exactly where there is no such rule.
+    pub fn rule(&self, rule: u32) -> Option<RuleHead<'_>>
+        ensures { head_found result ≡ T.head (set_seen self.now) rule }
+    {
+        if rule == 0 {
+            return Some(self.built_in("~"));
+        }
+        if rule == 1 {
+            return Some(self.built_in(self.halt_name()));
+        }
+        let row = self.row(rule)?;
+        let made = self.rule_of(row)?;
+        Some(RuleHead {
+            name: row.name.as_str(),
+            module: row.from,
+            block: row.block,
+            captures: !made.alias,
+        })
+    }
+}

@@ -1,0 +1,280 @@
+// The roots of a command, one after the other.
+ghost use Rattle.std.specs.Prelude.{◌≡◌, ◌<◌, [], ◌∷◌, OnOk, IfOk, Some, None, false, encode_utf8_all};
+ghost use Rattle.rpl_syntax.specs.Modules.{said};
+ghost use Rattle.rpl_package.specs.Asking.{Walks, and_then};
+ghost use Rattle.rpl_scope.specs.Faults.{Gives};
+ghost use Rattle.rpl_package.specs.Loading.{world};
+ghost use Rattle.rpl_package.specs.Reading.{HasCause};
+ghost use Rattle.rpl_package.specs.Roots.{top_head, next, given_name, root_by, load_roots, named_root, root_text, read_root, file_root, asked_root};
+ghost use Rattle.rpl_package.specs.Stocks.{state_seen};
+ghost use Rattle.rpl_package.specs.Texts.{module_text};
+
+use crate::locate::{MOST_BYTES, read_in};
+use crate::reading::{parse, read_module};
+use crate::stock::{Stock, finish};
+use crate::walk::{MOST_MODULES, load_own, load_text};
+use rosie_io::Files;
+use rpl_list::List;
+use rpl_scope::{LoadKind, Module, NoMemory, Stop, fault_at, put_prefix};
+use rpl_syntax::{Module as Said, QName};
+use rpl_text::Chars;
+use std::alloc::Global;
+
+/// Where RPL text comes from.
+#[derive(Debug, Drop)]
+pub enum Root {
+    /// The file at this path.
+    File(Chars),
+    /// The text itself.
+    Given(Chars),
+}
+
+/// Roots in order.
+pub type Roots = List<Root>;
+
+/// The folders in which imports are looked for, the first one first.
+pub type LibPath = List<Chars>;
+
+/// A root with a package statement: a module of its own, whose package name becomes a prefix of the top module.
+#[tactic(auto, using(rpl_scope::proofs::Stops::told, crate::proofs::Outcomes::may))]
+fn enter_named<F: Files>(
+    alloc: Global,
+    files: &mut F,
+    folders: &[Chars],
+    stock: &mut Stock,
+    own: &mut Module,
+    file: &Chars,
+    text: &Said,
+    name: &QName,
+) -> Result<Option<u32>, Stop>
+    requires name { text.now.package ≡ Some name.now }
+    requires held { stock.old.held.items ≡ top_head ∷ [] }
+    ensures gives { F.tells → Walks (λ n. (n, state_seen stock.new own.new)) result
+        (named_root (world (F.tree files.old) folders.now) file.now (said text.now) name.now (state_seen stock.old own.old)) }
+    ensures held { OnOk result (stock.new.held.items ≡ stock.old.held.items) }
+    ensures cause { HasCause result (F.faults files.old) (F.faults files.new) (F.failed_opens files.old) (F.failed_opens files.new) }
+    ensures tree { F.tree files.new ≡ F.tree files.old }
+    ensures closed { F.is_open files.old ≡ false → F.is_open files.new ≡ false }
+{
+    if own.prefixes.get(&name.name).is_some() {
+        let kind = LoadKind::Duplicate {
+            name: name.name.copy(alloc)?,
+        };
+        return Err(fault_at(alloc, file, name.at, kind));
+    }
+    let label = name.name.copy(alloc)?;
+    let depth = MOST_MODULES;
+    let from = match load_own(
+        alloc, files, folders, stock, file, None, label, name.at, text, depth,
+    ) {
+        Ok(from) => from,
+        Err(stop) => return Err(stop),
+    };
+    let number = match finish(alloc, stock, from) {
+        Ok(number) => number,
+        Err(stop) => return Err(stop),
+    };
+    if let Err(stop) = put_prefix(alloc, own, &name.name, number) {
+        return Err(stop);
+    }
+    Ok(Some(number))
+}
+
+/// A root that is read.
+#[tactic(auto, using(rpl_scope::proofs::Stops::told, crate::proofs::Outcomes::may))]
+pub fn enter_root<F: Files>(
+    alloc: Global,
+    files: &mut F,
+    folders: &[Chars],
+    stock: &mut Stock,
+    own: &mut Module,
+    file: &Chars,
+    text: &Said,
+) -> Result<Option<u32>, Stop>
+    requires held { stock.old.held.items ≡ top_head ∷ [] }
+    ensures gives { F.tells → Walks (λ n. (n, state_seen stock.new own.new)) result
+        (root_text (world (F.tree files.old) folders.now) file.now (said text.now) (said text.now).name (state_seen stock.old own.old)) }
+    ensures held { OnOk result (stock.new.held.items ≡ stock.old.held.items) }
+    ensures cause { HasCause result (F.faults files.old) (F.faults files.new) (F.failed_opens files.old) (F.failed_opens files.new) }
+    ensures tree { F.tree files.new ≡ F.tree files.old }
+    ensures closed { F.is_open files.old ≡ false → F.is_open files.new ≡ false }
+{
+    match &text.package {
+        None => {
+            let depth = MOST_MODULES;
+            if let Err(stop) = load_text(alloc, files, folders, stock, own, file, text, depth) {
+                return Err(stop);
+            }
+            Ok(None)
+        }
+        Some(name) => {
+            if stock.modules.len() + 1 >= MOST_MODULES {
+                return Err(fault_at(alloc, file, name.at, LoadKind::TooManyPackages));
+            }
+            match enter_named(alloc, files, folders, stock, own, file, text, name) {
+                Ok(number) => Ok(number),
+                Err(stop) => Err(stop),
+            }
+        }
+    }
+}
+
+/// The text of a root that is given itself.
+#[tactic(auto, using(rpl_scope::proofs::Stops::told))]
+fn read_given(alloc: Global, file: &Chars, text: &Chars) -> Result<Said, Stop>
+    ensures { Gives said result (module_text file.now (encode_utf8_all text.now)) }
+{
+    let bytes = text.as_str();
+    if bytes.len() > MOST_BYTES {
+        return Err(fault_at(alloc, file, 0, LoadKind::FileTooLong));
+    }
+    parse(alloc, file, bytes)
+}
+
+/// A root that is given itself, under the name of its text.
+pub fn enter_given<F: Files>(
+    alloc: Global,
+    files: &mut F,
+    folders: &[Chars],
+    stock: &mut Stock,
+    own: &mut Module,
+    file: &Chars,
+    text: &Chars,
+) -> Result<Option<u32>, Stop>
+    requires held { stock.old.held.items ≡ top_head ∷ [] }
+    ensures gives { F.tells → Walks (λ n. (n, state_seen stock.new own.new)) result
+        (read_root (world (F.tree files.old) folders.now) file.now (encode_utf8_all text.now) (state_seen stock.old own.old)) }
+    ensures held { OnOk result (stock.new.held.items ≡ stock.old.held.items) }
+    ensures cause { HasCause result (F.faults files.old) (F.faults files.new) (F.failed_opens files.old) (F.failed_opens files.new) }
+    ensures tree { F.tree files.new ≡ F.tree files.old }
+    ensures closed { F.is_open files.old ≡ false → F.is_open files.new ≡ false }
+{
+    let said = match read_given(alloc, file, text) {
+        Ok(said) => said,
+        Err(stop) => return Err(stop),
+    };
+    match enter_root(alloc, files, folders, stock, own, file, &said) {
+        Ok(number) => Ok(number),
+        Err(stop) => Err(stop),
+    }
+}
+
+/// A root that is the file at this path.
+#[tactic(auto, using(rpl_scope::proofs::Stops::told, crate::proofs::Outcomes::may, crate::proofs::Outcomes::quiet))]
+pub fn enter_file<F: Files>(
+    alloc: Global,
+    files: &mut F,
+    folders: &[Chars],
+    stock: &mut Stock,
+    own: &mut Module,
+    path: &Chars,
+) -> Result<Option<u32>, Stop>
+    requires held { stock.old.held.items ≡ top_head ∷ [] }
+    ensures gives { F.tells → Walks (λ n. (n, state_seen stock.new own.new)) result
+        (and_then (asked_root (world (F.tree files.old) folders.now) path.now) (file_root (world (F.tree files.old) folders.now) path.now (state_seen stock.old own.old))) }
+    ensures held { OnOk result (stock.new.held.items ≡ stock.old.held.items) }
+    ensures cause { HasCause result (F.faults files.old) (F.faults files.new) (F.failed_opens files.old) (F.failed_opens files.new) }
+    ensures tree { F.tree files.new ≡ F.tree files.old }
+    ensures closed { F.is_open files.old ≡ false → F.is_open files.new ≡ false }
+{
+    let read = match read_in(alloc, files, path) {
+        Ok(Some(read)) => read,
+        Ok(None) => return Err(fault_at(alloc, path, 0, LoadKind::RootMissing)),
+        Err(stop) => return Err(stop),
+    };
+    let said = match read_module(alloc, path, read) {
+        Ok(said) => said,
+        Err(stop) => return Err(stop),
+    };
+    match enter_root(alloc, files, folders, stock, own, path, &said) {
+        Ok(number) => Ok(number),
+        Err(stop) => Err(stop),
+    }
+}
+
+/// How many roots are given themselves, up to this one.
+fn next(given: u32, root: &Root) -> u32
+    requires { given < 4294967295 }
+    ensures { result ≡ next given root.now }
+{
+    match root {
+        Root::File(_) => given,
+        Root::Given(_) => given + 1,
+    }
+}
+
+/// The name of the text of a root that is given itself.
+fn given_name(alloc: Global, given: u32) -> Result<Chars, NoMemory>
+    ensures { IfOk result (λ name. name ≡ given_name given) }
+{
+    let text = format!(in alloc; "(rpl {given})")?;
+    Chars::from_str(alloc, &text)
+}
+
+/// A root, with the number of those so far that are given themselves.
+fn enter_one<F: Files>(
+    alloc: Global,
+    files: &mut F,
+    folders: &[Chars],
+    stock: &mut Stock,
+    own: &mut Module,
+    given: u32,
+    root: &Root,
+) -> Result<Option<u32>, Stop>
+    requires held { stock.old.held.items ≡ top_head ∷ [] }
+    ensures gives { F.tells → Walks (λ n. (n, state_seen stock.new own.new)) result
+        (root_by (world (F.tree files.old) folders.now) given root.now (state_seen stock.old own.old)) }
+    ensures held { OnOk result (stock.new.held.items ≡ stock.old.held.items) }
+    ensures cause { HasCause result (F.faults files.old) (F.faults files.new) (F.failed_opens files.old) (F.failed_opens files.new) }
+    ensures tree { F.tree files.new ≡ F.tree files.old }
+    ensures closed { F.is_open files.old ≡ false → F.is_open files.new ≡ false }
+{
+    match root {
+        Root::File(path) => {
+            match enter_file(alloc, files, folders, stock, own, path) {
+                Ok(number) => Ok(number),
+                Err(stop) => Err(stop),
+            }
+        }
+        Root::Given(text) => {
+            let name = given_name(alloc, given)?;
+            match enter_given(alloc, files, folders, stock, own, &name, text) {
+                Ok(number) => Ok(number),
+                Err(stop) => Err(stop),
+            }
+        }
+    }
+}
+
+/// The roots in order: the modules that they are read into, None standing for the top module.
+pub fn enter_roots<F: Files>(
+    alloc: Global,
+    files: &mut F,
+    folders: &[Chars],
+    stock: &mut Stock,
+    own: &mut Module,
+    roots: &[Root],
+) -> Result<Vec<Option<u32>>, Stop>
+    requires held { stock.old.held.items ≡ top_head ∷ [] }
+    ensures gives { F.tells → Walks (λ into. record { roots = into.items; state = state_seen stock.new own.new }) result
+        (load_roots (world (F.tree files.old) folders.now) roots.now (record { roots = []; state = state_seen stock.old own.old })) }
+    ensures held { OnOk result (stock.new.held.items ≡ stock.old.held.items) }
+    ensures cause { HasCause result (F.faults files.old) (F.faults files.new) (F.failed_opens files.old) (F.failed_opens files.new) }
+    ensures tree { F.tree files.new ≡ F.tree files.old }
+    ensures closed { F.is_open files.old ≡ false → F.is_open files.new ≡ false }
+{
+    let mut given = 0;
+    let mut into = Vec::new(alloc);
+    for root in roots {
+        if given >= 4_294_967_295 {
+            return Err(Stop::Memory);
+        }
+        given = next(given, root);
+        let number = match enter_one(alloc, files, folders, stock, own, given, root) {
+            Ok(number) => number,
+            Err(stop) => return Err(stop),
+        };
+        into.push(number)?;
+    }
+    Ok(into)
+}

@@ -1,0 +1,21 @@
+// The set of packages.
+ghost use Rattle.std.specs.Prelude.{◌≡◌, ◌<◌, [], length};
+ghost use Rattle.rpl_scope.specs.Seen.{modules_seen};
+ghost use Rattle.rpl_package.specs.Stocks.{IsTable};
+
+use crate::stock::Stock;
+use crate::table::Table;
+
+/// What the names of some texts and of all that they import stand for.
+#[derive(Drop)]
+pub struct PackageSet {
+    pub(crate) stock: Stock,
+    /// The number of the module of the roots and the pattern.
+    pub(crate) top: u32,
+    /// The number of the module of each root, where it isn't the top module.
+    pub(crate) roots: Vec<Option<u32>>,
+    pub(crate) table: Table,
+    ghost idle: { stock.held.items ≡ [] },
+    ghost inside: { top < length stock.modules.items },
+    ghost told: { IsTable table (modules_seen stock.modules.items) },
+}

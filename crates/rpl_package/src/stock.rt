@@ -1,0 +1,134 @@
+// The modules that are loaded, and those that are being loaded.
+ghost use Rattle.std.specs.Prelude.{◌≡◌, ◌++◌, ◌∷◌, [], OnErr, OnOk, IfOk, IfErr, length};
+ghost use Rattle.rpl_package.specs.Kept.{Keeps};
+ghost use Rattle.rpl_package.specs.Loading.{is_loading, is_held, is_taken, finished, empty_module, with_path};
+ghost use Rattle.rpl_package.specs.Stocks.{stock_seen};
+ghost use Rattle.rpl_scope.specs.Seen.{module_seen};
+ghost use Rattle.rpl_scope.specs.declared.fault.Stop.TheVariants.{Memory as OutOfMemory};
+
+use rpl_scope::{Module, Named, NoMemory, Stop, same};
+use rpl_text::Chars;
+use std::alloc::Global;
+
+/// A module that is being loaded: its path, and its package name.
+#[derive(Debug, Drop)]
+pub struct Head {
+    pub path: Option<Chars>,
+    pub label: Chars,
+}
+
+/// The modules that are loaded, in the order in which their loading finished, and those that are being loaded.
+#[derive(Drop)]
+pub struct Stock {
+    pub modules: Vec<Module>,
+    /// The number of the module with each path.
+    pub paths: Named<u32>,
+    /// The number of the module with each package name.
+    pub labels: Named<u32>,
+    pub held: Vec<Head>,
+}
+
+/// What is known of a module that is being loaded.
+pub fn head_of(alloc: Global, path: &Option<Chars>, label: &Chars) -> Result<Head, NoMemory>
+    ensures { IfOk result (λ h. h ≡ record { path = path.now; label = label.now }) }
+{
+    let label = label.copy(alloc)?;
+    match path {
+        Some(path) => Ok(Head {
+            path: Some(path.copy(alloc)?),
+            label,
+        }),
+        None => Ok(Head { path: None, label }),
+    }
+}
+
+/// Whether a module of this path is being loaded.
+pub fn is_loading(held: &[Head], path: &Chars) -> bool
+    ensures { result ≡ is_loading path.now held.now }
+{
+    for head in held {
+        if let Some(other) = &head.path {
+            if same(other, path) {
+                return true;
+            }
+        }
+    }
+    false
+}
+
+/// Whether a module of this package name is being loaded.
+fn is_held(held: &[Head], label: &Chars) -> bool
+    ensures { result ≡ is_held label.now held.now }
+{
+    for head in held {
+        if same(&head.label, label) {
+            return true;
+        }
+    }
+    false
+}
+
+/// Whether a module has this package name already.
+pub fn is_taken(stock: &Stock, label: &Chars) -> bool
+    ensures { result ≡ is_taken label.now stock.now.held.items (stock_seen stock.now) }
+{
+    is_held(&stock.held, label) || stock.labels.get(label).is_some()
+}
+
+/// The number of the module with this path, where it has one.
+fn note_path(
+    alloc: Global,
+    paths: &mut Named<u32>,
+    path: &Option<Chars>,
+    number: u32,
+) -> Result<(), NoMemory>
+    ensures ok { OnOk result (paths.new ≡ with_path path.now number paths.old) }
+    ensures err { OnErr result (paths.new ≡ paths.old) }
+{
+    match path {
+        Some(path) => paths.add(alloc, path, number),
+        None => Ok(()),
+    }
+}
+
+/// One module more.
+fn push_module(modules: &mut Vec<Module>, from: Module) -> Result<(), NoMemory>
+    ensures ok { OnOk result (modules.new.items ≡ modules.old.items ++ from ∷ []) }
+    ensures err { OnErr result (modules.new.items ≡ modules.old.items) }
+{
+    modules.push(from)?;
+    Ok(())
+}
+
+/// One module more, whose loading is finished: its number.
+pub fn finish(alloc: Global, stock: &mut Stock, from: Module) -> Result<u32, Stop>
+    ensures stock { OnOk result (stock_seen stock.new ≡ finished (stock_seen stock.old) (module_seen from)) }
+    ensures number { IfOk result (λ n. n ≡ length (stock_seen stock.old).modules) }
+    ensures held { OnOk result (stock.new.held ≡ stock.old.held) }
+    ensures kept { Keeps (stock_seen stock.old) (stock_seen stock.new) }
+    ensures memory { IfErr result (λ s. s ≡ OutOfMemory) }
+{
+    let count = stock.modules.len();
+    if count > 4_294_967_295 {
+        return Err(Stop::Memory);
+    }
+    let number = count as u32;
+    note_path(alloc, &mut stock.paths, &from.path, number)?;
+    stock.labels.add(alloc, &from.label, number)?;
+    push_module(&mut stock.modules, from)?;
+    Ok(number)
+}
+
+/// A module without statements.
+pub fn empty_module(alloc: Global, path: Option<Chars>, label: Chars) -> Module
+    ensures { module_seen result ≡ empty_module path label }
+{
+    Module {
+        path,
+        label,
+        texts: Vec::new(alloc),
+        rules: Vec::new(alloc),
+        prefixes: Named::new(alloc),
+        names: Named::new(alloc),
+    }
+}

@@ -1,0 +1,144 @@
+// The rule table: which rule has which number.
+ghost use Rattle.std.specs.Prelude.{◌≡◌, ◌≤◌, ◌<◌, ◌+◌, ◌++◌, OnOk, IfOk, IfErr, length};
+ghost use Rattle.rpl_scope.specs.Seen.{module_seen, modules_seen, rule_seen, rules_seen};
+ghost use Rattle.rpl_scope.specs.declared.fault.Stop.TheVariants.{Memory as OutOfMemory};
+ghost use Rattle.rpl_package.specs.Tables.{begun_at, begun_in, full_name, in_block, row_of, rows_of};
+ghost use Rattle.rpl_package.specs.Stocks.{IsTable};
+
+use rpl_scope::{Module, NoMemory, Rule, Stop};
+use rpl_text::Chars;
+use std::alloc::Global;
+
+/// A rule of the table that a statement made.
+#[derive(Debug, Drop)]
+pub struct Row {
+    /// Its full name.
+    pub name: Chars,
+    /// The number of its module.
+    pub from: u32,
+    /// Its place among the rules of that module.
+    pub place: u32,
+    /// The number of its block, where it stands in one.
+    pub block: Option<u32>,
+}
+
+/// The rules of modules in order, the first of them with the number 2.
+#[derive(Drop)]
+pub struct Table {
+    pub rows: Vec<Row>,
+    /// The number of the first rule of each module.
+    pub firsts: Vec<u32>,
+}
+
+/// The full name of a rule of the module with this package name.
+fn full_name(alloc: Global, label: &Chars, name: &Chars) -> Result<Chars, NoMemory>
+    ensures { IfOk result (λ full. full ≡ full_name label.now name.now) }
+{
+    if label.as_str().is_empty() {
+        if name.as_str() == "~" {
+            return Chars::from_str(alloc, "*.~");
+        }
+        return name.copy(alloc);
+    }
+    let mut text = String::from_str(alloc, label.as_str())?;
+    text.push('.')?;
+    text.push_str(name.as_str())?;
+    Chars::from_str(alloc, &text)
+}
+
+/// Whether a rule stands in a block.
+fn in_block(rule: &Rule) -> bool
+    ensures { result ≡ in_block (rule_seen rule.now) }
+{
+    rule.since == rule.start
+}
+
+/// How many blocks have begun up to the rule at this place of its module.
+fn begun_at(blocks: u32, place: u32, rule: &Rule) -> u32
+    requires { blocks < 4294967295 }
+    ensures { result ≡ begun_at blocks place (rule_seen rule.now) }
+{
+    if in_block(rule) && rule.start == place {
+        blocks + 1
+    } else {
+        blocks
+    }
+}
+
+/// The row of a rule up to which so many blocks have begun.
+fn row_of(
+    alloc: Global,
+    label: &Chars,
+    from: u32,
+    place: u32,
+    blocks: u32,
+    rule: &Rule,
+) -> Result<Row, NoMemory>
+    ensures { IfOk result (λ r. r ≡ row_of label.now from place blocks (rule_seen rule.now)) }
+{
+    let name = full_name(alloc, label, &rule.name)?;
+    let block = if in_block(rule) {
+        Some(blocks.saturating_sub(1))
+    } else {
+        None
+    };
+    Ok(Row {
+        name,
+        from,
+        place,
+        block,
+    })
+}
+
+/// The rows of the rules of a module, where so many blocks have begun before; and how many have then.
+fn push_rules(
+    alloc: Global,
+    rows: &mut Vec<Row>,
+    label: &Chars,
+    from: u32,
+    blocks: u32,
+    rules: &[Rule],
+) -> Result<u32, Stop>
+    requires few { 2 + length rows.old.items ≤ 4294967295 }
+    ensures rows { OnOk result (rows.new.items ≡ rows.old.items ++ rows_of label.now from 0 blocks (rules_seen rules.now)) }
+    ensures few { OnOk result (2 + length rows.new.items ≤ 4294967295) }
+    ensures blocks { IfOk result (λ n. n ≡ begun_in blocks 0 (rules_seen rules.now)) }
+    ensures memory { IfErr result (λ s. s ≡ OutOfMemory) }
+{
+    let mut begun = blocks;
+    let mut place = 0;
+    for rule in rules {
+        if rows.len() >= 4_294_967_293 || begun == u32::MAX || place == u32::MAX {
+            return Err(Stop::Memory);
+        }
+        begun = begun_at(begun, place, rule);
+        let row = row_of(alloc, label, from, place, begun, rule)?;
+        rows.push(row)?;
+        place += 1;
+    }
+    Ok(begun)
+}
+
+/// The rule table of these modules.
+pub fn table_of(alloc: Global, modules: &[Module]) -> Result<Table, Stop>
+    ensures ok { IfOk result (λ t. IsTable t (modules_seen modules.now)) }
+    ensures memory { IfErr result (λ s. s ≡ OutOfMemory) }
+{
+    let mut rows = Vec::new(alloc);
+    let mut firsts = Vec::new(alloc);
+    let mut blocks = 0;
+    let mut from = 0;
+    for module in modules {
+        if from == u32::MAX {
+            return Err(Stop::Memory);
+        }
+        let first = rows.len() + 2;
+        firsts.push(first as u32)?;
+        blocks = match push_rules(alloc, &mut rows, &module.label, from, blocks, &module.rules) {
+            Ok(blocks) => blocks,
+            Err(stop) => return Err(stop),
+        };
+        from += 1;
+    }
+    Ok(Table { rows, firsts })
+}

@@ -1,0 +1,9 @@
+pub mod Characters
+pub mod Checking
+pub mod Gathering
+pub mod Halves
+pub mod Maps
+pub mod Paths
+pub mod Scopes
+pub mod Stops
+pub mod Turns

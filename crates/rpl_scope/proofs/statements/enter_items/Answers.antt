@@ -1,0 +1,21 @@
+use Rattle.std.proofs.Common.{refl}
+use Rattle.rpl_syntax.specs.Modules as S
+use Rattle.rpl_scope.specs.Seen.{module_seen, modules_seen}
+use Rattle.rpl_scope.specs.Statements.{statement}
+use Rattle.rpl_scope.proofs.Turns.{turn_step, turn_stop, turn_done}
+use Rattle.rpl_scope.proofs.statements.enter_items.Goals as goal
+
+pub loop-item-preserved : goal.loop-item-preserved
+loop-item-preserved c =
+    turn_step S.entries_of S.entry_of refl (λ _ _. refl) (statement c.args.file.now c.args.text (modules_seen c.args.modules.now)) c.args.items.now c.loop-item.item-index
+    c.item-item.result (module_seen c.loop-item.own) (module_seen c.enter_item.new.own) _ c.loop-item-test.true c.item-item.is c.in_default.ensures c.loop-item.invariant
+
+pub returns : goal.returns
+returns c =
+    turn_done S.entries_of S.entry_of refl (λ _ _. refl) (statement c.args.file.now c.args.text (modules_seen c.args.modules.now)) c.args.items.now c.loop-item.item-index
+    (module_seen c.loop-item.own) _ c.loop-item-test.false c.loop-item.invariant
+
+pub returns-in-Err : goal.returns-in-Err
+returns-in-Err c =
+    turn_stop S.entries_of S.entry_of refl (λ _ _. refl) (statement c.args.file.now c.args.text (modules_seen c.args.modules.now)) c.args.items.now c.loop-item.item-index
+    c.item-item.result (module_seen c.loop-item.own) c.in-Err.stop _ c.loop-item-test.true c.item-item.is c.in-Err.ensures c.loop-item.invariant

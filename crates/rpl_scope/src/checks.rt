@@ -1,0 +1,108 @@
+// The first fault of names, and of macros.
+ghost use Rattle.std.specs.Prelude.{◌≡◌, map};
+ghost use Rattle.rpl_scope.specs.Bodies.{named_fault, names_fault, macros_fault, used_fault, written};
+ghost use Rattle.rpl_scope.specs.Faults.{Checks};
+ghost use Rattle.rpl_scope.specs.Seen.{module_seen, modules_seen, use_seen};
+ghost use Rattle.std.specs.Prelude.{IfOk};
+
+use crate::NoMemory;
+use crate::bodies::Use;
+use crate::fault::{LoadKind, Stop, fault_at};
+use crate::module::Module;
+use crate::scope::{Found, find};
+use rpl_macro::check_use;
+use rpl_syntax::QName;
+use rpl_text::Chars;
+use std::alloc::Global;
+
+/// A name as it is written.
+fn written(alloc: Global, name: &QName) -> Result<Chars, NoMemory>
+    ensures { IfOk result (λ text. text ≡ written name.now.prefix name.now.name) }
+{
+    match &name.prefix {
+        None => name.name.copy(alloc),
+        Some(prefix) => {
+            let mut text = String::from_str(alloc, prefix.as_str())?;
+            text.push('.')?;
+            text.push_str(name.name.as_str())?;
+            Chars::from_str(alloc, &text)
+        }
+    }
+}
+
+/// A name in a statement of the module `own` with this start.
+#[tactic(auto, using(crate::proofs::Stops::told))]
+fn check_name(
+    alloc: Global,
+    file: &Chars,
+    modules: &[Module],
+    own: &Module,
+    start: u32,
+    name: &QName,
+) -> Result<(), Stop>
+    ensures { Checks result (named_fault file.now (modules_seen modules.now) (module_seen own.now) start name.now) }
+{
+    match find(modules, own, start, name) {
+        Found::To(_) => Ok(()),
+        Found::Unknown => {
+            let kind = LoadKind::UnknownName {
+                name: written(alloc, name)?,
+            };
+            Err(fault_at(alloc, file, name.at, kind))
+        }
+        Found::Hidden => {
+            let kind = LoadKind::HiddenName {
+                name: written(alloc, name)?,
+            };
+            Err(fault_at(alloc, file, name.at, kind))
+        }
+    }
+}
+
+/// Names in statements of the module `own` with this start.
+pub fn check_names(
+    alloc: Global,
+    file: &Chars,
+    modules: &[Module],
+    own: &Module,
+    start: u32,
+    names: &[&QName],
+) -> Result<(), Stop>
+    ensures { Checks result (names_fault file.now (modules_seen modules.now) (module_seen own.now) start (map (λ q. q.now) names.now)) }
+{
+    for name in names {
+        if let Err(stop) = check_name(alloc, file, modules, own, start, name) {
+            return Err(stop);
+        }
+    }
+    Ok(())
+}
+
+/// A use of a macro.
+#[tactic(auto, using(crate::proofs::Stops::told))]
+fn check_macro(alloc: Global, file: &Chars, used: Use<'_>) -> Result<(), Stop>
+    ensures { Checks result (used_fault file.now (use_seen used.entry)) }
+{
+    match check_use(used.name.name.as_str(), used.arg) {
+        None => Ok(()),
+        Some(fault) => {
+            let kind = LoadKind::Macro {
+                name: used.name.name.copy(alloc)?,
+                fault,
+            };
+            Err(fault_at(alloc, file, used.name.at, kind))
+        }
+    }
+}
+
+/// Uses of macros.
+pub fn check_macros(alloc: Global, file: &Chars, uses: &[Use<'_>]) -> Result<(), Stop>
+    ensures { Checks result (macros_fault file.now (map use_seen uses.now)) }
+{
+    for used in uses {
+        if let Err(stop) = check_macro(alloc, file, *used) {
+            return Err(stop);
+        }
+    }
+    Ok(())
+}

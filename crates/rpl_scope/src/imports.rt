@@ -1,0 +1,188 @@
+// What the imports of a text bring into its module.
+ghost use Rattle.std.specs.Prelude.{◌≡◌, ◌≤◌, ◌++◌, length, IfOk, OnErr, OnOk, IfErr, None, [], chars};
+ghost use Rattle.rpl_scope.specs.Faults.{Gives, in_turn};
+ghost use Rattle.rpl_scope.specs.Imports.{last_part, add_prefix, with_prefix, add_name, numbered, rules_at, take_in, is_same};
+ghost use Rattle.rpl_scope.specs.Packages.{nth, first_of};
+ghost use Rattle.rpl_scope.specs.declared.fault.Stop.TheVariants.{Memory as OutOfMemory};
+ghost use Rattle.rpl_scope.specs.Seen.{module_seen, modules_seen, rule_seen, rules_seen};
+
+use crate::NoMemory;
+use crate::fault::{LoadKind, Stop, fault_at};
+use crate::module::{Entry, Module, Prefix, Referent, Rule};
+use rpl_syntax::{Import, ImportAs};
+use rpl_text::Chars;
+use std::alloc::Global;
+
+/// The last name of a path.
+pub fn last_part(alloc: Global, path: &Chars) -> Result<Chars, NoMemory>
+    ensures { IfOk result (λ last. last ≡ last_part [] path.now) }
+{
+    let mut last = String::new(alloc);
+    for c in path.as_str().chars() {
+        if c == '/' {
+            last.clear();
+        } else {
+            last.push(c)?;
+        }
+    }
+    Chars::from_str(alloc, &last)
+}
+
+/// One prefix more, for the module with this number.
+pub fn put_prefix(alloc: Global, own: &mut Module, prefix: &Chars, number: u32) -> Result<(), Stop>
+    requires { first_of prefix.now own.old.prefixes ≡ None }
+    ensures ok { OnOk result (module_seen own.new ≡ with_prefix (module_seen own.old) prefix.now (record { since = length (module_seen own.old).rules; number = number })) }
+    ensures err { IfErr result (λ s. s ≡ OutOfMemory) }
+{
+    let count = own.rules.len();
+    if count > 4_294_967_295 {
+        return Err(Stop::Memory);
+    }
+    let since = count as u32;
+    own.prefixes.put(alloc, prefix, Prefix { since, number })?;
+    Ok(())
+}
+
+/// The prefix for the module with this number.
+#[tactic(auto, using(crate::proofs::Stops::told))]
+pub fn add_prefix(
+    alloc: Global,
+    own: &mut Module,
+    file: &Chars,
+    at: usize,
+    prefix: &Chars,
+    number: u32,
+) -> Result<(), Stop>
+    ensures gives { Gives (λ _. module_seen own.new) result (add_prefix file.now at prefix.now number (module_seen own.old)) }
+    ensures kept { OnErr result (module_seen own.new ≡ module_seen own.old) }
+{
+    match own.prefixes.get(prefix) {
+        Some(there) => {
+            if there.number == number {
+                return Ok(());
+            }
+            let kind = LoadKind::Duplicate {
+                name: prefix.copy(alloc)?,
+            };
+            Err(fault_at(alloc, file, at, kind))
+        }
+        None => {
+            let count = own.rules.len();
+            if count > 4_294_967_295 {
+                return Err(Stop::Memory);
+            }
+            let since = count as u32;
+            let entry = Prefix { since, number };
+            own.prefixes.put(alloc, prefix, entry)?;
+            Ok(())
+        }
+    }
+}
+
+/// Whether it is this rule of that module.
+fn is_same(referent: Referent, number: u32, rule: u32) -> bool
+    ensures { result ≡ is_same referent number rule }
+{
+    match referent {
+        Referent::Of {
+            module: other,
+            rule: place,
+        } => other == number && place == rule,
+        _ => false,
+    }
+}
+
+/// The name of a rule of the module with this number, where others see it.
+#[tactic(auto, using(crate::proofs::Stops::told))]
+fn add_name(
+    alloc: Global,
+    own: &mut Module,
+    file: &Chars,
+    at: usize,
+    number: u32,
+    place: u32,
+    rule: &Rule,
+) -> Result<(), Stop>
+    ensures { Gives (λ _. module_seen own.new) result (add_name file.now at number (place, rule_seen rule.now) (module_seen own.old)) }
+{
+    if rule.local || rule.hidden {
+        return Ok(());
+    }
+    match own.names.get(&rule.name) {
+        Some(there) => {
+            if is_same(there.referent, number, place) {
+                return Ok(());
+            }
+            let kind = LoadKind::Duplicate {
+                name: rule.name.copy(alloc)?,
+            };
+            Err(fault_at(alloc, file, at, kind))
+        }
+        None => {
+            let count = own.rules.len();
+            if count > 4_294_967_295 {
+                return Err(Stop::Memory);
+            }
+            let since = count as u32;
+            let entry = Entry {
+                since,
+                local: false,
+                hidden: false,
+                referent: Referent::Of {
+                    module: number,
+                    rule: place,
+                },
+            };
+            own.names.put(alloc, &rule.name, entry)?;
+            Ok(())
+        }
+    }
+}
+
+/// The names of the rules of the module with this number, where others see them.
+fn add_names(
+    alloc: Global,
+    own: &mut Module,
+    file: &Chars,
+    at: usize,
+    number: u32,
+    rules: &[Rule],
+) -> Result<(), Stop>
+    ensures { Gives (λ _. module_seen own.new) result (in_turn (add_name file.now at number) (numbered 0 (rules_seen rules.now)) (module_seen own.old)) }
+{
+    let mut place = 0;
+    for rule in rules {
+        if place == u32::MAX {
+            return Err(Stop::Memory);
+        }
+        if let Err(stop) = add_name(alloc, own, file, at, number, place, rule) {
+            return Err(stop);
+        }
+        place += 1;
+    }
+    Ok(())
+}
+
+/// What an import brings of the loaded module with this number.
+pub fn take_in(
+    alloc: Global,
+    modules: &[Module],
+    own: &mut Module,
+    file: &Chars,
+    import: &Import,
+    number: u32,
+) -> Result<(), Stop>
+    ensures { Gives (λ _. module_seen own.new) result (take_in file.now import.now number (modules_seen modules.now) (module_seen own.old)) }
+{
+    match &import.name {
+        ImportAs::Last => {
+            let prefix = last_part(alloc, &import.path)?;
+            add_prefix(alloc, own, file, import.at, &prefix, number)
+        }
+        ImportAs::Named(prefix) => add_prefix(alloc, own, file, import.at, prefix, number),
+        ImportAs::Plain => match modules.get(number as usize) {
+            Some(from) => add_names(alloc, own, file, import.at, number, &from.rules),
+            None => Ok(()),
+        },
+    }
+}

@@ -1,0 +1,29 @@
+//! Scopes: what the names of RPL texts stand for, statement by statement.
+//!
+//! For `rpl_package`, which reads the texts and finds the imports. A module is a list of rules with its names and its
+//! prefixes; what a name stands for where it is written is said once, by `bound` in `specs/Packages.antt`. Statements
+//! and imports enter a module in the order of a text, or are refused for their first fault, at its place
+//! (`specs/Statements.antt`, `specs/Imports.antt`). No file is read, and besides only memory can run out.
+#![tactic(auto)]
+
+mod bodies;
+mod checks;
+mod enter;
+mod fault;
+mod imports;
+mod module;
+mod named;
+mod scope;
+mod statements;
+mod texts;
+
+pub use bodies::{Use, push_names, push_uses};
+pub use checks::{check_macros, check_names};
+pub use fault::{LoadFault, LoadKind, Stop, fault_at};
+pub use imports::{add_prefix, last_part, put_prefix, take_in};
+pub use module::{Entry, Module, Prefix, Referent, Rule};
+pub use named::Named;
+pub use rpl_text::NoMemory;
+pub use scope::{Found, find, find_plain};
+pub use statements::enter_items;
+pub use texts::same;
