@@ -1,4 +1,4 @@
-//! The program: the real streams, and one call of `rosie_cli::rosie`. It is the trusted edge: no contract says what a stream holds.
+//! The program: the real streams and files, and one call of `rosie_cli::rosie`. It is the trusted edge: no contract says what a stream holds.
 //!
 //! Where a word isn't UTF-8 it writes nothing and ends with status 2, and where there is no memory for the words or the streams with status 6.
 #![tactic(auto)]
@@ -6,7 +6,7 @@
 ghost use Rattle.std.specs.Prelude.{◌≡◌, ◌<◌};
 
 use rosie_cli::{Status, rosie};
-use rosie_io::{StdSink, StdSource};
+use rosie_io::{StdFiles, StdSink, StdSource};
 use rpl_machine::Steps;
 use std::env;
 use std::io::{self, BufWriter, ErrorKind};
@@ -34,7 +34,7 @@ fn status_without_words(error: io::Error) -> Status {
     }
 }
 
-/// Runs the command over the real streams. `blank` is the ledger on which its steps are counted: it takes no memory, and nobody reads it.
+/// Runs the command over the real streams and files. `blank` is the ledger on which its steps are counted: it takes no memory, and nobody reads it.
 fn run<L: Ledger>(rt: &HostRuntime, words: &[String], blank: Blank) -> Status
     requires name { blank.name ≡ L.name }
     requires parts { blank.parts ≡ L.parts }
@@ -45,11 +45,14 @@ fn run<L: Ledger>(rt: &HostRuntime, words: &[String], blank: Blank) -> Status
         Ok(out) => out,
         Err(_) => return Status::NoMemory,
     };
+    let mut files = StdFiles::new(rt);
     let mut input = StdSource::new(rt.stdin());
     let mut out = StdSink::new(out);
     let mut err = StdSink::new(rt.stderr());
     let mut steps = Steps::<L>::new(blank);
-    rosie(alloc, words, &mut input, &mut out, &mut err, &mut steps)
+    rosie(
+        alloc, words, &mut files, &mut input, &mut out, &mut err, &mut steps,
+    )
 }
 
 fn main(rt: HostRuntime) -> ExitCode {

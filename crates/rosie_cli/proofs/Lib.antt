@@ -1,6 +1,6 @@
-pub mod Literal
-pub mod Pieces
 pub mod OneLine
-pub mod Onward
-pub mod Closing
-pub mod Planning
+pub mod Asking
+pub mod Cores
+pub mod Preparing
+pub mod Whole
+pub mod Promised

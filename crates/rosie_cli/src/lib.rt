@@ -1,23 +1,19 @@
-//! What the whole command does, as one call: [`rosie`] reads the words, runs the pattern on each line of the input, and writes an answer for
-//! each line that matches. `main` calls it with the real streams, and tests with streams in memory.
+//! What the whole command does, as one call: [`rosie`] reads the words, prepares what they ask for, and runs it on each
+//! line of the inputs. `main` calls it with the real streams and files, and tests with those in memory.
 //!
-//! `specs/Plan.antt` and `specs/Report.antt` define the report of a run: for each line what the pattern means on it, as text. The contract of
-//! [`rosie`] says that just this report is written, with the status and the number of steps that it has; a front of it, where a stream fails
-//! or memory is wanting; and that a fault of a stream is answered only where the stream's count of faults rose.
+//! `specs/Report.antt` defines the report of a run over the words, the tree of files and the standard input; the contract
+//! of [`rosie`] says what each answer tells of it. Each command is a case of the report, an arm of the call and a module
+//! of its own.
 #![tactic(auto)]
 
-mod ended;
+mod asked;
 mod job;
-mod lines;
-mod pattern;
-mod plan;
-mod refusal;
-mod run;
-mod status;
-mod tally;
+mod literal;
+mod match_job;
+mod prepare;
+mod settings;
+mod texts;
 mod top;
-mod workshop;
-mod write;
 
-pub use status::Status;
+pub use rosie_run::Status;
 pub use top::rosie;

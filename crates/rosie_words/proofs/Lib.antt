@@ -1,4 +1,3 @@
-pub mod Built
 pub mod Equals
 pub mod Folders
 pub mod Lookups

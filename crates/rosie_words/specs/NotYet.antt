@@ -1,26 +1,22 @@
 -- Which words ask for what is not built. The lists grow with the program, and this file goes when all is built.
-use Rattle.std.specs.Prelude.{◌≡◌, ℕ, Bool, true, false, not, List, [], ◌∷◌, Option, Some, None, if◌then◌else◌}
+use Rattle.std.specs.Prelude.{Bool, true, false, not, List, [], ◌∷◌, Option, Some, None, is_some, if◌then◌else◌}
 use Rattle.std.specs.List.{list_any}
 use Rattle.rosie_words.specs.declared.command.Command.{Command}
-use Rattle.rosie_words.specs.declared.command.What.TheVariants as W
 use Rattle.rosie_words.specs.declared.unbuilt.Place.{Place}
 use Rattle.rosie_words.specs.declared.unbuilt.Place.TheVariants as P
 use Rattle.rosie_words.specs.declared.table.CommandName.{CommandName}
 use Rattle.rosie_words.specs.declared.table.CommandName.TheVariants as C
 use Rattle.rosie_words.specs.declared.table.OptionName.{OptionName}
-use Rattle.rosie_words.specs.Options.{command}
+use Rattle.rosie_words.specs.declared.table.OptionName.TheVariants as O
 use Rattle.rosie_words.specs.Table.{Word, same_command, same_option, command_named}
-use Rattle.rosie_words.specs.Roles.{Front, Role, Argument, Plain, Full, Waiting, role, next}
+use Rattle.rosie_words.specs.Roles.{Front, Free, Role, Argument, Plain, Full, Waiting, role, next}
 
 -- what is built
 abbrev pub built_commands : List CommandName
 built_commands = C.Match ∷ []
 
 abbrev pub built_options : List OptionName
-built_options = []
-
-abbrev pub files_are_built : Bool
-files_are_built = false
+built_options = O.Output ∷ O.WholeFile ∷ O.All ∷ O.Budget ∷ O.Steps ∷ []
 
 -- an option, a command is built
 abbrev pub is_built : OptionName → Bool
@@ -41,7 +37,7 @@ later has_code P.File = P.File
 abbrev pub argument_asks : Place → Word → Bool
 argument_asks P.Command w = not (command_is_built (command_named w))
 argument_asks P.Pattern w = false
-argument_asks P.File w = not files_are_built
+argument_asks P.File w = false
 
 -- a word asks for what is not built
 abbrev pub asks : Place → Role → Word → Bool
@@ -59,8 +55,10 @@ place has_code p r = p
 -- the first word that asks for what is not built
 abbrev pub unbuilt : Bool → Front → Place → List Word → Option Word
 unbuilt has_code front p [] = None
-unbuilt has_code front p (w ∷ ws) = if asks p (role front w) w then Some w else unbuilt has_code (next front (role front w) w) (place has_code p (role front w)) ws
+unbuilt has_code front p (w ∷ ws) =
+    if asks p (role front w) w then Some w
+    else unbuilt has_code (next front (role front w) w) (place has_code p (role front w)) ws
 
--- `match` with a pattern, and all else by default
-abbrev pub IsPlainMatch : Command → Type 0
-IsPlainMatch c = (p : List ℕ) × (c ≡ command C.Match (W.Match p []) [])
+-- the first word of this command that asks for what is not built
+abbrev pub first_unbuilt : Command → List Word → Option Word
+first_unbuilt c ws = unbuilt (is_some c.code_file) Free P.Command ws

@@ -1,12 +1,10 @@
 //! Which words ask for what is not built. This goes when all is built.
 
-ghost use Rattle.std.specs.Prelude.{◌≡◌, is_some, Ok, IfNone};
-ghost use Rattle.rosie_words.specs.NotYet.{is_built, command_is_built, later, asks, place, unbuilt, IsPlainMatch};
-ghost use Rattle.rosie_words.specs.Reading.{words_of, reading};
-ghost use Rattle.rosie_words.specs.Roles as roles;
+ghost use Rattle.std.specs.Prelude.{◌≡◌};
+ghost use Rattle.rosie_words.specs.NotYet.{is_built, command_is_built, later, asks, place, unbuilt, first_unbuilt};
+ghost use Rattle.rosie_words.specs.Reading.{words_of};
 ghost use Rattle.rosie_words.specs.Seen.{front_of, role_of, half_of};
 ghost use Rattle.rosie_words.specs.Table as table;
-ghost use Rattle.rosie_words.specs.declared.unbuilt.Place.TheVariants as P;
 
 use crate::command::Command;
 use crate::role::{Front, Role};
@@ -24,10 +22,17 @@ pub(crate) enum Place {
 }
 
 /// The option is built.
-fn is_built(_option: OptionName) -> bool
-    ensures { result ≡ is_built _option }
+fn is_built(option: OptionName) -> bool
+    ensures { result ≡ is_built option }
 {
-    false
+    matches!(
+        option,
+        OptionName::Output
+            | OptionName::WholeFile
+            | OptionName::All
+            | OptionName::Budget
+            | OptionName::Steps
+    )
 }
 
 /// The word is a command that is built.
@@ -46,7 +51,7 @@ impl Place {
             Role::Argument => match self {
                 Place::Command => !names_built(word),
                 Place::Pattern => false,
-                Place::File => true,
+                Place::File => false,
             },
             Role::Plain(option) | Role::Full(option, _) | Role::Waiting(option) => {
                 !is_built(option)
@@ -67,12 +72,9 @@ impl Place {
     }
 }
 
-/// The first word of a command line without fault that asks for what is not built: an option, a command
-/// or an input file.
+/// The first word of a command line without fault that asks for what is not built: an option or a command.
 pub fn not_yet<'a>(words: &'a [String], command: &Command) -> Option<&'a str>
-    ensures word { half_of result ≡ unbuilt (is_some command.now.code_file) roles.Free P.Command (words_of words.now) }
-    // Where no word asks for more, these words' command is `match` with a pattern, and all else by default.
-    ensures left { reading (words_of words.now) ≡ Ok command.now → IfNone result (IsPlainMatch command.now) }
+    ensures { half_of result ≡ first_unbuilt command.now (words_of words.now) }
 {
     let has_code = command.code_file.is_some();
     let mut front = Front::Free;

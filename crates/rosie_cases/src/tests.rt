@@ -1,0 +1,484 @@
+use crate::command::{Device, Outcome, Outside, SURE, run_on};
+use rosie_cli::Status;
+use std::alloc::{AllocError, Global};
+use std::test::Fail;
+
+/// Words, files, input, and what is wanted of them.
+#[derive(Clone, Copy)]
+struct Case {
+    shows: &'static str,
+    words: &'static [&'static str],
+    tree: &'static [(&'static str, &'static [u8])],
+    input: &'static [u8],
+    out: &'static str,
+    err: &'static str,
+    status: Status,
+}
+
+const LITERAL: &[&str] = &["match", "\"ab\""];
+
+const AB_LINE: &str = "{\"type\":\"*\",\"s\":1,\"e\":3,\"data\":\"ab\"}\n";
+
+const A: &[&str] = &["match", "\"a\""];
+
+const A_LINE: &str = "{\"type\":\"*\",\"s\":1,\"e\":2,\"data\":\"a\"}\n";
+
+/// The first 46 bytes of three such lines.
+const A_LINE_AND_MORE: &str = "{\"type\":\"*\",\"s\":1,\"e\":2,\"data\":\"a\"}\n{\"type\":\"*";
+
+const MISSING_ARGUMENT: &str = "\
+rosie: usage: missing argument
+usage: rosie [options] match PATTERN [FILE ...]
+       rosie [options] grep PATTERN [FILE ...]
+       rosie [options] test FILE
+       rosie [options] list
+       rosie [options] expand PATTERN
+       rosie [options] trace PATTERN [FILE ...]
+       rosie [options] sample SEED LINES
+       rosie [options] repl
+       rosie [options] compile PATTERN
+       rosie [options] match --code-file FILE [INPUT ...]
+       rosie [options] class NAME
+";
+
+static CASES: [Case; 24] = [
+    Case {
+        shows: "one literal",
+        words: LITERAL,
+        tree: &[],
+        input: b"abc\n",
+        out: AB_LINE,
+        err: "",
+        status: Status::Matched,
+    },
+    Case {
+        shows: "an empty input",
+        words: LITERAL,
+        tree: &[],
+        input: b"",
+        out: "",
+        err: "",
+        status: Status::NoMatch,
+    },
+    Case {
+        shows: "a line that doesn't match, and a last one without a line feed that does",
+        words: A,
+        tree: &[],
+        input: b"ba\na",
+        out: A_LINE,
+        err: "",
+        status: Status::Matched,
+    },
+    Case {
+        shows: "places count bytes, and what stands for JSON is escaped",
+        words: &["match", " \"\u{e9}\t\" "],
+        tree: &[],
+        input: b"\xc3\xa9\tx\n",
+        out: "{\"type\":\"*\",\"s\":1,\"e\":4,\"data\":\"\u{e9}\\t\"}\n",
+        err: "",
+        status: Status::Matched,
+    },
+    Case {
+        shows: "a line that is no text is reported, and the run goes on",
+        words: LITERAL,
+        tree: &[],
+        input: b"ab\n\xff\nab\n",
+        out: TWO_ANSWERS,
+        err: "rosie: -:2: not UTF-8\n",
+        status: Status::LineFault,
+    },
+    Case {
+        shows: "a group isn't built",
+        words: &["match", "{\"a\""],
+        tree: &[],
+        input: b"a\n",
+        out: "",
+        err: "rosie: (pattern):0: not yet\n",
+        status: Status::Refused,
+    },
+    Case {
+        shows: "another command isn't built",
+        words: &["grep", "\"a\""],
+        tree: &[],
+        input: b"a\n",
+        out: "",
+        err: "rosie: not yet: grep\n",
+        status: Status::Refused,
+    },
+    Case {
+        shows: "an option isn't built",
+        words: &["match", "-f", "a.rpl", "\"a\""],
+        tree: &[],
+        input: b"a\n",
+        out: "",
+        err: "rosie: not yet: -f\n",
+        status: Status::Refused,
+    },
+    Case {
+        shows: "a usage fault has its line and the usage text",
+        words: &["match"],
+        tree: &[],
+        input: b"a\n",
+        out: "",
+        err: MISSING_ARGUMENT,
+        status: Status::Refused,
+    },
+    Case {
+        shows: "a line may take as many steps as are given",
+        words: &["match", "--budget", "5", "\"ab\""],
+        tree: &[],
+        input: b"ab\n",
+        out: AB_LINE,
+        err: "",
+        status: Status::Matched,
+    },
+    Case {
+        shows: "and no more",
+        words: &["match", "--budget", "4", "\"ab\""],
+        tree: &[],
+        input: b"ab\n",
+        out: "",
+        err: "rosie: -:1: budget spent\n",
+        status: Status::LineFault,
+    },
+    Case {
+        shows: "the steps of a line are told",
+        words: &["match", "--steps", "\"ab\""],
+        tree: &[],
+        input: b"ab\n",
+        out: AB_LINE,
+        err: "steps 5\n",
+        status: Status::Matched,
+    },
+    Case {
+        shows: "a line that doesn't match is told, and then its steps",
+        words: &["match", "-a", "--steps", "\"ab\""],
+        tree: &[],
+        input: b"xy\n",
+        out: "",
+        err: "xy\nsteps 2\n",
+        status: Status::NoMatch,
+    },
+    Case {
+        shows: "whether a line matches",
+        words: &["match", "-o", "bool", "\"a\""],
+        tree: &[],
+        input: b"a\nb\n",
+        out: "true\nfalse\n",
+        err: "",
+        status: Status::Matched,
+    },
+    Case {
+        shows: "the whole line",
+        words: &["match", "-o", "line", "\"a\""],
+        tree: &[],
+        input: b"ab\nb\n",
+        out: "ab\n",
+        err: "",
+        status: Status::Matched,
+    },
+    Case {
+        shows: "the text of a match that has no hits",
+        words: &["match", "-o", "matches", "\"a\""],
+        tree: &[],
+        input: b"ab\n",
+        out: "a\n",
+        err: "",
+        status: Status::Matched,
+    },
+    Case {
+        shows: "the text of a match",
+        words: &["match", "-o", "data", "\"a\""],
+        tree: &[],
+        input: b"ab\n",
+        out: "a\n",
+        err: "",
+        status: Status::Matched,
+    },
+    Case {
+        shows: "nothing is under the root",
+        words: &["match", "-o", "subs", "\"a\""],
+        tree: &[],
+        input: b"ab\n",
+        out: "",
+        err: "",
+        status: Status::Matched,
+    },
+    Case {
+        shows: "an input is one line",
+        words: &["match", "-w", "-o", "line", "\"ab\""],
+        tree: &[],
+        input: b"ab\nc\n",
+        out: "ab\nc\n\n",
+        err: "",
+        status: Status::Matched,
+    },
+    Case {
+        shows: "an empty input has no line",
+        words: &["match", "-w", "\"ab\""],
+        tree: &[],
+        input: b"",
+        out: "",
+        err: "",
+        status: Status::NoMatch,
+    },
+    Case {
+        shows: "a missing file ends the run, and what was written stays",
+        words: &["match", "\"a\"", "f1", "f2", "f1"],
+        tree: &[("f1", b"a\n")],
+        input: b"",
+        out: A_LINE,
+        err: "rosie: f2: no such file\n",
+        status: Status::Refused,
+    },
+    Case {
+        shows: "inputs come in turn, and a second - has no lines",
+        words: &["match", "-o", "line", "\"a\"", "f", "-", "g", "-", "f"],
+        tree: &[("f", b"a1"), ("g", b"b\na3\n")],
+        input: b"a2",
+        out: "a1\na2\na3\na1\n",
+        err: "",
+        status: Status::Matched,
+    },
+    Case {
+        shows: "lines are counted in each input",
+        words: &["match", "-o", "bool", "\"a\"", "f", "-"],
+        tree: &[("f", b"a\n\xff\n")],
+        input: b"a\n\xff",
+        out: "true\ntrue\n",
+        err: "rosie: f:2: not UTF-8\nrosie: -:2: not UTF-8\n",
+        status: Status::LineFault,
+    },
+    Case {
+        shows: "of two files with one path the first counts",
+        words: &["match", "-o", "line", "\"a\"", "f"],
+        tree: &[("f", b"a1"), ("f", b"a2")],
+        input: b"",
+        out: "a1\n",
+        err: "",
+        status: Status::Matched,
+    },
+];
+
+/// Checks how a run ended.
+fn expect(got: &Outcome, status: Status, out: &str, err: &str) -> bool {
+    got.status == status
+        && got.out.as_slice() == out.as_bytes()
+        && got.err.as_slice() == err.as_bytes()
+}
+
+#[test]
+fn answers(rt: HostRuntime) -> Result<(), Fail> {
+    for case in &CASES {
+        let got = run_on(rt.alloc(), case.words, Outside::new(case.tree, case.input))?;
+        assert_eq!(rt;
+            got.out.as_slice(),
+            case.out.as_bytes(),
+            "out: {}",
+            case.shows
+        );
+        assert_eq!(rt;
+            got.err.as_slice(),
+            case.err.as_bytes(),
+            "err: {}",
+            case.shows
+        );
+        assert_eq!(rt; got.status, case.status, "status: {}", case.shows);
+    }
+    Ok(())
+}
+
+/// A device that moves so many bytes in a call, and whose call of this number fails.
+fn device(most: usize, fails: &[u64]) -> Device<'_> {
+    Device { most, fails }
+}
+
+#[test]
+fn a_device_that_fails_leaves_what_was_done(rt: HostRuntime) -> Result<(), Fail> {
+    let alloc = rt.alloc();
+    let three = Outside::new(&[], b"a\na\na\n");
+    let out = Outside {
+        out: device(10, &[6]),
+        ..three
+    };
+    let got = run_on(alloc, A, out)?;
+    assert!(rt;
+        expect(&got, Status::WriteFault, A_LINE_AND_MORE, ""),
+        "a write in a line"
+    );
+    assert_eq!(rt; got.out.len(), 46);
+    let flush = Outside {
+        out: device(1_000, &[2]),
+        ..Outside::new(&[], b"abc\n")
+    };
+    let got = run_on(alloc, LITERAL, flush)?;
+    assert!(rt; expect(&got, Status::WriteFault, AB_LINE, ""), "a flush");
+    let err = Outside {
+        err: device(1_000, &[1]),
+        ..Outside::new(&[], THREE_LINES)
+    };
+    let got = run_on(alloc, LITERAL, err)?;
+    assert!(rt;
+        expect(&got, Status::WriteFault, AB_LINE, ""),
+        "a write of a fault"
+    );
+    let read = Outside {
+        input: device(3, &[2]),
+        ..Outside::new(&[], b"a\na")
+    };
+    let got = run_on(alloc, A, read)?;
+    assert!(rt;
+        expect(&got, Status::ReadFault, A_LINE, "rosie: -: read failed\n"),
+        "a read"
+    );
+    let file = Outside {
+        files: device(10, &[3]),
+        ..Outside::new(&[("f", b"a\na")], b"")
+    };
+    let got = run_on(alloc, &["match", "\"a\"", "f"], file)?;
+    assert!(rt;
+        expect(&got, Status::ReadFault, A_LINE, "rosie: f: read failed\n"),
+        "a read of a file"
+    );
+    let open = Outside {
+        files: device(10, &[4]),
+        ..Outside::new(&[("f", b"a\n"), ("g", b"a\n")], b"")
+    };
+    let got = run_on(alloc, &["match", "\"a\"", "f", "g"], open)?;
+    assert!(rt;
+        expect(&got, Status::ReadFault, A_LINE, "rosie: g: read failed\n"),
+        "an open"
+    );
+    Ok(())
+}
+
+#[test]
+fn a_line_over_the_limit_is_reported(rt: HostRuntime) -> Result<(), Fail> {
+    let mut input = Vec::new(rt.alloc());
+    input.resize(16_777_217, b'a')?;
+    input.extend_from_slice(b"\na\n")?;
+    let got = run_on(rt.alloc(), A, Outside::new(&[], &input))?;
+    assert!(rt;
+        expect(
+            &got,
+            Status::LineFault,
+            A_LINE,
+            "rosie: -:1: line too long\n"
+        )
+    );
+    Ok(())
+}
+
+/// Two files, and the standard input between them.
+const IN_TURN: &[&str] = &["match", "-a", "\"ab\"", "f", "-", "g"];
+
+const TREE: &[(&str, &[u8])] = &[("f", b"ab\nx\n"), ("g", b"\xff\nab")];
+
+/// A line that matches, one that is no text, and one that matches.
+const THREE_LINES: &[u8] = b"ab\n\xff\nab\n";
+
+/// Which device fails.
+#[derive(Clone, Copy, Debug, PartialEq, Eq)]
+enum Failing {
+    Files,
+    Input,
+    Out,
+    Err,
+}
+
+/// The run of `IN_TURN` where one call of one device fails.
+fn run_failing(alloc: Global, failing: Failing, number: u64) -> Result<Outcome, AllocError> {
+    let fails = [number];
+    let device = Device {
+        most: 3,
+        fails: &fails,
+    };
+    let sure = Outside::new(TREE, THREE_LINES);
+    let outside = match failing {
+        Failing::Files => Outside {
+            files: device,
+            ..sure
+        },
+        Failing::Input => Outside {
+            input: device,
+            ..sure
+        },
+        Failing::Out => Outside {
+            out: device,
+            ..sure
+        },
+        Failing::Err => Outside {
+            err: device,
+            ..sure
+        },
+    };
+    run_on(alloc, IN_TURN, outside)
+}
+
+/// How often a device is called in that run, by hand, in threes of bytes: `f` is opened, and its five bytes and its end
+/// are read; so is `g` with its four; the input has eight bytes and its end; `out` has four lines of 37 bytes and some
+/// flushes; `err` has `x` with a line feed, and two faults of 22 bytes.
+#[test]
+fn each_call_of_each_device_fails_in_turn(rt: HostRuntime) -> Result<(), Fail> {
+    let whole = run_on(rt.alloc(), IN_TURN, Outside::new(TREE, THREE_LINES))?;
+    assert_eq!(rt; whole.status, Status::LineFault);
+    assert_eq!(rt;
+        whole.err.as_slice(),
+        b"x\nrosie: -:2: not UTF-8\nrosie: g:1: not UTF-8\n".as_slice()
+    );
+    for (device, calls, status) in [
+        (Failing::Files, 8u64, Status::ReadFault),
+        (Failing::Input, 4, Status::ReadFault),
+        (Failing::Out, 52, Status::WriteFault),
+        (Failing::Err, 17, Status::WriteFault),
+    ] {
+        for number in 1..calls + 1 {
+            let got = run_failing(rt.alloc(), device, number)?;
+            assert_eq!(rt; got.status, status, "{device:?}, call {number}");
+            assert!(rt;
+                whole.out.as_slice().starts_with(got.out.as_slice()),
+                "out, {device:?}, call {number}"
+            );
+            assert!(rt;
+                whole.err.as_slice().starts_with(got.err.as_slice())
+                    || got.err.as_slice().ends_with(b": read failed\n".as_slice()),
+                "err, {device:?}, call {number}"
+            );
+        }
+    }
+    Ok(())
+}
+
+const TWO_ANSWERS: &str =
+    "{\"type\":\"*\",\"s\":1,\"e\":3,\"data\":\"ab\"}\n{\"type\":\"*\",\"s\":1,\"e\":3,\"data\":\"ab\"}\n";
+
+/// Where an allocation fails (`rt try --test --fail-alloc N`), what was written is a front.
+#[test]
+fn want_of_memory_leaves_a_front(rt: HostRuntime) -> Result<(), Fail> {
+    let got = match run_on(rt.alloc(), LITERAL, Outside::new(&[], THREE_LINES)) {
+        Ok(got) => got,
+        Err(_) => return Ok(()),
+    };
+    if got.status == Status::NoMemory {
+        assert!(rt;
+            TWO_ANSWERS.as_bytes().starts_with(got.out.as_slice()),
+            "out"
+        );
+        assert!(rt;
+            b"rosie: -:2: not UTF-8\n"
+                .as_slice()
+                .starts_with(got.err.as_slice()),
+            "err"
+        );
+        return Ok(());
+    }
+    assert!(rt;
+        expect(
+            &got,
+            Status::LineFault,
+            TWO_ANSWERS,
+            "rosie: -:2: not UTF-8\n"
+        )
+    );
+    Ok(())
+}

@@ -1,0 +1,46 @@
+use Rattle.std.proofs.Common.{ap, ◌∙◌, ◌+◌}
+use Rattle.std.specs.Prelude.{chars}
+use Rattle.rpl_core.specs.Program.{instructions, labels_of}
+use Rattle.rosie_cli.specs.Lines.{budget_of}
+use Rattle.rosie_cli.specs.inside.Jobs.{job_of}
+use Rattle.rosie_cli.proofs.OneLine.{Ends, hit_ends, miss_ends, ran_over, said_piece, said_steps, over_piece, over_steps, made_ok, on_ok}
+use Rattle.rosie_cli.proofs.match_job.MatchJobLineJob.answer.Goals as goal
+
+pub returns-in_ok-fits-in-At-clause-made : goal.returns-in_ok-fits-in-At-clause-made
+returns-in_ok-fits-in-At-clause-made g c =
+    let a = rw c.in-At.is at (c.in-Ok.ensures.answer (labels_of c.program-program.result.now)) in
+    let e = hit_ends c.args.self.now.settings (job_of c.args.self.now.job) c.args.line.now c.utf8.line c.args.self.now.job.meant _ _ _ _ _ _ _ c.in_ok-fits-in-At.fits _ c.new.ensures c.budget_or-budget.ensures (ap instructions c.program-program.ensures) a.0 a.2 (rw c.captures-captures.ensures at c.in_ok-fits-in-At.ensures) in
+    made_ok c.say.result _ _ _ _ (said_piece c.args.self.now.settings (job_of c.args.self.now.job) c.args.file.now c.args.number c.args.line.now _ _ _ _ e) (c.say.ensures c.in-At.steps)
+
+pub returns-in_ok-fits-in-At-clause-steps : goal.returns-in_ok-fits-in-At-clause-steps
+returns-in_ok-fits-in-At-clause-steps g c =
+    let a = rw c.in-At.is at (c.in-Ok.ensures.answer (labels_of c.program-program.result.now)) in
+    let k = rw c.in-At.is at c.in-Ok.ensures.steps in
+    let e = hit_ends c.args.self.now.settings (job_of c.args.self.now.job) c.args.line.now c.utf8.line c.args.self.now.job.meant _ _ _ _ _ _ _ c.in_ok-fits-in-At.fits _ c.new.ensures c.budget_or-budget.ensures (ap instructions c.program-program.ensures) a.0 a.2 (rw c.captures-captures.ensures at c.in_ok-fits-in-At.ensures) in
+    on_ok c.say.result (said_steps c.args.self.now.settings (job_of c.args.self.now.job) c.args.file.now c.args.number c.args.line.now _ _ _ _ _ _ e k)
+
+pub returns-in_ok-fits-in-Fail-clause-made : goal.returns-in_ok-fits-in-Fail-clause-made
+returns-in_ok-fits-in-Fail-clause-made g c =
+    let a = rw c.in-Fail.is at (c.in-Ok.ensures.answer (labels_of c.program-program.result.now)) in
+    let e = miss_ends c.args.self.now.settings (job_of c.args.self.now.job) c.args.line.now c.utf8.line c.args.self.now.job.meant _ _ _ _ c.in_ok-fits-in-Fail.fits _ c.new.ensures c.budget_or-budget.ensures (ap instructions c.program-program.ensures) a c.in_ok-fits-in-Fail.ensures in
+    made_ok c.say-in-Fail.result _ _ _ _ (said_piece c.args.self.now.settings (job_of c.args.self.now.job) c.args.file.now c.args.number c.args.line.now _ _ _ _ e) (c.say-in-Fail.ensures c.in-Fail.steps)
+
+pub returns-in_ok-fits-in-Fail-clause-steps : goal.returns-in_ok-fits-in-Fail-clause-steps
+returns-in_ok-fits-in-Fail-clause-steps g c =
+    let a = rw c.in-Fail.is at (c.in-Ok.ensures.answer (labels_of c.program-program.result.now)) in
+    let k = rw c.in-Fail.is at c.in-Ok.ensures.steps in
+    let e = miss_ends c.args.self.now.settings (job_of c.args.self.now.job) c.args.line.now c.utf8.line c.args.self.now.job.meant _ _ _ _ c.in_ok-fits-in-Fail.fits _ c.new.ensures c.budget_or-budget.ensures (ap instructions c.program-program.ensures) a c.in_ok-fits-in-Fail.ensures in
+    on_ok c.say-in-Fail.result (said_steps c.args.self.now.settings (job_of c.args.self.now.job) c.args.file.now c.args.number c.args.line.now _ _ _ _ _ _ e k)
+
+pub returns-in-Budget-clause-made : goal.returns-in-Budget-clause-made
+returns-in-Budget-clause-made g c =
+    let a = rw c.in-Budget.is at (c.in-Err.ensures.answer (labels_of c.program-program.result.now)) in
+    let e = ran_over c.args.self.now.settings (job_of c.args.self.now.job) c.args.line.now c.utf8.line _ _ _ c.new.ensures c.budget_or-budget.ensures (ap instructions c.program-program.ensures) a in
+    made_ok c.fault.result _ _ _ _ (over_piece c.args.self.now.settings (job_of c.args.self.now.job) c.args.file.now c.args.number c.args.line.now e) (c.fault.ensures _)
+
+pub returns-in-Budget-clause-steps : goal.returns-in-Budget-clause-steps
+returns-in-Budget-clause-steps g c =
+    let a = rw c.in-Budget.is at (c.in-Err.ensures.answer (labels_of c.program-program.result.now)) in
+    let k = rw c.in-Budget.is at c.in-Err.ensures.steps in
+    let e = ran_over c.args.self.now.settings (job_of c.args.self.now.job) c.args.line.now c.utf8.line _ _ _ c.new.ensures c.budget_or-budget.ensures (ap instructions c.program-program.ensures) a in
+    on_ok c.fault.result (over_steps c.args.self.now.settings (job_of c.args.self.now.job) c.args.file.now c.args.number c.args.line.now _ _ e (k ∙ ap (λ b. c.args.steps.now + b) c.budget_or-budget.ensures))

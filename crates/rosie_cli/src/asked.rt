@@ -1,0 +1,53 @@
+//! What the words ask for.
+
+ghost use Rattle.std.specs.Prelude.{◌≡◌, ◌≢◌, ◌++◌, string_bytes, IfOk};
+ghost use Rattle.rosie_words.specs.declared.fault.UsageFault.TheVariants as E;
+ghost use Rattle.rosie_words.specs.NotYet.{first_unbuilt};
+ghost use Rattle.rosie_words.specs.Printed.{fault_line, usage};
+ghost use Rattle.rosie_words.specs.Reading.{words_of};
+ghost use Rattle.rosie_cli.specs.Report as R;
+ghost use Rattle.rosie_cli.specs.inside.Asking.{asked_of};
+
+use rosie_run::NoMemory;
+use rosie_words::{Command, UsageFault, fault_line, not_yet, read_words, usage};
+use std::alloc::{AllocError, Global};
+
+/// What the words ask for.
+#[derive(Drop)]
+pub(crate) enum Asked {
+    /// Nothing that is done: they are refused, with this text.
+    Refuse(String),
+    Do(Command),
+}
+
+/// The text for words that are no command: the line of the fault, and the usage text.
+fn usage_text(alloc: Global, fault: &UsageFault) -> Result<String, NoMemory>
+    ensures { IfOk result (λ text. (fault.now ≢ E.NoMemory) × (string_bytes text ≡ fault_line fault.now ++ usage)) }
+{
+    if let UsageFault::NoMemory = fault {
+        return Err(AllocError);
+    }
+    let mut text = fault_line(alloc, fault)?;
+    text.push_str(usage())?;
+    Ok(text)
+}
+
+/// The command, unless a word asks for what isn't built.
+fn built(alloc: Global, words: &[String], command: Command) -> Result<Asked, NoMemory>
+    ensures { IfOk result (λ asked. asked_of asked ≡ R.built command (first_unbuilt command (words_of words.now))) }
+{
+    match not_yet(words, &command) {
+        Some(word) => Ok(Asked::Refuse(format!(in alloc; "rosie: not yet: {word}\n")?)),
+        None => Ok(Asked::Do(command)),
+    }
+}
+
+/// What the words ask for.
+pub(crate) fn ask(alloc: Global, words: &[String]) -> Result<Asked, NoMemory>
+    ensures { IfOk result (λ asked. asked_of asked ≡ R.asked (words_of words.now)) }
+{
+    match read_words(alloc, words) {
+        Ok(command) => built(alloc, words, command),
+        Err(fault) => Ok(Asked::Refuse(usage_text(alloc, &fault)?)),
+    }
+}
