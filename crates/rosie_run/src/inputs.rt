@@ -1,6 +1,7 @@
 // The run over the inputs in turn.
 ghost use Rattle.std.specs.Prelude.{◌≡◌, ◌+◌, ◌-◌, ◌^◌, ◌<◌, ◌≤◌, ℕ, List, [], Err, true, false, length, codes, encode_utf8_all, IfOk};
 ghost use Rattle.std.specs.Str.{bytes_eq};
+ghost use Rattle.rosie_io.specs.Answering.{Keeps};
 ghost use Rattle.rosie_io.specs.Opening.{file_of};
 ghost use Rattle.rosie_run.specs.Causes.{FilesCause, SourcesCause, WritesCause};
 ghost use Rattle.rosie_run.specs.Inputs.{is_standard, file_pieces, one_pieces, left_after, inputs_pieces, reads_standard, names_of};
@@ -16,7 +17,7 @@ use crate::lines::{Reading, run_input};
 use crate::saying::{cut, say};
 use crate::write::input_fault;
 use crate::{Ended, Mark, Tally, Trouble, Why};
-use rosie_io::{Files, PathAnswer, Sink, Source};
+use rosie_io::{Files, LineReader, PathAnswer, Sink, Source};
 use rpl_machine::Steps;
 use rpl_text::Chars;
 use std::alloc::Global;
@@ -38,7 +39,7 @@ fn ended_by(alloc: Global, trouble: Trouble, file: &str) -> Ended
 pub fn run_source<J: LineJob, S: Source, O: Sink, E: Sink, L: Ledger>(
     alloc: Global,
     job: &mut J,
-    reading: Reading,
+    reader: &mut LineReader,
     file: &str,
     source: &mut S,
     pending: &mut bool,
@@ -46,11 +47,12 @@ pub fn run_source<J: LineJob, S: Source, O: Sink, E: Sink, L: Ledger>(
     err: &mut E,
     steps: &mut Steps<L>,
 ) -> Result<Tally, Ended>
-    requires { reading.most ≤ 2 ^ 30 }
+    ensures keeps { Keeps reader.old reader.new }
     ensures same { J.makes job.new ≡ J.makes job.old }
     ensures runs { S.tells → Runs result (record { out = O.tells; err = E.tells; counts = O.counts })
-        (input_pieces (J.makes job.old) reading file.now (S.rest source.old))
-        (InNamed file.now reading.whole (moment S.rest S.taken S.faults S.failed_opens source.old)
+        (input_pieces (J.makes job.old) (record { whole = reader.old.whole; most = reader.old.most }) file.now
+        (S.rest source.old))
+        (InNamed file.now reader.old.whole (moment S.rest S.taken S.faults S.failed_opens source.old)
         (moment S.rest S.taken S.faults S.failed_opens source.new))
         (texts O.written O.number E.written out.old err.old steps.old)
         (texts O.written O.number E.written out.new err.new steps.new) }
@@ -62,7 +64,7 @@ pub fn run_source<J: LineJob, S: Source, O: Sink, E: Sink, L: Ledger>(
     ensures tree { S.tree source.new ≡ S.tree source.old }
     ensures opens { S.failed_opens source.new ≡ S.failed_opens source.old }
 {
-    match run_input(alloc, job, reading, file, source, pending, out, err, steps) {
+    match run_input(alloc, job, file, reader, source, pending, out, err, steps) {
         Ok(tally) => Ok(tally),
         Err(trouble) => Err(ended_by(alloc, trouble, file)),
     }
@@ -72,7 +74,7 @@ pub fn run_source<J: LineJob, S: Source, O: Sink, E: Sink, L: Ledger>(
 fn run_file<J: LineJob, F: Files, O: Sink, E: Sink, L: Ledger>(
     alloc: Global,
     job: &mut J,
-    reading: Reading,
+    reader: &mut LineReader,
     path: &str,
     files: &mut F,
     pending: &mut bool,
@@ -80,11 +82,12 @@ fn run_file<J: LineJob, F: Files, O: Sink, E: Sink, L: Ledger>(
     err: &mut E,
     steps: &mut Steps<L>,
 ) -> Result<Tally, Ended>
-    requires { reading.most ≤ 2 ^ 30 }
+    ensures keeps { Keeps reader.old reader.new }
     ensures same { J.makes job.new ≡ J.makes job.old }
     ensures runs { F.tells → Runs result (record { out = O.tells; err = E.tells; counts = O.counts })
-        (file_pieces (J.makes job.old) reading path.now (file_of path.now (F.tree files.old)))
-        (InFileNamed path.now (F.tree files.old) reading.whole
+        (file_pieces (J.makes job.old) (record { whole = reader.old.whole; most = reader.old.most }) path.now
+        (file_of path.now (F.tree files.old)))
+        (InFileNamed path.now (F.tree files.old) reader.old.whole
         (moment F.rest F.taken F.faults F.failed_opens files.old)
         (moment F.rest F.taken F.faults F.failed_opens files.new))
         (texts O.written O.number E.written out.old err.old steps.old)
@@ -98,7 +101,7 @@ fn run_file<J: LineJob, F: Files, O: Sink, E: Sink, L: Ledger>(
 {
     match files.open_path(path) {
         PathAnswer::Opened => {
-            match run_source(alloc, job, reading, path, files, pending, out, err, steps) {
+            match run_source(alloc, job, reader, path, files, pending, out, err, steps) {
                 Ok(tally) => {
                     files.close();
                     Ok(tally)
@@ -118,7 +121,7 @@ fn run_file<J: LineJob, F: Files, O: Sink, E: Sink, L: Ledger>(
 fn run_one<J: LineJob, F: Files, I: Source, O: Sink, E: Sink, L: Ledger>(
     alloc: Global,
     job: &mut J,
-    reading: Reading,
+    reader: &mut LineReader,
     name: &str,
     read: &mut bool,
     files: &mut F,
@@ -128,12 +131,13 @@ fn run_one<J: LineJob, F: Files, I: Source, O: Sink, E: Sink, L: Ledger>(
     err: &mut E,
     steps: &mut Steps<L>,
 ) -> Result<Tally, Ended>
-    requires { reading.most ≤ 2 ^ 30 }
+    ensures keeps { Keeps reader.old reader.new }
     ensures same { J.makes job.new ≡ J.makes job.old }
     ensures runs { F.tells → I.tells → (read.old ≡ true → I.rest input.old ≡ []) → Runs result
         (record { out = O.tells; err = E.tells; counts = O.counts })
-        (one_pieces (J.makes job.old) reading (F.tree files.old) (I.rest input.old) name.now)
-        (InOne name.now read.old (F.tree files.old) reading.whole
+        (one_pieces (J.makes job.old) (record { whole = reader.old.whole; most = reader.old.most })
+        (F.tree files.old) (I.rest input.old) name.now)
+        (InOne name.now read.old (F.tree files.old) reader.old.whole
         (moment I.rest I.taken I.faults I.failed_opens input.old)
         (moment I.rest I.taken I.faults I.failed_opens input.new)
         (moment F.rest F.taken F.faults F.failed_opens files.old)
@@ -158,9 +162,9 @@ fn run_one<J: LineJob, F: Files, I: Source, O: Sink, E: Sink, L: Ledger>(
             return Ok(Tally::new());
         }
         *read = true;
-        return run_source(alloc, job, reading, name, input, pending, out, err, steps);
+        return run_source(alloc, job, reader, name, input, pending, out, err, steps);
     }
-    run_file(alloc, job, reading, name, files, pending, out, err, steps)
+    run_file(alloc, job, reader, name, files, pending, out, err, steps)
 }
 
 /// The bytes of a name.
@@ -205,6 +209,9 @@ pub fn run_inputs<J: LineJob, F: Files, I: Source, O: Sink, E: Sink, L: Ledger>(
     ensures sinks { WritesCause result (O.faults out.old) (O.faults out.new) (E.faults err.old) (E.faults err.new) }
     ensures tree { F.tree files.new ≡ F.tree files.old }
 {
+    let Ok(mut reader) = LineReader::new(alloc, reading.whole, reading.most) else {
+        return Err(Ended::NoMemory);
+    };
     let mut tally = Tally::new();
     let mut read = false;
     let mut pending = false;
@@ -212,7 +219,7 @@ pub fn run_inputs<J: LineJob, F: Files, I: Source, O: Sink, E: Sink, L: Ledger>(
         match run_one(
             alloc,
             job,
-            reading,
+            &mut reader,
             text_of(name),
             &mut read,
             files,

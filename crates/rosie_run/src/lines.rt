@@ -167,21 +167,22 @@ fn pass_line<J: LineJob, S: Source, O: Sink, E: Sink, L: Ledger>(
 pub(crate) fn run_input<J: LineJob, S: Source, O: Sink, E: Sink, L: Ledger>(
     alloc: Global,
     job: &mut J,
-    reading: Reading,
     file: &str,
+    reader: &mut LineReader,
     source: &mut S,
     pending: &mut bool,
     out: &mut O,
     err: &mut E,
     steps: &mut Steps<L>,
 ) -> Result<Tally, Trouble>
-    requires { reading.most ≤ 2 ^ 30 }
     ensures same { J.makes job.new ≡ J.makes job.old }
     ensures runs { S.tells → RunsInput result (record { out = O.tells; err = E.tells; counts = O.counts })
-        (input_pieces (J.makes job.old) reading file.now (S.rest source.old)) reading.whole
+        (input_pieces (J.makes job.old) (record { whole = reader.old.whole; most = reader.old.most })
+        file.now (S.rest source.old)) reader.old.whole
         (S.rest source.old) (S.rest source.new)
         (texts O.written O.number E.written out.old err.old steps.old)
         (texts O.written O.number E.written out.new err.new steps.new) }
+    ensures keeps { Keeps reader.old reader.new }
     ensures cause { SourceCause result (S.faults source.old) (S.faults source.new) }
     ensures sinks { SinksCause result (O.faults out.old) (O.faults out.new) (E.faults err.old) (E.faults err.new) }
     ensures spent { SpentCause result (S.taken source.old) (S.taken source.new) }
@@ -189,7 +190,7 @@ pub(crate) fn run_input<J: LineJob, S: Source, O: Sink, E: Sink, L: Ledger>(
     ensures tree { S.tree source.new ≡ S.tree source.old }
     ensures opens { S.failed_opens source.new ≡ S.failed_opens source.old }
 {
-    let mut reader = LineReader::new(alloc, reading.whole, reading.most)?;
+    reader.restart();
     let mut tally = Tally::new();
     'lines: loop {
         // What was written appears before the reader waits for input.
@@ -197,17 +198,7 @@ pub(crate) fn run_input<J: LineJob, S: Source, O: Sink, E: Sink, L: Ledger>(
             Ok(()) => {}
             Err(_) => return Err(Trouble::WriteFault),
         }
-        match pass_line(
-            alloc,
-            job,
-            file,
-            &mut reader,
-            source,
-            pending,
-            out,
-            err,
-            steps,
-        ) {
+        match pass_line(alloc, job, file, reader, source, pending, out, err, steps) {
             Ok(passed) => match passed {
                 Some(mark) => {
                     tally = tally.with(mark);

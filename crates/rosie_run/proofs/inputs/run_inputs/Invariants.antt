@@ -8,8 +8,10 @@ use Rattle.rosie_run.proofs.inputs.run_inputs.Given as goal
 -- the inputs so far were passed, and just their pieces are written
 abbrev pub invariant-inputs : goal.invariant-inputs
 invariant-inputs g l = record {
+  parts : l.reader.whole ≡ l.fn.reading.whole;
+  most : l.reader.most ≡ l.fn.reading.most;
   same : g.J.LineJob.makes l.job ≡ g.J.LineJob.makes l.initial.job;
-  reached : g.F.Source.tells → g.I.Source.tells → Reached (record { out = g.O.Sink.tells; err = g.E.Sink.tells; counts = g.O.Sink.counts }) (g.J.LineJob.makes l.initial.job) l.reading (g.F.Source.tree l.initial.files)
+  reached : g.F.Source.tells → g.I.Source.tells → Reached (record { out = g.O.Sink.tells; err = g.E.Sink.tells; counts = g.O.Sink.counts }) (g.J.LineJob.makes l.initial.job) l.fn.reading (g.F.Source.tree l.initial.files)
       (g.I.Source.rest l.initial.input) (g.I.Source.rest l.input) (names_of encode_utf8_all l.names) (names_of encode_utf8_all (drop l.name-index l.names)) l.read l.tally
       (texts g.O.Sink.written g.O.Sink.number g.E.Sink.written l.initial.out l.initial.err l.initial.steps) (texts g.O.Sink.written g.O.Sink.number g.E.Sink.written l.out l.err l.steps);
   once : g.F.Source.tells → g.I.Source.tells → l.read ≡ true → g.I.Source.rest l.input ≡ [];

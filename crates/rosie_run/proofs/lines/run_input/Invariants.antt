@@ -8,9 +8,9 @@ abbrev pub invariant-lines : goal.invariant-lines
 invariant-lines g l = record {
   same : g.J.LineJob.makes l.job ≡ g.J.LineJob.makes l.initial.job;
   opened : l.reader.done ≡ false;
-  parts : l.reader.whole ≡ l.fn.reading.whole;
-  most : l.reader.most ≡ l.fn.reading.most;
-  passed : g.S.Source.tells → Passed (record { out = g.O.Sink.tells; err = g.E.Sink.tells; counts = g.O.Sink.counts }) (g.J.LineJob.makes l.initial.job) l.fn.reading l.file (g.S.Source.rest l.initial.source) l.reader.number l.reader.held (g.S.Source.rest l.source) l.tally
+  parts : l.reader.whole ≡ l.fn.reader.whole;
+  most : l.reader.most ≡ l.fn.reader.most;
+  passed : g.S.Source.tells → Passed (record { out = g.O.Sink.tells; err = g.E.Sink.tells; counts = g.O.Sink.counts }) (g.J.LineJob.makes l.initial.job) (record { whole = l.fn.reader.whole; most = l.fn.reader.most }) l.file (g.S.Source.rest l.initial.source) l.reader.number l.reader.held (g.S.Source.rest l.source) l.tally
       (texts g.O.Sink.written g.O.Sink.number g.E.Sink.written l.initial.out l.initial.err l.initial.steps) (texts g.O.Sink.written g.O.Sink.number g.E.Sink.written l.out l.err l.steps);
   source_faults : g.S.Source.faults l.source ≡ g.S.Source.faults l.initial.source;
   out_faults : g.O.Sink.faults l.out ≡ g.O.Sink.faults l.initial.out;
