@@ -11,7 +11,7 @@ use Rattle.rosie_run.specs.Report.{Piece, outs, errs, tally_of, up_to_stop, has,
 use Rattle.rosie_run.specs.Runs.{CutShort, Runs}
 use Rattle.rosie_run.specs.Sources.{Still, NoFewer, RoseIn, Moment}
 use Rattle.rosie_run.specs.Statuses.{flags_status}
-use Rattle.rosie_run.specs.inside.Closing.{why_status, Stays, Closes, ClosesCause}
+use Rattle.rosie_run.specs.Closing.{why_status, Stays, Closes, ClosesCause}
 use Rattle.rosie_run.specs.declared.ended.Ended.{Ended}
 use Rattle.rosie_run.specs.declared.ended.Ended.TheVariants as E
 use Rattle.rosie_run.specs.declared.ended.Why.{Why}

@@ -8,5 +8,6 @@ pub mod Where
 pub mod Made
 pub mod Runs
 pub mod Causes
+pub mod Closing
 pub mod Headline
 pub mod inside

@@ -2,4 +2,3 @@
 pub mod Causes
 pub mod Passing
 pub mod Reaching
-pub mod Closing

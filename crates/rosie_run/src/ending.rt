@@ -2,7 +2,7 @@
 ghost use Rattle.std.specs.Prelude.{ℕ, ◌≡◌};
 ghost use Rattle.rosie_run.specs.Causes.{IsFlushed};
 ghost use Rattle.rosie_run.specs.Outputs.{texts};
-ghost use Rattle.rosie_run.specs.inside.Closing.{Closes, ClosesCause};
+ghost use Rattle.rosie_run.specs.Closing.{Closes, ClosesCause};
 
 use crate::write::{close_with, flush_both};
 use crate::{Ended, Status, Tally, Why};
