@@ -18,3 +18,6 @@ returns-clause-runs g c = λ t u.
     lines-same c.run_inputs.result _ (match_makes c.in-Ok-new.job.settings (job_of c.in-Ok-new.job.job)) (match_makes (settings_of c.args.command.now) (job_of c.args.job)) (reading c.args.command.now.whole) (g.F.Source.tree c.args.files.now) (g.I.Source.rest c.args.input.now) _ _ _ _ _ _ _ _
     (ap (λ s. match_makes s (job_of c.in-Ok-new.job.job)) (made.settings ∙ c.settings_of.ensures) ∙ ap (match_makes (settings_of c.args.command.now)) made.job)
     c.names_or-names.ensures (c.run_inputs.ensures.runs t u)
+
+pub returns-clause-rest : goal.returns-clause-rest
+returns-clause-rest g c = λ t u. goes-same c.run_inputs.result _ _ _ c.names_or-names.ensures (c.run_inputs.ensures.rest t u)
