@@ -23,6 +23,15 @@ fn program(alloc: Global, code: &[Instr]) -> Result<Program, Fail> {
     Ok(Program::new(instrs, sets, labels))
 }
 
+/// Whether this code is safe.
+fn answer(alloc: Global, code: &[Instr]) -> Result<bool, Fail> {
+    let program = program(alloc, code)?;
+    if program.code().len() > 1_048_576 {
+        Err("too long")?;
+    }
+    Ok(is_safe(alloc, &program)?)
+}
+
 #[test]
 fn safe_code_is_told_from_other_code(rt: HostRuntime) -> Result<(), Fail> {
     let alloc = rt.alloc();
@@ -54,8 +63,7 @@ fn safe_code_is_told_from_other_code(rt: HostRuntime) -> Result<(), Fail> {
         ],
     ];
     for code in safe {
-        let program = program(alloc, code)?;
-        assert!(rt; is_safe(alloc, &program)?);
+        assert!(rt; answer(alloc, code)?);
     }
     let unsafe_ones: [&[Instr]; 5] = [
         &[Instr::Open(0), Instr::Set(0), Instr::Close, Instr::Return],
@@ -83,8 +91,7 @@ fn safe_code_is_told_from_other_code(rt: HostRuntime) -> Result<(), Fail> {
         &[Instr::Set(0), Instr::Finish],
     ];
     for code in unsafe_ones {
-        let program = program(alloc, code)?;
-        assert!(rt; !is_safe(alloc, &program)?);
+        assert!(rt; !answer(alloc, code)?);
     }
     Ok(())
 }
