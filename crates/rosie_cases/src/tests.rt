@@ -426,13 +426,13 @@ fn each_call_of_each_device_fails_in_turn(rt: HostRuntime) -> Result<(), Fail> {
         whole.err.as_slice(),
         b"x\nrosie: -:2: not UTF-8\nrosie: g:1: not UTF-8\n".as_slice()
     );
-    for (device, calls, status) in [
-        (Failing::Files, 8u64, Status::ReadFault),
-        (Failing::Input, 4, Status::ReadFault),
-        (Failing::Out, 52, Status::WriteFault),
-        (Failing::Err, 17, Status::WriteFault),
+    for (device, behind, status) in [
+        (Failing::Files, 9u64, Status::ReadFault),
+        (Failing::Input, 5, Status::ReadFault),
+        (Failing::Out, 53, Status::WriteFault),
+        (Failing::Err, 18, Status::WriteFault),
     ] {
-        for number in 1..calls + 1 {
+        for number in 1..behind {
             let got = run_failing(rt.alloc(), device, number)?;
             assert_eq!(rt; got.status, status, "{device:?}, call {number}");
             assert!(rt;
