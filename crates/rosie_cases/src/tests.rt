@@ -296,10 +296,9 @@ fn device(most: usize, fails: &[u64]) -> Device<'_> {
 #[test]
 fn a_device_that_fails_leaves_what_was_done(rt: HostRuntime) -> Result<(), Fail> {
     let alloc = rt.alloc();
-    let three = Outside::new(&[], b"a\na\na\n");
     let out = Outside {
         out: device(10, &[6]),
-        ..three
+        ..Outside::new(&[], b"a\na\na\n")
     };
     let got = run_on(alloc, A, out)?;
     assert!(rt;

@@ -69,7 +69,7 @@ static REFUSED: [(&str, usize, ParseKind); 33] = [
         ParseKind::BadBounds { least: 3, most: 2 },
     ),
     (
-        " [:no:] a{3,2}",
+        " [:xy:] a{3,2}",
         1,
         ParseKind::Class(SetFault::UnknownClass { at: 0 }),
     ),
@@ -157,7 +157,7 @@ static REFUSED_MODULES: [(&str, usize, ParseKind); 51] = [
         ParseKind::Class(SetFault::BadRange { at: 2 }),
     ),
     (
-        "a = [:no:] c = d{2,1}",
+        "a = [:xy:] c = d{2,1}",
         4,
         ParseKind::Class(SetFault::UnknownClass { at: 0 }),
     ),

@@ -214,13 +214,12 @@ pub(super) const FIRST: &[&str] = &[
 pub(super) const NOT_YET: &[&str] = &[
     "match|p => ",
     "--|match|-w => ",
-    "match|p|a => a",
-    "match|p|- => -",
-    "match|-o|line|p => -o",
-    "--output=line|match|p => --output=line",
+    "match|p|a|- => ",
+    "match|-o|line|p => ",
     "grep|p => grep",
-    "-w|grep|p => -w",
+    "-w|grep|p => grep",
+    "-F|grep|p => -F",
     "sample|1|2 => sample",
     "match|p|--rpl|x|a => --rpl",
-    "match|a|--code-file|c => a",
+    "match|a|--code-file|c => --code-file",
 ];
