@@ -23,9 +23,6 @@ const A: &[&str] = &["match", "\"a\""];
 
 const A_LINE: &str = "{\"type\":\"*\",\"s\":1,\"e\":2,\"data\":\"a\"}\n";
 
-/// The first 46 bytes of three such lines.
-const A_LINE_AND_MORE: &str = "{\"type\":\"*\",\"s\":1,\"e\":2,\"data\":\"a\"}\n{\"type\":\"*";
-
 const MISSING_ARGUMENT: &str = "\
 rosie: usage: missing argument
 usage: rosie [options] match PATTERN [FILE ...]
@@ -285,69 +282,6 @@ fn answers(rt: HostRuntime) -> Result<(), Fail> {
         );
         assert_eq!(rt; got.status, case.status, "status: {}", case.shows);
     }
-    Ok(())
-}
-
-/// A device that moves so many bytes in a call, and whose call of this number fails.
-fn device(most: usize, fails: &[u64]) -> Device<'_> {
-    Device { most, fails }
-}
-
-#[test]
-fn a_device_that_fails_leaves_what_was_done(rt: HostRuntime) -> Result<(), Fail> {
-    let alloc = rt.alloc();
-    let out = Outside {
-        out: device(10, &[6]),
-        ..Outside::new(&[], b"a\na\na\n")
-    };
-    let got = run_on(alloc, A, out)?;
-    assert!(rt;
-        expect(&got, Status::WriteFault, A_LINE_AND_MORE, ""),
-        "a write in a line"
-    );
-    assert_eq!(rt; got.out.len(), 46);
-    let flush = Outside {
-        out: device(1_000, &[2]),
-        ..Outside::new(&[], b"abc\n")
-    };
-    let got = run_on(alloc, LITERAL, flush)?;
-    assert!(rt; expect(&got, Status::WriteFault, AB_LINE, ""), "a flush");
-    let err = Outside {
-        err: device(1_000, &[1]),
-        ..Outside::new(&[], THREE_LINES)
-    };
-    let got = run_on(alloc, LITERAL, err)?;
-    assert!(rt;
-        expect(&got, Status::WriteFault, AB_LINE, ""),
-        "a write of a fault"
-    );
-    let read = Outside {
-        input: device(3, &[2]),
-        ..Outside::new(&[], b"a\na")
-    };
-    let got = run_on(alloc, A, read)?;
-    assert!(rt;
-        expect(&got, Status::ReadFault, A_LINE, "rosie: -: read failed\n"),
-        "a read"
-    );
-    let file = Outside {
-        files: device(10, &[3]),
-        ..Outside::new(&[("f", b"a\na")], b"")
-    };
-    let got = run_on(alloc, &["match", "\"a\"", "f"], file)?;
-    assert!(rt;
-        expect(&got, Status::ReadFault, A_LINE, "rosie: f: read failed\n"),
-        "a read of a file"
-    );
-    let open = Outside {
-        files: device(10, &[4]),
-        ..Outside::new(&[("f", b"a\n"), ("g", b"a\n")], b"")
-    };
-    let got = run_on(alloc, &["match", "\"a\"", "f", "g"], open)?;
-    assert!(rt;
-        expect(&got, Status::ReadFault, A_LINE, "rosie: g: read failed\n"),
-        "an open"
-    );
     Ok(())
 }
 
