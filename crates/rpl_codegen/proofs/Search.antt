@@ -9,10 +9,11 @@ use Rattle.rpl_core.specs.Table.{bodies_of}
 use Rattle.rpl_core.specs.View.{core_of}
 use Rattle.rpl_core.specs.declared.rules.Rule.{Rule}
 use Rattle.rpl_codegen.specs.inside.Calls.{CallsAreRules}
-use Rattle.rpl_codegen.specs.inside.Marked.{marked, MarksReached}
-use Rattle.rpl_codegen.specs.inside.Searching.{waits, Marks, Reached}
+use Rattle.rpl_core.specs.inside.Marks.{marked, waits}
+use Rattle.rpl_codegen.specs.inside.Marked.{MarksReached}
+use Rattle.rpl_codegen.specs.inside.Searching.{Marks, Reached}
 use Rattle.rpl_codegen.specs.declared.reach.Search.{Search}
-use Rattle.rpl_codegen.proofs.Marking.{waits_more}
+use Rattle.rpl_core.proofs.Marking.{waits_more}
 
 -- where a mark comes from, and where it goes
 whence : (x m b f : Bool) → x ≡ (m || (b && f)) → x ≡ true → (m ≡ true) ⊎ (f ≡ true)

@@ -6,7 +6,8 @@ use Rattle.rpl_core.specs.Instr.{Instr}
 use Rattle.rpl_core.specs.Meaning.{Open}
 use Rattle.rpl_core.specs.Outcome.{outcome}
 use Rattle.rpl_core.specs.Programs.{IsCode}
-use Rattle.rpl_simulation.specs.Laws.{RunsAs}
+use Rattle.rpl_simulation.specs.Laws.{IsCapture, RunsAs}
+use Rattle.rpl_safe.specs.Safe.{IsSafe}
 
 -- the goal's code over the table has more than 1,048,576 instructions
 abbrev pub HasLongCode : List Core → Core → Type 0
@@ -16,3 +17,8 @@ HasLongCode R g = (code : List Instr) × IsCode R g code × (1048576 < length co
 -- meaning and two steps.
 abbrev pub DoesAsMeant : List Core → Core → List Instr → Type 0
 DoesAsMeant R g code = (t : List ℕ) → all_scalars t ≡ true → (outcome R g t ≢ Open) × RunsAs code t (outcome R g t)
+
+-- where the goal is a capture, or calls a rule whose body is one, its code is safe: no run of it lacks what it needs,
+-- and each match is one tree
+abbrev pub IsSafeIfCapture : List Core → Core → List Instr → Type 0
+IsSafeIfCapture R g code = (label : List ℕ) → IsCapture R label g → IsSafe code

@@ -6,7 +6,7 @@ ghost use Rattle.rpl_core.specs.Program.{code_of, instructions, labels_of, sets_
 ghost use Rattle.rpl_core.specs.Programs.{IsCode};
 ghost use Rattle.rpl_core.specs.Table.{bodies_of};
 ghost use Rattle.rpl_core.specs.View.{core_of};
-ghost use Rattle.rpl_codegen.specs.Compiled.{DoesAsMeant, HasLongCode};
+ghost use Rattle.rpl_codegen.specs.Compiled.{DoesAsMeant, HasLongCode, IsSafeIfCapture};
 ghost use Rattle.rpl_draft.specs.Uses.{KeepsOnce, labels_in, sets_in};
 
 use crate::whole::{CompileFault, compile_goal};
@@ -24,6 +24,8 @@ pub fn compile(alloc: Global, checked: &Checked, goal: &CheckedPeg) -> Result<Pr
     ensures code { IfOk result (λ p. IsCode (bodies_of checked.now) (core_of (peg_of goal.now)) (instructions p)) }
     ensures meant { IfOk result (λ p.
         DoesAsMeant (bodies_of checked.now) (core_of (peg_of goal.now)) (instructions p)) }
+    ensures safe { IfOk result (λ p.
+        IsSafeIfCapture (bodies_of checked.now) (core_of (peg_of goal.now)) (instructions p)) }
     ensures fits { IfOk result (λ p. length (code_of p) ≤ 1048576) }
     ensures sets { IfOk result (λ p. KeepsOnce (sets_in (instructions p)) (sets_of p)) }
     ensures labels { IfOk result (λ p. KeepsOnce (labels_in (instructions p)) (labels_of p)) }

@@ -8,7 +8,7 @@ ghost use Rattle.rpl_core.specs.View.{core_of};
 ghost use Rattle.rpl_codegen.specs.inside.Calls.{CallsAreRules};
 ghost use Rattle.rpl_codegen.specs.Compiled.{HasLongCode};
 ghost use Rattle.rpl_codegen.specs.inside.Laid.{bodies_len, bodies_nodes, rule_code, rule_len, rule_nodes};
-ghost use Rattle.rpl_codegen.specs.inside.Marked.{marked};
+ghost use Rattle.rpl_core.specs.inside.Marks.{marked};
 ghost use Rattle.rpl_codegen.specs.inside.Taken.{Begins, Takes, left};
 ghost use Rattle.rpl_draft.specs.Uses.{KeepsOnce, labels_in, sets_in};
 ghost use Rattle.rpl_codegen.specs.inside.Written.{Writes, address_of};

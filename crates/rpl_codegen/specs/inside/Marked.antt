@@ -1,11 +1,8 @@
 -- Which rules a list marks.
-use Rattle.std.specs.Prelude.{◌≡◌, ℕ, Bool, true, false, ◌↔◌, List, length, slice_index_or}
+use Rattle.std.specs.Prelude.{◌≡◌, ℕ, Bool, true, ◌↔◌, List, length}
 use Rattle.rpl_core.specs.Core.{Core}
 use Rattle.rpl_core.specs.Programs.{Reaches}
-
--- the list marks the rule
-abbrev pub marked : List Bool → ℕ → Bool
-marked bs r = slice_index_or bs r false
+use Rattle.rpl_core.specs.inside.Marks.{marked}
 
 -- the list has a mark for each rule of the table, and marks just those that the goal reaches
 pub record MarksReached (R : List Core) (g : Core) (bs : List Bool) : Type 0 where

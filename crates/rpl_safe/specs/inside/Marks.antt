@@ -1,7 +1,7 @@
 -- What the search knows of each address.
 use Rattle.std.specs.Prelude.{◌≡◌, ◌≢◌, ℕ, zero, suc, ◌+◌, ◌<◌, ◌≤◌, Bool, true, false, ◌&&◌, nat_eq, nat_le, not, ◌||◌}
-use Rattle.std.specs.Prelude.{if◌then◌else◌, ◌⊎◌, List, [], ◌∷◌, ◌++◌, length, Option, Some, None, slice_get, get_or, set}
-use Rattle.std.specs.Prelude.{Result, Ok, Err}
+use Rattle.std.specs.Prelude.{if◌then◌else◌, ◌⊎◌, List, [], ◌∷◌, ◌++◌, length, Option, Some, None, slice_get}
+use Rattle.std.specs.Prelude.{get_or, set, Result, Ok, Err}
 use Rattle.rpl_core.specs.Instr.{Instr}
 use Rattle.rpl_core.specs.Instr as I
 use Rattle.rpl_safe.specs.Safe.{Left, Shape, Shapes, only, one_less, IsKept, IsSafe}

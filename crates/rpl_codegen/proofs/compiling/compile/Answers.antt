@@ -8,8 +8,9 @@ use Rattle.rpl_core.specs.Programs.{IsCode}
 use Rattle.rpl_core.specs.Table.{bodies_of}
 use Rattle.rpl_core.specs.View.{core_of}
 use Rattle.rpl_core.specs.declared.program.Program.{Program}
-use Rattle.rpl_codegen.specs.Compiled.{DoesAsMeant}
+use Rattle.rpl_codegen.specs.Compiled.{DoesAsMeant, IsSafeIfCapture}
 use Rattle.rpl_simulation.proofs.Whole.{simulation_holds}
+use Rattle.rpl_safe.proofs.Whole.{code_is_safe_holds}
 use Rattle.rpl_codegen.proofs.compiling.compile.Goals as goal
 
 -- the code of a goal that means something on every text, and no predicate of which may halt
@@ -20,4 +21,14 @@ does R g w (Err e) is = tt
 pub returns-clause-meant : goal.returns-clause-meant
 returns-clause-meant c =
     does (bodies_of c.args.checked.now) (core_of (peg_of c.args.goal.now)) c.requires c.compile_goal.result
+    (rw (c.rules.ensures, c.peg.ensures) at c.compile_goal.ensures.code)
+
+-- and safe code, where the goal is a capture
+safe : {X : Type 0} (R : List Core) (g : Core) → IsWhole R g → (o : Result Program X) → IfOk o (λ p. IsCode R g (instructions p)) → IfOk o (λ p. IsSafeIfCapture R g (instructions p))
+safe R g w (Ok p) is = λ label capture. code_is_safe_holds R label g (instructions p) capture w.goal (λ q p e r k. w.rules q r p e k) is
+safe R g w (Err e) is = tt
+
+pub returns-clause-safe : goal.returns-clause-safe
+returns-clause-safe c =
+    safe (bodies_of c.args.checked.now) (core_of (peg_of c.args.goal.now)) c.requires c.compile_goal.result
     (rw (c.rules.ensures, c.peg.ensures) at c.compile_goal.ensures.code)

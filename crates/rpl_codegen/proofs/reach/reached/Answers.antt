@@ -5,7 +5,7 @@ use Rattle.rpl_core.specs.Listed.{rules_of}
 use Rattle.rpl_core.specs.Programs.{calls, by_rule}
 use Rattle.rpl_core.specs.Table.{bodies_of}
 use Rattle.rpl_core.specs.View.{core_of}
-use Rattle.rpl_codegen.specs.inside.Marked.{marked}
+use Rattle.rpl_core.specs.inside.Marks.{marked}
 use Rattle.rpl_codegen.specs.declared.reach.Search.{Search}
 use Rattle.rpl_codegen.proofs.Marking.{marks_none}
 use Rattle.rpl_codegen.proofs.Search.{search_begins, search_goes_on, search_ends, unmarked_list, body_at, body_is, no_body}
