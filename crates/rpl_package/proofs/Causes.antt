@@ -1,6 +1,7 @@
 -- Causes of a stop: a failed read, and nothing else, is a read fault.
-use Rattle.std.proofs.Common.{arith, ◌≡◌, ◌≤◌, ℕ, ap, sym, subst, false, true≢false, ◌∙◌, ◌⊎◌}
+use Rattle.std.proofs.Common.{arith, ◌≡◌, ◌≤◌, ◌<◌, ◌-◌, ◌^◌, ℕ, ap, sym, subst, false, true≢false, ◌∙◌, ◌⊎◌}
 use Rattle.rosie_io.specs.Counts.{Rose}
+use Rattle.rosie_io.specs.Loading.{NotFewer}
 use Rattle.std.specs.Prelude.{Result, Ok, Err, IfErr}
 use Rattle.rpl_scope.specs.declared.fault.LoadFault.{LoadFault}
 use Rattle.rpl_scope.specs.declared.fault.LoadKind.{LoadKind}
@@ -45,3 +46,8 @@ all_loud see (Err s) r h = loud_of s r h
 pub loud_cause : (s : Stop) (r0 r1 o0 o1 : ℕ) → IsLoud s → r1 ≡ r0 → o1 ≡ o0 → StopCause s r0 r1 o0 o1
 loud_cause Memory r0 r1 o0 o1 h a b = (omega (arith, a), omega (arith, b))
 loud_cause (Fault f) r0 r1 o0 o1 h a b = kind_cause f.kind r0 r1 o0 o1 h a b
+
+-- ---- the bytes that were taken
+
+pub fewer : (a b c : ℕ) → NotFewer a b → NotFewer b c → NotFewer a c
+fewer a b c h k = λ lt. let j = k lt in let i = h (omega (arith, lt, j)) in omega (arith, i, j)

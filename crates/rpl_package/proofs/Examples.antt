@@ -12,7 +12,8 @@ use Rattle.rpl_package.specs.Patterns.{enter_pattern}
 use Rattle.rpl_package.specs.Roots.{load, Packages, given_name}
 use Rattle.rpl_package.specs.declared.rooted.Root.{Root}
 use Rattle.rpl_package.specs.declared.rooted.Root.TheVariants.{File, Given}
-use Rattle.rpl_scope.specs.declared.fault.LoadKind.TheVariants.{Duplicate, UnknownName, HiddenName, ImportCycle, TooManyPackages, RootMissing}
+use Rattle.rpl_scope.specs.declared.fault.LoadKind.TheVariants.{Duplicate, UnknownName, HiddenName, ImportCycle}
+use Rattle.rpl_scope.specs.declared.fault.LoadKind.TheVariants.{TooManyPackages, RootMissing}
 
 abbrev q : Option (List ℕ) → List ℕ → ℕ → QName
 q p n at = record { prefix = p; name = n; at = at }

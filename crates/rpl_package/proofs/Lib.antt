@@ -4,7 +4,10 @@ pub mod Keeping
 pub mod Locating
 pub mod Numbering
 pub mod Outcomes
+pub mod Placing
 pub mod Readings
 pub mod Rooting
 pub mod Rows
+pub mod Sought
 pub mod Walking
+pub mod Wanting

@@ -9,7 +9,8 @@ use Rattle.rpl_scope.specs.declared.fault.LoadKind.{LoadKind}
 use Rattle.rpl_scope.specs.declared.fault.LoadKind.TheVariants as K
 use Rattle.rpl_scope.specs.declared.fault.Stop.{Stop}
 use Rattle.rpl_scope.specs.declared.fault.Stop.TheVariants.{Memory, Fault}
-use Rattle.rpl_package.specs.Asking.{Outcome, at_once, asked_then, and_then, each_in_turn, Explains, MayStop, Walks, KindAsks, StopAsks}
+use Rattle.rpl_package.specs.Asking.{Outcome, at_once, asked_then, and_then, each_in_turn, Explains, MayStop, Walks}
+use Rattle.rpl_package.specs.Asking.{KindAsks, StopAsks}
 use Rattle.rpl_package.specs.Reading.{IsQuiet}
 
 -- the same answer, and what one asks for the other asks for

@@ -1,5 +1,6 @@
 -- Steps of the roots.
-use Rattle.std.proofs.Common.{◌≡◌, ℕ, ◌+◌, ◌<◌, ◌≤◌, List, [], ◌∷◌, length, drop, get_or, Some, None, sym, ap, ◌∙◌, true, false}
+use Rattle.std.proofs.Common.{◌≡◌, ℕ, ◌+◌, ◌<◌, ◌≤◌, List, [], ◌∷◌, length, drop, get_or, Some, None, sym, ap, ◌∙◌}
+use Rattle.std.proofs.Common.{true, false}
 use Rattle.std.specs.Prelude.{if◌then◌else◌, Ok, is_some, nat_lt, encode_utf8_all}
 use Rattle.rosie_io.specs.Opening.{file_of}
 use Rattle.std.proofs.lemmas.List.{drop_all}
@@ -11,7 +12,8 @@ use Rattle.rpl_scope.specs.declared.fault.LoadKind.TheVariants.{Duplicate, TooMa
 use Rattle.rpl_scope.proofs.Checking.{front}
 use Rattle.rpl_package.specs.Asking.{at_once, and_then}
 use Rattle.rpl_package.specs.Loading.{World, State, own_text, walk}
-use Rattle.rpl_package.specs.Roots.{top_head, named_root, root_text, with_root, counted, next, asked_root, file_root, read_root}
+use Rattle.rpl_package.specs.Roots.{top_head, named_root, root_text, with_root, counted, next, asked_root}
+use Rattle.rpl_package.specs.Roots.{file_root, read_root}
 use Rattle.rpl_package.specs.declared.rooted.Root.{Root}
 use Rattle.rpl_package.proofs.Outcomes.{Follows, same, trail, then_follows}
 

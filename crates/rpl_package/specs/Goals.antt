@@ -1,5 +1,6 @@
 -- The expression that a pattern's text is read as, or the first fault of the text.
-use Rattle.std.specs.Prelude.{◌≡◌, ◌<◌, ◌≤◌, ℕ, Bool, true, false, List, Option, None, Result, Ok, Err, codes, chars, length}
+use Rattle.std.specs.Prelude.{◌≡◌, ◌<◌, ◌≤◌, ℕ, Bool, true, false, List, Option, None, Result, Ok, Err, codes}
+use Rattle.std.specs.Prelude.{chars, length}
 use Rattle.rpl_lexer.specs.Cutting.{cut_of}
 use Rattle.rpl_lexer.specs.declared.fault.LexFault.{LexFault}
 use Rattle.rpl_lexer.specs.declared.token.Token.{Token}
@@ -26,7 +27,8 @@ sought false e = e
 -- tokens read as a pattern, or their first fault
 abbrev pub ReadsTokens : (find : Bool) → List ℕ → List Token → Or Expr → Type 0
 ReadsTokens find s ts (Ok e) = (x : Expr) × IsPattern s ts x × (e ≡ sought find x)
-ReadsTokens find s ts (Err f) = (p : ParseFault) × IsPatternFault s ts p × (Err f ≡ fault {A = Expr} pattern_file p.at (Parse p.kind))
+ReadsTokens find s ts (Err f) =
+    (p : ParseFault) × IsPatternFault s ts p × (Err f ≡ fault {A = Expr} pattern_file p.at (Parse p.kind))
 
 abbrev pub ReadsCut : (find : Bool) → List ℕ → Result (List Token) LexFault → Or Expr → Type 0
 ReadsCut find s (Ok ts) r = ReadsTokens find s ts r

@@ -16,7 +16,14 @@ pub record Keeps (a b : Stock) : Type 0 where
 
 -- a module with the first k of its prefixes
 abbrev pub shortened : ℕ → Module → Module
-shortened k m = record { path = m.path; label = m.label; texts = m.texts; rules = m.rules; prefixes = take k m.prefixes; names = m.names }
+shortened k m = record {
+  path = m.path;
+  label = m.label;
+  texts = m.texts;
+  rules = m.rules;
+  prefixes = take k m.prefixes;
+  names = m.names;
+}
 
 abbrev pub with_shortened : (i k : ℕ) → List Module → List Module
 with_shortened i k [] = []

@@ -3,6 +3,8 @@ pub mod Asking
 pub mod Goals
 pub mod Kept
 pub mod Loading
+pub mod Marks
+pub mod Owned
 pub mod Patterns
 pub mod Reading
 pub mod Roots

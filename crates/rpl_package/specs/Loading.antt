@@ -1,5 +1,6 @@
 -- The walk over a text and all that it imports.
-use Rattle.std.specs.Prelude.{ℕ, zero, suc, ◌+◌, Bool, false, ◌||◌, nat_lt, if◌then◌else◌, List, [], ◌∷◌, ◌++◌, length, Option, Some, None, Ok, codes, encode_utf8_all, is_some}
+use Rattle.std.specs.Prelude.{ℕ, zero, suc, ◌+◌, Bool, false, ◌||◌, nat_lt, if◌then◌else◌, List, [], ◌∷◌, ◌++◌}
+use Rattle.std.specs.Prelude.{length, Option, Some, None, Ok, codes, encode_utf8_all, is_some}
 use Rattle.std.specs.Str.{bytes_eq}
 use Rattle.rosie_io.specs.Opening.{file_of}
 use Rattle.rpl_syntax.specs.Modules.{Said}
@@ -37,7 +38,8 @@ found_or f (Some bytes) rest = Some (f, bytes)
 -- the file of an import in the first folder that has it, with its bytes
 abbrev pub find : List (List ℕ × List ℕ) → List (List ℕ) → List ℕ → Option (List ℕ × List ℕ)
 find tree [] path = None
-find tree (d ∷ ds) path = found_or (file_in d path) (file_of (encode_utf8_all (file_in d path)) tree) (find tree ds path)
+find tree (d ∷ ds) path =
+    found_or (file_in d path) (file_of (encode_utf8_all (file_in d path)) tree) (find tree ds path)
 
 abbrev pub tried_then : Option (List ℕ) → List (List ℕ) → List (List ℕ)
 tried_then None rest = rest
@@ -46,7 +48,8 @@ tried_then (Some bytes) rest = []
 -- the paths that are asked for to find it
 abbrev pub tried : List (List ℕ × List ℕ) → List (List ℕ) → List ℕ → List (List ℕ)
 tried tree [] path = []
-tried tree (d ∷ ds) path = file_in d path ∷ tried_then (file_of (encode_utf8_all (file_in d path)) tree) (tried tree ds path)
+tried tree (d ∷ ds) path =
+    file_in d path ∷ tried_then (file_of (encode_utf8_all (file_in d path)) tree) (tried tree ds path)
 
 abbrev pub search : World → List ℕ → Outcome (Option (List ℕ × List ℕ))
 search w path = record { asked = tried w.tree w.folders path; answer = Ok (find w.tree w.folders path) }
@@ -70,13 +73,24 @@ with_path (Some p) i ps = added p i ps
 
 -- one module more
 abbrev pub finished : Stock → Module → Stock
-finished s m = record { modules = s.modules ++ m ∷ []; paths = with_path m.path (length s.modules) s.paths; labels = added m.label (length s.modules) s.labels }
+finished s m = record {
+  modules = s.modules ++ m ∷ [];
+  paths = with_path m.path (length s.modules) s.paths;
+  labels = added m.label (length s.modules) s.labels;
+}
 
 abbrev pub empty_module : Option (List ℕ) → List ℕ → Module
 empty_module p n = record { path = p; label = n; texts = []; rules = []; prefixes = []; names = [] }
 
 abbrev pub with_text : Module → List ℕ → Module
-with_text m f = record { path = m.path; label = m.label; texts = m.texts ++ f ∷ []; rules = m.rules; prefixes = m.prefixes; names = m.names }
+with_text m f = record {
+  path = m.path;
+  label = m.label;
+  texts = m.texts ++ f ∷ [];
+  rules = m.rules;
+  prefixes = m.prefixes;
+  names = m.names;
+}
 
 -- ---- modules that are being loaded
 
@@ -136,7 +150,8 @@ import_entries w below hs f is s = each_in_turn (import_entry w below hs f) is s
 -- ---- one text
 
 abbrev pub said_of : List ℕ → ℕ → Said → State → Outcome State
-said_of f k t s = at_once (statements f k s.stock.modules t.items s.own >>= λ m. Ok (record { stock = s.stock; own = m }))
+said_of f k t s =
+    at_once (statements f k s.stock.modules t.items s.own >>= λ m. Ok (record { stock = s.stock; own = m }))
 
 -- its imports, and then its statements
 abbrev pub checks : World → Walk → List Head → List ℕ → Said → State → Outcome State
@@ -156,9 +171,12 @@ label_at (Some q) = q.at
 abbrev pub own_text : World → Walk → Stock → List Head → List ℕ → Option (List ℕ) → List ℕ → Said → Outcome State
 own_text w below s hs f path label t =
     if is_taken label hs s then at_once (fault f (label_at t.name) (Duplicate label))
-    else checks w below (hs ++ record { path = path; label = label } ∷ []) f t (record { stock = s; own = empty_module path label })
+    else checks w below (hs ++ record { path = path; label = label } ∷ []) f t
+    (record { stock = s; own = empty_module path label })
 
 -- an imported file; no more than n files are read one inside the other
 abbrev pub walk : World → ℕ → Walk
 walk w zero s hs f path bytes = at_once (fault f 0 TooManyPackages)
-walk w (suc n) s hs f path bytes = and_then (at_once (w.text f bytes)) (λ t. own_text w (walk w n) s hs f (Some path) (label_of t.name path) t)
+walk w (suc n) s hs f path bytes =
+    and_then (at_once (w.text f bytes))
+    (λ t. own_text w (walk w n) s hs f (Some path) (label_of t.name path) t)

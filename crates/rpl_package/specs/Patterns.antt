@@ -50,12 +50,12 @@ abbrev pub bring : World → List ℕ → ℕ → Stock → Option Import → Ou
 bring w f i s None = at_once (Ok s)
 bring w f i s (Some e) = and_then (reach w (walk w w.most) [] f e s) (put f e i)
 
-abbrev pub bring_at : World → List ℕ → ℕ → QName → Stock → Option Module → Outcome Stock
-bring_at w f i q s None = at_once (Ok s)
-bring_at w f i q s (Some m) = bring w f i s (wanted m q)
+abbrev pub wanted_at : QName → Option Module → Option Import
+wanted_at q None = None
+wanted_at q (Some m) = wanted m q
 
 abbrev pub pattern_name : World → List ℕ → ℕ → QName → Stock → Outcome Stock
-pattern_name w f i q s = bring_at w f i q s (nth s.modules i)
+pattern_name w f i q s = bring w f i s (wanted_at q (nth s.modules i))
 
 abbrev pub pattern_fault : List ℕ → Expr → List Module → Option Module → Option LoadFault
 pattern_fault f e ms None = None
@@ -70,7 +70,10 @@ enter_pattern w f i s e = and_then (each_in_turn (pattern_name w f i) (names e) 
 
 -- a pattern whose text is read as r: its expression, and the modules with it
 abbrev pub goal_entered : World → ℕ → Stock → Or Expr → Outcome (Expr × Stock)
-goal_entered w i s r = and_then (at_once r) (λ e. and_then (enter_pattern w pattern_file i s e) (λ t. at_once (Ok (e, t))))
+goal_entered w i s r =
+    and_then (at_once r) (λ e. and_then (enter_pattern w pattern_file i s e) (λ t. at_once (Ok (e, t))))
 
 abbrev pub load_pattern : World → Packages → Or Expr → Outcome (Expr × Packages)
-load_pattern w p r = and_then (goal_entered w p.top p.stock r) (λ t. at_once (Ok (t.0, record { stock = t.1; top = p.top; roots = p.roots })))
+load_pattern w p r =
+    and_then (goal_entered w p.top p.stock r)
+    (λ t. at_once (Ok (t.0, record { stock = t.1; top = p.top; roots = p.roots })))

@@ -1,5 +1,6 @@
 -- What a file was read as before its text is looked at.
-use Rattle.std.specs.Prelude.{◌≡◌, ◌<◌, ◌≤◌, ◌⊎◌, ℕ, false, List, length, Option, Some, None, Result, Ok, Err, string_bytes}
+use Rattle.std.specs.Prelude.{◌≡◌, ◌<◌, ◌≤◌, ◌⊎◌, ℕ, false, List, length, Option, Some, None, Result, Ok, Err}
+use Rattle.std.specs.Prelude.{string_bytes}
 use Rattle.std.specs.Str.{is_utf8}
 use Rattle.rosie_io.specs.Counts.{Rose}
 use Rattle.rpl_scope.specs.Faults.{is_silent}

@@ -1,5 +1,6 @@
 -- The roots of a command, one after the other, and the set that they make.
-use Rattle.std.specs.Prelude.{ℕ, ◌+◌, nat_lt, if◌then◌else◌, List, [], ◌∷◌, ◌++◌, length, Option, Some, None, Ok, codes, encode_utf8_all, is_some}
+use Rattle.std.specs.Prelude.{ℕ, ◌+◌, nat_lt, if◌then◌else◌, List, [], ◌∷◌, ◌++◌, length, Option, Some, None, Ok}
+use Rattle.std.specs.Prelude.{codes, encode_utf8_all, is_some}
 use Rattle.std.specs.Fmt.{decimal}
 use Rattle.rosie_io.specs.Opening.{file_of}
 use Rattle.rpl_syntax.specs.Modules.{Said}
@@ -25,13 +26,19 @@ Rooted = Option ℕ × State
 -- a root's own module, finished, has its package name as a prefix in the top module
 abbrev pub with_root : List ℕ → Module → State → Rooted
 with_root n top u =
-    let i = length u.stock.modules in
-    (Some i, record { stock = finished u.stock u.own; own = with_prefix top n (record { since = length top.rules; number = i }) })
+    let i = length u.stock.modules in (
+      Some i,
+      record {
+        stock = finished u.stock u.own;
+        own = with_prefix top n (record { since = length top.rules; number = i });
+      },
+    )
 
 abbrev pub named_root : World → List ℕ → Said → QName → State → Outcome Rooted
 named_root w f t q s =
     if is_some (first_of q.name s.own.prefixes) then at_once (fault f q.at (Duplicate q.name))
-    else and_then (own_text w (walk w w.most) s.stock (top_head ∷ []) f None q.name t) (λ u. at_once (Ok (with_root q.name s.own u)))
+    else and_then (own_text w (walk w w.most) s.stock (top_head ∷ []) f None q.name t)
+    (λ u. at_once (Ok (with_root q.name s.own u)))
 
 -- a root without a package statement goes on with the top module
 abbrev pub root_text : World → List ℕ → Said → Option QName → State → Outcome Rooted
@@ -73,7 +80,9 @@ pub record Roots : Type 0 where
   pub state : State
 
 abbrev pub root_entry : World → ℕ × Root → Roots → Outcome Roots
-root_entry w r s = and_then (root_by w r.0 r.1 s.state) (λ t. at_once (Ok (record { roots = s.roots ++ t.0 ∷ []; state = t.1 })))
+root_entry w r s =
+    and_then (root_by w r.0 r.1 s.state)
+    (λ t. at_once (Ok (record { roots = s.roots ++ t.0 ∷ []; state = t.1 })))
 
 abbrev pub load_roots : World → List Root → Roots → Outcome Roots
 load_roots w rs s = each_in_turn (root_entry w) (counted 0 rs) s
@@ -85,7 +94,10 @@ pub record Packages : Type 0 where
   pub roots : List (Option ℕ)
 
 abbrev pub begun : Roots
-begun = record { roots = []; state = record { stock = record { modules = []; paths = []; labels = [] }; own = empty_module None [] } }
+begun = record {
+  roots = [];
+  state = record { stock = record { modules = []; paths = []; labels = [] }; own = empty_module None [] };
+}
 
 abbrev pub whole : Roots → Packages
 whole s = record { stock = finished s.state.stock s.state.own; top = length s.state.stock.modules; roots = s.roots }

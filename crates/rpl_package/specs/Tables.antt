@@ -1,5 +1,6 @@
 -- The rule table: the boundary and the built-in `halt`, and then the rules of the modules in order.
-use Rattle.std.specs.Prelude.{ℕ, ◌+◌, ◌-◌, Bool, true, false, ◌&&◌, nat_eq, if◌then◌else◌, List, [], ◌∷◌, ◌++◌, length, Option, Some, None, codes, not}
+use Rattle.std.specs.Prelude.{ℕ, ◌+◌, ◌-◌, Bool, true, false, ◌&&◌, nat_eq, if◌then◌else◌, List, [], ◌∷◌, ◌++◌}
+use Rattle.std.specs.Prelude.{length, Option, Some, None, codes, not}
 use Rattle.std.specs.Str.{bytes_eq}
 use Rattle.rpl_syntax.specs.Expression.{Expr}
 use Rattle.rpl_syntax.specs.declared.name.QName.{QName}
@@ -47,7 +48,12 @@ begun_in b k (r ∷ rs) = begun_in (begun_at b k r) (k + 1) rs
 
 -- the k-th rule of the module i, where b blocks have begun
 abbrev pub row_of : List ℕ → (i k b : ℕ) → Rule → Row
-row_of label i k b r = record { name = full_name label r.name; from = i; place = k; block = if in_block r then Some (b - 1) else None }
+row_of label i k b r = record {
+  name = full_name label r.name;
+  from = i;
+  place = k;
+  block = if in_block r then Some (b - 1) else None;
+}
 
 abbrev pub rows_of : List ℕ → (i k b : ℕ) → List Rule → List Row
 rows_of label i k b [] = []

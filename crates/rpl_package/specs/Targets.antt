@@ -1,5 +1,6 @@
 -- What the names of a set stand for, by number, and what is known of each rule.
-use Rattle.std.specs.Prelude.{ℕ, zero, suc, ◌+◌, Bool, true, false, List, [], ◌∷◌, length, Option, Some, None, Result, Ok, Err, codes, not}
+use Rattle.std.specs.Prelude.{ℕ, zero, suc, ◌+◌, Bool, true, false, List, [], ◌∷◌, length, Option, Some, None}
+use Rattle.std.specs.Prelude.{Result, Ok, Err, codes, not}
 use Rattle.rpl_syntax.specs.Expression.{Expr}
 use Rattle.rpl_syntax.specs.declared.name.QName.{QName}
 use Rattle.rpl_scope.specs.Packages.{Rule, Module, bound, first_of, first_rule, nth}
@@ -74,7 +75,9 @@ abbrev pub pattern_site : Packages → Site
 pattern_site p = record { owner = p.top; start = size_of (nth p.stock.modules p.top) }
 
 abbrev pub rule_site : Packages → Option Row → Option Site
-rule_site p row = then row (λ w. then (rule_in p.stock.modules w.from w.place) (λ r. Some (record { owner = w.from; start = r.start })))
+rule_site p row =
+    then row (λ w. then (rule_in p.stock.modules w.from w.place)
+    (λ r. Some (record { owner = w.from; start = r.start })))
 
 -- where the statement of a rule, or the pattern, stands
 abbrev pub site : Packages → Option ℕ → Option Site

@@ -41,3 +41,7 @@ site_seen s = record { owner = s.owner; start = s.start }
 abbrev pub site_found : Option Site → Option T.Site
 site_found None = None
 site_found (Some s) = Some (site_seen s)
+
+abbrev pub text_found : Option (Bor (List ℕ)) → Option (List ℕ)
+text_found None = None
+text_found (Some s) = Some (chars s.now)

@@ -1,15 +1,24 @@
 // Loading, for those who stand on this crate.
-ghost use Rattle.std.specs.Prelude.{◌≡◌, IfErr, false};
+ghost use Rattle.std.specs.Prelude.{◌≡◌, IfErr, OnErr, false};
+ghost use Rattle.rosie_io.specs.Loading.{NotFewer};
+ghost use Rattle.rpl_syntax.specs.Expression.{Expr as Said};
+ghost use Rattle.rpl_syntax.specs.View.{expr_of};
+ghost use Rattle.rpl_scope.specs.Faults.{Or};
 ghost use Rattle.rpl_package.specs.Answers.{Answers, HasNoPlace, IsCaused, IsFault};
+ghost use Rattle.rpl_package.specs.Goals.{ReadsGoal};
 ghost use Rattle.rpl_package.specs.Loading.{world};
+ghost use Rattle.rpl_package.specs.Patterns.{load_pattern};
 ghost use Rattle.rpl_package.specs.Roots.{load};
 ghost use Rattle.rpl_package.specs.Sets.{set_seen};
 
 use crate::loading::load_set;
+use crate::pattern::Goal;
+use crate::rollback::enter_goal;
 use crate::rooted::{LibPath, Roots};
 use crate::set::PackageSet;
 use rosie_io::Files;
 use rpl_scope::{LoadFault, LoadKind, Stop};
+use rpl_syntax::Expr;
 use rpl_text::Chars;
 use std::alloc::Global;
 
@@ -40,13 +49,44 @@ pub fn load<F: Files>(
     roots: &Roots,
 ) -> Result<PackageSet, LoadFault>
     ensures gives { F.tells → Answers set_seen result (load (world (F.tree files.old) path.now) roots.now) }
-    ensures cause { IsCaused result (F.faults files.old) (F.faults files.new) (F.failed_opens files.old) (F.failed_opens files.new) }
+    ensures cause { IsCaused result (F.faults files.old) (F.faults files.new)
+        (F.failed_opens files.old) (F.failed_opens files.new) }
+    ensures taken { NotFewer (F.taken files.old) (F.taken files.new) }
     ensures memory { IfErr result HasNoPlace }
     ensures tree { F.tree files.new ≡ F.tree files.old }
     ensures closed { F.is_open files.old ≡ false → F.is_open files.new ≡ false }
 {
     match load_set(alloc, files, path.as_slice(), roots.as_slice()) {
         Ok(set) => Ok(set),
+        Err(stop) => Err(fault_of(alloc, stop)),
+    }
+}
+
+/// Reads the text of a pattern, imports what it names by a prefix that the top module hasn't, and sees that all its
+/// names are bound and all its macros are used as they may be: the pattern's expression.
+///
+/// After a refusal the set is as it was. The first fault is answered, in the order that `specs/Patterns.antt` says, and
+/// `ReadFault` only where a read or an open failed. Every file is closed afterwards.
+pub fn load_pattern<F: Files>(
+    alloc: Global,
+    files: &mut F,
+    path: &LibPath,
+    set: &mut PackageSet,
+    goal: &Goal<'_>,
+) -> Result<Expr, LoadFault>
+    ensures gives { F.tells → (r : Or Said) → ReadsGoal goal.now.fixed goal.now.find goal.now.text.now r
+        → Answers (λ e. (expr_of e, set_seen set.new)) result
+        (load_pattern (world (F.tree files.old) path.now) (set_seen set.old) r) }
+    ensures kept { OnErr result (set_seen set.new ≡ set_seen set.old) }
+    ensures cause { IsCaused result (F.faults files.old) (F.faults files.new)
+        (F.failed_opens files.old) (F.failed_opens files.new) }
+    ensures taken { NotFewer (F.taken files.old) (F.taken files.new) }
+    ensures memory { IfErr result HasNoPlace }
+    ensures tree { F.tree files.new ≡ F.tree files.old }
+    ensures closed { F.is_open files.old ≡ false → F.is_open files.new ≡ false }
+{
+    match enter_goal(alloc, files, path.as_slice(), set, *goal) {
+        Ok(e) => Ok(e),
         Err(stop) => Err(fault_of(alloc, stop)),
     }
 }

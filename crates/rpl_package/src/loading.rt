@@ -1,5 +1,6 @@
 // Loading the roots.
 ghost use Rattle.std.specs.Prelude.{◌≡◌, [], ◌∷◌, IfOk, IfErr, false};
+ghost use Rattle.rosie_io.specs.Loading.{NotFewer};
 ghost use Rattle.rpl_package.specs.Asking.{Walks};
 ghost use Rattle.rpl_package.specs.Loading.{world};
 ghost use Rattle.rpl_package.specs.Reading.{HasCause};
@@ -72,7 +73,9 @@ pub fn load_set<F: Files>(
     roots: &[Root],
 ) -> Result<PackageSet, Stop>
     ensures gives { F.tells → Walks set_seen result (load (world (F.tree files.old) folders.now) roots.now) }
-    ensures cause { HasCause result (F.faults files.old) (F.faults files.new) (F.failed_opens files.old) (F.failed_opens files.new) }
+    ensures cause { HasCause result (F.faults files.old) (F.faults files.new)
+        (F.failed_opens files.old) (F.failed_opens files.new) }
+    ensures taken { NotFewer (F.taken files.old) (F.taken files.new) }
     ensures tree { F.tree files.new ≡ F.tree files.old }
     ensures closed { F.is_open files.old ≡ false → F.is_open files.new ≡ false }
 {

@@ -37,7 +37,7 @@ fn rule_count(modules: &[Module], table: &Table, number: u32) -> u32
 }
 
 /// The target of a rule, which has this place in that module.
-fn target_in(
+pub(crate) fn target_in(
     modules: &[Module],
     table: &Table,
     number: u32,
@@ -107,7 +107,8 @@ fn binds(entry: Option<Entry>) -> bool
 impl PackageSet {
     ghost use Rattle.std.specs.Prelude.{None, Some, chars, false, length};
     ghost use Rattle.rpl_package.specs.Sets.{set_seen};
-    ghost use Rattle.rpl_package.specs.Views.{row_found, rule_found, site_found, expr_found, head_found, head_seen, spot_found, site_seen};
+    ghost use Rattle.rpl_package.specs.Views.{row_found, rule_found, site_found, expr_found, head_found, head_seen};
+    ghost use Rattle.rpl_package.specs.Views.{spot_found, site_seen};
     ghost use Rattle.rpl_package.specs.Tables.{rows};
     ghost use Rattle.rpl_package.specs.Targets as T;
 
@@ -271,7 +272,12 @@ impl PackageSet {
 
     /// What is known of a rule that no statement made.
     fn built_in<'a>(&self, name: &'a str) -> RuleHead<'a>
-        ensures { head_seen result ≡ record { name = chars name.now; from = (set_seen self.now).top; block = None; captures = false } }
+        ensures { head_seen result ≡ record {
+          name = chars name.now;
+          from = (set_seen self.now).top;
+          block = None;
+          captures = false;
+        } }
     {
         RuleHead {
             name,

@@ -1,11 +1,13 @@
 // The roots of a command, one after the other.
 ghost use Rattle.std.specs.Prelude.{◌≡◌, ◌<◌, [], ◌∷◌, OnOk, IfOk, Some, None, false, encode_utf8_all};
+ghost use Rattle.rosie_io.specs.Loading.{NotFewer};
 ghost use Rattle.rpl_syntax.specs.Modules.{said};
 ghost use Rattle.rpl_package.specs.Asking.{Walks, and_then};
 ghost use Rattle.rpl_scope.specs.Faults.{Gives};
 ghost use Rattle.rpl_package.specs.Loading.{world};
 ghost use Rattle.rpl_package.specs.Reading.{HasCause};
-ghost use Rattle.rpl_package.specs.Roots.{top_head, next, given_name, root_by, load_roots, named_root, root_text, read_root, file_root, asked_root};
+ghost use Rattle.rpl_package.specs.Roots.{top_head, next, given_name, root_by, load_roots, named_root, root_text};
+ghost use Rattle.rpl_package.specs.Roots.{read_root, file_root, asked_root};
 ghost use Rattle.rpl_package.specs.Stocks.{state_seen};
 ghost use Rattle.rpl_package.specs.Texts.{module_text};
 
@@ -50,9 +52,12 @@ fn enter_named<F: Files>(
     requires name { text.now.package ≡ Some name.now }
     requires held { stock.old.held.items ≡ top_head ∷ [] }
     ensures gives { F.tells → Walks (λ n. (n, state_seen stock.new own.new)) result
-        (named_root (world (F.tree files.old) folders.now) file.now (said text.now) name.now (state_seen stock.old own.old)) }
+        (named_root (world (F.tree files.old) folders.now) file.now (said text.now) name.now
+        (state_seen stock.old own.old)) }
     ensures held { OnOk result (stock.new.held.items ≡ stock.old.held.items) }
-    ensures cause { HasCause result (F.faults files.old) (F.faults files.new) (F.failed_opens files.old) (F.failed_opens files.new) }
+    ensures cause { HasCause result (F.faults files.old) (F.faults files.new)
+        (F.failed_opens files.old) (F.failed_opens files.new) }
+    ensures taken { NotFewer (F.taken files.old) (F.taken files.new) }
     ensures tree { F.tree files.new ≡ F.tree files.old }
     ensures closed { F.is_open files.old ≡ false → F.is_open files.new ≡ false }
 {
@@ -93,9 +98,12 @@ pub fn enter_root<F: Files>(
 ) -> Result<Option<u32>, Stop>
     requires held { stock.old.held.items ≡ top_head ∷ [] }
     ensures gives { F.tells → Walks (λ n. (n, state_seen stock.new own.new)) result
-        (root_text (world (F.tree files.old) folders.now) file.now (said text.now) (said text.now).name (state_seen stock.old own.old)) }
+        (root_text (world (F.tree files.old) folders.now) file.now (said text.now) (said text.now).name
+        (state_seen stock.old own.old)) }
     ensures held { OnOk result (stock.new.held.items ≡ stock.old.held.items) }
-    ensures cause { HasCause result (F.faults files.old) (F.faults files.new) (F.failed_opens files.old) (F.failed_opens files.new) }
+    ensures cause { HasCause result (F.faults files.old) (F.faults files.new)
+        (F.failed_opens files.old) (F.failed_opens files.new) }
+    ensures taken { NotFewer (F.taken files.old) (F.taken files.new) }
     ensures tree { F.tree files.new ≡ F.tree files.old }
     ensures closed { F.is_open files.old ≡ false → F.is_open files.new ≡ false }
 {
@@ -143,9 +151,12 @@ pub fn enter_given<F: Files>(
 ) -> Result<Option<u32>, Stop>
     requires held { stock.old.held.items ≡ top_head ∷ [] }
     ensures gives { F.tells → Walks (λ n. (n, state_seen stock.new own.new)) result
-        (read_root (world (F.tree files.old) folders.now) file.now (encode_utf8_all text.now) (state_seen stock.old own.old)) }
+        (read_root (world (F.tree files.old) folders.now) file.now (encode_utf8_all text.now)
+        (state_seen stock.old own.old)) }
     ensures held { OnOk result (stock.new.held.items ≡ stock.old.held.items) }
-    ensures cause { HasCause result (F.faults files.old) (F.faults files.new) (F.failed_opens files.old) (F.failed_opens files.new) }
+    ensures cause { HasCause result (F.faults files.old) (F.faults files.new)
+        (F.failed_opens files.old) (F.failed_opens files.new) }
+    ensures taken { NotFewer (F.taken files.old) (F.taken files.new) }
     ensures tree { F.tree files.new ≡ F.tree files.old }
     ensures closed { F.is_open files.old ≡ false → F.is_open files.new ≡ false }
 {
@@ -171,9 +182,12 @@ pub fn enter_file<F: Files>(
 ) -> Result<Option<u32>, Stop>
     requires held { stock.old.held.items ≡ top_head ∷ [] }
     ensures gives { F.tells → Walks (λ n. (n, state_seen stock.new own.new)) result
-        (and_then (asked_root (world (F.tree files.old) folders.now) path.now) (file_root (world (F.tree files.old) folders.now) path.now (state_seen stock.old own.old))) }
+        (and_then (asked_root (world (F.tree files.old) folders.now) path.now)
+        (file_root (world (F.tree files.old) folders.now) path.now (state_seen stock.old own.old))) }
     ensures held { OnOk result (stock.new.held.items ≡ stock.old.held.items) }
-    ensures cause { HasCause result (F.faults files.old) (F.faults files.new) (F.failed_opens files.old) (F.failed_opens files.new) }
+    ensures cause { HasCause result (F.faults files.old) (F.faults files.new)
+        (F.failed_opens files.old) (F.failed_opens files.new) }
+    ensures taken { NotFewer (F.taken files.old) (F.taken files.new) }
     ensures tree { F.tree files.new ≡ F.tree files.old }
     ensures closed { F.is_open files.old ≡ false → F.is_open files.new ≡ false }
 {
@@ -225,7 +239,9 @@ fn enter_one<F: Files>(
     ensures gives { F.tells → Walks (λ n. (n, state_seen stock.new own.new)) result
         (root_by (world (F.tree files.old) folders.now) given root.now (state_seen stock.old own.old)) }
     ensures held { OnOk result (stock.new.held.items ≡ stock.old.held.items) }
-    ensures cause { HasCause result (F.faults files.old) (F.faults files.new) (F.failed_opens files.old) (F.failed_opens files.new) }
+    ensures cause { HasCause result (F.faults files.old) (F.faults files.new)
+        (F.failed_opens files.old) (F.failed_opens files.new) }
+    ensures taken { NotFewer (F.taken files.old) (F.taken files.new) }
     ensures tree { F.tree files.new ≡ F.tree files.old }
     ensures closed { F.is_open files.old ≡ false → F.is_open files.new ≡ false }
 {
@@ -257,9 +273,12 @@ pub fn enter_roots<F: Files>(
 ) -> Result<Vec<Option<u32>>, Stop>
     requires held { stock.old.held.items ≡ top_head ∷ [] }
     ensures gives { F.tells → Walks (λ into. record { roots = into.items; state = state_seen stock.new own.new }) result
-        (load_roots (world (F.tree files.old) folders.now) roots.now (record { roots = []; state = state_seen stock.old own.old })) }
+        (load_roots (world (F.tree files.old) folders.now) roots.now
+        (record { roots = []; state = state_seen stock.old own.old })) }
     ensures held { OnOk result (stock.new.held.items ≡ stock.old.held.items) }
-    ensures cause { HasCause result (F.faults files.old) (F.faults files.new) (F.failed_opens files.old) (F.failed_opens files.new) }
+    ensures cause { HasCause result (F.faults files.old) (F.faults files.new)
+        (F.failed_opens files.old) (F.failed_opens files.new) }
+    ensures taken { NotFewer (F.taken files.old) (F.taken files.new) }
     ensures tree { F.tree files.new ≡ F.tree files.old }
     ensures closed { F.is_open files.old ≡ false → F.is_open files.new ≡ false }
 {

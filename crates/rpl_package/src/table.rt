@@ -100,7 +100,8 @@ fn push_rules(
     rules: &[Rule],
 ) -> Result<u32, Stop>
     requires few { 2 + length rows.old.items ≤ 4294967295 }
-    ensures rows { OnOk result (rows.new.items ≡ rows.old.items ++ rows_of label.now from 0 blocks (rules_seen rules.now)) }
+    ensures rows { OnOk result (rows.new.items ≡ rows.old.items ++ rows_of label.now from 0 blocks
+        (rules_seen rules.now)) }
     ensures few { OnOk result (2 + length rows.new.items ≤ 4294967295) }
     ensures blocks { IfOk result (λ n. n ≡ begun_in blocks 0 (rules_seen rules.now)) }
     ensures memory { IfErr result (λ s. s ≡ OutOfMemory) }

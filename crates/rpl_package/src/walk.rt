@@ -1,9 +1,11 @@
 // The walk over a text and all that it imports.
 ghost use Rattle.std.specs.Prelude.{◌≡◌, ◌<◌, ℕ, List, OnOk, IfOk, IfErr, Some, None, false, length, [], ◌∷◌, ◌++◌};
+ghost use Rattle.rosie_io.specs.Loading.{NotFewer};
 ghost use Rattle.rpl_syntax.specs.Modules.{said};
 ghost use Rattle.rpl_package.specs.Asking.{Walks};
 ghost use Rattle.rpl_package.specs.Kept.{Keeps};
-ghost use Rattle.rpl_package.specs.Loading.{world, walk, reach, import_entry, import_entries, checks, own_text, label_of, label_at, with_text};
+ghost use Rattle.rpl_package.specs.Loading.{world, walk, reach, import_entry, import_entries, checks, own_text};
+ghost use Rattle.rpl_package.specs.Loading.{label_of, label_at, with_text};
 ghost use Rattle.rpl_package.specs.Reading.{IsRead, HasCause};
 ghost use Rattle.rpl_scope.specs.Seen.{module_seen};
 ghost use Rattle.rpl_scope.specs.declared.fault.Stop.TheVariants.{Memory as OutOfMemory};
@@ -49,10 +51,13 @@ pub fn reach<F: Files>(
     depth: usize,
 ) -> Result<u32, Stop>
     ensures gives { F.tells → Walks (λ n. (n, stock_seen stock.new)) result
-        (reach (world (F.tree files.old) folders.now) (walk (world (F.tree files.old) folders.now) depth) stock.old.held.items file.now import.now (stock_seen stock.old)) }
+        (reach (world (F.tree files.old) folders.now) (walk (world (F.tree files.old) folders.now) depth)
+        stock.old.held.items file.now import.now (stock_seen stock.old)) }
     ensures held { OnOk result (stock.new.held.items ≡ stock.old.held.items) }
     ensures kept { Keeps (stock_seen stock.old) (stock_seen stock.new) }
-    ensures cause { HasCause result (F.faults files.old) (F.faults files.new) (F.failed_opens files.old) (F.failed_opens files.new) }
+    ensures cause { HasCause result (F.faults files.old) (F.faults files.new)
+        (F.failed_opens files.old) (F.failed_opens files.new) }
+    ensures taken { NotFewer (F.taken files.old) (F.taken files.new) }
     ensures tree { F.tree files.new ≡ F.tree files.old }
     ensures closed { F.is_open files.old ≡ false → F.is_open files.new ≡ false }
 {
@@ -113,10 +118,13 @@ fn load_module<F: Files>(
     depth: usize,
 ) -> Result<Module, Stop>
     ensures gives { F.tells → (bytes : List ℕ) → IsRead found.read bytes → Walks (λ m. state_seen stock.new m) result
-        (walk (world (F.tree files.old) folders.now) depth (stock_seen stock.old) stock.old.held.items found.file path.now bytes) }
+        (walk (world (F.tree files.old) folders.now) depth (stock_seen stock.old) stock.old.held.items found.file
+        path.now bytes) }
     ensures held { OnOk result (stock.new.held.items ≡ stock.old.held.items) }
     ensures kept { Keeps (stock_seen stock.old) (stock_seen stock.new) }
-    ensures cause { HasCause result (F.faults files.old) (F.faults files.new) (F.failed_opens files.old) (F.failed_opens files.new) }
+    ensures cause { HasCause result (F.faults files.old) (F.faults files.new)
+        (F.failed_opens files.old) (F.failed_opens files.new) }
+    ensures taken { NotFewer (F.taken files.old) (F.taken files.new) }
     ensures tree { F.tree files.new ≡ F.tree files.old }
     ensures closed { F.is_open files.old ≡ false → F.is_open files.new ≡ false }
 {
@@ -164,10 +172,13 @@ pub fn load_own<F: Files>(
 ) -> Result<Module, Stop>
     requires { at ≡ label_at text.now.package }
     ensures gives { F.tells → Walks (λ m. state_seen stock.new m) result
-        (own_text (world (F.tree files.old) folders.now) (walk (world (F.tree files.old) folders.now) depth) (stock_seen stock.old) stock.old.held.items file.now path label (said text.now)) }
+        (own_text (world (F.tree files.old) folders.now) (walk (world (F.tree files.old) folders.now) depth)
+        (stock_seen stock.old) stock.old.held.items file.now path label (said text.now)) }
     ensures held { OnOk result (stock.new.held.items ≡ stock.old.held.items) }
     ensures kept { Keeps (stock_seen stock.old) (stock_seen stock.new) }
-    ensures cause { HasCause result (F.faults files.old) (F.faults files.new) (F.failed_opens files.old) (F.failed_opens files.new) }
+    ensures cause { HasCause result (F.faults files.old) (F.faults files.new)
+        (F.failed_opens files.old) (F.failed_opens files.new) }
+    ensures taken { NotFewer (F.taken files.old) (F.taken files.new) }
     ensures tree { F.tree files.new ≡ F.tree files.old }
     ensures closed { F.is_open files.old ≡ false → F.is_open files.new ≡ false }
 {
@@ -198,10 +209,13 @@ pub fn load_text<F: Files>(
     depth: usize,
 ) -> Result<(), Stop>
     ensures gives { F.tells → Walks (λ _. state_seen stock.new own.new) result
-        (checks (world (F.tree files.old) folders.now) (walk (world (F.tree files.old) folders.now) depth) stock.old.held.items file.now (said text.now) (state_seen stock.old own.old)) }
+        (checks (world (F.tree files.old) folders.now) (walk (world (F.tree files.old) folders.now) depth)
+        stock.old.held.items file.now (said text.now) (state_seen stock.old own.old)) }
     ensures held { OnOk result (stock.new.held.items ≡ stock.old.held.items) }
     ensures kept { Keeps (stock_seen stock.old) (stock_seen stock.new) }
-    ensures cause { HasCause result (F.faults files.old) (F.faults files.new) (F.failed_opens files.old) (F.failed_opens files.new) }
+    ensures cause { HasCause result (F.faults files.old) (F.faults files.new)
+        (F.failed_opens files.old) (F.failed_opens files.new) }
+    ensures taken { NotFewer (F.taken files.old) (F.taken files.new) }
     ensures tree { F.tree files.new ≡ F.tree files.old }
     ensures closed { F.is_open files.old ≡ false → F.is_open files.new ≡ false }
 {
@@ -230,10 +244,13 @@ pub fn enter_imports<F: Files>(
     depth: usize,
 ) -> Result<(), Stop>
     ensures gives { F.tells → Walks (λ _. state_seen stock.new own.new) result
-        (import_entries (world (F.tree files.old) folders.now) (walk (world (F.tree files.old) folders.now) depth) stock.old.held.items file.now imports.now (state_seen stock.old own.old)) }
+        (import_entries (world (F.tree files.old) folders.now) (walk (world (F.tree files.old) folders.now) depth)
+        stock.old.held.items file.now imports.now (state_seen stock.old own.old)) }
     ensures held { OnOk result (stock.new.held.items ≡ stock.old.held.items) }
     ensures kept { Keeps (stock_seen stock.old) (stock_seen stock.new) }
-    ensures cause { HasCause result (F.faults files.old) (F.faults files.new) (F.failed_opens files.old) (F.failed_opens files.new) }
+    ensures cause { HasCause result (F.faults files.old) (F.faults files.new)
+        (F.failed_opens files.old) (F.failed_opens files.new) }
+    ensures taken { NotFewer (F.taken files.old) (F.taken files.new) }
     ensures tree { F.tree files.new ≡ F.tree files.old }
     ensures closed { F.is_open files.old ≡ false → F.is_open files.new ≡ false }
 {
@@ -258,10 +275,13 @@ fn enter_import<F: Files>(
     depth: usize,
 ) -> Result<(), Stop>
     ensures gives { F.tells → Walks (λ _. state_seen stock.new own.new) result
-        (import_entry (world (F.tree files.old) folders.now) (walk (world (F.tree files.old) folders.now) depth) stock.old.held.items file.now import.now (state_seen stock.old own.old)) }
+        (import_entry (world (F.tree files.old) folders.now) (walk (world (F.tree files.old) folders.now) depth)
+        stock.old.held.items file.now import.now (state_seen stock.old own.old)) }
     ensures held { OnOk result (stock.new.held.items ≡ stock.old.held.items) }
     ensures kept { Keeps (stock_seen stock.old) (stock_seen stock.new) }
-    ensures cause { HasCause result (F.faults files.old) (F.faults files.new) (F.failed_opens files.old) (F.failed_opens files.new) }
+    ensures cause { HasCause result (F.faults files.old) (F.faults files.new)
+        (F.failed_opens files.old) (F.failed_opens files.new) }
+    ensures taken { NotFewer (F.taken files.old) (F.taken files.new) }
     ensures tree { F.tree files.new ≡ F.tree files.old }
     ensures closed { F.is_open files.old ≡ false → F.is_open files.new ≡ false }
 {

@@ -3,6 +3,7 @@ use Rattle.std.specs.Prelude.{encode_utf8_all}
 use Rattle.std.specs.List.{Contains}
 use Rattle.rosie_io.specs.Opening.{file_of}
 use Rattle.rpl_package.specs.Loading.{file_in}
+use Rattle.rpl_package.proofs.Causes.{fewer}
 use Rattle.rpl_package.proofs.Locating.{asks_more, asks_first, asks_next, finds_next}
 use Rattle.rpl_package.proofs.locate.locate.Goals as goal
 
@@ -30,6 +31,7 @@ loop-folder-preserved g c =
       tree = c.in-Ok-None.ensures.tree ∙ inv.tree;
       reads = c.in-Ok-None.ensures.cause.0 ∙ inv.reads;
       opens = c.in-Ok-None.ensures.cause.1 ∙ inv.opens;
+      taken = fewer _ _ _ inv.taken c.in-Ok-None.ensures.taken;
       closed = λ _. c.in-Ok-None.ensures.closed;
       more = λ tells p h.
           let none = rw c.in-Ok-None.field-0-is at c.in-Ok-None.ensures.found tells in

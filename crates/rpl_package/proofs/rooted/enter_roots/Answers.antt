@@ -5,6 +5,7 @@ use Rattle.rpl_package.specs.Asking.{at_once, each_in_turn}
 use Rattle.rpl_package.specs.Loading.{world}
 use Rattle.rpl_package.specs.Roots.{Roots, counted, next, root_by, root_entry}
 use Rattle.rpl_package.specs.Stocks.{state_seen}
+use Rattle.rpl_package.proofs.Causes.{fewer}
 use Rattle.rpl_package.proofs.Outcomes.{same, trail, may_lead, may_then, turn_on, turn_stop}
 use Rattle.rpl_package.proofs.Rooting.{counted_front}
 use Rattle.rpl_package.proofs.rooted.enter_roots.Goals as goal
@@ -42,6 +43,7 @@ loop-root-preserved g c =
       tree = c.in-Ok.ensures.tree ∙ inv.tree;
       reads = c.in-Ok.ensures.cause.0 ∙ inv.reads;
       opens = c.in-Ok.ensures.cause.1 ∙ inv.opens;
+      taken = fewer _ _ _ inv.taken c.in-Ok.ensures.taken;
       closed = λ o. c.in-Ok.ensures.closed (inv.closed o);
       held = c.in-Ok.ensures.held ∙ inv.held;
       left = λ tells.

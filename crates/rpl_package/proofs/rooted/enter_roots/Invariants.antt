@@ -1,4 +1,5 @@
 use Rattle.std.proofs.Common.{◌≡◌, drop, false, []}
+use Rattle.rosie_io.specs.Loading.{NotFewer}
 use Rattle.rpl_package.specs.Asking.{each_in_turn}
 use Rattle.rpl_package.specs.Loading.{world}
 use Rattle.rpl_package.specs.Roots.{counted, root_entry}
@@ -12,6 +13,7 @@ invariant-loop-root g l =
       tree : g.F.Source.tree l.files ≡ g.F.Source.tree l.fn.files;
       reads : g.F.Source.faults l.files ≡ g.F.Source.faults l.fn.files;
       opens : g.F.Source.failed_opens l.files ≡ g.F.Source.failed_opens l.fn.files;
+      taken : NotFewer (g.F.Source.taken l.fn.files) (g.F.Source.taken l.files);
       closed : g.F.Source.is_open l.fn.files ≡ false → g.F.Source.is_open l.files ≡ false;
       held : l.stock.held.items ≡ l.fn.stock.held.items;
       left : g.F.Source.tells → Follows

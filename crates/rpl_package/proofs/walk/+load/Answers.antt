@@ -1,4 +1,5 @@
-use Rattle.std.proofs.Common.{drop, length, ◌+◌, true, ◌≡◌, ◌≢◌, ◌++◌, ◌∷◌, [], Some, ap, ap₂, sym, subst, ◌∙◌, ◌-◌, refl, arith}
+use Rattle.std.proofs.Common.{drop, length, ◌+◌, true, ◌≡◌, ◌≢◌, ◌++◌, ◌∷◌, [], Some, ap, ap₂, sym, subst, ◌∙◌, ◌-◌}
+use Rattle.std.proofs.Common.{refl, arith}
 use Rattle.std.specs.Prelude.{Ok, nat_lt}
 use Rattle.std.proofs.lemmas.List.{length-map}
 use Rattle.std.proofs.lemmas.Bool.Decides.{nat_tests}
@@ -8,7 +9,7 @@ use Rattle.rpl_package.specs.Asking.{Outcome, at_once}
 use Rattle.rpl_package.specs.Loading.{State, is_loading, world, walk, own_text, checks, label_of, import_entry}
 use Rattle.rpl_package.specs.Stocks.{stock_seen, state_seen}
 use Rattle.rpl_package.specs.Texts.{module_text}
-use Rattle.rpl_package.proofs.Causes.{loud_cause}
+use Rattle.rpl_package.proofs.Causes.{fewer, loud_cause}
 use Rattle.rpl_package.proofs.Outcomes.{same, trail, may, may_then, may_lead, then_follows, turn_on, turn_stop}
 use Rattle.rpl_package.proofs.Walking.{own_free, walk_is, reach_fresh, reach_unread, reach_stopped}
 use Rattle.rpl_package.proofs.Keeping.{keeps_trans}
@@ -161,6 +162,7 @@ enter_imports-loop-import-preserved g t c =
       tree = c.in_default.ensures.tree ∙ inv.tree;
       reads = c.in_default.ensures.cause.0 ∙ inv.reads;
       opens = c.in_default.ensures.cause.1 ∙ inv.opens;
+      taken = fewer _ _ _ inv.taken c.in_default.ensures.taken;
       closed = λ o. c.in_default.ensures.closed (inv.closed o);
       held = c.in_default.ensures.held ∙ inv.held;
       kept = keeps_trans _ _ _ inv.kept c.in_default.ensures.kept;

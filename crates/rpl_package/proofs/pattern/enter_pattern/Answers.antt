@@ -1,0 +1,41 @@
+use Rattle.std.proofs.Common.{rules, refl, ap, sym, ◌∙◌}
+use Rattle.std.specs.Prelude.{Ok, codes}
+use Rattle.std.proofs.lemmas.Str.{chars-IsAscii}
+use Rattle.rpl_syntax.specs.View.{expr_of}
+use Rattle.rpl_scope.specs.Faults.{◌>>=◌}
+use Rattle.rpl_package.specs.Asking.{at_once, and_then}
+use Rattle.rpl_package.specs.Goals.{pattern_file}
+use Rattle.rpl_package.specs.Loading.{world}
+use Rattle.rpl_package.specs.Patterns.{enter_pattern}
+use Rattle.rpl_package.specs.Stocks.{stock_seen}
+use Rattle.rpl_package.proofs.Causes.{loud_cause}
+use Rattle.rpl_package.proofs.Outcomes.{same, may_lead, may_then, then_follows}
+use Rattle.rpl_package.proofs.pattern.enter_pattern.Goals as goal
+
+pub read_goal-requires : goal.read_goal-requires
+read_goal-requires g c = c.in_ok-file.ensures ∙ chars-IsAscii (codes "(pattern)") (search rules)
+
+pub returns-in-Err-clause-cause : goal.returns-in-Err-clause-cause
+returns-in-Err-clause-cause g c = loud_cause c.in-Err.stop _ _ _ _ c.in-Err.ensures.loud refl refl
+
+pub returns-in-Err-enter_expr-clause-gives : goal.returns-in-Err-enter_expr-clause-gives
+returns-in-Err-enter_expr-clause-gives g c = λ tells r h.
+    let W = world (g.F.Source.tree c.args.files.now) c.args.folders.now in
+    let S = stock_seen c.args.stock.now in
+    let i = c.args.top in
+    let x = expr_of c.in-Ok.e in
+    let file = c.in_ok-file.ensures ∙ chars-IsAscii (codes "(pattern)") (search rules) in
+    let s = c.in-Err-enter_expr.stop in
+    may_lead s _ _ (then_follows (at_once r) x (λ e. and_then (enter_pattern W pattern_file i S e) (λ t. at_once (Ok (e, t)))) (c.in-Ok.ensures.gives r h))
+    (may_then s (enter_pattern W pattern_file i S x) (λ t. at_once (Ok (x, t)))
+    (may_lead s _ _ (same _ _ (ap (λ f. enter_pattern W f i S x) file)) (c.in-Err-enter_expr.ensures.gives tells)))
+
+pub returns-clause-gives : goal.returns-clause-gives
+returns-clause-gives g c = λ tells r h.
+    let W = world (g.F.Source.tree c.args.files.now) c.args.folders.now in
+    let S = stock_seen c.args.stock.now in
+    let i = c.args.top in
+    let x = expr_of c.in-Ok.e in
+    let file = c.in_ok-file.ensures ∙ chars-IsAscii (codes "(pattern)") (search rules) in
+    ap (λ q. q >>= λ y. (and_then (enter_pattern W pattern_file i S y) (λ t. at_once (Ok (y, t)))).answer) (c.in-Ok.ensures.gives r h)
+    ∙ ap (λ q. q >>= λ t. Ok (x, t)) (ap (λ f. (enter_pattern W f i S x).answer) (sym file) ∙ c.in_default.ensures.gives tells)

@@ -1,0 +1,70 @@
+// What a set tells of its modules, of its roots, and of a name that a module binds itself.
+ghost use Rattle.std.specs.Prelude.{◌≡◌};
+ghost use Rattle.rpl_scope.specs.Seen.{modules_seen};
+ghost use Rattle.rpl_package.specs.Owned as O;
+ghost use Rattle.rpl_package.specs.Stocks.{IsTable};
+
+use crate::resolve::target_in;
+use crate::set::PackageSet;
+use crate::table::Table;
+use crate::targets::Target;
+use rpl_scope::{Entry, Module, Referent};
+
+/// The target of an entry of the module with this number, where a statement of it made it and it isn't hidden.
+fn own_entry(modules: &[Module], table: &Table, number: u32, entry: Entry) -> Option<Target>
+    requires { IsTable table.now (modules_seen modules.now) }
+    ensures { result ≡ O.own_entry (modules_seen modules.now) number entry }
+{
+    if entry.hidden {
+        return None;
+    }
+    match entry.referent {
+        Referent::Own(place) => match target_in(modules, table, number, place) {
+            Ok(target) => Some(target),
+            Err(_) => None,
+        },
+        _ => None,
+    }
+}
+
+impl PackageSet {
+    ghost use Rattle.std.specs.Prelude.{chars};
+    ghost use Rattle.rpl_package.specs.Owned as O;
+    ghost use Rattle.rpl_package.specs.Sets.{set_seen};
+    ghost use Rattle.rpl_package.specs.Views.{text_found};
+
+    /// The module into which the root with this number, from 0, was read; None exactly where there is no such root.
+    pub fn root_module(&self, root: usize) -> Option<u32>
+        ensures { result ≡ O.root_module (set_seen self.now) root }
+    {
+        match self.roots.get(root) {
+            None => None,
+            Some(None) => Some(self.top),
+            Some(Some(number)) => Some(*number),
+        }
+    }
+
+    /// The package name of a module, the empty text for the top module; None exactly where there is no such module.
+    pub fn package(&self, number: u32) -> Option<&str>
+        ensures { text_found result ≡ O.package_name (set_seen self.now) number }
+    {
+        match self.stock.modules.get(number as usize) {
+            None => None,
+            Some(from) => Some(from.label.as_str()),
+        }
+    }
+
+    /// The target of a name that a statement of this module binds, a `local` one too; None exactly where no statement
+    /// of it binds the name, or the name is a hidden rule.
+    pub fn own(&self, number: u32, name: &str) -> Option<Target>
+        ensures { result ≡ O.own (set_seen self.now) number (chars name.now) }
+    {
+        match self.stock.modules.get(number as usize) {
+            None => None,
+            Some(from) => match from.names.get_text(name) {
+                None => None,
+                Some(entry) => own_entry(&self.stock.modules, &self.table, number, entry),
+            },
+        }
+    }
+}

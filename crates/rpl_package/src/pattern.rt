@@ -1,0 +1,312 @@
+// The pattern: its text, the packages that it imports, its names and its macros.
+ghost use Rattle.std.specs.Prelude.{◌≡◌, [], IfErr, IfOk, OnOk, false, map};
+ghost use Rattle.rosie_io.specs.Loading.{NotFewer};
+ghost use Rattle.rpl_syntax.specs.Expression.{Expr as Said};
+ghost use Rattle.rpl_syntax.specs.View.{expr_of};
+ghost use Rattle.rpl_scope.specs.Bodies.{names};
+ghost use Rattle.rpl_scope.specs.Faults.{Checks, Gives, Or};
+ghost use Rattle.rpl_package.specs.Asking.{Walks, each_in_turn};
+ghost use Rattle.rpl_package.specs.Goals.{ReadsGoal, ReadsText, pattern_file, sought};
+ghost use Rattle.rpl_package.specs.Loading as L;
+ghost use Rattle.rpl_package.specs.Loading.{world};
+ghost use Rattle.rpl_package.specs.Marks.{CutsTo};
+ghost use Rattle.rpl_package.specs.Patterns.{enter_pattern, goal_entered, pattern_fault, pattern_name, put_by};
+ghost use Rattle.rpl_package.specs.Patterns.{wanted, wanted_at};
+ghost use Rattle.rpl_package.specs.Reading.{HasCause, IsLoud};
+ghost use Rattle.rpl_package.specs.Stocks.{stock_seen};
+ghost use Rattle.rpl_scope.specs.Packages.{nth};
+ghost use Rattle.rpl_scope.specs.Seen.{module_seen, modules_seen};
+
+use crate::locate::MOST_BYTES;
+use crate::reading::{lex_stop, parse_stop};
+use crate::stock::Stock;
+use crate::walk::{MOST_MODULES, reach};
+use rosie_io::Files;
+use rpl_lexer::{cut_computes, lex};
+use rpl_parser::{one_pattern, parse_pattern};
+use rpl_scope::{
+    LoadKind, Module, NoMemory, Stop, add_prefix, check_macros, check_names, fault_at, push_names,
+    push_uses,
+};
+use rpl_syntax::{Expr, Import, ImportAs, QName};
+use rpl_text::Chars;
+use std::alloc::Global;
+
+/// What is looked for: the text of a pattern.
+#[derive(Clone, Copy, Debug)]
+pub struct Goal<'a> {
+    pub text: &'a str,
+    /// The text is a literal, and not RPL.
+    pub fixed: bool,
+    /// It is looked for wherever it stands.
+    pub find: bool,
+}
+
+/// What a pattern that is searched for is: it is found wherever it stands.
+fn sought(alloc: Global, find: bool, e: Expr) -> Result<Expr, NoMemory>
+    ensures { IfOk result (λ x. expr_of x ≡ sought find (expr_of e)) }
+{
+    if !find {
+        return Ok(e);
+    }
+    let name = QName {
+        prefix: None,
+        name: Chars::from_str(alloc, "findall")?,
+        at: 0,
+    };
+    let arg = Box::new(alloc, e)?;
+    Ok(Expr::Macro { name, arg })
+}
+
+/// A text that isn't too long, as RPL.
+fn read_pattern(alloc: Global, file: &Chars, text: &str, find: bool) -> Result<Expr, Stop>
+    requires { file.now ≡ pattern_file }
+    ensures gives { (r : Or Said) → ReadsText false find text.now r → Gives expr_of result r }
+    ensures loud { IfErr result IsLoud }
+{
+    cut_computes();
+    one_pattern();
+    let tokens = match lex(alloc, text) {
+        Ok(tokens) => tokens,
+        Err(fault) => return Err(lex_stop(alloc, file, fault)),
+    };
+    match parse_pattern(alloc, text, &tokens) {
+        Ok(e) => Ok(sought(alloc, find, e)?),
+        Err(fault) => Err(parse_stop(alloc, file, fault)),
+    }
+}
+
+/// The expression of a pattern's text.
+#[tactic(auto, using(rpl_scope::proofs::Stops::told, crate::proofs::Causes::told_loud))]
+fn read_goal(alloc: Global, file: &Chars, goal: Goal<'_>) -> Result<Expr, Stop>
+    requires { file.now ≡ pattern_file }
+    ensures gives { (r : Or Said) → ReadsGoal goal.entry.fixed goal.entry.find goal.entry.text.now r
+        → Gives expr_of result r }
+    ensures loud { IfErr result IsLoud }
+{
+    if goal.text.len() > MOST_BYTES {
+        return Err(fault_at(alloc, file, 0, LoadKind::FileTooLong));
+    }
+    if goal.fixed {
+        let text = Chars::from_str(alloc, goal.text)?;
+        return Ok(sought(alloc, goal.find, Expr::Text(text))?);
+    }
+    read_pattern(alloc, file, goal.text, goal.find)
+}
+
+/// The import that a name asks for: none where it has no prefix, or the module has the prefix.
+fn wanted(alloc: Global, own: &Module, name: &QName) -> Result<Option<Import>, NoMemory>
+    ensures { IfOk result (λ i. i ≡ wanted (module_seen own.now) name.now) }
+{
+    let Some(prefix) = &name.prefix else {
+        return Ok(None);
+    };
+    if prefix.as_str().is_empty() {
+        return Ok(None);
+    }
+    if own.prefixes.get(prefix).is_some() {
+        return Ok(None);
+    }
+    let path = prefix.copy(alloc)?;
+    Ok(Some(Import {
+        path,
+        at: name.at,
+        name: ImportAs::Last,
+    }))
+}
+
+/// The import that a name asks for in the top module.
+fn wanted_at(
+    alloc: Global,
+    modules: &[Module],
+    top: u32,
+    name: &QName,
+) -> Result<Option<Import>, NoMemory>
+    ensures { IfOk result (λ i. i ≡ wanted_at name.now (nth (modules_seen modules.now) top)) }
+{
+    match modules.get(top as usize) {
+        None => Ok(None),
+        Some(own) => wanted(alloc, own, name),
+    }
+}
+
+/// The prefix of an import in the top module, for the module with this number.
+fn put(
+    alloc: Global,
+    stock: &mut Stock,
+    top: u32,
+    file: &Chars,
+    import: &Import,
+    number: u32,
+) -> Result<(), Stop>
+    ensures gives { Gives (λ _. stock_seen stock.new) result
+        (put_by file.now import.now number top (stock_seen stock.old) (nth (stock_seen stock.old).modules top)) }
+    ensures held { stock.new.held ≡ stock.old.held }
+    ensures kept { (a : L.Stock) → CutsTo top a (stock_seen stock.old) → CutsTo top a (stock_seen stock.new) }
+{
+    match stock.modules.get_mut(top as usize) {
+        Some(own) => match add_prefix(alloc, own, file, import.at, &import.path, number) {
+            Ok(()) => Ok(()),
+            Err(stop) => Err(stop),
+        },
+        None => Ok(()),
+    }
+}
+
+/// The package that a name of the pattern asks for.
+fn enter_name<F: Files>(
+    alloc: Global,
+    files: &mut F,
+    folders: &[Chars],
+    stock: &mut Stock,
+    top: u32,
+    file: &Chars,
+    name: &QName,
+) -> Result<(), Stop>
+    requires { stock.old.held.items ≡ [] }
+    ensures gives { F.tells → Walks (λ _. stock_seen stock.new) result
+        (pattern_name (world (F.tree files.old) folders.now) file.now top name.now (stock_seen stock.old)) }
+    ensures held { OnOk result (stock.new.held.items ≡ stock.old.held.items) }
+    ensures kept { (a : L.Stock) → CutsTo top a (stock_seen stock.old) → CutsTo top a (stock_seen stock.new) }
+    ensures cause { HasCause result (F.faults files.old) (F.faults files.new)
+        (F.failed_opens files.old) (F.failed_opens files.new) }
+    ensures taken { NotFewer (F.taken files.old) (F.taken files.new) }
+    ensures tree { F.tree files.new ≡ F.tree files.old }
+    ensures closed { F.is_open files.old ≡ false → F.is_open files.new ≡ false }
+{
+    let asked = wanted_at(alloc, &stock.modules, top, name)?;
+    let Some(import) = asked else {
+        return Ok(());
+    };
+    let depth = MOST_MODULES;
+    let number = match reach(alloc, files, folders, stock, file, &import, depth) {
+        Ok(number) => number,
+        Err(stop) => return Err(stop),
+    };
+    if let Err(stop) = put(alloc, stock, top, file, &import, number) {
+        return Err(stop);
+    }
+    Ok(())
+}
+
+/// The packages that the names of a pattern ask for, in order.
+fn enter_names<F: Files>(
+    alloc: Global,
+    files: &mut F,
+    folders: &[Chars],
+    stock: &mut Stock,
+    top: u32,
+    file: &Chars,
+    all: &[&QName],
+) -> Result<(), Stop>
+    requires { stock.old.held.items ≡ [] }
+    ensures gives { F.tells → Walks (λ _. stock_seen stock.new) result
+        (each_in_turn (pattern_name (world (F.tree files.old) folders.now) file.now top) (map (λ q. q.now) all.now)
+        (stock_seen stock.old)) }
+    ensures held { OnOk result (stock.new.held.items ≡ []) }
+    ensures kept { (a : L.Stock) → CutsTo top a (stock_seen stock.old) → CutsTo top a (stock_seen stock.new) }
+    ensures cause { HasCause result (F.faults files.old) (F.faults files.new)
+        (F.failed_opens files.old) (F.failed_opens files.new) }
+    ensures taken { NotFewer (F.taken files.old) (F.taken files.new) }
+    ensures tree { F.tree files.new ≡ F.tree files.old }
+    ensures closed { F.is_open files.old ≡ false → F.is_open files.new ≡ false }
+{
+    for name in all {
+        if let Err(stop) = enter_name(alloc, files, folders, stock, top, file, name) {
+            return Err(stop);
+        }
+    }
+    Ok(())
+}
+
+/// The names of a pattern, and then its macros.
+fn check_pattern(
+    alloc: Global,
+    stock: &Stock,
+    top: u32,
+    file: &Chars,
+    all: &[&QName],
+    e: &Expr,
+) -> Result<(), Stop>
+    requires { map (λ q. q.now) all.now ≡ names (expr_of e.now) }
+    ensures { Checks result (pattern_fault file.now (expr_of e.now) (modules_seen stock.now.modules.items)
+        (nth (modules_seen stock.now.modules.items) top)) }
+{
+    let Some(own) = stock.modules.get(top as usize) else {
+        return Ok(());
+    };
+    let count = own.rules.len();
+    if count > 4_294_967_295 {
+        return Err(Stop::Memory);
+    }
+    if let Err(stop) = check_names(alloc, file, &stock.modules, own, count as u32, all) {
+        return Err(stop);
+    }
+    let mut uses = Vec::new(alloc);
+    push_uses(e, &mut uses)?;
+    check_macros(alloc, file, &uses)
+}
+
+/// A pattern that is read: what it imports, and then its names and its macros.
+fn enter_expr<F: Files>(
+    alloc: Global,
+    files: &mut F,
+    folders: &[Chars],
+    stock: &mut Stock,
+    top: u32,
+    file: &Chars,
+    e: &Expr,
+) -> Result<(), Stop>
+    requires { stock.old.held.items ≡ [] }
+    ensures gives { F.tells → Walks (λ _. stock_seen stock.new) result
+        (enter_pattern (world (F.tree files.old) folders.now) file.now top (stock_seen stock.old) (expr_of e.now)) }
+    ensures held { OnOk result (stock.new.held.items ≡ []) }
+    ensures kept { (a : L.Stock) → CutsTo top a (stock_seen stock.old) → CutsTo top a (stock_seen stock.new) }
+    ensures cause { HasCause result (F.faults files.old) (F.faults files.new)
+        (F.failed_opens files.old) (F.failed_opens files.new) }
+    ensures taken { NotFewer (F.taken files.old) (F.taken files.new) }
+    ensures tree { F.tree files.new ≡ F.tree files.old }
+    ensures closed { F.is_open files.old ≡ false → F.is_open files.new ≡ false }
+{
+    let mut all = Vec::new(alloc);
+    push_names(e, &mut all)?;
+    if let Err(stop) = enter_names(alloc, files, folders, stock, top, file, &all) {
+        return Err(stop);
+    }
+    if let Err(stop) = check_pattern(alloc, stock, top, file, &all, e) {
+        return Err(stop);
+    }
+    Ok(())
+}
+
+/// The expression of a pattern, with all that it imports.
+pub fn enter_pattern<F: Files>(
+    alloc: Global,
+    files: &mut F,
+    folders: &[Chars],
+    stock: &mut Stock,
+    top: u32,
+    goal: Goal<'_>,
+) -> Result<Expr, Stop>
+    requires { stock.old.held.items ≡ [] }
+    ensures gives { F.tells → (r : Or Said) → ReadsGoal goal.entry.fixed goal.entry.find goal.entry.text.now r
+        → Walks (λ e. (expr_of e, stock_seen stock.new)) result
+        (goal_entered (world (F.tree files.old) folders.now) top (stock_seen stock.old) r) }
+    ensures held { OnOk result (stock.new.held.items ≡ []) }
+    ensures kept { (a : L.Stock) → CutsTo top a (stock_seen stock.old) → CutsTo top a (stock_seen stock.new) }
+    ensures cause { HasCause result (F.faults files.old) (F.faults files.new)
+        (F.failed_opens files.old) (F.failed_opens files.new) }
+    ensures taken { NotFewer (F.taken files.old) (F.taken files.new) }
+    ensures tree { F.tree files.new ≡ F.tree files.old }
+    ensures closed { F.is_open files.old ≡ false → F.is_open files.new ≡ false }
+{
+    let file = Chars::from_str(alloc, "(pattern)")?;
+    let e = match read_goal(alloc, &file, goal) {
+        Ok(e) => e,
+        Err(stop) => return Err(stop),
+    };
+    if let Err(stop) = enter_expr(alloc, files, folders, stock, top, &file, &e) {
+        return Err(stop);
+    }
+    Ok(e)
+}

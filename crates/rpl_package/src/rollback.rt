@@ -1,0 +1,117 @@
+// The pattern that is looked for, over a set.
+ghost use Rattle.std.specs.Prelude.{◌≡◌, [], OnErr, false};
+ghost use Rattle.rosie_io.specs.Loading.{NotFewer};
+ghost use Rattle.rpl_syntax.specs.Expression.{Expr as Said};
+ghost use Rattle.rpl_syntax.specs.View.{expr_of};
+ghost use Rattle.rpl_scope.specs.Faults.{Or};
+ghost use Rattle.rpl_package.specs.Asking.{Walks};
+ghost use Rattle.rpl_package.specs.Goals.{ReadsGoal};
+ghost use Rattle.rpl_package.specs.Marks.{cut_back, marks_of, prefixes_of};
+ghost use Rattle.rpl_package.specs.Kept.{with_shortened};
+ghost use Rattle.rpl_scope.specs.Packages.{nth};
+ghost use Rattle.rpl_scope.specs.Seen.{modules_seen};
+ghost use Rattle.rpl_package.specs.Loading.{world};
+ghost use Rattle.rpl_package.specs.Patterns.{load_pattern};
+ghost use Rattle.rpl_package.specs.Reading.{HasCause};
+ghost use Rattle.rpl_package.specs.Sets.{set_seen};
+ghost use Rattle.rpl_package.specs.Stocks.{stock_seen};
+
+use crate::pattern::{Goal, enter_pattern};
+use crate::set::PackageSet;
+use crate::stock::Stock;
+use crate::table::table_of;
+use rosie_io::Files;
+use rpl_scope::{Module, Stop};
+use rpl_syntax::Expr;
+use rpl_text::Chars;
+use std::alloc::Global;
+
+/// How much a set held.
+#[derive(Clone, Copy)]
+struct Marks {
+    modules: usize,
+    paths: usize,
+    labels: usize,
+    prefixes: usize,
+}
+
+/// How many prefixes the top module has.
+fn prefix_count(modules: &[Module], top: u32) -> usize
+    ensures { result ≡ prefixes_of (nth (modules_seen modules.now) top) }
+{
+    match modules.get(top as usize) {
+        Some(own) => own.prefixes.len(),
+        None => 0,
+    }
+}
+
+/// How much a set of modules holds.
+fn marks_of(stock: &Stock, top: u32) -> Marks
+    ensures { result ≡ marks_of (stock_seen stock.now) top }
+{
+    Marks {
+        modules: stock.modules.len(),
+        paths: stock.paths.len(),
+        labels: stock.labels.len(),
+        prefixes: prefix_count(&stock.modules, top),
+    }
+}
+
+/// Keeps the first of the prefixes of the top module alone, as many as that.
+fn shorten(modules: &mut Vec<Module>, top: u32, count: usize)
+    ensures { modules_seen modules.new.items ≡ with_shortened top count (modules_seen modules.old.items) }
+{
+    match modules.get_mut(top as usize) {
+        Some(own) => own.prefixes.truncate(count),
+        None => {}
+    }
+}
+
+/// Lets go of all that it holds besides.
+fn cut_back(stock: &mut Stock, top: u32, marks: Marks)
+    ensures stock { stock_seen stock.new ≡ cut_back top marks (stock_seen stock.old) }
+    ensures held { stock.new.held.items ≡ [] }
+{
+    stock.held.clear();
+    stock.modules.truncate(marks.modules);
+    stock.paths.truncate(marks.paths);
+    stock.labels.truncate(marks.labels);
+    shorten(&mut stock.modules, top, marks.prefixes);
+}
+
+/// The expression of a pattern, and what it imports.
+pub fn enter_goal<F: Files>(
+    alloc: Global,
+    files: &mut F,
+    folders: &[Chars],
+    set: &mut PackageSet,
+    goal: Goal<'_>,
+) -> Result<Expr, Stop>
+    ensures gives { F.tells → (r : Or Said) → ReadsGoal goal.entry.fixed goal.entry.find goal.entry.text.now r
+        → Walks (λ e. (expr_of e, set_seen set.new)) result
+        (load_pattern (world (F.tree files.old) folders.now) (set_seen set.old) r) }
+    ensures kept { OnErr result (set_seen set.new ≡ set_seen set.old) }
+    ensures cause { HasCause result (F.faults files.old) (F.faults files.new)
+        (F.failed_opens files.old) (F.failed_opens files.new) }
+    ensures taken { NotFewer (F.taken files.old) (F.taken files.new) }
+    ensures tree { F.tree files.new ≡ F.tree files.old }
+    ensures closed { F.is_open files.old ≡ false → F.is_open files.new ≡ false }
+{
+    let marks = marks_of(&set.stock, set.top);
+    match enter_pattern(alloc, files, folders, &mut set.stock, set.top, goal) {
+        Err(stop) => {
+            cut_back(&mut set.stock, set.top, marks);
+            Err(stop)
+        }
+        Ok(e) => match table_of(alloc, &set.stock.modules) {
+            Err(stop) => {
+                cut_back(&mut set.stock, set.top, marks);
+                Err(stop)
+            }
+            Ok(table) => {
+                set.table = table;
+                Ok(e)
+            }
+        },
+    }
+}
