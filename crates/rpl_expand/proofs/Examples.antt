@@ -1,13 +1,14 @@
 -- The expansion computes.
 use Rattle.std.proofs.Common.{◌≡◌, ℕ, List, [], ◌∷◌, Some, None, refl}
-use Rattle.std.specs.Prelude.{codes, true, false, Option}
+use Rattle.std.specs.Prelude.{codes, true, false}
 use Rattle.rpl_syntax.specs.declared.name.QName.{QName}
 use Rattle.rpl_syntax.specs.declared.expr.Sign.TheVariants as S
 use Rattle.rpl_syntax.specs.declared.expr.Mark.TheVariants as M
 use Rattle.rpl_syntax.specs.Expression.{Expr, Nil, Cons, one}
 use Rattle.rpl_syntax.specs.Expression as X
-use Rattle.rpl_core.specs.Core.{Core, Set, Seq, Choice, Many, Not, And, Behind, Call, Capture, Note, Start, End, NoMore, Then}
-use Rattle.rpl_classes.specs.Algebra.{folded, others, widened}
+use Rattle.rpl_core.specs.Core.{Core, Set, Seq, Choice, Many, Not, And, Behind, Call, Capture, Note, Start, End}
+use Rattle.rpl_core.specs.Core.{NoMore, Then}
+use Rattle.rpl_classes.specs.Algebra.{others, widened}
 use Rattle.rpl_macro.specs.Casings.{single}
 use Rattle.rpl_macro.specs.Kinds.{kind_of}
 use Rattle.rpl_macro.specs.declared.casing.Casing.TheVariants.{Plain}
@@ -133,7 +134,8 @@ marked : core Plain s (X.Marked M.Skip a) ≡ Capture (codes "find.<search>") A
 marked = refl
 
 -- macros
-search : core Plain s (X.Macro (q (codes "find")) a) ≡ pair (Many (pair (Not A) (Set any))) (Capture (codes "find.*") A)
+search : core Plain s (X.Macro (q (codes "find")) a)
+    ≡ pair (Many (pair (Not A) (Set any))) (Capture (codes "find.*") A)
 unfolding kind_of
 search = refl
 
@@ -150,7 +152,8 @@ cased : core Plain s (X.Macro (q (codes "ci")) (X.Raw (Cons a (one (X.Name (q []
 unfolding kind_of
 cased = refl
 
-cased_class : core Plain s (X.Macro (q (codes "ci")) (X.Class ((97, 97) ∷ []) true)) ≡ Set (others (widened ((97, 97) ∷ [])))
+cased_class : core Plain s (X.Macro (q (codes "ci")) (X.Class ((97, 97) ∷ []) true))
+    ≡ Set (others (widened ((97, 97) ∷ [])))
 unfolding kind_of
 cased_class = refl
 

@@ -5,6 +5,8 @@ pub mod Places
 pub mod Calls
 pub mod Ordering
 pub mod Rooting
+pub mod Standing
+mod Views
 pub mod TableSteps
 pub mod Norms
 pub mod MacroLaw

@@ -1,42 +1,46 @@
 -- The core of a macro is that of the expression that its equation gives.
-use Rattle.std.proofs.Common.{◌≡◌, ◌⊎◌, ℕ, ◌+◌, ◌-◌, List, [], ◌∷◌, Option, Some, None, refl, sym, ap, ap₂, ◌∙◌, subst}
+use Rattle.std.proofs.Common.{◌≡◌, ℕ, ◌+◌, ◌-◌, List, [], ◌∷◌, Option, Some, None, refl, sym, ap, ap₂, ◌∙◌}
 use Rattle.std.specs.Prelude.{Bool, true, false, ◌||◌, if◌then◌else◌}
 use Rattle.regex_class.specs.Ranges.{Range}
-use Rattle.rpl_classes.specs.Algebra.{folded, other_case, others, widened}
 use Rattle.rpl_classes.specs.Classes.{is_upper, is_lower}
-use Rattle.rpl_classes.specs.Norm.{norm}
 use Rattle.rpl_core.specs.Core.{Core, Call, Note, Set, Cores, NoMore, Then}
 use Rattle.rpl_core.specs.Core as C
-use Rattle.rpl_macro.specs.Casings.{recased, recased_all, either_case, either_cases, every_case, pair_of, single, set_in, has_letter, is_letter, keeps_text, under_ci}
-use Rattle.rpl_macro.specs.Kinds.{kind_of, takes_text}
+use Rattle.rpl_macro.specs.Casings.{recased, recased_all, either_case, either_cases, every_case, pair_of, single}
+use Rattle.rpl_macro.specs.Casings.{set_in, has_letter, is_letter, keeps_text, under_ci}
+use Rattle.rpl_macro.specs.Kinds.{kind_of}
 use Rattle.rpl_macro.specs.declared.kind.Macro.{Macro}
-use Rattle.rpl_macro.specs.Laws.{HasNoLetters}
 use Rattle.rpl_macro.specs.Macros.{applied, halt, text_of}
 use Rattle.rpl_macro.specs.declared.casing.Casing.{Casing}
 use Rattle.rpl_macro.specs.declared.casing.Casing.TheVariants.{Plain, Ascii, Folded}
 use Rattle.rpl_macro.specs.declared.kind.Macro.TheVariants.{Find, FindAll, KeepTo, Ci, Uci, Message, Error}
 use Rattle.rpl_macro.proofs.Twice.{alone_widened, lower_widened, upper_widened, widened_twice}
-use Rattle.rpl_syntax.specs.Expression.{Expr, Text, Class, Any, Start, End, Boundary, Name, Cooked, Raw, Choice, Both, Prefix, Repeat, Marked, Exprs, Nil, Cons}
+use Rattle.rpl_syntax.specs.Expression.{Expr, Text, Class, Any, Start, End, Boundary, Name, Cooked, Raw, Choice, Both}
+use Rattle.rpl_syntax.specs.Expression.{Prefix, Repeat, Marked, Exprs, Nil, Cons}
 use Rattle.rpl_syntax.specs.Expression as X
-use Rattle.rpl_syntax.specs.declared.name.QName.{QName}
-use Rattle.rpl_forms.specs.Forms.{casing_under, macro_core, mark_name, halt_rule, pair, repeated, seq_of, sets, signed, spaced_by, text_core}
+use Rattle.rpl_forms.specs.Forms.{casing_under, macro_core, mark_name, halt_rule, pair, repeated, seq_of, sets}
+use Rattle.rpl_forms.specs.Forms.{signed, spaced_by, text_core}
 use Rattle.rpl_expand.specs.Laws.{FoldsOnce}
 use Rattle.rpl_expand.specs.Expansion.{Scope, core, cores, spaced, is_cooked, is_prefix, signed_by}
 
-find_law : (c : Casing) (s : Scope) (p : Expr) → core c s (applied Find p) ≡ macro_core (Some Find) (text_of p) (core c s p)
+find_law : (c : Casing) (s : Scope) (p : Expr)
+    → core c s (applied Find p) ≡ macro_core (Some Find) (text_of p) (core c s p)
 find_law c s p = refl
 
-findall_law : (c : Casing) (s : Scope) (p : Expr) → core c s (applied FindAll p) ≡ macro_core (Some FindAll) (text_of p) (core c s p)
+findall_law : (c : Casing) (s : Scope) (p : Expr)
+    → core c s (applied FindAll p) ≡ macro_core (Some FindAll) (text_of p) (core c s p)
 findall_law c s p = refl
 
-keepto_law : (c : Casing) (s : Scope) (p : Expr) → core c s (applied KeepTo p) ≡ macro_core (Some KeepTo) (text_of p) (core c s p)
+keepto_law : (c : Casing) (s : Scope) (p : Expr)
+    → core c s (applied KeepTo p) ≡ macro_core (Some KeepTo) (text_of p) (core c s p)
 keepto_law c s p = refl
 
-message_law : (c : Casing) (s : Scope) (p : Expr) → core c s (applied Message p) ≡ macro_core (Some Message) (text_of p) (core c s p)
+message_law : (c : Casing) (s : Scope) (p : Expr)
+    → core c s (applied Message p) ≡ macro_core (Some Message) (text_of p) (core c s p)
 message_law c s p = refl
 
 -- the name that `error` uses is bound to the built-in rule in every module
-error_law : (c : Casing) (s : Scope) (p : Expr) → s.rule halt ≡ halt_rule → core c s (applied Error p) ≡ macro_core (Some Error) (text_of p) (core c s p)
+error_law : (c : Casing) (s : Scope) (p : Expr) → s.rule halt ≡ halt_rule
+    → core c s (applied Error p) ≡ macro_core (Some Error) (text_of p) (core c s p)
 error_law c s p h = ap (λ r. pair (Note (text_of p)) (Call r)) h
 
 -- ---- changes of case
@@ -57,17 +61,23 @@ set_after f Folded Plain r = refl
 set_after f Folded Ascii r = f.cases_out r
 set_after f Folded Folded r = f.again r
 
-class_after : FoldsOnce → (k c : Casing) (r : List Range) (negated : Bool) → signed negated (set_in c (set_in k r)) ≡ signed negated (set_in (after k c) r)
+class_after : FoldsOnce → (k c : Casing) (r : List Range) (negated : Bool)
+    → signed negated (set_in c (set_in k r)) ≡ signed negated (set_in (after k c) r)
 class_after f k c r negated = ap (signed negated) (set_after f k c r)
 
 -- one character in either case
 either_by : FoldsOnce → (c : Casing) (s : Scope) (x : ℕ) (u l : Bool) → is_upper x ≡ u → is_lower x ≡ l
-    → core c s (if u then pair_of x (x + 32) else (if l then pair_of x (x - 32) else Text (x ∷ []))) ≡ Set (set_in (under_ci c) (single x))
-either_by f c s x true l e g = ap (λ r. Set (set_in c r)) (sym (upper_widened x e)) ∙ ap Set (set_after f Ascii c (single x))
-either_by f c s x false true e g = ap (λ r. Set (set_in c r)) (sym (lower_widened x e g)) ∙ ap Set (set_after f Ascii c (single x))
-either_by f c s x false false e g = ap (λ r. Set (set_in c r)) (sym (alone_widened x e g)) ∙ ap Set (set_after f Ascii c (single x))
+    → core c s (if u then pair_of x (x + 32) else (if l then pair_of x (x - 32) else Text (x ∷ [])))
+    ≡ Set (set_in (under_ci c) (single x))
+either_by f c s x true l e g =
+    ap (λ r. Set (set_in c r)) (sym (upper_widened x e)) ∙ ap Set (set_after f Ascii c (single x))
+either_by f c s x false true e g =
+    ap (λ r. Set (set_in c r)) (sym (lower_widened x e g)) ∙ ap Set (set_after f Ascii c (single x))
+either_by f c s x false false e g =
+    ap (λ r. Set (set_in c r)) (sym (alone_widened x e g)) ∙ ap Set (set_after f Ascii c (single x))
 
-either_after : FoldsOnce → (c : Casing) (s : Scope) (x : ℕ) → core c s (either_case x) ≡ Set (set_in (under_ci c) (single x))
+either_after : FoldsOnce → (c : Casing) (s : Scope) (x : ℕ)
+    → core c s (either_case x) ≡ Set (set_in (under_ci c) (single x))
 either_after f c s x = either_by f c s x (is_upper x) (is_lower x) refl refl
 
 either_all : FoldsOnce → (c : Casing) (s : Scope) (t : List ℕ) → cores c s (either_cases t) ≡ sets (under_ci c) t
@@ -87,10 +97,13 @@ plain_all : FoldsOnce → (c : Casing) (t : List ℕ) → has_letter t ≡ false
 plain_all f c [] e = refl
 plain_all f c (x ∷ t) e =
     let here = left_false (is_letter x) (has_letter t) e in
-    let alone = alone_widened x (left_false (is_upper x) (is_lower x) here) (right_false (is_upper x) (is_lower x) here) in
-    ap₂ (λ r ps. Then (Set r) ps) (ap (set_in c) (sym alone) ∙ set_after f Ascii c (single x)) (plain_all f c t (right_false (is_letter x) (has_letter t) e))
+    let alone = alone_widened x (left_false (is_upper x) (is_lower x) here)
+    (right_false (is_upper x) (is_lower x) here) in
+    ap₂ (λ r ps. Then (Set r) ps) (ap (set_in c) (sym alone) ∙ set_after f Ascii c (single x))
+    (plain_all f c t (right_false (is_letter x) (has_letter t) e))
 
-ci_text : FoldsOnce → (c : Casing) (s : Scope) (t : List ℕ) (b : Bool) → has_letter t ≡ b → core c s (if b then Raw (either_cases t) else Text t) ≡ text_core (under_ci c) t
+ci_text : FoldsOnce → (c : Casing) (s : Scope) (t : List ℕ) (b : Bool) → has_letter t ≡ b
+    → core c s (if b then Raw (either_cases t) else Text t) ≡ text_core (under_ci c) t
 ci_text f c s t true e = ap seq_of (either_all f c s t)
 ci_text f c s t false e = ap seq_of (plain_all f c t e)
 
@@ -98,7 +111,8 @@ every_all : FoldsOnce → (c : Casing) (s : Scope) (t : List ℕ) → cores c s 
 every_all f c s [] = refl
 every_all f c s (x ∷ t) = ap₂ (λ r ps. Then (Set r) ps) (set_after f Folded c (single x)) (every_all f c s t)
 
-text_after : FoldsOnce → (k c : Casing) (s : Scope) (t : List ℕ) → core c s (recased k (Text t)) ≡ text_core (after k c) t
+text_after : FoldsOnce → (k c : Casing) (s : Scope) (t : List ℕ)
+    → core c s (recased k (Text t)) ≡ text_core (after k c) t
 text_after f Plain c s t = refl
 text_after f Ascii c s t = ci_text f c s t (has_letter t) refl
 text_after f Folded c s [] = refl
@@ -199,9 +213,13 @@ searches (Some Uci) t u p e = refl
 searches (Some Message) t u p e = absurd cc
 searches (Some Error) t u p e = absurd cc
 
-macro_after : (k c : Casing) (s : Scope) (m : Option Macro) (p : Expr) (b : Bool) → keeps_text m ≡ b → core (casing_under m c) s (recased k p) ≡ core (after k (casing_under m c)) s p
-    → macro_core m (text_of (if b then p else recased k p)) (core (casing_under m c) s (if b then p else recased k p)) ≡ macro_core m (text_of p) (core (casing_under m (after k c)) s p)
-macro_after k c s m p true e h = says m (text_of p) (core (casing_under m c) s p) (core (casing_under m (after k c)) s p) e
+macro_after : (k c : Casing) (s : Scope) (m : Option Macro) (p : Expr) (b : Bool) → keeps_text m ≡ b
+    → core (casing_under m c) s (recased k p) ≡ core (after k (casing_under m c)) s p
+    → macro_core m (text_of (if b then p else recased k p))
+    (core (casing_under m c) s (if b then p else recased k p))
+    ≡ macro_core m (text_of p) (core (casing_under m (after k c)) s p)
+macro_after k c s m p true e h =
+    says m (text_of p) (core (casing_under m c) s p) (core (casing_under m (after k c)) s p) e
 macro_after k c s m p false e h =
     ap (macro_core m (text_of (recased k p))) (h ∙ ap (λ d. core d s p) (under_after k c m))
     ∙ searches m (text_of (recased k p)) (text_of p) (core (casing_under m (after k c)) s p) e
@@ -224,18 +242,22 @@ mutual
   core_after f k c s (Repeat p l m) =
       ap₂ (λ b x. repeated b (Call s.boundary) x l m) (cooked_after k p) (core_after f k c s p)
   core_after f k c s (X.Macro q p) =
-      macro_after k c s (kind_of q.name) p (keeps_text (kind_of q.name)) refl (core_after f k (casing_under (kind_of q.name) c) s p)
+      macro_after k c s (kind_of q.name) p (keeps_text (kind_of q.name)) refl
+      (core_after f k (casing_under (kind_of q.name) c) s p)
   core_after f k c s (Marked m p) = ap (C.Capture (mark_name m)) (core_after f k c s p)
   core_after f k c s (X.Note t) = refl
 
-  pub cores_after : FoldsOnce → (k c : Casing) (s : Scope) (ps : Exprs) → cores c s (recased_all k ps) ≡ cores (after k c) s ps
+  pub cores_after : FoldsOnce → (k c : Casing) (s : Scope) (ps : Exprs)
+      → cores c s (recased_all k ps) ≡ cores (after k c) s ps
   cores_after f k c s Nil = refl
   cores_after f k c s (Cons p ps) = ap₂ Then (core_after f k c s p) (cores_after f k c s ps)
 
-  pub spaced_after : FoldsOnce → (k c : Casing) (s : Scope) (ps : Exprs) → spaced c s (recased_all k ps) ≡ spaced (after k c) s ps
+  pub spaced_after : FoldsOnce → (k c : Casing) (s : Scope) (ps : Exprs)
+      → spaced c s (recased_all k ps) ≡ spaced (after k c) s ps
   spaced_after f k c s Nil = refl
   spaced_after f k c s (Cons p ps) =
-      ap (λ b. spaced_by b (Call s.boundary) (core c s (recased k p)) (spaced c s (recased_all k ps))) (prefix_after k p)
+      ap (λ b. spaced_by b (Call s.boundary) (core c s (recased k p)) (spaced c s (recased_all k ps)))
+      (prefix_after k p)
       ∙ ap₂ (spaced_by (is_prefix p) (Call s.boundary)) (core_after f k c s p) (spaced_after f k c s ps)
 
 -- the core of a macro is that of the expression of its equation

@@ -1,10 +1,10 @@
 -- What is seen of small cores, and of the forms that the building tells apart.
-use Rattle.std.proofs.Common.{◌≡◌, ◌≢◌, ◌≤◌, ℕ, zero, suc, List, [], ◌∷◌, refl, sym, ap, ◌∙◌, subst, arith}
+use Rattle.std.proofs.Common.{◌≡◌, ◌≢◌, ℕ, List, refl, ap, ◌∙◌}
 use Rattle.std.specs.Prelude.{Bool, true, false, Option, Some, None}
 use Rattle.regex_class.specs.Ranges.{Range}
-use Rattle.rpl_core.specs.Core.{Core, Set, Seq, Not, And, Start, End, Cores, NoMore, Then}
+use Rattle.rpl_core.specs.Core.{Core, Set, Start, End}
 use Rattle.rpl_forms.specs.Counting.{seen}
-use Rattle.rpl_forms.specs.Forms.{repeated, repeat, cooked_repeat, cooked_bounded, empty, macro_core, casing_under}
+use Rattle.rpl_forms.specs.Forms.{repeated, empty}
 use Rattle.rpl_forms.specs.Inlining.{Inners}
 use Rattle.rpl_macro.specs.Casings.{keeps_text}
 use Rattle.rpl_macro.specs.declared.kind.Macro.{Macro}
@@ -12,7 +12,7 @@ use Rattle.rpl_macro.specs.declared.kind.Macro.TheVariants.{Find, FindAll, KeepT
 use Rattle.rpl_syntax.specs.declared.expr.Sign.{Sign}
 use Rattle.rpl_syntax.specs.declared.expr.Sign.TheVariants as S
 use Rattle.rpl_expand.specs.Expansion.{signed_by}
-use Rattle.rpl_expand.specs.Items.{ahead}
+use Rattle.rpl_expand.specs.inside.Items.{ahead}
 
 pub seen_set : (b : Bool) (I : Inners) (r : List Range) → seen b I (Set r) ≡ Set r
 seen_set true I r = refl
@@ -27,7 +27,8 @@ seen_end true I = refl
 seen_end false I = refl
 
 -- a predicate that looks ahead
-pub seen_ahead : (b : Bool) (I : Inners) (sign : Sign) (p : Core) → (sign ≢ S.Behind) → seen b I (signed_by I sign p) ≡ ahead sign (seen b I p)
+pub seen_ahead : (b : Bool) (I : Inners) (sign : Sign) (p : Core) → (sign ≢ S.Behind)
+    → seen b I (signed_by I sign p) ≡ ahead sign (seen b I p)
 seen_ahead true I S.Not p h = refl
 seen_ahead false I S.Not p h = refl
 seen_ahead true I S.Ahead p h = refl
@@ -35,13 +36,16 @@ seen_ahead false I S.Ahead p h = refl
 seen_ahead b I S.Behind p h = absurd (h refl)
 
 -- a repetition with no turns
-pub never : (b : Bool) (I : Inners) (cooked : Bool) (q p : Core) (l : ℕ) (m : Option ℕ) → l ≡ 0 → m ≡ Some 0 → seen b I (repeated cooked q p l m) ≡ empty
-never b I cooked q p l m e f = ap (λ x. seen b I (repeated cooked q p x m)) e ∙ ap (λ x. seen b I (repeated cooked q p 0 x)) f ∙ none b I cooked q p where
-  none : (b : Bool) (I : Inners) (cooked : Bool) (q p : Core) → seen b I (repeated cooked q p 0 (Some 0)) ≡ empty
-  none true I true q p = refl
-  none true I false q p = refl
-  none false I true q p = refl
-  none false I false q p = refl
+pub never : (b : Bool) (I : Inners) (cooked : Bool) (q p : Core) (l : ℕ) (m : Option ℕ) → l ≡ 0 → m ≡ Some 0
+    → seen b I (repeated cooked q p l m) ≡ empty
+never b I cooked q p l m e f =
+    ap (λ x. seen b I (repeated cooked q p x m)) e ∙ ap (λ x. seen b I (repeated cooked q p 0 x)) f
+    ∙ none b I cooked q p where
+      none : (b : Bool) (I : Inners) (cooked : Bool) (q p : Core) → seen b I (repeated cooked q p 0 (Some 0)) ≡ empty
+      none true I true q p = refl
+      none true I false q p = refl
+      none false I true q p = refl
+      none false I false q p = refl
 
 -- a macro that takes no text
 pub searches : (k : Option Macro) → k ≢ Some Message → k ≢ Some Error → keeps_text k ≡ false

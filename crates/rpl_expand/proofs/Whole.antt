@@ -1,35 +1,32 @@
 -- The whole table, as that of the statements behind the built-in rules.
-use Rattle.std.proofs.Common.{◌≡◌, ◌≢◌, ℕ, zero, suc, ◌+◌, List, [], ◌∷◌, ◌++◌, length, Some, None, refl, sym, ap, ◌∙◌, subst, arith}
-use Rattle.std.specs.Prelude.{slice_get, map, codes, chars, IsUtf8}
-use Rattle.std.specs.Str.{encode_utf8_all}
-use Rattle.std.proofs.lemmas.Str.{encodes-chars}
-use Rattle.rpl_macro.proofs.Names.{encode_low}
+use Rattle.std.proofs.Common.{◌≡◌, ◌≢◌, ℕ, zero, suc, List, [], ◌∷◌, ◌++◌, length, Some, None, sym, ap}
+use Rattle.std.proofs.Common.{◌∙◌, arith}
+use Rattle.std.specs.Prelude.{Bool, true, false, codes}
 use Rattle.std.proofs.lemmas.List.{length-map}
 use Rattle.rpl_core.specs.Core.{Core}
 use Rattle.rpl_core.specs.Table.{IsNew, names_of}
 use Rattle.rpl_core.specs.declared.rules.Rule.{Rule}
 use Rattle.rpl_expand.specs.Faults.{table_fault}
-use Rattle.rpl_forms.specs.Inlining.{Inners}
-use Rattle.rpl_forms.specs.Rows.{Row, inners_from, row_at, rows_of}
-use Rattle.rpl_expand.specs.Statements.{statement_of, rows_behind}
-use Rattle.rpl_expand.specs.Table.{built_in, rows, table}
-use Rattle.rpl_expand.specs.declared.statement.Statement.{Statement}
+use Rattle.rpl_forms.specs.Rows.{Row, inners_from, inners_of, row_at, rows_of}
+use Rattle.rpl_package.specs.Targets.{halt_by}
+use Rattle.rpl_expand.specs.Table.{Statement, built_in, rows, table}
 
-pub whole_table : (rs : List Rule) (halt : List ℕ) (ss : List Statement) → rows_of rs ≡ built_in halt → rows_of rs ++ rows_behind rs ss ≡ table halt (map statement_of ss)
-whole_table rs halt ss e = ap (λ l. l ++ rows (inners_from [] l) (map statement_of ss)) e
+pub whole_table : (rs : List Rule) (halt : List ℕ) (ss : List Statement) → rows_of rs ≡ built_in halt
+    → rows_of rs ++ rows (inners_of rs) ss ≡ table halt ss
+whole_table rs halt ss e = ap (λ l. l ++ rows (inners_from [] l) ss) e
 
 pub two_rules : (rs : List Rule) (halt : List ℕ) → rows_of rs ≡ built_in halt → length rs ≡ 2
 two_rules rs halt e = sym (length-map rs row_at) ∙ ap length e
 
 -- neither of the built-in rules is too large
-pub whole_fault : (rs : List Rule) (halt : List ℕ) (ss : List Statement) → rows_of rs ≡ built_in halt → table_fault (length rs) (rows_behind rs ss) ≡ table_fault 0 (table halt (map statement_of ss))
-whole_fault rs halt ss e =
-    ap (λ n. table_fault n (rows_behind rs ss)) (two_rules rs halt e)
-    ∙ ap (λ l. table_fault 2 (rows (inners_from [] l) (map statement_of ss))) e
+pub whole_fault : (rs : List Rule) (halt : List ℕ) (ss : List Statement) → rows_of rs ≡ built_in halt
+    → table_fault 2 (rows (inners_of rs) ss) ≡ table_fault 0 (table halt ss)
+whole_fault rs halt ss e = ap (λ l. table_fault 2 (rows (inners_from [] l) ss)) e
 
--- a text that isn't this one isn't so in characters
-pub apart : (halt : List ℕ) → IsUtf8 halt → halt ≢ codes "~" → chars halt ≢ codes "~"
-apart halt u n e = n (sym (encodes-chars halt u) ∙ ap encode_utf8_all e ∙ encode_low (codes "~") refl)
+-- the built-in `halt` has another name than the boundary
+pub apart : (b : Bool) → halt_by b ≢ codes "~"
+apart true e = let long : 6 ≡ 1 = ap length e in absurd (omega (arith, long))
+apart false e = let long : 4 ≡ 1 = ap length e in absurd (omega (arith, long))
 
 some_inj : {A : Type 0} (a b : A) → Some a ≡ Some b → a ≡ b
 some_inj a b e = cc
@@ -46,7 +43,8 @@ pub row_same : (n m : List ℕ) (p q : Core) → n ≡ m → p ≡ q → row n p
 row_same n m p q e f = ap (λ x. row x p) e ∙ ap (row m) f
 
 -- two rules that were added to none
-pub two_rows : (l0 l1 l2 : List Rule) (a b : Rule) (x y : Row) → l0 ≡ [] → l1 ≡ l0 ++ a ∷ [] → l2 ≡ l1 ++ b ∷ [] → row_at a ≡ x → row_at b ≡ y → rows_of l2 ≡ x ∷ y ∷ []
+pub two_rows : (l0 l1 l2 : List Rule) (a b : Rule) (x y : Row) → l0 ≡ [] → l1 ≡ l0 ++ a ∷ [] → l2 ≡ l1 ++ b ∷ []
+    → row_at a ≡ x → row_at b ≡ y → rows_of l2 ≡ x ∷ y ∷ []
 two_rows l0 l1 l2 a b x y e f g h i =
     ap rows_of (g ∙ ap (λ l. l ++ b ∷ []) (f ∙ ap (λ l. l ++ a ∷ []) e))
     ∙ ap (λ r. r ∷ row_at b ∷ []) h ∙ ap (λ r. x ∷ r ∷ []) i

@@ -12,10 +12,11 @@ use Rattle.rpl_macro.specs.declared.casing.Casing.{Casing}
 use Rattle.rpl_macro.specs.Kinds.{kind_of}
 use Rattle.rpl_macro.specs.Macros.{text_of}
 use Rattle.rpl_forms.specs.Inlining.{Inners, inlined}
-use Rattle.rpl_forms.specs.Forms.{behind, pair, seq_of, text_core, signed, any, spaced_by, repeated, mark_name, macro_core, casing_under}
+use Rattle.rpl_forms.specs.Forms.{behind, pair, seq_of, text_core, signed, any, spaced_by, repeated, mark_name}
+use Rattle.rpl_forms.specs.Forms.{macro_core, casing_under}
 
--- Where an expression stands: the rule that each name is bound to, the boundary in force, and what stands for the earlier
--- rules behind a look-behind.
+-- Where an expression stands: the rule that each name stands for, the boundary in force, and what stands for the
+-- earlier rules behind a look-behind.
 pub record Scope : Type 0 where
   pub rule : QName → ℕ
   pub boundary : ℕ
@@ -35,8 +36,8 @@ signed_by I S.Not p = Not p
 signed_by I S.Ahead p = And p
 signed_by I S.Behind p = behind (inlined I p)
 
--- The core of an expression in a casing. What a macro makes of its argument is had from the argument's core, and for the
--- changes of case by expanding the argument in another casing.
+-- The core of an expression in a casing. What a macro makes of its argument is had from the argument's core, and for
+-- the changes of case by expanding the argument in another casing.
 abbrev mutual
   pub core : Casing → Scope → Expr → Core
   core c s (X.Text t) = text_core c t

@@ -1,5 +1,6 @@
 -- The first core that is too large, and what an answer says of it.
-use Rattle.std.specs.Prelude.{◌≡◌, ℕ, ◌+◌, ◌||◌, nat_lt, if◌then◌else◌, min, List, [], ◌∷◌, Option, Some, None, Result, Ok, Err}
+use Rattle.std.specs.Prelude.{◌≡◌, ℕ, ◌+◌, ◌||◌, nat_lt, if◌then◌else◌, min, List, [], ◌∷◌, Option, Some, None}
+use Rattle.std.specs.Prelude.{Result, Ok, Err}
 use Rattle.rpl_core.specs.Core.{Core}
 use Rattle.rpl_forms.specs.Rows.{Row}
 use Rattle.rpl_forms.specs.Sizes.{nodes, deep}
@@ -12,7 +13,9 @@ pub data Fault : Type 0 where
 -- what is wrong with the size of a core
 abbrev pub size_fault : (rule : Option ℕ) → Core → Option Fault
 size_fault rule p =
-    if nat_lt 65536 (nodes p) || nat_lt 1024 (deep p) then Some (TooLarge rule (min 65537 (nodes p)) (min 1025 (deep p))) else None
+    if nat_lt 65536 (nodes p) || nat_lt 1024 (deep p)
+    then Some (TooLarge rule (min 65537 (nodes p)) (min 1025 (deep p)))
+    else None
 
 -- the first of two, where there is one
 abbrev pub or_then : {A : Type 0} → Option A → Option A → Option A

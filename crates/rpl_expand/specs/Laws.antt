@@ -1,21 +1,20 @@
 -- What holds of every core.
-use Rattle.std.specs.Prelude.{◌≡◌, ℕ, Bool, true, false, ◌&&◌, not, List, [], ◌∷◌, Option, Some, None}
+use Rattle.std.specs.Prelude.{◌≡◌, ℕ, Bool, true, false, ◌&&◌, not, List, Option, Some}
 use Rattle.regex_class.specs.Ranges.{Range}
 use Rattle.rpl_classes.specs.Algebra.{folded, widened}
 use Rattle.rpl_core.specs.Core.{Core, Seq, Cores, NoMore}
-use Rattle.rpl_core.specs.Lengths.{has_call, least}
+use Rattle.rpl_core.specs.Lengths.{has_call}
 use Rattle.rpl_core.specs.Core as C
 use Rattle.rpl_forms.specs.Forms.{copies, halt_rule}
-use Rattle.rpl_forms.specs.Sizes.{nodes}
-use Rattle.rpl_macro.specs.Casings.{recased, set_in, single}
-use Rattle.rpl_macro.specs.Kinds.{kind_of, takes_text}
+use Rattle.rpl_macro.specs.Kinds.{kind_of}
 use Rattle.rpl_macro.specs.declared.kind.Macro.{Macro}
 use Rattle.rpl_macro.specs.Laws.{HasNoLetters}
 use Rattle.rpl_macro.specs.Macros.{applied, halt}
 use Rattle.rpl_macro.specs.declared.casing.Casing.{Casing}
-use Rattle.rpl_macro.specs.declared.casing.Casing.TheVariants.{Plain, Ascii, Folded}
+use Rattle.rpl_macro.specs.declared.casing.Casing.TheVariants.{Plain, Folded}
 use Rattle.rpl_macro.specs.declared.kind.Macro.TheVariants.{Error}
-use Rattle.rpl_syntax.specs.Expression.{Expr, Text, Class, Any, Start, End, Boundary, Name, Cooked, Raw, Choice, Both, Prefix, Repeat, Marked, Note, Exprs, Nil, Cons, one}
+use Rattle.rpl_syntax.specs.Expression.{Expr, Text, Class, Any, Start, End, Boundary, Name, Cooked, Raw, Choice, Both}
+use Rattle.rpl_syntax.specs.Expression.{Prefix, Repeat, Marked, Note, Exprs, Nil, Cons, one}
 use Rattle.rpl_syntax.specs.Expression as X
 use Rattle.rpl_syntax.specs.declared.name.QName.{QName}
 use Rattle.rpl_expand.specs.Expansion.{Scope, core, is_cooked}
@@ -30,7 +29,7 @@ ExactlyTurns =
     (c : Casing) (s : Scope) (p : Expr) (n : ℕ) → is_cooked p ≡ false
     → core c s (Repeat p n (Some n)) ≡ Seq (copies n (core c s p) NoMore)
 
--- a macro is not `error`
+-- the macro is `error`
 abbrev pub is_error : Option Macro → Bool
 is_error (Some Error) = true
 is_error _ = false
@@ -98,8 +97,8 @@ pub record FoldsOnce : Type 0 where
   pub cases_in : (r : List Range) → folded (widened r) ≡ folded r
   pub cases_out : (r : List Range) → widened (folded r) ≡ folded r
 
--- The macro that a name means has the core of the expression that its equation gives, where the name that `error` uses is
--- bound to the built-in rule, as it is in every module.
+-- The macro that a name means has the core of the expression that its equation gives, where the name that `error` uses
+-- stands for the built-in rule, as it does in every module.
 abbrev pub MacroIsEquation : Type 0
 MacroIsEquation =
     FoldsOnce → (c : Casing) (s : Scope) (q : QName) (p : Expr) (k : Macro) → kind_of q.name ≡ Some k

@@ -1,8 +1,7 @@
 pub mod Expansion
-pub mod Items
 pub mod Table
+pub mod Sets
 pub mod Faults
-pub mod Scopes
-pub mod Statements
 pub mod Printed
 pub mod Laws
+pub mod inside

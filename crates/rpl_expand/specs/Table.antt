@@ -1,19 +1,20 @@
 -- The rule table, and the core of a pattern.
-use Rattle.std.specs.Prelude.{◌≡◌, ◌⊎◌, ℕ, ◌+◌, ◌<◌, ◌≤◌, Bool, true, false, List, [], ◌∷◌, ◌++◌, length, map, Option, Some, None, slice_get, codes, not}
-use Rattle.rpl_core.specs.Core.{Core, Set, Seq, Choice, Many, Not, And, Behind, Call, Capture, Start, End, Halt, NoMore, Then}
+use Rattle.std.specs.Prelude.{◌≡◌, ◌⊎◌, ℕ, ◌+◌, ◌<◌, ◌≤◌, Bool, true, false, List, [], ◌∷◌, ◌++◌, length, map, Option}
+use Rattle.std.specs.Prelude.{Some, None, slice_get, codes, not}
+use Rattle.rpl_core.specs.Core.{Core, Set, Choice, Many, Not, And, Behind, Capture, Start, End, Halt}
+use Rattle.rpl_core.specs.Core.{NoMore, Then}
 use Rattle.rpl_core.specs.Order.{AreTogether, block_at}
 use Rattle.rpl_core.specs.Programs.{calls}
 use Rattle.rpl_syntax.specs.Expression.{Expr}
 use Rattle.rpl_syntax.specs.Expression as X
 use Rattle.rpl_syntax.specs.declared.name.QName.{QName}
-use Rattle.regex_class.specs.Ranges.{Range}
 use Rattle.rpl_macro.specs.declared.casing.Casing.TheVariants.{Plain}
 use Rattle.rpl_forms.specs.Forms.{pair, halt_rule}
 use Rattle.rpl_forms.specs.Inlining.{Inners, inner}
 use Rattle.rpl_forms.specs.Rows.{Row, inners_from}
 use Rattle.rpl_expand.specs.Expansion.{Scope, core}
 
--- a statement that makes a rule, with its full name, its block, whether it makes a tree, and what holds where it stands
+-- a statement that makes a rule: its full name, its block, whether it makes a tree, and what holds where it stands
 pub record Statement : Type 0 where
   pub name : List ℕ
   pub block : Option ℕ
@@ -81,8 +82,8 @@ has_root captures _ = false
 abbrev pub goal : (captures : QName → Bool) → Scope → Expr → Core
 goal captures s e = captured (not (has_root captures e)) (codes "*") (core Plain s e)
 
--- what a statement with the number n in the table is bound to: each of its names to an earlier rule, or to one of its
--- block, and the boundary in force is an earlier rule
+-- what a statement with the number n in the table is bound to: each name that is asked for there stands for an earlier
+-- rule, or for one of its block, and the boundary in force is an earlier rule
 pub record IsBound (blocks : List (Option ℕ)) (n : ℕ) (s : Statement) : Type 0 where
   pub names : (q : QName) → (s.rule q < n) ⊎ AreTogether blocks n (s.rule q)
   pub boundary : s.boundary < n
@@ -98,7 +99,7 @@ pub record AreBound (ss : List Statement) : Type 0 where
       (r s q b : ℕ) → r ≤ s → s ≤ q → block_at (slice_get (table_blocks ss) r) ≡ Some b
       → block_at (slice_get (table_blocks ss) q) ≡ Some b → block_at (slice_get (table_blocks ss) s) ≡ Some b
 
--- what the names of a scope are bound to, its boundary and `halt` are rules of a table, and so is all that its rules call
+-- what the names of a scope stand for, its boundary and `halt` are rules of a table, and so is all that its rules call
 pub record IsOver (R : List Core) (s : Scope) : Type 0 where
   pub names : (q : QName) → s.rule q < length R
   pub boundary : s.boundary < length R

@@ -6,8 +6,8 @@ ghost use Rattle.rpl_core.specs.Listed.{rules_of};
 ghost use Rattle.rpl_core.specs.View.{core_of, cores, listed};
 ghost use Rattle.rpl_expand.specs.Expansion.{core, spaced};
 ghost use Rattle.rpl_expand.specs.Expansion as E;
-ghost use Rattle.rpl_expand.specs.Items.{ahead, between, core_if};
-ghost use Rattle.rpl_expand.specs.Scopes.{scope_of};
+ghost use Rattle.rpl_expand.specs.inside.Items.{ahead, between, core_if};
+ghost use Rattle.rpl_expand.specs.inside.Scopes.{scope_seen};
 ghost use Rattle.rpl_forms.specs.Counting.{KnowsInners, seen, seen_all};
 ghost use Rattle.rpl_forms.specs.Forms as F;
 ghost use Rattle.rpl_forms.specs.Rows.{inners_of};
@@ -62,7 +62,8 @@ fn boundary_behind(
     alone: bool,
 ) -> Result<Option<Peg>, NoMemory>
     requires { KnowsInners known.now (inners_of (rules_of rules.now)) }
-    ensures { IfOk result (λ o. core_if o ≡ between alone (seen inside (inners_of (rules_of rules.now)) (C.Call boundary)) C.NoMore) }
+    ensures { IfOk result (λ o. core_if o
+        ≡ between alone (seen inside (inners_of (rules_of rules.now)) (C.Call boundary)) C.NoMore) }
 {
     if alone {
         return Ok(None);
@@ -72,7 +73,8 @@ fn boundary_behind(
 
 /// An item more at the end, with what stands behind it.
 fn append_item(parts: &mut Pegs, item: Peg, behind: Option<Peg>) -> Result<(), NoMemory>
-    ensures { OnOk result (cores (listed parts.new) ≡ F.joined (cores (listed parts.old)) (C.Then (core_of item) (core_if behind))) }
+    ensures { OnOk result (cores (listed parts.new)
+        ≡ F.joined (cores (listed parts.old)) (C.Then (core_of item) (core_if behind))) }
 {
     append(parts, item)?;
     match behind {
@@ -95,14 +97,16 @@ fn predicate(alloc: Global, sign: Sign, body: Peg) -> Result<Peg, NoMemory>
 #[cycle(build)]
 pub(crate) fn build(
     alloc: Global,
-    scope: &Scope,
+    scope: &Scope<'_>,
     rules: &Rules,
     known: &[Option<Inner>],
     mode: Mode,
     e: &Expr,
 ) -> Result<Peg, NoMemory>
     requires { KnowsInners known.now (inners_of (rules_of rules.now)) }
-    ensures { IfOk result (λ p. core_of p ≡ seen mode.inside (inners_of (rules_of rules.now)) (core mode.casing (scope_of scope.now (inners_of (rules_of rules.now))) (expr_of e.now))) }
+    ensures { IfOk result (λ p. core_of p
+        ≡ seen mode.inside (inners_of (rules_of rules.now))
+        (core mode.casing (scope_seen scope.now (inners_of (rules_of rules.now))) (expr_of e.now))) }
 {
     match e {
         Expr::Text(chars) => text(alloc, mode.casing, chars.as_str()),
@@ -151,7 +155,7 @@ pub(crate) fn build(
 #[cycle(build)]
 fn build_repeat(
     alloc: Global,
-    scope: &Scope,
+    scope: &Scope<'_>,
     rules: &Rules,
     known: &[Option<Inner>],
     mode: Mode,
@@ -160,7 +164,10 @@ fn build_repeat(
     most: Option<u32>,
 ) -> Result<Peg, NoMemory>
     requires { KnowsInners known.now (inners_of (rules_of rules.now)) }
-    ensures { IfOk result (λ p. core_of p ≡ seen mode.inside (inners_of (rules_of rules.now)) (F.repeated (E.is_cooked (expr_of body.now)) (C.Call scope.now.boundary) (core mode.casing (scope_of scope.now (inners_of (rules_of rules.now))) (expr_of body.now)) least most)) }
+    ensures { IfOk result (λ p. core_of p
+        ≡ seen mode.inside (inners_of (rules_of rules.now))
+        (F.repeated (E.is_cooked (expr_of body.now)) (C.Call scope.now.boundary)
+        (core mode.casing (scope_seen scope.now (inners_of (rules_of rules.now))) (expr_of body.now)) least most)) }
 {
     if is_never(least, most) {
         return Ok(seq(Pegs::new(alloc)));
@@ -180,7 +187,7 @@ fn build_repeat(
 #[cycle(build)]
 fn build_macro(
     alloc: Global,
-    scope: &Scope,
+    scope: &Scope<'_>,
     rules: &Rules,
     known: &[Option<Inner>],
     mode: Mode,
@@ -188,7 +195,11 @@ fn build_macro(
     arg: &Expr,
 ) -> Result<Peg, NoMemory>
     requires { KnowsInners known.now (inners_of (rules_of rules.now)) }
-    ensures { IfOk result (λ p. core_of p ≡ seen mode.inside (inners_of (rules_of rules.now)) (F.macro_core kind (text_of (expr_of arg.now)) (core (F.casing_under kind mode.casing) (scope_of scope.now (inners_of (rules_of rules.now))) (expr_of arg.now)))) }
+    ensures { IfOk result (λ p. core_of p
+        ≡ seen mode.inside (inners_of (rules_of rules.now))
+        (F.macro_core kind (text_of (expr_of arg.now))
+        (core (F.casing_under kind mode.casing) (scope_seen scope.now (inners_of (rules_of rules.now)))
+        (expr_of arg.now)))) }
 {
     match kind {
         Some(Macro::Message) => message(alloc, mode.inside, arg),
@@ -204,14 +215,17 @@ fn build_macro(
 #[cycle(build)]
 fn build_raw(
     alloc: Global,
-    scope: &Scope,
+    scope: &Scope<'_>,
     rules: &Rules,
     known: &[Option<Inner>],
     mode: Mode,
     items: &[Expr],
 ) -> Result<Peg, NoMemory>
     requires { KnowsInners known.now (inners_of (rules_of rules.now)) }
-    ensures { IfOk result (λ p. core_of p ≡ seen mode.inside (inners_of (rules_of rules.now)) (F.seq_of (E.cores mode.casing (scope_of scope.now (inners_of (rules_of rules.now))) (exprs_all items.now)))) }
+    ensures { IfOk result (λ p. core_of p
+        ≡ seen mode.inside (inners_of (rules_of rules.now))
+        (F.seq_of (E.cores mode.casing (scope_seen scope.now (inners_of (rules_of rules.now)))
+        (exprs_all items.now)))) }
 {
     match items {
         [item] => build(alloc, scope, rules, known, mode, item),
@@ -226,14 +240,17 @@ fn build_raw(
 #[cycle(build)]
 fn build_cooked(
     alloc: Global,
-    scope: &Scope,
+    scope: &Scope<'_>,
     rules: &Rules,
     known: &[Option<Inner>],
     mode: Mode,
     items: &[Expr],
 ) -> Result<Peg, NoMemory>
     requires { KnowsInners known.now (inners_of (rules_of rules.now)) }
-    ensures { IfOk result (λ p. core_of p ≡ seen mode.inside (inners_of (rules_of rules.now)) (F.seq_of (spaced mode.casing (scope_of scope.now (inners_of (rules_of rules.now))) (exprs_all items.now)))) }
+    ensures { IfOk result (λ p. core_of p
+        ≡ seen mode.inside (inners_of (rules_of rules.now))
+        (F.seq_of (spaced mode.casing (scope_seen scope.now (inners_of (rules_of rules.now)))
+        (exprs_all items.now)))) }
 {
     match items {
         [item] => build(alloc, scope, rules, known, mode, item),
@@ -248,14 +265,16 @@ fn build_cooked(
 #[cycle(build)]
 fn build_all(
     alloc: Global,
-    scope: &Scope,
+    scope: &Scope<'_>,
     rules: &Rules,
     known: &[Option<Inner>],
     mode: Mode,
     items: &[Expr],
 ) -> Result<Pegs, NoMemory>
     requires { KnowsInners known.now (inners_of (rules_of rules.now)) }
-    ensures { IfOk result (λ ps. cores (listed ps) ≡ seen_all mode.inside (inners_of (rules_of rules.now)) (E.cores mode.casing (scope_of scope.now (inners_of (rules_of rules.now))) (exprs_all items.now))) }
+    ensures { IfOk result (λ ps. cores (listed ps)
+        ≡ seen_all mode.inside (inners_of (rules_of rules.now))
+        (E.cores mode.casing (scope_seen scope.now (inners_of (rules_of rules.now))) (exprs_all items.now))) }
 {
     let mut parts = Pegs::new(alloc);
     for item in items {
@@ -269,14 +288,16 @@ fn build_all(
 #[cycle(build)]
 fn build_spaced(
     alloc: Global,
-    scope: &Scope,
+    scope: &Scope<'_>,
     rules: &Rules,
     known: &[Option<Inner>],
     mode: Mode,
     items: &[Expr],
 ) -> Result<Pegs, NoMemory>
     requires { KnowsInners known.now (inners_of (rules_of rules.now)) }
-    ensures { IfOk result (λ ps. cores (listed ps) ≡ seen_all mode.inside (inners_of (rules_of rules.now)) (spaced mode.casing (scope_of scope.now (inners_of (rules_of rules.now))) (exprs_all items.now))) }
+    ensures { IfOk result (λ ps. cores (listed ps)
+        ≡ seen_all mode.inside (inners_of (rules_of rules.now))
+        (spaced mode.casing (scope_seen scope.now (inners_of (rules_of rules.now))) (exprs_all items.now))) }
 {
     let mut parts = Pegs::new(alloc);
     for number in 0..items.len() {

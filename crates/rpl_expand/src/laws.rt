@@ -2,7 +2,8 @@
 ghost use Rattle.std.specs.Prelude.{◌≤◌};
 ghost use Rattle.rpl_core.specs.Core.{Core};
 ghost use Rattle.rpl_core.specs.Lengths.{least};
-ghost use Rattle.rpl_expand.specs.Laws.{ExactlyTurns, GroupOfOne, HasParts, MacroIsEquation, StillCallsNothing, UciKeepsOthers};
+ghost use Rattle.rpl_expand.specs.Laws.{ExactlyTurns, GroupOfOne, HasParts, MacroIsEquation, StillCallsNothing};
+ghost use Rattle.rpl_expand.specs.Laws.{UciKeepsOthers};
 ghost use Rattle.rpl_forms.specs.Sizes.{nodes};
 
 /// The core of `{e}` is that of `e`.
@@ -15,7 +16,8 @@ pub fn exactly_turns()
     ensures { ExactlyTurns }
 {}
 
-/// An expression in which no items stand side by side outside `{ }`, and no name, `~` or `error`, has no call in its core.
+/// An expression in which no items stand side by side outside `{ }`, and no name, `~` or `error`, calls nothing in its
+/// core.
 pub fn still_calls_nothing()
     ensures { StillCallsNothing }
 {}
@@ -30,8 +32,8 @@ pub fn uci_keeps_others()
     ensures { UciKeepsOthers }
 {}
 
-/// A look-behind's least length, which stops at 65,536, is its body's own: a core asks for no more characters than it has
-/// nodes.
+/// A look-behind's least length, which stops at 65,536, is its body's own: a core asks for no more characters than it
+/// has nodes.
 pub fn least_within_nodes()
     ensures { (p : Core) → HasParts p → least p ≤ nodes p }
 {}

@@ -1,10 +1,11 @@
-//! The expansion of expressions to cores: names and macros are gone, boundaries stand between items, counts are written
-//! out, and look-behinds have what stands for the rules that they name.
+//! The expansion of expressions to cores: names and macros are gone, boundaries stand between items, counts are
+//! written out, and look-behinds have what stands for the rules that they name.
 //!
-//! For whoever loads statements and wants the rule table, and for the command that wants the core of a pattern over it,
-//! or its printed text. The table and the goal are exactly the defined ones (`specs/Expansion.antt`, `specs/Table.antt`),
-//! and are refused exactly for the first core that is too large, before anything of its size is made. Calls nest as
-//! deep as the expression, and as the core, which is at most 1,024 deep. Besides, only memory can run out.
+//! For the commands, once a set of packages is loaded: `expand` makes its rule table, `expand_pattern` the core of a
+//! pattern over that table, and `print_peg` prints a core. The table and the core are exactly the defined ones
+//! (`specs/Expansion.antt`, `specs/Table.antt`, `specs/Sets.antt`), and are refused exactly for the first core that is
+//! too large, before anything of its size is made. Calls nest as deep as the expression, and as the core, which is at
+//! most 1,024 deep. Besides, only memory can run out.
 #![tactic(auto)]
 
 mod build;
@@ -25,6 +26,4 @@ pub use laws::{
 };
 pub use print::{print_peg, push_peg};
 pub use rpl_text::NoMemory;
-pub use scope::{Known, Scope};
-pub use statement::Statement;
-pub use table::{expand, expand_pattern, expand_statements};
+pub use table::{expand, expand_pattern};

@@ -5,13 +5,13 @@ ghost use Rattle.rpl_core.specs.Core.{Core, Cores};
 ghost use Rattle.rpl_macro.specs.Kinds.{kind_of};
 ghost use Rattle.rpl_macro.specs.declared.casing.Casing.{Casing};
 ghost use Rattle.rpl_forms.specs.Counting.{Adds, Counts, CountsAll, KnowsInners, seen, seen_all};
-ghost use Rattle.rpl_expand.specs.Items.{alone, between};
+ghost use Rattle.rpl_expand.specs.inside.Items.{alone, between};
 ghost use Rattle.rpl_expand.specs.Expansion.{core, cores, spaced};
 ghost use Rattle.rpl_expand.specs.Expansion as E;
 ghost use Rattle.rpl_forms.specs.Forms as F;
 ghost use Rattle.rpl_forms.specs.Forms.{macro_core, seq_of};
 ghost use Rattle.rpl_forms.specs.Inlining.{Inners};
-ghost use Rattle.rpl_expand.specs.Scopes.{scope_of};
+ghost use Rattle.rpl_expand.specs.inside.Scopes.{scope_seen};
 ghost use Rattle.rpl_syntax.specs.View.{expr_of, exprs_all};
 
 use crate::scope::Scope;
@@ -46,8 +46,9 @@ pub(crate) fn is_cooked(e: &Expr) -> bool
 
 /// The size and the depth of an expression's core, or of what stands for it behind a look-behind.
 #[cycle(measure)]
-pub(crate) fn measure(scope: &Scope, known: &[Option<Inner>], inside: bool, e: &Expr) -> Count
-    ensures { (c : Casing) (I : Inners) → KnowsInners known.now I → Counts result (seen inside I (core c (scope_of scope.now I) (expr_of e.now))) }
+pub(crate) fn measure(scope: &Scope<'_>, known: &[Option<Inner>], inside: bool, e: &Expr) -> Count
+    ensures { (c : Casing) (I : Inners) → KnowsInners known.now I
+        → Counts result (seen inside I (core c (scope_seen scope.now I) (expr_of e.now))) }
 {
     match e {
         Expr::Text(chars) => text(characters(chars.as_str())),
@@ -95,8 +96,9 @@ pub(crate) fn measure(scope: &Scope, known: &[Option<Inner>], inside: bool, e: &
 
 /// A raw group.
 #[cycle(measure)]
-fn measure_raw(scope: &Scope, known: &[Option<Inner>], inside: bool, items: &[Expr]) -> Count
-    ensures { (c : Casing) (I : Inners) → KnowsInners known.now I → Counts result (seen inside I (seq_of (cores c (scope_of scope.now I) (exprs_all items.now)))) }
+fn measure_raw(scope: &Scope<'_>, known: &[Option<Inner>], inside: bool, items: &[Expr]) -> Count
+    ensures { (c : Casing) (I : Inners) → KnowsInners known.now I
+        → Counts result (seen inside I (seq_of (cores c (scope_seen scope.now I) (exprs_all items.now)))) }
 {
     match items {
         [item] => measure(scope, known, inside, item),
@@ -109,8 +111,9 @@ fn measure_raw(scope: &Scope, known: &[Option<Inner>], inside: bool, items: &[Ex
 
 /// A cooked group.
 #[cycle(measure)]
-fn measure_cooked(scope: &Scope, known: &[Option<Inner>], inside: bool, items: &[Expr]) -> Count
-    ensures { (c : Casing) (I : Inners) → KnowsInners known.now I → Counts result (seen inside I (seq_of (spaced c (scope_of scope.now I) (exprs_all items.now)))) }
+fn measure_cooked(scope: &Scope<'_>, known: &[Option<Inner>], inside: bool, items: &[Expr]) -> Count
+    ensures { (c : Casing) (I : Inners) → KnowsInners known.now I
+        → Counts result (seen inside I (seq_of (spaced c (scope_seen scope.now I) (exprs_all items.now)))) }
 {
     match items {
         [item] => measure(scope, known, inside, item),
@@ -123,8 +126,9 @@ fn measure_cooked(scope: &Scope, known: &[Option<Inner>], inside: bool, items: &
 
 /// Some expressions together.
 #[cycle(measure)]
-fn measure_all(scope: &Scope, known: &[Option<Inner>], inside: bool, parts: &[Expr]) -> Count
-    ensures { (c : Casing) (I : Inners) → KnowsInners known.now I → CountsAll result (seen_all inside I (cores c (scope_of scope.now I) (exprs_all parts.now))) }
+fn measure_all(scope: &Scope<'_>, known: &[Option<Inner>], inside: bool, parts: &[Expr]) -> Count
+    ensures { (c : Casing) (I : Inners) → KnowsInners known.now I
+        → CountsAll result (seen_all inside I (cores c (scope_seen scope.now I) (exprs_all parts.now))) }
 {
     let mut sum = none();
     for part in parts {
@@ -135,8 +139,9 @@ fn measure_all(scope: &Scope, known: &[Option<Inner>], inside: bool, parts: &[Ex
 
 /// The items of a cooked group with the boundaries between them.
 #[cycle(measure)]
-fn measure_spaced(scope: &Scope, known: &[Option<Inner>], inside: bool, items: &[Expr]) -> Count
-    ensures { (c : Casing) (I : Inners) → KnowsInners known.now I → CountsAll result (seen_all inside I (spaced c (scope_of scope.now I) (exprs_all items.now))) }
+fn measure_spaced(scope: &Scope<'_>, known: &[Option<Inner>], inside: bool, items: &[Expr]) -> Count
+    ensures { (c : Casing) (I : Inners) → KnowsInners known.now I
+        → CountsAll result (seen_all inside I (spaced c (scope_seen scope.now I) (exprs_all items.now))) }
 {
     let mut sum = none();
     let boundary = count_call(known, inside, scope.boundary);
@@ -157,7 +162,8 @@ pub(crate) fn stands_alone(items: &[Expr], number: usize) -> bool
 
 /// An item more, with the boundary behind it unless it stands alone.
 fn add_item(sum: Count, item: Count, boundary: Count, alone: bool) -> Count
-    ensures { (p b : Core) (rest whole : Cores) → Counts item p → Counts boundary b → Adds sum (C.Then p (between alone b rest)) whole → Adds result rest whole }
+    ensures { (p b : Core) (rest whole : Cores) → Counts item p → Counts boundary b
+        → Adds sum (C.Then p (between alone b rest)) whole → Adds result rest whole }
 {
     let with_item = add(sum, item);
     if alone {

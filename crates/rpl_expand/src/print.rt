@@ -1,5 +1,6 @@
 // The printed text of a core.
-ghost use Rattle.std.specs.Prelude.{◌≡◌, ◌++◌, ◌∷◌, [], IfOk, OnOk, codes, decimal, encode_utf8_all, slice_get, string_bytes};
+ghost use Rattle.std.specs.Prelude.{◌≡◌, ◌++◌, ◌∷◌, [], IfOk, OnOk, codes, decimal, encode_utf8_all, slice_get};
+ghost use Rattle.std.specs.Prelude.{string_bytes};
 ghost use Rattle.rpl_core.specs.Listed.{rules_of};
 ghost use Rattle.rpl_core.specs.Table.{names_of};
 ghost use Rattle.rpl_core.specs.View.{core_of, cores};
@@ -16,7 +17,8 @@ use std::alloc::Global;
 
 /// Adds a set in brackets.
 fn push_class(out: &mut String, set: &Set) -> Result<(), NoMemory>
-    ensures { OnOk result (string_bytes out.new ≡ string_bytes out.old ++ in_brackets (codes "(set ") (set_text set.now)) }
+    ensures { OnOk result (string_bytes out.new
+        ≡ string_bytes out.old ++ in_brackets (codes "(set ") (set_text set.now)) }
 {
     out.push_str("(set ")?;
     push_set(out, set)?;
@@ -25,7 +27,9 @@ fn push_class(out: &mut String, set: &Set) -> Result<(), NoMemory>
 
 /// Adds a call of a rule by its name.
 fn push_call(out: &mut String, rules: &Rules, rule: u32) -> Result<(), NoMemory>
-    ensures { OnOk result (string_bytes out.new ≡ string_bytes out.old ++ in_brackets (codes "(call ") (text_if (slice_get (names_of (rules_of rules.now)) rule))) }
+    ensures { OnOk result (string_bytes out.new
+        ≡ string_bytes out.old ++ in_brackets (codes "(call ")
+        (text_if (slice_get (names_of (rules_of rules.now)) rule))) }
 {
     out.push_str("(call ")?;
     if let Some(rule) = rules.get(rule) {
@@ -36,7 +40,8 @@ fn push_call(out: &mut String, rules: &Rules, rule: u32) -> Result<(), NoMemory>
 
 /// Adds a message.
 fn push_note(out: &mut String, text: &Chars) -> Result<(), NoMemory>
-    ensures { OnOk result (string_bytes out.new ≡ string_bytes out.old ++ in_brackets (codes "(note ") (Q.quoted (encode_utf8_all text.now))) }
+    ensures { OnOk result (string_bytes out.new
+        ≡ string_bytes out.old ++ in_brackets (codes "(note ") (Q.quoted (encode_utf8_all text.now))) }
 {
     out.push_str("(note ")?;
     push_quoted(out, text_of(text))?;
@@ -46,7 +51,8 @@ fn push_note(out: &mut String, text: &Chars) -> Result<(), NoMemory>
 /// Adds a pattern behind a head, and the bracket that ends it.
 #[cycle(print)]
 fn push_body(out: &mut String, rules: &Rules, head: &str, body: &Peg) -> Result<(), NoMemory>
-    ensures { OnOk result (string_bytes out.new ≡ string_bytes out.old ++ in_brackets head.now (printed (names_of (rules_of rules.now)) (core_of body.now))) }
+    ensures { OnOk result (string_bytes out.new
+        ≡ string_bytes out.old ++ in_brackets head.now (printed (names_of (rules_of rules.now)) (core_of body.now))) }
 {
     out.push_str(head)?;
     push_peg(out, rules, body)?;
@@ -56,7 +62,9 @@ fn push_body(out: &mut String, rules: &Rules, head: &str, body: &Peg) -> Result<
 /// Adds patterns behind a head, and the bracket that ends them.
 #[cycle(print)]
 fn push_group(out: &mut String, rules: &Rules, head: &str, parts: &[Peg]) -> Result<(), NoMemory>
-    ensures { OnOk result (string_bytes out.new ≡ string_bytes out.old ++ in_brackets head.now (printed_all (names_of (rules_of rules.now)) (cores parts.now))) }
+    ensures { OnOk result (string_bytes out.new
+        ≡ string_bytes out.old ++ in_brackets head.now
+        (printed_all (names_of (rules_of rules.now)) (cores parts.now))) }
 {
     out.push_str(head)?;
     push_parts(out, rules, parts)?;
@@ -66,7 +74,8 @@ fn push_group(out: &mut String, rules: &Rules, head: &str, parts: &[Peg]) -> Res
 /// Adds patterns, with a space before each.
 #[cycle(print)]
 fn push_parts(out: &mut String, rules: &Rules, parts: &[Peg]) -> Result<(), NoMemory>
-    ensures { OnOk result (string_bytes out.new ≡ string_bytes out.old ++ printed_all (names_of (rules_of rules.now)) (cores parts.now)) }
+    ensures { OnOk result (string_bytes out.new
+        ≡ string_bytes out.old ++ printed_all (names_of (rules_of rules.now)) (cores parts.now)) }
 {
     for part in parts {
         out.push(' ')?;
@@ -84,7 +93,9 @@ fn push_behind(
     most: u32,
     body: &Peg,
 ) -> Result<(), NoMemory>
-    ensures { OnOk result (string_bytes out.new ≡ string_bytes out.old ++ in_brackets (codes "(behind ") (decimal least ++ 32 ∷ decimal most ++ 32 ∷ printed (names_of (rules_of rules.now)) (core_of body.now))) }
+    ensures { OnOk result (string_bytes out.new
+        ≡ string_bytes out.old ++ in_brackets (codes "(behind ")
+        (decimal least ++ 32 ∷ decimal most ++ 32 ∷ printed (names_of (rules_of rules.now)) (core_of body.now))) }
 {
     out.push_str("(behind ")?;
     push_decimal(out, u64::from(least))?;
@@ -96,7 +107,9 @@ fn push_behind(
 /// Adds a pattern that makes a node.
 #[cycle(print)]
 fn push_capture(out: &mut String, rules: &Rules, name: &Chars, body: &Peg) -> Result<(), NoMemory>
-    ensures { OnOk result (string_bytes out.new ≡ string_bytes out.old ++ in_brackets (codes "(capture ") (encode_utf8_all name.now ++ 32 ∷ printed (names_of (rules_of rules.now)) (core_of body.now))) }
+    ensures { OnOk result (string_bytes out.new
+        ≡ string_bytes out.old ++ in_brackets (codes "(capture ")
+        (encode_utf8_all name.now ++ 32 ∷ printed (names_of (rules_of rules.now)) (core_of body.now))) }
 {
     out.push_str("(capture ")?;
     push_text(out, name)?;
@@ -106,7 +119,8 @@ fn push_capture(out: &mut String, rules: &Rules, name: &Chars, body: &Peg) -> Re
 /// Adds the text of a pattern over a table of rules. A call of no rule of the table has no name.
 #[cycle(print)]
 pub fn push_peg(out: &mut String, rules: &Rules, peg: &Peg) -> Result<(), NoMemory>
-    ensures { OnOk result (string_bytes out.new ≡ string_bytes out.old ++ printed (names_of (rules_of rules.now)) (core_of peg.now)) }
+    ensures { OnOk result (string_bytes out.new
+        ≡ string_bytes out.old ++ printed (names_of (rules_of rules.now)) (core_of peg.now)) }
 {
     match peg {
         Peg::Set(set) => push_class(out, set),

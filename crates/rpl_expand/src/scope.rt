@@ -1,49 +1,52 @@
-// What the names of a statement are bound to.
+// Where an expression stands.
 ghost use Rattle.std.specs.Prelude.{◌≡◌};
-ghost use Rattle.rpl_expand.specs.Scopes.{bound_in, captures_in};
+ghost use Rattle.rpl_expand.specs.Sets.{boundary_by, makes_tree, rule_of};
+ghost use Rattle.rpl_package.specs.Sets.{set_seen};
+ghost use Rattle.rpl_package.specs.Targets as T;
 
+use rpl_package::PackageSet;
 use rpl_syntax::QName;
-use rpl_text::Chars;
 
-/// A name, and the number of the rule that it is bound to.
-#[derive(Drop)]
-pub struct Known {
-    pub name: Chars,
-    pub rule: u32,
-    /// Whether the rule makes a tree.
-    pub captures: bool,
+/// Where an expression stands in a set of packages, and the boundary in force there.
+#[derive(Clone, Copy)]
+pub(crate) struct Scope<'a> {
+    pub(crate) set: &'a PackageSet,
+    /// The rule whose statement it is; with None it is the pattern.
+    pub(crate) at: Option<u32>,
+    pub(crate) boundary: u32,
 }
 
-/// What holds where a statement stands: the names that count there, the first of each name alone, and the boundary in
-/// force. A name is looked up without its prefix, so whoever makes a scope of several modules gives each name once.
-#[derive(Drop)]
-pub struct Scope {
-    pub names: Vec<Known>,
-    pub boundary: u32,
-}
-
-impl Scope {
-    /// The rule that a name is bound to.
-    pub fn rule(&self, name: &QName) -> u32
-        ensures { result ≡ bound_in self.now.names.items name.now }
+impl<'a> Scope<'a> {
+    /// The scope of the statement of a rule, or, with None, of the pattern.
+    pub(crate) fn new(set: &'a PackageSet, at: Option<u32>) -> Scope<'a>
+        ensures set { result.set.now ≡ set.now }
+        ensures at { result.at ≡ at }
+        ensures boundary { result.boundary ≡ boundary_by (T.boundary (set_seen set.now) at) }
     {
-        for known in &self.names {
-            if known.name.as_str() == name.name.as_str() {
-                return known.rule;
-            }
+        Scope {
+            set,
+            at,
+            boundary: set.boundary(at).unwrap_or(0),
         }
-        0
     }
 
-    /// The rule that the name is bound to makes a tree.
-    pub fn captures(&self, name: &QName) -> bool
-        ensures { result ≡ captures_in self.now.names.items name.now }
+    /// The rule that a name stands for.
+    pub(crate) fn rule(&self, name: &QName) -> u32
+        ensures { result ≡ rule_of (T.resolved (set_seen self.now.set.now) self.now.at name.now) }
     {
-        for known in &self.names {
-            if known.name.as_str() == name.name.as_str() {
-                return known.captures;
-            }
+        match self.set.resolve(self.at, name) {
+            Ok(target) => target.rule,
+            Err(_) => 0,
         }
-        false
+    }
+
+    /// The rule that a name stands for makes a tree.
+    pub(crate) fn captures(&self, name: &QName) -> bool
+        ensures { result ≡ makes_tree (T.resolved (set_seen self.now.set.now) self.now.at name.now) }
+    {
+        match self.set.resolve(self.at, name) {
+            Ok(target) => target.captures,
+            Err(_) => false,
+        }
     }
 }

@@ -1,15 +1,38 @@
 // The statements that make rules.
-use crate::scope::Scope;
-use rpl_syntax::Expr;
-use rpl_text::Chars;
+ghost use Rattle.std.specs.Prelude.{◌≡◌};
+ghost use Rattle.rpl_expand.specs.Sets.{statement_at};
+ghost use Rattle.rpl_expand.specs.inside.Statements.{statement_found};
+ghost use Rattle.rpl_package.specs.Sets.{set_seen};
 
-/// A statement that makes a rule: its full name, the number of its block, whether it makes a tree, what holds where it
-/// stands, and its expression.
-#[derive(Drop)]
-pub struct Statement {
-    pub name: Chars,
-    pub block: Option<u32>,
-    pub captures: bool,
-    pub scope: Scope,
-    pub body: Expr,
+use crate::scope::Scope;
+use rpl_package::PackageSet;
+use rpl_syntax::Expr;
+
+/// A statement of a set of packages, which makes a rule.
+#[derive(Clone, Copy)]
+pub(crate) struct Statement<'a> {
+    /// The full name of the rule.
+    pub(crate) name: &'a str,
+    pub(crate) block: Option<u32>,
+    /// The rule makes a tree.
+    pub(crate) captures: bool,
+    pub(crate) scope: Scope<'a>,
+    pub(crate) body: &'a Expr,
+}
+
+impl<'a> Statement<'a> {
+    /// The statement of a rule; None where there is no such rule, or no statement made it.
+    pub(crate) fn of(set: &'a PackageSet, rule: u32) -> Option<Statement<'a>>
+        ensures { statement_found result ≡ statement_at (set_seen set.now) rule }
+    {
+        let head = set.rule(rule)?;
+        let body = set.body(rule)?;
+        Some(Statement {
+            name: head.name,
+            block: head.block,
+            captures: head.captures,
+            scope: Scope::new(set, Some(rule)),
+            body,
+        })
+    }
 }

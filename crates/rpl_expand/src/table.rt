@@ -1,5 +1,6 @@
 // The core of a pattern, and the table of rules.
-ghost use Rattle.std.specs.Prelude.{◌≡◌, ℕ, true, List, IfOk, IfErr, OnOk, chars, Option, Some, None, length, ◌<◌, ◌≤◌, ◌+◌, [], ◌∷◌, ◌++◌, map};
+ghost use Rattle.std.specs.Prelude.{◌≡◌, ℕ, true, List, IfOk, IfErr, OnOk, chars, Option, Some, None, length, ◌<◌};
+ghost use Rattle.std.specs.Prelude.{◌≤◌, ◌+◌, [], ◌∷◌, ◌++◌, map};
 ghost use Rattle.rpl_core.specs.Core.{Core};
 ghost use Rattle.rpl_core.specs.Listed.{rules_of};
 ghost use Rattle.rpl_core.specs.Order.{IsInOrder};
@@ -9,8 +10,10 @@ ghost use Rattle.rpl_core.specs.View.{core_of};
 ghost use Rattle.rpl_forms.specs.Counting.{Counts, KnowsInners};
 ghost use Rattle.rpl_expand.specs.Faults.{Answers, size_fault, table_fault};
 ghost use Rattle.rpl_forms.specs.Rows.{inners_of, row_at, rows_of};
-ghost use Rattle.rpl_expand.specs.Statements.{rows_behind, statement_of};
-ghost use Rattle.rpl_expand.specs.Scopes.{scope_of, captures_in};
+ghost use Rattle.rpl_expand.specs.Sets.{captures_of, goal_of, makes_tree, scope_of, statements, table_of};
+ghost use Rattle.rpl_expand.specs.inside.Statements.{statement_seen};
+ghost use Rattle.rpl_package.specs.Sets.{set_seen};
+ghost use Rattle.rpl_package.specs.Targets.{halt_name, resolved};
 ghost use Rattle.rpl_expand.specs.Table.{AreBound, IsOver, MakeTrees, captured, goal, has_root, row_of, table};
 ghost use Rattle.rpl_simulation.specs.Laws.{IsCapture};
 ghost use Rattle.rpl_syntax.specs.View.{expr_of};
@@ -29,6 +32,7 @@ use rpl_draft::LabelTable;
 use rpl_forms::count::node;
 use rpl_forms::inner::{inners, push_inner};
 use rpl_forms::{Count, Inner, MAX_DEPTH, MAX_SIZE};
+use rpl_package::PackageSet;
 use rpl_syntax::Expr;
 use rpl_text::Chars;
 use std::alloc::Global;
@@ -68,8 +72,9 @@ fn counts_under(captures: bool, of: Count) -> Count
 }
 
 /// The expression is the name of a rule that makes a tree.
-fn has_root(scope: &Scope, e: &Expr) -> bool
-    ensures { result ≡ has_root (captures_in scope.now.names.items) (expr_of e.now) }
+fn has_root(scope: &Scope<'_>, e: &Expr) -> bool
+    ensures { result ≡ has_root (λ q. makes_tree (resolved (set_seen scope.now.set.now) scope.now.at q))
+        (expr_of e.now) }
 {
     match e {
         Expr::Name(name) => scope.captures(name),
@@ -94,8 +99,8 @@ fn kept_names(alloc: Global, rules: &Rules) -> Result<LabelTable, NoMemory>
     Ok(names)
 }
 
-/// Adds a rule to a table, to the names of its rules, and to what is known of what stands for them behind a look-behind.
-/// No set of packages has two rules of one name; a second one would be told as want of memory.
+/// Adds a rule to a table, to the names of its rules, and to what is known of what stands for them behind a
+/// look-behind. No set of packages has two rules of one name; a second one would be told as want of memory.
 fn push_rule(
     alloc: Global,
     rules: &mut Rules,
@@ -126,21 +131,22 @@ fn make_rule(
     alloc: Global,
     rules: &Rules,
     known: &[Option<Inner>],
-    statement: &Statement,
+    statement: &Statement<'_>,
 ) -> Result<Rule, NoMemory>
     requires { KnowsInners known.now (inners_of (rules_of rules.now)) }
-    ensures { IfOk result (λ r. row_at r ≡ row_of (inners_of (rules_of rules.now)) (statement_of statement.now)) }
+    ensures { IfOk result (λ r. row_at r ≡ row_of (inners_of (rules_of rules.now)) (statement_seen statement.now)) }
 {
-    let name = statement.name.copy(alloc)?;
+    let name = Chars::from_str(alloc, statement.name)?;
+    let label = name.copy(alloc)?;
     let body = build(
         alloc,
         &statement.scope,
         rules,
         known,
         Mode::plain(),
-        &statement.body,
+        statement.body,
     )?;
-    let body = under(alloc, statement.captures, statement.name.copy(alloc)?, body)?;
+    let body = under(alloc, statement.captures, label, body)?;
     Ok(Rule {
         name,
         block: statement.block,
@@ -148,65 +154,68 @@ fn make_rule(
     })
 }
 
-/// The core of a pattern over a table of rules, under its root capture; or that it is too large.
-pub fn expand_pattern(
-    alloc: Global,
-    scope: &Scope,
-    rules: &Rules,
-    e: &Expr,
-) -> Result<Peg, ExpandFault>
-    ensures exactly { Answers (size_fault None (goal (captures_in scope.now.names.items) (scope_of scope.now (inners_of (rules_of rules.now))) (expr_of e.now))) result }
-    ensures goal { IfOk result (λ p. core_of p ≡ goal (captures_in scope.now.names.items) (scope_of scope.now (inners_of (rules_of rules.now))) (expr_of e.now)) }
-    ensures calls { IsOver (bodies_of (rules_of rules.now)) (scope_of scope.now (inners_of (rules_of rules.now))) → IfOk result (λ p. (r : ℕ) → calls (core_of p) r ≡ true → r < length (rules_of rules.now)) }
-    ensures root { MakeTrees (bodies_of (rules_of rules.now)) (captures_in scope.now.names.items) (scope_of scope.now (inners_of (rules_of rules.now))) → IfOk result (λ p. (label : List ℕ) × IsCapture (bodies_of (rules_of rules.now)) label (core_of p)) }
+/// The full name of the built-in `halt` in a set.
+fn halt_name(set: &PackageSet) -> &str
+    ensures { chars result.now ≡ halt_name (set_seen set.now) }
 {
-    let known = inners(alloc, rules)?;
-    let captures = !has_root(scope, e);
-    let own = measure(scope, &known, false, e);
-    if let Err(fault) = check_size(None, counts_under(captures, own)) {
-        return Err(fault);
+    match set.rule(1) {
+        Some(head) => head.name,
+        None => unreachable!(),
     }
-    let body = build(alloc, scope, rules, &known, Mode::plain(), e)?;
-    let root = Chars::from_str(alloc, "*")?;
-    Ok(under(alloc, captures, root, body)?)
 }
 
-/// The rules of some statements, behind the rules of a table; or the first that is too large.
-pub fn expand_statements(
-    alloc: Global,
-    rules: Rules,
-    statements: &[Statement],
-) -> Result<Rules, ExpandFault>
-    requires { length (rules_of rules) + length statements.now ≤ 0xffff_ffff }
-    ensures exactly { Answers (table_fault (length (rules_of rules)) (rows_behind (rules_of rules) statements.now)) result }
-    ensures table { IfOk result (λ rs. rows_of (rules_of rs) ≡ rows_of (rules_of rules) ++ rows_behind (rules_of rules) statements.now) }
+/// The rule table of a set of packages: the boundary, the built-in `halt`, and a rule for each statement of the set in
+/// its order. The first rule whose core is too large is answered instead, before anything is made of it.
+pub fn expand(alloc: Global, set: &PackageSet) -> Result<Rules, ExpandFault>
+    ensures exactly { Answers (table_fault 0 (table_of (set_seen set.now))) result }
+    ensures table { IfOk result (λ rs. rows_of (rules_of rs) ≡ table_of (set_seen set.now)) }
+    ensures order { AreBound (statements (set_seen set.now))
+        → IfOk result (λ rs. IsInOrder (bodies_of (rules_of rs)) (blocks_of (rules_of rs))) }
 {
-    let mut rules = rules;
+    let mut rules = built_in(alloc, halt_name(set))?;
     let mut known = inners(alloc, &rules)?;
     let mut names = kept_names(alloc, &rules)?;
-    for statement in statements {
-        let number = rules.len() as u32;
-        let own = measure(&statement.scope, &known, false, &statement.body);
+    for number in 2..set.rules() {
+        let Some(statement) = Statement::of(set, number) else {
+            unreachable!()
+        };
+        let own = measure(&statement.scope, &known, false, statement.body);
         if let Err(fault) = check_size(Some(number), counts_under(statement.captures, own)) {
             return Err(fault);
         }
-        let rule = make_rule(alloc, &rules, &known, statement)?;
+        let rule = make_rule(alloc, &rules, &known, &statement)?;
         push_rule(alloc, &mut rules, &mut known, &mut names, rule)?;
     }
     Ok(rules)
 }
 
-/// The table of rules of some statements: the boundary, `halt` under this full name, and a rule for each statement; or the
-/// first that is too large.
-pub fn expand(alloc: Global, halt: &str, statements: &[Statement]) -> Result<Rules, ExpandFault>
-    requires { 2 + length statements.now ≤ 0xffff_ffff }
-    ensures exactly { Answers (table_fault 0 (table (chars halt.now) (map statement_of statements.now))) result }
-    ensures table { IfOk result (λ rs. rows_of (rules_of rs) ≡ table (chars halt.now) (map statement_of statements.now)) }
-    ensures order { AreBound (map statement_of statements.now) → IfOk result (λ rs. IsInOrder (bodies_of (rules_of rs)) (blocks_of (rules_of rs))) }
+/// The core of a pattern over the rule table of its set, under its root capture unless it is the name of a rule that
+/// makes a tree; or that it is too large, and then nothing is made of it.
+pub fn expand_pattern(
+    alloc: Global,
+    set: &PackageSet,
+    rules: &Rules,
+    e: &Expr,
+) -> Result<Peg, ExpandFault>
+    ensures exactly { Answers (size_fault None
+        (goal_of (set_seen set.now) (inners_of (rules_of rules.now)) (expr_of e.now))) result }
+    ensures goal { IfOk result (λ p. core_of p
+        ≡ goal_of (set_seen set.now) (inners_of (rules_of rules.now)) (expr_of e.now)) }
+    ensures calls { IsOver (bodies_of (rules_of rules.now))
+        (scope_of (set_seen set.now) None (inners_of (rules_of rules.now)))
+        → IfOk result (λ p. (r : ℕ) → calls (core_of p) r ≡ true → r < length (rules_of rules.now)) }
+    ensures root { MakeTrees (bodies_of (rules_of rules.now)) (captures_of (set_seen set.now))
+        (scope_of (set_seen set.now) None (inners_of (rules_of rules.now)))
+        → IfOk result (λ p. (label : List ℕ) × IsCapture (bodies_of (rules_of rules.now)) label (core_of p)) }
 {
-    if halt == "~" {
-        return Err(ExpandFault::NoMemory);
+    let scope = Scope::new(set, None);
+    let known = inners(alloc, rules)?;
+    let captures = !has_root(&scope, e);
+    let own = measure(&scope, &known, false, e);
+    if let Err(fault) = check_size(None, counts_under(captures, own)) {
+        return Err(fault);
     }
-    let rules = built_in(alloc, halt)?;
-    expand_statements(alloc, rules, statements)
+    let body = build(alloc, &scope, rules, &known, Mode::plain(), e)?;
+    let root = Chars::from_str(alloc, "*")?;
+    Ok(under(alloc, captures, root, body)?)
 }

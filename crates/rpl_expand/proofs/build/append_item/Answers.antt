@@ -1,10 +1,10 @@
-use Rattle.std.proofs.Common.{◌≡◌, sym, ap, ◌∙◌}
+use Rattle.std.proofs.Common.{sym, ap, ◌∙◌}
 use Rattle.std.proofs.lemmas.Result.{on_ok_weaker}
 use Rattle.rpl_core.specs.Core as C
 use Rattle.rpl_core.specs.View.{core_of, cores, listed}
 use Rattle.rpl_forms.specs.Forms as F
 use Rattle.rpl_forms.proofs.Joins.{joined_assoc}
-use Rattle.rpl_expand.specs.Items.{core_if}
+use Rattle.rpl_expand.specs.inside.Items.{core_if}
 use Rattle.rpl_expand.proofs.build.append_item.Goals as goal
 
 pub returns-in-Some : goal.returns-in-Some

@@ -1,4 +1,3 @@
-use Rattle.std.proofs.Common.{refl}
 use Rattle.rpl_core.specs.Core.{Call}
 use Rattle.rpl_expand.specs.Expansion.{core, is_cooked}
 use Rattle.rpl_expand.proofs.Still.{turns}

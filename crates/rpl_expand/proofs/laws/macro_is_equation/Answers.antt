@@ -6,4 +6,5 @@ use Rattle.rpl_expand.proofs.MacroLaw.{macro_law}
 use Rattle.rpl_expand.proofs.laws.macro_is_equation.Goals as goal
 
 pub returns : goal.returns
-returns c = λ f k s q p m e h. ap (λ o. macro_core o (text_of p) (core (casing_under o k) s p)) e ∙ macro_law f k s p m h
+returns c = λ f k s q p m e h. ap (λ o. macro_core o (text_of p) (core (casing_under o k) s p)) e
+    ∙ macro_law f k s p m h

@@ -1,23 +1,26 @@
-use Rattle.std.proofs.Common.{◌≡◌, ◌≢◌, ◌+◌, drop, length, refl, sym, ap, ◌∙◌, subst, arith}
-use Rattle.std.specs.Prelude.{true, false}
+use Rattle.std.proofs.Common.{◌≢◌, ◌+◌, drop, length, sym, ap, ◌∙◌, subst, arith}
 use Rattle.std.proofs.lemmas.Bool.Decides.{nat_tests}
-use Rattle.rpl_core.specs.Core.{Seq, Choice, Call, And, Then}
+use Rattle.rpl_core.specs.Core.{Choice, Call, Then}
 use Rattle.rpl_syntax.specs.View.{expr_of, exprs_all}
 use Rattle.rpl_syntax.proofs.Rows.{cooked_view, raw_view, choice_view}
 use Rattle.rpl_forms.specs.Counting.{Adds, Counts, seen, seen_all}
-use Rattle.rpl_expand.specs.Items.{alone, between}
+use Rattle.rpl_expand.specs.inside.Items.{between}
 use Rattle.rpl_expand.specs.Expansion.{core, cores, spaced, is_cooked}
-use Rattle.rpl_forms.specs.Forms.{pair, seq_of, repeated}
-use Rattle.rpl_expand.specs.Scopes.{scope_of}
-use Rattle.rpl_expand.proofs.Parts.{parts, items, raw_more, cooked_more, parts_seen, items_seen, none_left, none_spaced, adds_done}
+use Rattle.rpl_forms.specs.Forms.{seq_of, repeated}
+use Rattle.rpl_expand.specs.inside.Scopes.{scope_seen}
+use Rattle.rpl_expand.proofs.Parts.{parts, items, raw_more, cooked_more, parts_seen, items_seen, none_left}
+use Rattle.rpl_expand.proofs.Parts.{none_spaced, adds_done}
 use Rattle.rpl_forms.proofs.Seen.{seen_seq, seen_choice, seen_text, seen_both, seen_repeated}
-use Rattle.rpl_expand.proofs.measure.+measure.Goals.{measure_cooked-in_default-via-then-items-lt1, measure_cooked-in_default-via-else-items-lt1+else-items-lt2, measure_raw-in_default-via-then-items-lt1, measure_raw-in_default-via-else-items-lt1+else-items-lt2}
+use Rattle.rpl_expand.proofs.measure.+measure.Goals.{measure_cooked-in_default-via-then-items-lt1}
+use Rattle.rpl_expand.proofs.measure.+measure.Goals.{measure_cooked-in_default-via-else-items-lt1+else-items-lt2}
+use Rattle.rpl_expand.proofs.measure.+measure.Goals.{measure_raw-in_default-via-then-items-lt1}
+use Rattle.rpl_expand.proofs.measure.+measure.Goals.{measure_raw-in_default-via-else-items-lt1+else-items-lt2}
 use Rattle.rpl_expand.proofs.measure.+measure.Goals as goal
 
 pub measure-returns-in-Text : goal.measure-returns-in-Text
 measure-returns-in-Text t c = λ k I h.
     let b = c.args.inside in
-    let s = scope_of c.args.scope.now I in
+    let s = scope_seen c.args.scope.now I in
     let long = sym (c.characters.ensures ∙ ap length c.as_str.ensures) in
     let same = ap (λ e. seen b I (core k s (expr_of e))) c.in-Text.is ∙ seen_text b I k c.in-Text.chars in
     subst (Counts c.text.result) (sym same) (c.text.ensures k c.in-Text.chars long)
@@ -25,86 +28,110 @@ measure-returns-in-Text t c = λ k I h.
 pub measure-returns-in-Cooked : goal.measure-returns-in-Cooked
 measure-returns-in-Cooked t c = λ k I h.
     let b = c.args.inside in
-    let s = scope_of c.args.scope.now I in
+    let s = scope_seen c.args.scope.now I in
     let view = ap expr_of c.in-Cooked.is ∙ cooked_view c.in-Cooked.items in
-    let same = ap (λ e. seen b I (core k s e)) view ∙ ap (λ l. seen b I (seq_of (spaced k s (exprs_all l)))) (sym c.as_slice.ensures) in
+    let same = ap (λ e. seen b I (core k s e)) view
+    ∙ ap (λ l. seen b I (seq_of (spaced k s (exprs_all l)))) (sym c.as_slice.ensures) in
     subst (Counts c.measure_cooked.result) (sym same) (c.measure_cooked.ensures k I h)
 
 pub measure-returns-in-Raw : goal.measure-returns-in-Raw
 measure-returns-in-Raw t c = λ k I h.
     let b = c.args.inside in
-    let s = scope_of c.args.scope.now I in
+    let s = scope_seen c.args.scope.now I in
     let view = ap expr_of c.in-Raw.is ∙ raw_view c.in-Raw.items in
-    let same = ap (λ e. seen b I (core k s e)) view ∙ ap (λ l. seen b I (seq_of (cores k s (exprs_all l)))) (sym c.as_slice-in-Raw.ensures) in
+    let same = ap (λ e. seen b I (core k s e)) view
+    ∙ ap (λ l. seen b I (seq_of (cores k s (exprs_all l)))) (sym c.as_slice-in-Raw.ensures) in
     subst (Counts c.measure_raw.result) (sym same) (c.measure_raw.ensures k I h)
 
 pub measure-returns-in-Choice : goal.measure-returns-in-Choice
 measure-returns-in-Choice t c = λ k I h.
     let b = c.args.inside in
-    let s = scope_of c.args.scope.now I in
+    let s = scope_seen c.args.scope.now I in
     let view = ap expr_of c.in-Choice.is ∙ choice_view c.in-Choice.parts in
-    let same = ap (λ e. seen b I (core k s e)) view ∙ ap (λ l. seen b I (Choice (cores k s (exprs_all l)))) (sym c.as_slice-in-Choice.ensures) ∙ seen_choice b I _ in
+    let same = ap (λ e. seen b I (core k s e)) view
+    ∙ ap (λ l. seen b I (Choice (cores k s (exprs_all l)))) (sym c.as_slice-in-Choice.ensures)
+    ∙ seen_choice b I _ in
     subst (Counts c.node.result) (sym same) (c.node.ensures.choice _ (c.measure_all-all.ensures k I h))
 
 pub measure-returns-in-Both : goal.measure-returns-in-Both
 measure-returns-in-Both t c = λ k I h.
     let b = c.args.inside in
-    let s = scope_of c.args.scope.now I in
+    let s = scope_seen c.args.scope.now I in
     let p = core k s (expr_of c.in-Both.first.value) in
     let q = core k s (expr_of c.in-Both.second.value) in
-    let one = subst (λ e. Counts c.measure.result (seen b I (core k s (expr_of e)))) c.deref.ensures (c.measure.ensures k I h) in
-    let two = subst (λ e. Counts c.measure-last.result (seen b I (core k s (expr_of e)))) c.deref-in-Both.ensures (c.measure-last.ensures k I h) in
+    let one = subst (λ e. Counts c.measure.result (seen b I (core k s (expr_of e)))) c.deref.ensures
+    (c.measure.ensures k I h) in
+    let two = subst (λ e. Counts c.measure-last.result (seen b I (core k s (expr_of e)))) c.deref-in-Both.ensures
+    (c.measure-last.ensures k I h) in
     let same = ap (λ e. seen b I (core k s (expr_of e))) c.in-Both.is ∙ seen_both b I p q in
     subst (Counts c.pair.result) (sym same) (c.pair.ensures _ _ (c.node-before.ensures.and _ one) two)
 
 pub measure-returns-then-is_cooked : goal.measure-returns-then-is_cooked
 measure-returns-then-is_cooked t c = λ k I h.
     let b = c.args.inside in
-    let s = scope_of c.args.scope.now I in
+    let s = scope_seen c.args.scope.now I in
     let body = c.in-Repeat.body.value in
     let p = core k s (expr_of body) in
-    let of = subst (λ e. Counts c.measure-of.result (seen b I (core k s (expr_of e)))) c.deref-in-Repeat.ensures (c.measure-of.ensures k I h) in
-    let test = ap (λ e. is_cooked (expr_of e)) (sym c.deref-in-Repeat-2.ensures) ∙ sym c.is_cooked.ensures ∙ c.if-is_cooked.true in
-    let same = ap (λ e. seen b I (core k s (expr_of e))) c.in-Repeat.is ∙ seen_repeated b I _ (Call s.boundary) p c.in-Repeat.least c.in-Repeat.most ∙ ap (λ x. repeated x (seen b I (Call s.boundary)) (seen b I p) c.in-Repeat.least c.in-Repeat.most) test in
-    subst (Counts c.cooked_repeat.result) (sym same) (c.cooked_repeat.ensures _ _ (c.count_call-boundary.ensures I h) of)
+    let of = subst (λ e. Counts c.measure-of.result (seen b I (core k s (expr_of e)))) c.deref-in-Repeat.ensures
+    (c.measure-of.ensures k I h) in
+    let test = ap (λ e. is_cooked (expr_of e)) (sym c.deref-in-Repeat-2.ensures) ∙ sym c.is_cooked.ensures
+    ∙ c.if-is_cooked.true in
+    let same = ap (λ e. seen b I (core k s (expr_of e))) c.in-Repeat.is
+    ∙ seen_repeated b I _ (Call s.boundary) p c.in-Repeat.least c.in-Repeat.most
+    ∙ ap (λ x. repeated x (seen b I (Call s.boundary)) (seen b I p) c.in-Repeat.least c.in-Repeat.most) test in
+    subst (Counts c.cooked_repeat.result) (sym same)
+    (c.cooked_repeat.ensures _ _ (c.count_call-boundary.ensures I h) of)
 
 pub measure-returns-else-is_cooked : goal.measure-returns-else-is_cooked
 measure-returns-else-is_cooked t c = λ k I h.
     let b = c.args.inside in
-    let s = scope_of c.args.scope.now I in
+    let s = scope_seen c.args.scope.now I in
     let body = c.in-Repeat.body.value in
     let p = core k s (expr_of body) in
-    let of = subst (λ e. Counts c.measure-of.result (seen b I (core k s (expr_of e)))) c.deref-in-Repeat.ensures (c.measure-of.ensures k I h) in
-    let test = ap (λ e. is_cooked (expr_of e)) (sym c.deref-in-Repeat-2.ensures) ∙ sym c.is_cooked.ensures ∙ c.if-is_cooked.false in
-    let same = ap (λ e. seen b I (core k s (expr_of e))) c.in-Repeat.is ∙ seen_repeated b I _ (Call s.boundary) p c.in-Repeat.least c.in-Repeat.most ∙ ap (λ x. repeated x (seen b I (Call s.boundary)) (seen b I p) c.in-Repeat.least c.in-Repeat.most) test in
+    let of = subst (λ e. Counts c.measure-of.result (seen b I (core k s (expr_of e)))) c.deref-in-Repeat.ensures
+    (c.measure-of.ensures k I h) in
+    let test = ap (λ e. is_cooked (expr_of e)) (sym c.deref-in-Repeat-2.ensures) ∙ sym c.is_cooked.ensures
+    ∙ c.if-is_cooked.false in
+    let same = ap (λ e. seen b I (core k s (expr_of e))) c.in-Repeat.is
+    ∙ seen_repeated b I _ (Call s.boundary) p c.in-Repeat.least c.in-Repeat.most
+    ∙ ap (λ x. repeated x (seen b I (Call s.boundary)) (seen b I p) c.in-Repeat.least c.in-Repeat.most) test in
     subst (Counts c.repeat.result) (sym same) (c.repeat.ensures _ of)
 
 pub measure_cooked-returns-in_default : goal.measure_cooked-returns-in_default
 measure_cooked-returns-in_default t c = λ k I h.
     let b = c.args.inside in
-    let s = scope_of c.args.scope.now I in
+    let s = scope_seen c.args.scope.now I in
     let es = c.args.items.now in
-    let many : length es ≢ 1 = elim c.in_default.branch [ measure_cooked-in_default-via-then-items-lt1 w ↦ grind (arith, nat_tests) | measure_cooked-in_default-via-else-items-lt1+else-items-lt2 w ↦ grind (arith, nat_tests) ] in
+    let many : length es ≢ 1 =
+    elim c.in_default.branch [
+      | measure_cooked-in_default-via-then-items-lt1 w ↦ grind (arith, nat_tests)
+      | measure_cooked-in_default-via-else-items-lt1+else-items-lt2 w ↦ grind (arith, nat_tests)
+    ] in
     let same = ap (seen b I) (cooked_more k s es many) ∙ seen_seq b I (items k s es) in
     subst (Counts c.node.result) (sym same) (c.node.ensures.seq _ (c.measure_spaced-all.ensures k I h))
 
 pub measure_raw-returns-in_default : goal.measure_raw-returns-in_default
 measure_raw-returns-in_default t c = λ k I h.
     let b = c.args.inside in
-    let s = scope_of c.args.scope.now I in
+    let s = scope_seen c.args.scope.now I in
     let es = c.args.items.now in
-    let many : length es ≢ 1 = elim c.in_default.branch [ measure_raw-in_default-via-then-items-lt1 w ↦ grind (arith, nat_tests) | measure_raw-in_default-via-else-items-lt1+else-items-lt2 w ↦ grind (arith, nat_tests) ] in
+    let many : length es ≢ 1 =
+    elim c.in_default.branch [
+      | measure_raw-in_default-via-then-items-lt1 w ↦ grind (arith, nat_tests)
+      | measure_raw-in_default-via-else-items-lt1+else-items-lt2 w ↦ grind (arith, nat_tests)
+    ] in
     let same = ap (seen b I) (raw_more k s es many) ∙ seen_seq b I (parts k s es) in
     subst (Counts c.node.result) (sym same) (c.node.ensures.seq _ (c.measure_all-all.ensures k I h))
 
 pub measure_all-returns : goal.measure_all-returns
 measure_all-returns t c = λ k I h.
-    adds_done _ _ _ (none_left c.args.inside I k (scope_of c.args.scope.now I) c.args.parts.now c.loop-part.part-index c.loop-part-test.false) (c.loop-part.invariant k I h)
+    adds_done _ _ _ (none_left c.args.inside I k (scope_seen c.args.scope.now I) c.args.parts.now
+    c.loop-part.part-index c.loop-part-test.false) (c.loop-part.invariant k I h)
 
 pub measure_all-loop-part-preserved : goal.measure_all-loop-part-preserved
 measure_all-loop-part-preserved t c = λ k I h.
     let b = c.args.inside in
-    let s = scope_of c.args.scope.now I in
+    let s = scope_seen c.args.scope.now I in
     let es = c.args.parts.now in
     let i = c.loop-part.part-index in
     let e = c.part-item.result in
@@ -112,16 +139,18 @@ measure_all-loop-part-preserved t c = λ k I h.
     let rest = seen_all b I (parts k s (drop (i + 1) es)) in
     let whole = seen_all b I (parts k s es) in
     let here = parts_seen b I k s es i e c.loop-part-test.true c.part-item.is in
-    c.add-sum.ensures p rest whole (c.measure.ensures k I h) (subst (λ r. Adds c.loop-part.sum r whole) here (c.loop-part.invariant k I h))
+    c.add-sum.ensures p rest whole (c.measure.ensures k I h)
+    (subst (λ r. Adds c.loop-part.sum r whole) here (c.loop-part.invariant k I h))
 
 pub measure_spaced-returns : goal.measure_spaced-returns
 measure_spaced-returns t c = λ k I h.
-    adds_done _ _ _ (none_spaced c.args.inside I k (scope_of c.args.scope.now I) c.args.items.now c.loop-number.number c.loop-number-test.false) (c.loop-number.invariant k I h)
+    adds_done _ _ _ (none_spaced c.args.inside I k (scope_seen c.args.scope.now I) c.args.items.now
+    c.loop-number.number c.loop-number-test.false) (c.loop-number.invariant k I h)
 
 pub measure_spaced-loop-number-preserved : goal.measure_spaced-loop-number-preserved
 measure_spaced-loop-number-preserved t c = λ k I h.
     let b = c.args.inside in
-    let s = scope_of c.args.scope.now I in
+    let s = scope_seen c.args.scope.now I in
     let es = c.args.items.now in
     let i = c.loop-number.number in
     let e = c.index-items-number.result in
@@ -129,5 +158,7 @@ measure_spaced-loop-number-preserved t c = λ k I h.
     let q = seen b I (Call s.boundary) in
     let rest = seen_all b I (items k s (drop (i + 1) es)) in
     let whole = seen_all b I (items k s es) in
-    let here = items_seen b I k s es i e c.loop-number-test.true c.index-items-number.is ∙ ap (λ a. Then p (between a q rest)) (sym c.stands_alone.ensures) in
-    c.add_item-sum.ensures p q rest whole (c.measure-item.ensures k I h) (c.count_call-boundary.ensures I h) (subst (λ r. Adds c.loop-number.sum r whole) here (c.loop-number.invariant k I h))
+    let here = items_seen b I k s es i e c.loop-number-test.true c.index-items-number.is
+    ∙ ap (λ a. Then p (between a q rest)) (sym c.stands_alone.ensures) in
+    c.add_item-sum.ensures p q rest whole (c.measure-item.ensures k I h) (c.count_call-boundary.ensures I h)
+    (subst (λ r. Adds c.loop-number.sum r whole) here (c.loop-number.invariant k I h))

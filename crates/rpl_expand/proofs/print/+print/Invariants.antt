@@ -8,4 +8,5 @@ use Rattle.rpl_expand.proofs.print.+print.Given as goal
 
 abbrev pub invariant-push_parts-loop-part : goal.invariant-push_parts-loop-part
 invariant-push_parts-loop-part l =
-    string_bytes l.out ≡ string_bytes l.initial.out ++ printed_all (names_of (rules_of l.rules)) (cores (take l.part-index l.parts))
+    string_bytes l.out ≡ string_bytes l.initial.out
+    ++ printed_all (names_of (rules_of l.rules)) (cores (take l.part-index l.parts))

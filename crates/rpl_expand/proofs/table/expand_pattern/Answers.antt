@@ -1,5 +1,5 @@
 use Rattle.std.proofs.Common.{◌≡◌, ℕ, List, refl, sym, ap, ap₂, ◌∙◌, subst}
-use Rattle.std.specs.Prelude.{codes, chars, not}
+use Rattle.std.specs.Prelude.{None, codes, not}
 use Rattle.rpl_core.specs.Listed.{rules_of}
 use Rattle.rpl_core.specs.Programs.{calls}
 use Rattle.rpl_core.specs.Table.{bodies_of}
@@ -8,36 +8,74 @@ use Rattle.rpl_simulation.specs.Laws.{IsCapture}
 use Rattle.rpl_macro.proofs.Names.{chars_low, encode_low}
 use Rattle.rpl_macro.specs.declared.casing.Casing.TheVariants.{Plain}
 use Rattle.rpl_syntax.specs.View.{expr_of}
+use Rattle.rpl_package.specs.Sets.{set_seen}
 use Rattle.rpl_expand.specs.Expansion.{core}
-use Rattle.rpl_forms.specs.Counting.{seen}
+use Rattle.rpl_forms.specs.Counting.{KnowsInners, seen}
 use Rattle.rpl_forms.specs.Rows.{inners_of}
-use Rattle.rpl_expand.specs.Scopes.{captures_in, scope_of}
+use Rattle.rpl_expand.specs.Faults.{Answers, IsDue, fault_named, size_fault}
+use Rattle.rpl_expand.specs.Sets.{captures_of, scope_of}
 use Rattle.rpl_expand.specs.Table.{captured}
+use Rattle.rpl_expand.specs.inside.Scopes.{scope_seen}
 use Rattle.rpl_expand.proofs.Rooting.{goal_only, goal_root}
+use Rattle.rpl_expand.proofs.Views.{goal_is}
 use Rattle.rpl_expand.proofs.table.expand_pattern.Goals as goal
+
+pub returns-in-Err-clause-exactly : goal.returns-in-Err-clause-exactly
+returns-in-Err-clause-exactly c =
+    let I = inners_of (rules_of c.args.rules.now) in
+    let s = c.new-scope.result in
+    let e = expr_of c.args.e.now in
+    let own = core Plain (scope_seen s I) e in
+    let p = captured (not c.has_root-captures.result) (codes "*") own in
+    let is = goal_is s c.args.set.now I e c.has_root-captures.result c.new-scope.ensures.set c.new-scope.ensures.at
+    c.new-scope.ensures.boundary c.has_root-captures.ensures in
+    let known = subst (λ l. KnowsInners l I) (sym c.deref.ensures.value) c.in_ok-known.ensures.knows in
+    let counts = c.counts_under.ensures own (codes "*") (c.measure-own.ensures Plain I known) in
+    let due = subst (Answers (size_fault None p)) c.in-Err.is (c.check_size.ensures p counts) in
+    subst (λ q. IsDue (size_fault None q) (fault_named c.in-Err.fault)) is due
+
+pub returns-clause-exactly : goal.returns-clause-exactly
+returns-clause-exactly c =
+    let I = inners_of (rules_of c.args.rules.now) in
+    let s = c.new-scope.result in
+    let e = expr_of c.args.e.now in
+    let own = core Plain (scope_seen s I) e in
+    let p = captured (not c.has_root-captures.result) (codes "*") own in
+    let is = goal_is s c.args.set.now I e c.has_root-captures.result c.new-scope.ensures.set c.new-scope.ensures.at
+    c.new-scope.ensures.boundary c.has_root-captures.ensures in
+    let known = subst (λ l. KnowsInners l I) (sym c.deref.ensures.value) c.in_ok-known.ensures.knows in
+    let counts = c.counts_under.ensures own (codes "*") (c.measure-own.ensures Plain I known) in
+    let fits = subst (Answers (size_fault None p)) c.in_default.is (c.check_size.ensures p counts) in
+    sym (ap (size_fault None) is) ∙ fits
 
 pub returns-clause-goal : goal.returns-clause-goal
 returns-clause-goal c =
     let word = codes "*" in
     let r = c.has_root-captures.result in
     let I = inners_of (rules_of c.args.rules.now) in
-    let s = scope_of c.args.scope.now I in
+    let s = c.new-scope.result in
     let e = expr_of c.args.e.now in
-    let name : c.in_ok-root.root ≡ word = c.in_ok-root.ensures ∙ chars_low word (word, (refl, encode_low word refl)) refl in
+    let is = goal_is s c.args.set.now I e r c.new-scope.ensures.set c.new-scope.ensures.at
+    c.new-scope.ensures.boundary c.has_root-captures.ensures in
+    let name : c.in_ok-root.root ≡ word =
+    c.in_ok-root.ensures ∙ chars_low word (word, (refl, encode_low word refl)) refl in
     c.in_ok-under.ensures
     ∙ ap (λ n. captured (not r) n (core_of c.in_ok-body.body)) name
-    ∙ ap (captured (not r) word) (c.in_ok-body.ensures ∙ ap₂ (λ k b. seen b I (core k s e)) c.plain.ensures.casing c.plain.ensures.inside)
-    ∙ ap (λ b. captured (not b) word (core Plain s (expr_of c.args.e.now))) c.has_root-captures.ensures
+    ∙ ap (captured (not r) word)
+    (c.in_ok-body.ensures
+    ∙ ap₂ (λ k b. seen b I (core k (scope_seen s I) e)) c.plain.ensures.casing c.plain.ensures.inside)
+    ∙ is
 
 pub returns-clause-calls : goal.returns-clause-calls
 returns-clause-calls c = λ o r h.
     let rs = rules_of c.args.rules.now in
-    let s = scope_of c.args.scope.now (inners_of rs) in
-    goal_only rs (captures_in c.args.scope.now.names.items) s (expr_of c.args.e.now) refl o r (sym (ap (λ p. calls p r) (returns-clause-goal c)) ∙ h)
+    let p = set_seen c.args.set.now in
+    goal_only rs (captures_of p) (scope_of p None (inners_of rs)) (expr_of c.args.e.now) refl o r
+    (sym (ap (λ x. calls x r) (returns-clause-goal c)) ∙ h)
 
 pub returns-clause-root : goal.returns-clause-root
 returns-clause-root c = λ m.
     let rs = rules_of c.args.rules.now in
-    let s = scope_of c.args.scope.now (inners_of rs) in
-    let root = goal_root (bodies_of rs) (captures_in c.args.scope.now.names.items) s (expr_of c.args.e.now) m in
-    subst (λ p. (label : List ℕ) × IsCapture (bodies_of rs) label p) (sym (returns-clause-goal c)) root
+    let p = set_seen c.args.set.now in
+    let root = goal_root (bodies_of rs) (captures_of p) (scope_of p None (inners_of rs)) (expr_of c.args.e.now) m in
+    subst (λ x. (label : List ℕ) × IsCapture (bodies_of rs) label x) (sym (returns-clause-goal c)) root

@@ -1,4 +1,4 @@
-use Rattle.std.proofs.Common.{◌≡◌, ◌+◌, ◌++◌, ◌∷◌, [], length, sym, ap, ◌∙◌, subst, arith, length-append}
+use Rattle.std.proofs.Common.{◌≡◌, ◌+◌, ◌∷◌, [], length, sym, ap, ◌∙◌, subst, arith, length-append}
 use Rattle.std.proofs.lemmas.List.{length-map}
 use Rattle.rpl_core.specs.Listed.{rules_of}
 use Rattle.rpl_core.specs.Table.{names_of}
@@ -13,14 +13,16 @@ push-requires-clause-new_name c =
     let N = names_of (rules_of c.args.rules.now) in
     let long : length N ≡ length (rules_of c.args.rules.now) = length-map (rules_of c.args.rules.now) (λ r. r.name) in
     let place : c.in_ok-place.place ≡ length N = omega (arith, long, c.len.ensures.count) in
-    (new_place N c.args.names.now _ c.args.rule.name _ c.requires.names c.in_ok-place.ensures.kept c.in_ok-place.ensures.number place).0
+    (new_place N c.args.names.now _ c.args.rule.name _ c.requires.names c.in_ok-place.ensures.kept
+    c.in_ok-place.ensures.number place).0
 
 pub returns-clause-names : goal.returns-clause-names
 returns-clause-names c =
     let N = names_of (rules_of c.args.rules.now) in
     let long : length N ≡ length (rules_of c.args.rules.now) = length-map (rules_of c.args.rules.now) (λ r. r.name) in
     let place : c.in_ok-place.place ≡ length N = omega (arith, long, c.len.ensures.count) in
-    let new = new_place N c.args.names.now _ c.args.rule.name _ c.requires.names c.in_ok-place.ensures.kept c.in_ok-place.ensures.number place in
+    let new = new_place N c.args.names.now _ c.args.rule.name _ c.requires.names c.in_ok-place.ensures.kept
+    c.in_ok-place.ensures.number place in
     names_added (rules_of c.args.rules.now) c.args.rule _ _ new.1 c.in_ok-push.ensures.ok
 
 pub returns-clause-knows : goal.returns-clause-knows
@@ -33,4 +35,5 @@ returns-clause-knows c =
 
 pub returns-clause-as_many : goal.returns-clause-as_many
 returns-clause-as_many c =
-    c.in_ok-push_inner.ensures.as_many ∙ ap (λ n. n + 1) c.requires.as_many ∙ sym (ap length c.in_ok-push.ensures.ok ∙ length-append (rules_of c.args.rules.now) (c.args.rule ∷ []))
+    c.in_ok-push_inner.ensures.as_many ∙ ap (λ n. n + 1) c.requires.as_many
+    ∙ sym (ap length c.in_ok-push.ensures.ok ∙ length-append (rules_of c.args.rules.now) (c.args.rule ∷ []))

@@ -1,0 +1,4 @@
+-- Words of private functions alone. No public contract cites them.
+pub mod Items
+pub mod Scopes
+pub mod Statements
