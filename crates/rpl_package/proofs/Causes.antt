@@ -1,5 +1,5 @@
 -- Causes of a stop: a failed read, and nothing else, is a read fault.
-use Rattle.std.proofs.Common.{arith, ◌≡◌, ◌≤◌, ◌<◌, ◌-◌, ◌^◌, ℕ, ap, sym, subst, false, true≢false, ◌∙◌, ◌⊎◌}
+use Rattle.std.proofs.Common.{arith, ◌≡◌, ◌≤◌, ℕ, ap, sym, subst, false, true≢false, ◌∙◌, ◌⊎◌}
 use Rattle.rosie_io.specs.Counts.{Rose}
 use Rattle.rosie_io.specs.Loading.{NotFewer}
 use Rattle.std.specs.Prelude.{Result, Ok, Err, IfErr}

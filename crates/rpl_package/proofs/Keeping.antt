@@ -1,11 +1,11 @@
 -- What stays when modules are added behind.
-use Rattle.std.proofs.Common.{arith, ◌≡◌, ◌≤◌, ◌+◌, ℕ, zero, suc, List, [], ◌∷◌, ◌++◌, length, take, Option, Some}
+use Rattle.std.proofs.Common.{arith, ◌≡◌, ◌≤◌, ℕ, zero, suc, List, [], ◌∷◌, ◌++◌, length, take, Option, Some}
 use Rattle.std.proofs.Common.{None, refl, sym, ap, subst, ◌∙◌}
-use Rattle.rpl_scope.specs.Packages.{Module, first_of, added, added_at}
+use Rattle.rpl_scope.specs.Packages.{first_of, added, added_at}
 use Rattle.rpl_scope.specs.Seen.{module_seen, modules_seen}
 use Rattle.rpl_scope.specs.declared.module.Module.{Module as Declared}
 use Rattle.rpl_package.specs.Kept.{BeginsWith, Keeps}
-use Rattle.rpl_package.specs.Loading.{Stock, finished, with_path}
+use Rattle.rpl_package.specs.Loading.{Stock, with_path}
 
 take_whole : {A : Type 0} (xs ys : List A) → take (length xs) (xs ++ ys) ≡ xs
 take_whole [] ys = refl

@@ -1,6 +1,7 @@
 pub mod Causes
 mod Examples
 pub mod Keeping
+pub mod Listing
 pub mod Locating
 pub mod Numbering
 pub mod Outcomes

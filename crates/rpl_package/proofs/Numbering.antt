@@ -1,11 +1,11 @@
 -- Numbers of rules, and what stands at a number.
-use Rattle.std.proofs.Common.{arith, ◌≡◌, ◌≤◌, ◌<◌, ◌+◌, ◌++◌, ℕ, zero, suc, List, [], ◌∷◌, length, get_or, Option}
+use Rattle.std.proofs.Common.{arith, ◌≡◌, ◌≤◌, ◌<◌, ◌+◌, ℕ, zero, suc, List, [], ◌∷◌, length, get_or, Option}
 use Rattle.std.proofs.Common.{Some, None, refl, sym, ap, ◌∙◌}
 use Rattle.std.proofs.lemmas.List.{length-append}
 use Rattle.rpl_scope.specs.Packages.{Rule, Module, nth, first_rule}
 use Rattle.rpl_scope.specs.Seen.{module_seen, modules_seen}
 use Rattle.rpl_scope.specs.declared.module.Module.{Module as Declared}
-use Rattle.rpl_package.specs.Tables.{begun_in, rows_of, rows_from, rows, firsts_from, firsts}
+use Rattle.rpl_package.specs.Tables.{begun_in, rows_of, rows_from, firsts_from, firsts}
 use Rattle.rpl_package.specs.Targets.{then, rule_in}
 use Rattle.rpl_package.proofs.Rows.{length-rows_of}
 

@@ -1,20 +1,19 @@
 -- A module that is written back, and the way back from what is added.
-use Rattle.std.proofs.Common.{arith, ◌≡◌, ◌≤◌, ◌<◌, ◌+◌, ◌++◌, ℕ, zero, suc, List, [], ◌∷◌, length, take, get_or}
+use Rattle.std.proofs.Common.{arith, ◌≡◌, ◌≤◌, ◌<◌, ℕ, zero, suc, List, [], ◌∷◌, length, take}
 use Rattle.std.proofs.Common.{Option, Some, None, refl, sym, ap, ap₂, subst, ◌∙◌, true, false}
 use Rattle.std.proofs.Math.ListN.{set}
 use Rattle.std.proofs.lemmas.List.{take-append-le, length-append}
-use Rattle.std.specs.Prelude.{Bool, if◌then◌else◌, nat_eq, Result, Ok, Err}
-use Rattle.rpl_scope.specs.Faults.{Or, fault}
+use Rattle.std.specs.Prelude.{Bool, if◌then◌else◌, nat_eq, Ok, Err}
+use Rattle.rpl_scope.specs.Faults.{Or}
 use Rattle.rpl_scope.specs.Imports.{add_prefix, add_prefix_at, with_prefix}
 use Rattle.rpl_scope.specs.Packages.{Module, first_of, nth}
 use Rattle.rpl_scope.specs.Seen.{module_seen, modules_seen}
 use Rattle.rpl_scope.specs.declared.fault.LoadFault.{LoadFault}
-use Rattle.rpl_scope.specs.declared.fault.LoadKind.TheVariants.{Duplicate}
 use Rattle.rpl_scope.specs.declared.module.Module.{Module as Declared}
 use Rattle.rpl_scope.specs.declared.module.Prefix.{Prefix}
 use Rattle.rpl_package.specs.Kept.{BeginsWith, Keeps, shortened, with_shortened}
 use Rattle.rpl_package.specs.Loading.{Stock}
-use Rattle.rpl_package.specs.Marks.{CutsTo, cut_back, marks_of, prefixes_of}
+use Rattle.rpl_package.specs.Marks.{CutsTo, prefixes_of}
 use Rattle.rpl_package.specs.Patterns.{replaced, with_module}
 
 take_all : {A : Type 0} (xs : List A) → take (length xs) xs ≡ xs

@@ -1,9 +1,9 @@
 -- Rows, rule by rule and module by module.
 use Rattle.std.proofs.Common.{arith, ◌≡◌, ◌≢◌, ◌≤◌, ◌<◌, ◌+◌, ◌++◌, ℕ, List, [], ◌∷◌, length, drop, get_or, refl}
 use Rattle.std.proofs.Common.{sym, ap, ap₂, ◌∙◌, append_assoc}
-use Rattle.std.proofs.lemmas.List.{drop_all, append-nil, length-append}
+use Rattle.std.proofs.lemmas.List.{drop_all, append-nil}
 use Rattle.rpl_scope.specs.Packages as P
-use Rattle.rpl_scope.specs.Seen.{rule_seen, rules_seen, module_seen, modules_seen}
+use Rattle.rpl_scope.specs.Seen.{rule_seen, rules_seen, modules_seen}
 use Rattle.rpl_scope.specs.declared.module.Rule.{Rule}
 use Rattle.rpl_scope.specs.declared.module.Module.{Module}
 use Rattle.rpl_scope.proofs.Checking.{front}

@@ -1,5 +1,5 @@
 -- What a pattern's text is read as.
-use Rattle.std.proofs.Common.{◌≡◌, ◌≢◌, ◌⊎◌, inl, inr, ℕ, List, Bool, true, false, refl, sym, ap, subst, ◌∙◌}
+use Rattle.std.proofs.Common.{◌≡◌, ◌≢◌, ◌⊎◌, inl, inr, ℕ, List, Bool, false, refl, sym, ap, subst, ◌∙◌}
 use Rattle.std.specs.Prelude.{Ok, Err}
 use Rattle.rpl_lexer.specs.Cutting.{cut_of}
 use Rattle.rpl_lexer.specs.declared.fault.LexFault.{LexFault}

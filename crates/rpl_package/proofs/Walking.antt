@@ -9,10 +9,10 @@ use Rattle.rpl_scope.specs.Packages.{first_of}
 use Rattle.rpl_scope.specs.declared.fault.Stop.{Stop}
 use Rattle.rpl_scope.proofs.Stops.{told}
 use Rattle.rpl_scope.specs.declared.fault.LoadKind.TheVariants.{ImportCycle, ImportMissing, TooManyPackages, Duplicate}
-use Rattle.rpl_package.specs.Asking.{Outcome, at_once, and_then, MayStop, StopAsks}
+use Rattle.rpl_package.specs.Asking.{at_once, and_then, MayStop, StopAsks}
 use Rattle.rpl_package.specs.Reading.{IsQuiet}
 use Rattle.rpl_package.specs.Loading.{World, Walk, Stock, State, find, search, tried, fresh, known_or, reach}
-use Rattle.rpl_package.specs.Loading.{is_loading, is_taken, finished, taken_up, own_text, checks, empty_module}
+use Rattle.rpl_package.specs.Loading.{is_loading, is_taken, taken_up, own_text, checks, empty_module}
 use Rattle.rpl_package.specs.Loading.{label_of, label_at, walk}
 use Rattle.rpl_package.specs.declared.stock.Head.{Head}
 use Rattle.rpl_package.proofs.Outcomes.{Follows, same, trail, then_follows, may, may_lead, may_then, quiet}

@@ -1,5 +1,5 @@
 -- What the public calls answer.
-use Rattle.std.specs.Prelude.{◌≡◌, ◌≤◌, ◌⊎◌, ℕ, List, [], Result, Ok, Err}
+use Rattle.std.specs.Prelude.{◌≡◌, ◌≤◌, ◌⊎◌, ℕ, [], Result, Ok, Err}
 use Rattle.rosie_io.specs.Counts.{Rose}
 use Rattle.rpl_scope.specs.declared.fault.LoadFault.{LoadFault}
 use Rattle.rpl_scope.specs.declared.fault.LoadKind.{LoadKind}

@@ -4,6 +4,7 @@ pub mod Goals
 pub mod Kept
 pub mod Loading
 pub mod Marks
+pub mod Names
 pub mod Owned
 pub mod Patterns
 pub mod Reading

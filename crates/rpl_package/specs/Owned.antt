@@ -1,5 +1,5 @@
 -- What a set tells of its modules, of its roots, and of a name that a module binds itself.
-use Rattle.std.specs.Prelude.{ℕ, Bool, cond, List, Option, Some, None, Result, Ok, Err}
+use Rattle.std.specs.Prelude.{ℕ, cond, List, Option, Some, None, Result, Ok, Err}
 use Rattle.rpl_scope.specs.Packages.{Module, first_of, nth}
 use Rattle.rpl_scope.specs.declared.module.Entry.{Entry}
 use Rattle.rpl_scope.specs.declared.module.Referent.{Referent}

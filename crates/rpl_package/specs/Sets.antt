@@ -1,5 +1,4 @@
 -- How contracts see a set of packages.
-use Rattle.std.specs.Prelude.{Option}
 use Rattle.rpl_package.specs.Roots.{Packages}
 use Rattle.rpl_package.specs.Stocks.{stock_seen}
 use Rattle.rpl_package.specs.declared.set.PackageSet.{PackageSet}

@@ -1,5 +1,5 @@
 -- How contracts see the modules that are loaded.
-use Rattle.std.specs.Prelude.{◌≡◌, ◌≤◌, ◌+◌, ℕ, List, length}
+use Rattle.std.specs.Prelude.{◌≡◌, ◌≤◌, ◌+◌, List, length}
 use Rattle.rpl_package.specs.Loading as L
 use Rattle.rpl_package.specs.Tables.{rows, firsts}
 use Rattle.rpl_package.specs.declared.stock.Stock.{Stock}

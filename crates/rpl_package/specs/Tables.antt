@@ -1,15 +1,8 @@
 -- The rule table: the boundary and the built-in `halt`, and then the rules of the modules in order.
-use Rattle.std.specs.Prelude.{ℕ, ◌+◌, ◌-◌, Bool, true, false, ◌&&◌, nat_eq, if◌then◌else◌, List, [], ◌∷◌, ◌++◌}
-use Rattle.std.specs.Prelude.{length, Option, Some, None, codes, not}
+use Rattle.std.specs.Prelude.{ℕ, ◌+◌, ◌-◌, Bool, ◌&&◌, nat_eq, if◌then◌else◌, List, [], ◌∷◌, ◌++◌}
+use Rattle.std.specs.Prelude.{length, Some, None, codes}
 use Rattle.std.specs.Str.{bytes_eq}
-use Rattle.rpl_syntax.specs.Expression.{Expr}
-use Rattle.rpl_syntax.specs.declared.name.QName.{QName}
-use Rattle.rpl_scope.specs.Packages.{Rule, Module, bound, first_of, nth, place}
-use Rattle.rpl_scope.specs.declared.module.Entry.{Entry}
-use Rattle.rpl_scope.specs.declared.module.Referent.{Referent}
-use Rattle.rpl_scope.specs.declared.module.Referent.TheVariants.{Own, Of, BuiltIn}
-use Rattle.rpl_scope.specs.declared.scope.Found.{Found}
-use Rattle.rpl_scope.specs.declared.scope.Found.TheVariants.{To, Unknown, Hidden}
+use Rattle.rpl_scope.specs.Packages.{Rule, Module}
 use Rattle.rpl_package.specs.declared.table.Row.{Row}
 
 -- ---- full names

@@ -1,5 +1,5 @@
 -- What the names of a set stand for, by number, and what is known of each rule.
-use Rattle.std.specs.Prelude.{ℕ, zero, suc, ◌+◌, Bool, true, false, List, [], ◌∷◌, length, Option, Some, None}
+use Rattle.std.specs.Prelude.{ℕ, zero, suc, ◌+◌, Bool, true, false, List, length, Option, Some, None}
 use Rattle.std.specs.Prelude.{Result, Ok, Err, codes, not}
 use Rattle.rpl_syntax.specs.Expression.{Expr}
 use Rattle.rpl_syntax.specs.declared.name.QName.{QName}

@@ -1,5 +1,7 @@
 // Loading over a tree in memory: each kind of fault at its place, a file that is cut off, and each call that may fail.
-use crate::{Goal, LibPath, LoadFault, LoadKind, PackageSet, Root, Roots, load, load_pattern};
+use crate::{
+    Goal, LibPath, Listed, LoadFault, LoadKind, PackageSet, Root, Roots, load, load_pattern,
+};
 use rosie_io::{Bytes, Calls, MemoryFiles, Tree, TreeFile};
 use rpl_syntax::Expr;
 use rpl_text::Chars;
@@ -259,5 +261,71 @@ fn each_call_of_the_files_fails_in_turn(rt: HostRuntime) -> Result<(), Fail> {
         let said = answer(alloc, files, &["@own.rpl"], "far.f")?;
         assert_eq!(rt; said.as_str(), asked(call), "call {call}");
     }
+    Ok(())
+}
+
+/// Roots with names of every kind: bound here, by `as .` and behind a prefix; with and without a node; local, hidden,
+/// and a boundary.
+static NAMED: [&str; 2] = [
+    "import num, p/q, hid as ., hid as z ~ = \"-\" local x = \"a\" alias B = x grammar k = \"k\" in g = k end",
+    "@own.rpl",
+];
+
+/// Its names, as a second reading of the rules has them, with the types of their nodes.
+static LISTED: [(&str, &str); 11] = [
+    ("B", ""),
+    ("g", "g"),
+    ("num.int", "num.int"),
+    ("own.one", "own.one"),
+    ("q.w", "q.w"),
+    ("u", "hid.u"),
+    ("v", "hid.v"),
+    ("x", "x"),
+    ("z.u", "hid.u"),
+    ("z.v", "hid.v"),
+    ("", ""),
+];
+
+/// What comes of the roots with names of every kind.
+fn named_set(alloc: Global) -> Result<Result<PackageSet, LoadFault>, AllocError> {
+    let mut files = MemoryFiles::new(tree(alloc)?, 16, Calls::new(alloc));
+    Ok(load(alloc, &mut files, &folders(alloc)?, &roots(alloc, &NAMED)?))
+}
+
+/// A name and the type of its nodes, or two empty texts.
+fn pair(listed: Option<&Listed>) -> (&str, &str) {
+    let Some(listed) = listed else {
+        return ("", "");
+    };
+    match &listed.label {
+        Some(label) => (listed.name.as_str(), label.as_str()),
+        None => (listed.name.as_str(), ""),
+    }
+}
+
+#[test]
+fn names_in_order(rt: HostRuntime) -> Result<(), Fail> {
+    let alloc = rt.alloc();
+    let set = named_set(alloc)?.expect(&rt, "the roots have no fault");
+    let names = set.names(alloc)?;
+    for (number, (name, label)) in LISTED.iter().enumerate() {
+        let (said, kind) = pair(names.get(number));
+        assert_eq!(rt; said, *name);
+        assert_eq!(rt; kind, *label);
+    }
+    Ok(())
+}
+
+#[test]
+fn modules_of_roots(rt: HostRuntime) -> Result<(), Fail> {
+    let alloc = rt.alloc();
+    let set = named_set(alloc)?.expect(&rt, "the roots have no fault");
+    assert_eq!(rt; set.root_module(0), Some(set.top()));
+    assert_eq!(rt; set.root_module(2), None);
+    let own = set.root_module(1).unwrap_or(0);
+    assert_eq!(rt; set.package(own), Some("own"));
+    assert_eq!(rt; set.package(set.top()), Some(""));
+    assert_eq!(rt; set.own(own, "two"), None);
+    assert_eq!(rt; set.own(own, "one").is_some(), true);
     Ok(())
 }

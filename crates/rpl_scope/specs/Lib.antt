@@ -2,5 +2,6 @@ pub mod Bodies
 pub mod Faults
 pub mod Imports
 pub mod Packages
+pub mod Pairs
 pub mod Seen
 pub mod Statements

@@ -15,8 +15,8 @@ use rpl_syntax::QName;
 use rpl_text::Chars;
 use std::alloc::Global;
 
-/// A name as it is written.
-fn written(alloc: Global, name: &QName) -> Result<Chars, NoMemory>
+/// A name as it is written, behind its prefix and a dot where it has one.
+pub fn written(alloc: Global, name: &QName) -> Result<Chars, NoMemory>
     ensures { IfOk result (λ text. text ≡ written name.now.prefix name.now.name) }
 {
     match &name.prefix {

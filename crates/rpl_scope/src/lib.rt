@@ -18,7 +18,7 @@ mod statements;
 mod texts;
 
 pub use bodies::{Use, push_names, push_uses};
-pub use checks::{check_macros, check_names};
+pub use checks::{check_macros, check_names, written};
 pub use fault::{LoadFault, LoadKind, Stop, fault_at};
 pub use imports::{add_prefix, last_part, put_prefix, take_in};
 pub use module::{Entry, Module, Prefix, Referent, Rule};

@@ -1,6 +1,7 @@
 // What stands under names, in the order in which they came.
 ghost use Rattle.std.specs.Prelude.{◌≡◌, None, [], ◌∷◌, ◌++◌, OnErr, OnOk, chars, length, take};
-ghost use Rattle.rpl_scope.specs.Packages.{added, first_of};
+ghost use Rattle.rpl_scope.specs.Packages.{added, first_of, nth};
+ghost use Rattle.rpl_scope.specs.Pairs.{pair_found};
 
 use crate::NoMemory;
 use indexmap::IndexMap;
@@ -61,6 +62,16 @@ impl<V: Copy> Named<V> {
         ensures { result ≡ length self.now }
     {
         self.entries.len()
+    }
+
+    /// The name with this number, from 0, and what stands under it; None exactly where there are no more than that.
+    pub fn at(&self, number: usize) -> Option<(&str, V)>
+        ensures { pair_found result ≡ nth self.now number }
+    {
+        match self.entries.get_index(number) {
+            Some((name, value)) => Some((name.as_str(), *value)),
+            None => None,
+        }
     }
 
     /// One more name at the end. Where memory is wanting, nothing changes.

@@ -1,8 +1,7 @@
-use Rattle.std.proofs.Common.{◌≡◌, ◌∷◌, [], None, ap, ap₂, sym, subst, ◌∙◌}
+use Rattle.std.proofs.Common.{◌∷◌, [], ap₂, sym, subst, ◌∙◌}
 use Rattle.std.specs.Prelude.{encode_utf8_all}
 use Rattle.std.specs.List.{Contains}
 use Rattle.rosie_io.specs.Opening.{file_of}
-use Rattle.rpl_package.specs.Loading.{file_in}
 use Rattle.rpl_package.proofs.Causes.{fewer}
 use Rattle.rpl_package.proofs.Locating.{asks_more, asks_first, asks_next, finds_next}
 use Rattle.rpl_package.proofs.locate.locate.Goals as goal

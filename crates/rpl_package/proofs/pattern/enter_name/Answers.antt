@@ -1,5 +1,4 @@
-use Rattle.std.proofs.Common.{◌≡◌, [], Some, ap, sym, ◌∙◌}
-use Rattle.std.specs.Prelude.{Ok}
+use Rattle.std.proofs.Common.{[], ap, sym, ◌∙◌}
 use Rattle.rpl_scope.specs.Faults.{◌>>=◌}
 use Rattle.rpl_scope.specs.Packages.{nth}
 use Rattle.rpl_scope.specs.Seen.{modules_seen}

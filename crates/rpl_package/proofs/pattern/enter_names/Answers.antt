@@ -1,12 +1,10 @@
-use Rattle.std.proofs.Common.{◌≡◌, ◌+◌, [], map, drop, ap, sym, ◌∙◌}
-use Rattle.std.specs.Prelude.{Ok}
-use Rattle.std.proofs.lemmas.List.{drop_all}
+use Rattle.std.proofs.Common.{◌+◌, map, drop, ap, sym, ◌∙◌}
 use Rattle.rpl_scope.proofs.Checking.{front}
 use Rattle.rpl_package.specs.Loading.{world}
 use Rattle.rpl_package.specs.Patterns.{pattern_name}
 use Rattle.rpl_package.specs.Stocks.{stock_seen}
 use Rattle.rpl_package.proofs.Causes.{fewer}
-use Rattle.rpl_package.proofs.Outcomes.{same, may_lead, turn_on, turn_stop, turn_done}
+use Rattle.rpl_package.proofs.Outcomes.{same, may_lead, turn_on, turn_stop}
 use Rattle.rpl_package.proofs.pattern.enter_names.Goals as goal
 
 pub returns-in-Err-clause-gives : goal.returns-in-Err-clause-gives

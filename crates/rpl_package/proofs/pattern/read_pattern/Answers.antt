@@ -1,4 +1,4 @@
-use Rattle.std.proofs.Common.{◌≡◌, ap, sym, ◌∙◌}
+use Rattle.std.proofs.Common.{ap, sym, ◌∙◌}
 use Rattle.std.specs.Prelude.{Ok}
 use Rattle.rpl_syntax.specs.View.{expr_of}
 use Rattle.rpl_package.proofs.Sought.{no_tokens, no_pattern, read_pattern, lex_loud, parse_loud}

@@ -1,4 +1,4 @@
-use Rattle.std.proofs.Common.{◌≡◌, ap, sym, ◌∙◌}
+use Rattle.std.proofs.Common.{ap, sym, ◌∙◌}
 use Rattle.std.specs.Prelude.{Some, is_some}
 use Rattle.rpl_syntax.specs.declared.module.ImportAs.TheVariants.{Last}
 use Rattle.rpl_scope.specs.Seen.{module_seen}

@@ -1,4 +1,4 @@
-use Rattle.std.proofs.Common.{arith, ◌≡◌, ◌≤◌, ◌+◌, length, ap, sym, ◌∙◌}
+use Rattle.std.proofs.Common.{arith, length, ap, sym}
 use Rattle.std.proofs.lemmas.List.{length-map}
 use Rattle.rpl_scope.specs.Seen.{modules_seen, rule_seen}
 use Rattle.rpl_package.specs.Targets as T

@@ -1,4 +1,4 @@
-use Rattle.std.proofs.Common.{arith, ◌≡◌, ◌<◌, ◌≤◌, ◌+◌, length, get_or, ap, sym, ◌∙◌}
+use Rattle.std.proofs.Common.{arith, ◌≡◌, ◌<◌, ◌+◌, length, get_or, ap, sym, ◌∙◌}
 use Rattle.std.specs.Prelude.{Ok, not}
 use Rattle.rpl_scope.specs.Packages.{first_rule}
 use Rattle.rpl_scope.specs.Seen.{modules_seen}

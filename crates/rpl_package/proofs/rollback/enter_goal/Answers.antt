@@ -1,4 +1,4 @@
-use Rattle.std.proofs.Common.{arith, ◌≡◌, ◌<◌, ℕ, List, Option, length, ap, sym, subst, ◌∙◌}
+use Rattle.std.proofs.Common.{arith, ◌<◌, ℕ, List, Option, length, ap, sym, subst, ◌∙◌}
 use Rattle.std.proofs.lemmas.List.{length-map}
 use Rattle.rpl_scope.specs.Seen.{module_seen, modules_seen}
 use Rattle.rpl_package.specs.Loading.{Stock}

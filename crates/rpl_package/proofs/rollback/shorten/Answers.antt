@@ -1,4 +1,4 @@
-use Rattle.std.proofs.Common.{arith, ◌≡◌, ◌<◌, length, refl, ap, sym}
+use Rattle.std.proofs.Common.{arith, ◌<◌, length, refl, ap, sym}
 use Rattle.std.proofs.lemmas.List.{length-map}
 use Rattle.rpl_scope.specs.Seen.{module_seen, modules_seen}
 use Rattle.rpl_package.proofs.Numbering.{nth_seen}

@@ -1,4 +1,4 @@
-use Rattle.std.proofs.Common.{drop, length, ◌+◌, true, ◌≡◌, ◌≢◌, ◌++◌, ◌∷◌, [], Some, ap, ap₂, sym, subst, ◌∙◌, ◌-◌}
+use Rattle.std.proofs.Common.{drop, length, ◌+◌, true, ◌≡◌, ◌≢◌, ◌++◌, ◌∷◌, [], Some, ap, ap₂, sym, ◌∙◌, ◌-◌}
 use Rattle.std.proofs.Common.{refl, arith}
 use Rattle.std.specs.Prelude.{Ok, nat_lt}
 use Rattle.std.proofs.lemmas.List.{length-map}
