@@ -1,0 +1,3 @@
+pub mod Equals
+mod Examples
+pub mod Replaced
