@@ -10,7 +10,7 @@ use Rattle.rpl_check.specs.Causes.{first_cause, first_cause_in, or_then}
 use Rattle.rpl_check.specs.Loops.{has_empty_loop, any_has_empty_loop}
 use Rattle.rpl_check.specs.declared.fault.CheckFault.{CheckFault}
 use Rattle.rpl_check.specs.declared.fault.CheckFault.TheVariants as W
-use Rattle.rpl_core.specs.Core.{Core, Cores, NoMore, Then}
+use Rattle.rpl_core.specs.Core.{Core, NoMore, Then}
 use Rattle.rpl_core.specs.Meaning.{Open}
 use Rattle.rpl_core.specs.Outcome.{outcome}
 use Rattle.rpl_core.specs.Programs.{calls, calls_any, Reaches, by_goal, by_rule, IsCode, program}

@@ -1,5 +1,5 @@
 -- The piece of one line, case by case.
-use Rattle.std.proofs.Common.{ℕ, ◌≡◌, ◌+◌, ◌-◌, ◌^◌, ◌<◌, ◌≤◌, Bool, true, false, cond, List, [], ◌∷◌, ◌++◌, length, refl, sym, ◌∙◌, ap, subst, arith}
+use Rattle.std.proofs.Common.{ℕ, ◌≡◌, ◌+◌, ◌≤◌, Bool, true, false, cond, List, [], ◌∷◌, ◌++◌, length, refl, sym, ◌∙◌, ap, subst, arith}
 use Rattle.std.specs.Prelude.{Result, Ok, Err, IfOk, OnOk, not, nat_lt, map, Some, None, chars, codes, encode_utf8_all, slice_index_or}
 use Rattle.std.specs.Str.{IsUtf8, all_scalars}
 use Rattle.std.proofs.Math.Logic.{∥∥₁_elim}
@@ -10,7 +10,7 @@ use Rattle.std.proofs.lemmas.Str.{chars-encodes, length-le-encodes}
 use Rattle.rpl_core.specs.Captures.{named, all_named, moved}
 use Rattle.rpl_core.specs.Forest.{Forest, NoTree, Tree, Noted, flat}
 use Rattle.rpl_core.specs.Forest as F
-use Rattle.rpl_core.specs.Meaning.{Outcome, Open, Fail, At, HaltAt}
+use Rattle.rpl_core.specs.Meaning.{At}
 use Rattle.rpl_core.specs.Outcome.{outcome}
 use Rattle.rpl_core.specs.Instr.{Instr}
 use Rattle.rpl_core.specs.Run.{Answer, Matched, Failed, Unfinished, run}
@@ -19,7 +19,6 @@ use Rattle.rpl_core.specs.declared.caught.Caught.TheVariants.{Begin, Finish, Not
 use Rattle.rpl_encode.specs.Answer.{answer, most_bytes}
 use Rattle.rpl_encode.specs.Print.{print, placed}
 use Rattle.rpl_encode.specs.Labels.{label_in}
-use Rattle.rpl_encode.specs.declared.style.Style.{Style}
 use Rattle.rpl_machine.specs.Shown.{caught_of, captures_of, CaptureIn, CapturesIn}
 use Rattle.rpl_simulation.specs.Laws.{Tells}
 use Rattle.rpl_text.specs.Places.{at, index}
@@ -27,7 +26,7 @@ use Rattle.rosie_run.specs.Lines.{line_fault}
 use Rattle.rosie_run.specs.Made.{IsMade}
 use Rattle.rosie_run.specs.Report.{Piece}
 use Rattle.rosie_run.specs.declared.mark.Mark.{Mark}
-use Rattle.rosie_cli.specs.Lines.{Job, budget_of, is_over, made, matches, unanswered, said, outcome_piece, run_piece, match_makes}
+use Rattle.rosie_cli.specs.Lines.{Job, budget_of, is_over, made, matches, unanswered, said, outcome_piece, match_makes}
 use Rattle.rosie_cli.specs.Meant.{IsMeant}
 use Rattle.rosie_cli.specs.inside.Printed.{Printed, Finds}
 use Rattle.rosie_cli.specs.declared.settings.Settings.{Settings}

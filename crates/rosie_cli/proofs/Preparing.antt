@@ -1,28 +1,22 @@
 -- From a pattern to the job of its literal.
-use Rattle.std.proofs.Common.{ℕ, zero, suc, ◌≡◌, ◌+◌, ◌<◌, ◌≤◌, Bool, true, false, cond, List, [], ◌∷◌, ◌++◌, length, drop, get_or, drop-cons, add-one, refl, sym, ◌∙◌, ap, subst, arith}
-use Rattle.std.specs.Prelude.{Result, Ok, Err, IfErr, Option, Some, None, codes, chars, encode_utf8_all, nat_lt}
+use Rattle.std.proofs.Common.{ℕ, suc, ◌≡◌, ◌+◌, ◌<◌, ◌≤◌, true, false, cond, List, [], ◌∷◌, ◌++◌, length}
+use Rattle.std.proofs.Common.{drop, get_or, drop-cons, add-one, refl, sym, ◌∙◌, ap, subst, arith}
+use Rattle.std.specs.Prelude.{Result, Ok, Err, IfErr, Option, Some, None, chars, encode_utf8_all, nat_lt}
 use Rattle.std.specs.Str.{IsUtf8}
 use Rattle.std.specs.Option.{option_map}
 use Rattle.rpl_core.specs.Core.{Core}
-use Rattle.rpl_core.specs.Instr.{Instr}
-use Rattle.rpl_core.specs.Programs.{IsCode, program}
 use Rattle.rpl_core.specs.View.{core_of}
 use Rattle.rpl_core.specs.declared.peg.Peg.{Peg}
-use Rattle.rpl_core.proofs.Codes.{code_holds}
-use Rattle.rpl_codegen.specs.Compiled.{HasLongCode}
-use Rattle.rosie_cli.specs.inside.Jobs.{IsJobOf, job_of}
 use Rattle.rosie_run.specs.Sources.{Moment}
-use Rattle.rosie_cli.specs.inside.Preparing.{Prepares, IsRefusal, IsOwn, IsAsked, HasCause}
+use Rattle.rosie_cli.specs.inside.Preparing.{Prepares, IsOwn, IsAsked, HasCause}
 use Rattle.rosie_cli.specs.inside.ReadLiteral.{finished, Goes, IsGoalOf}
-use Rattle.rosie_cli.specs.Lines as L
 use Rattle.rosie_cli.specs.Literals.{literal_goal, literal_of, between_quotes}
-use Rattle.rosie_cli.specs.Prepared.{literal_job, within_limits, of_literal}
-use Rattle.rosie_cli.specs.declared.job.Job.{Job}
+use Rattle.rosie_cli.specs.Prepared.{Ready, of_literal}
 use Rattle.rosie_cli.specs.declared.literal.Reading.{Reading}
+use Rattle.rosie_cli.specs.declared.prepare.Prepared.{Prepared}
 use Rattle.rosie_cli.specs.declared.prepare.Unready.{Unready}
 use Rattle.rosie_cli.specs.declared.prepare.Unready.TheVariants.{NoMemory, Refused, ReadFault}
 use Rattle.rosie_cli.proofs.OneLine.{spelled}
-use Rattle.rosie_cli.proofs.Cores.{literal_is_code}
 
 -- the next character of a pattern
 next_char : (cs : List ℕ) (n c : ℕ) → (n < length cs) × (c ≡ get_or cs n c) → drop n cs ≡ c ∷ drop (n + 1) cs
@@ -51,40 +45,15 @@ short_pattern bs u h =
     let test : nat_lt 65536 (length (encode_utf8_all (chars bs))) ≡ false = grind (arith, h, l) in
     ap (λ b. cond b None (between_quotes (chars bs))) test
 
-job_with : List Core → Core → List Instr → L.Job
-job_with R g code = record { rules = R; goal = g; code = code }
-
 -- the goal of a literal, over no rules
-module _ (R : List Core) (g : Core) (cs : List ℕ) (r : R ≡ []) (e : g ≡ literal_goal cs) where
-  code_same : (code : List Instr) → IsCode R g code → code ≡ program (λ q. false) [] (literal_goal cs)
-  code_same code is =
-      code_holds [] (literal_goal cs) code (program (λ q. false) [] (literal_goal cs)) (subst (λ x. IsCode x (literal_goal cs) code) r (subst (λ x. IsCode R x code) e is)) (literal_is_code cs)
+pub ready_same : (R : List Core) (g : Core) (cs : List ℕ) → R ≡ [] → g ≡ literal_goal cs
+    → of_literal (Some cs) ≡ Ok (record { rules = R; goal = g })
+ready_same R g cs r e =
+    let made : List Core → Core → Ready = λ (x : List Core) (y : Core). record { rules = x; goal = y } in
+    ap (λ x. Ok (made x (literal_goal cs))) (sym r) ∙ ap (λ x. Ok (made R x)) (sym e)
 
-  job_same : (job : L.Job) → IsJobOf R g job → job ≡ literal_job cs
-  unfolding job_with
-  job_same job is =
-      ap (λ x. job_with x job.goal job.code) (is.rules ∙ r) ∙ ap (λ x. job_with [] x job.code) (is.goal ∙ e) ∙ ap (job_with [] (literal_goal cs)) (code_same job.code is.code)
-
-  pub job_fits : (job : L.Job) → IsJobOf R g job → within_limits (literal_job cs) ≡ Ok job
-  job_fits job is =
-      let same = job_same job is in
-      let fits = is.fits in
-      let test : nat_lt 1048576 (length job.code) ≡ false = grind (arith, fits) in
-      ap (λ b. cond b (Err (codes "rosie: (pattern):0: code too long\n")) (Ok (literal_job cs))) (ap (λ (j : L.Job). nat_lt 1048576 (length j.code)) (sym same) ∙ test) ∙ ap Ok (sym same)
-
-  pub job_long : HasLongCode R g → within_limits (literal_job cs) ≡ Err (codes "rosie: (pattern):0: code too long\n")
-  job_long long =
-      let more = long.2 in
-      let test : nat_lt 1048576 (length long.0) ≡ true = grind (arith, more) in
-      ap (λ b. cond b (Err (codes "rosie: (pattern):0: code too long\n")) (Ok (literal_job cs))) (ap (λ x. nat_lt 1048576 (length x)) (sym (code_same long.0 long.1)) ∙ test)
-
--- a refusal that is due
-pub refused_as : (u : Unready) (line : List ℕ) (d : Result L.Job (List ℕ)) → IsRefusal u line → d ≡ Err line → Prepares (Err u) d
-refused_as NoMemory line d is e = tt
-refused_as (Refused text) line d is e = e ∙ ap Err (sym is)
-refused_as (ReadFault path) line d is e = absurd is
-
-pub literal_in : (p : Peg) (o : Option (List ℕ)) → IsGoalOf (Some p) o → (cs : List ℕ) × (o ≡ Some cs) × (core_of p ≡ literal_goal cs)
+pub literal_in : (p : Peg) (o : Option (List ℕ)) → IsGoalOf (Some p) o
+    → (cs : List ℕ) × (o ≡ Some cs) × (core_of p ≡ literal_goal cs)
 literal_in p None h = absurd h
 literal_in p (Some cs) h = (cs, refl, h)
 
@@ -92,22 +61,17 @@ pub none_in : (o : Option (List ℕ)) → IsGoalOf None o → o ≡ None
 none_in None h = refl
 none_in (Some cs) h = absurd h
 
-pub prepares_as : (r : Result Job Unready) (d d' : Result L.Job (List ℕ)) → d ≡ d' → Prepares r d → Prepares r d'
+pub prepares_as : (r : Result Prepared Unready) (d d' : Result Ready (List ℕ)) → d ≡ d' → Prepares r d → Prepares r d'
 prepares_as r d d' e h = subst (Prepares r) e h
 
-pub own-refused : (u : Unready) (line : List ℕ) → IsRefusal u line → IsOwn u
-own-refused NoMemory line is = tt
-own-refused (Refused text) line is = tt
-own-refused (ReadFault path) line is = is
-
-pub own-asked : (r : Result Job Unready) (paths : List (List ℕ)) → IfErr r IsOwn → IfErr r (λ u. IsAsked u paths)
-own-asked (Ok job) paths h = tt
+pub own-asked : (r : Result Prepared Unready) (paths : List (List ℕ)) → IfErr r IsOwn → IfErr r (λ u. IsAsked u paths)
+own-asked (Ok ready) paths h = tt
 own-asked (Err NoMemory) paths h = tt
 own-asked (Err (Refused line)) paths h = tt
 own-asked (Err (ReadFault path)) paths h = absurd h
 
-pub own-cause : (r : Result Job Unready) (m : Moment) → IfErr r IsOwn → HasCause r m m
-own-cause (Ok job) m h = record { faults = refl; opens = refl }
+pub own-cause : (r : Result Prepared Unready) (m : Moment) → IfErr r IsOwn → HasCause r m m
+own-cause (Ok ready) m h = record { faults = refl; opens = refl }
 own-cause (Err NoMemory) m h = record { faults = omega arith; opens = omega arith }
 own-cause (Err (Refused line)) m h = record { faults = refl; opens = refl }
 own-cause (Err (ReadFault path)) m h = absurd h

@@ -1,44 +1,33 @@
--- From the parts of a command to the whole of it.
-use Rattle.std.proofs.Common.{ℕ, ◌≡◌, ◌⊎◌, inl, inr, ◌+◌, ◌-◌, ◌^◌, ◌<◌, ◌≤◌, Bool, true, false, List, [], ◌∷◌, ◌++◌, length, refl, sym, ◌∙◌, ap, subst, arith}
-use Rattle.std.specs.Prelude.{Result, Ok, Err, IfOk, codes, string_bytes}
+-- From a plan to its run, and to what is told of it.
+use Rattle.std.proofs.Common.{ℕ, ◌≡◌, inl, inr, ◌-◌, ◌^◌, ◌<◌, ◌≤◌, Bool, true, false, List, [], ◌++◌}
+use Rattle.std.proofs.Common.{length, refl, sym, ◌∙◌, subst, arith}
+use Rattle.std.specs.Prelude.{Result, Ok, Err, IfOk}
 use Rattle.std.specs.List.{Contains}
 use Rattle.std.proofs.lemmas.Bool.{false≢true}
 use Rattle.rosie_run.specs.Headline.{CameToEnd, AreShort}
 use Rattle.rosie_run.specs.Inputs.{inputs_pieces, reads_standard}
-use Rattle.rosie_run.specs.Lines.{Makes}
 use Rattle.rosie_run.specs.Outputs.{Telling, Texts}
-use Rattle.rosie_run.specs.Report.{Piece, is_stop, stop_piece}
+use Rattle.rosie_run.specs.Report.{is_stop}
 use Rattle.rosie_run.specs.Runs.{Breaks, Runs, IsCutOf, GoesOn}
 use Rattle.rosie_run.specs.Sources.{Moment, RoseIn}
-use Rattle.rosie_run.specs.Where.{Nowhere, not_opened, opened, InInputs, in_file, in_standard, in_loading, in_inputs}
+use Rattle.rosie_run.specs.Where.{not_opened, opened, InInputs, in_file, in_standard, in_loading, in_inputs}
 use Rattle.rosie_run.specs.Statuses.{flags_status}
 use Rattle.rosie_run.specs.Closing.{Closes, why_status}
 use Rattle.rosie_run.specs.declared.ended.Ended.{Ended}
 use Rattle.rosie_run.specs.declared.ended.Ended.TheVariants as E
 use Rattle.rosie_run.specs.declared.ended.Why.{Why}
 use Rattle.rosie_run.specs.declared.ended.Why.TheVariants as Y
-use Rattle.rosie_run.specs.declared.lines.Reading.{Reading}
 use Rattle.rosie_run.specs.declared.status.Status.{Status}
 use Rattle.rosie_run.specs.declared.tally.Tally.{Tally}
 use Rattle.rosie_run.proofs.Breaking.{runs-weaken, breaks-cut}
 use Rattle.rosie_run.proofs.Inward.{file_later}
 use Rattle.rosie_run.proofs.Pieces.{has-nil, wrote-none}
-use Rattle.rosie_words.specs.declared.command.Command.{Command}
-use Rattle.rosie_words.specs.declared.command.What.{What}
-use Rattle.rosie_words.specs.declared.command.What.TheVariants as V
-use Rattle.rosie_cli.specs.Lines.{Job, match_makes, reading}
-use Rattle.rosie_cli.specs.Options.{settings_of}
-use Rattle.rosie_cli.specs.Prepared.{prepared, asks}
-use Rattle.rosie_cli.specs.Report.{Asked, Refuse, Do, Knows, pieces, stood, input_names, lines_pieces, lines_where, what_pieces, what_where, what_names, asked_names, IsRefused}
-
--- the same job over the same names
-pub lines-same : (s : Result Tally Ended) (W : Telling) (makes makes' : Makes) (r : Reading) (tree : List (List ℕ × List ℕ)) (input : List ℕ) (names names' : List (List ℕ)) (i0 i1 f0 f1 : Moment) (a b : Texts) → makes ≡ makes' → names ≡ names' → Runs s W (inputs_pieces makes r tree input names) (InInputs names (λ front. length (inputs_pieces makes r tree input front)) tree r.whole i0 i1 f0 f1) a b → Runs s W (inputs_pieces makes' r tree input names') (InInputs names' (λ front. length (inputs_pieces makes' r tree input front)) tree r.whole i0 i1 f0 f1) a b
-lines-same s W makes makes' r tree input names names' i0 i1 f0 f1 a b j n h =
-    subst (λ ns. Runs s W (inputs_pieces makes' r tree input ns) (InInputs ns (λ front. length (inputs_pieces makes' r tree input front)) tree r.whole i0 i1 f0 f1) a b) n
-    (subst (λ m. Runs s W (inputs_pieces m r tree input names) (InInputs names (λ front. length (inputs_pieces m r tree input front)) tree r.whole i0 i1 f0 f1) a b) j h)
-
-pub goes-same : (s : Result Tally Ended) (names names' : List (List ℕ)) (P : Type 0) → names ≡ names' → GoesOn s (reads_standard names ≡ true → P) → GoesOn s (reads_standard names' ≡ true → P)
-goes-same s names names' P e h = subst (λ ns. GoesOn s (reads_standard ns ≡ true → P)) e h
+use Rattle.rosie_cli.specs.Lines.{reading}
+use Rattle.rosie_cli.specs.Planned.{IsPlanned}
+use Rattle.rosie_cli.specs.Plans.{Maker, Plan, Says, Reads, Planned, Span, makes_of, refusal, pieces, inputs_of, ReadsInput, among, stood}
+use Rattle.rosie_cli.specs.Report.{KnowsFiles, KnowsInputs}
+use Rattle.rosie_cli.specs.Words.{Asked, Refuse, Do, IsRefused}
+use Rattle.rosie_cli.specs.inside.Planning.{IsSaid}
 
 -- a run that a piece ended doesn't go on
 pub goes-stop : (s : Result Tally Ended) (P : Type 0) → IfOk s (λ t. t.stop ≡ true) → GoesOn s P
@@ -50,53 +39,63 @@ inputs_later : (names : List (List ℕ)) (before : List (List ℕ) → ℕ) (tre
 inputs_later names before tree whole i0 i1 f0 f f1 why file k faults opens taken (in_file front back n is isn't x e) = in_file front back n is isn't (file_later tree whole f0 f f1 why file n faults opens taken x) e
 inputs_later names before tree whole i0 i1 f0 f f1 why file k faults opens taken (in_standard front back n is isn't x e) = in_standard front back n is isn't x e
 
--- the run over what was prepared
-pub ready-runs : (s : Result Tally Ended) (W : Telling) (c : Command) (inputs paths : List (List ℕ)) (tree tree' : List (List ℕ × List ℕ)) (input : List ℕ) (d : Result Job (List ℕ)) (job : Job) (i0 i1 f0 f f1 : Moment) (a b : Texts) → d ≡ Ok job → tree' ≡ tree → f.faults ≡ f0.faults → f.opens ≡ f0.opens → (f.taken < 2 ^ 64 - 1 → f0.taken ≤ f.taken) → Runs s W (inputs_pieces (match_makes (settings_of c) job) (reading c.whole) tree' input (input_names inputs)) (InInputs (input_names inputs) (λ front. length (inputs_pieces (match_makes (settings_of c) job) (reading c.whole) tree' input front)) tree' c.whole i0 i1 f f1) a b → Runs s W (lines_pieces c inputs tree input d) (lines_where c inputs paths tree input d i0 i1 f0 f1) a b
-ready-runs s W c inputs paths tree tree' input d job i0 i1 f0 f f1 a b is t faults opens taken h =
-    let names = input_names inputs in
-    let makes = match_makes (settings_of c) job in
-    let h' = subst (λ x. Runs s W (inputs_pieces makes (reading c.whole) x input names) (InInputs names (λ front. length (inputs_pieces makes (reading c.whole) x input front)) x c.whole i0 i1 f f1) a b) t h in
-    subst (λ x. Runs s W (lines_pieces c inputs tree input x) (lines_where c inputs paths tree input x i0 i1 f0 f1) a b) (sym is)
-    (runs-weaken W s (inputs_pieces makes (reading c.whole) tree input names) (InInputs names (λ front. length (inputs_pieces makes (reading c.whole) tree input front)) tree c.whole i0 i1 f f1) (lines_where c inputs paths tree input (Ok job) i0 i1 f0 f1) a b
-    (λ why file k x. in_inputs (inputs_later names (λ front. length (inputs_pieces makes (reading c.whole) tree input front)) tree c.whole i0 i1 f0 f f1 why file k faults opens taken x)) h')
+among_later : (plan : Plan) (tree : List (List ℕ × List ℕ)) (i : Span) (f0 f f1 : Moment) (why : Why)
+    (file : List ℕ) (k : ℕ) → f.faults ≡ f0.faults → f.opens ≡ f0.opens
+    → (f.taken < 2 ^ 64 - 1 → f0.taken ≤ f.taken) → among plan tree i (record { before = f; after = f1 }) why file k
+    → among plan tree i (record { before = f0; after = f1 }) why file k
+among_later (Says ps) tree i f0 f f1 why file k faults opens taken x = x
+among_later (Reads m whole names) tree i f0 f f1 why file k faults opens taken x =
+    inputs_later names (λ front. length (inputs_pieces (makes_of m) (reading whole) tree i.before.rest front)) tree whole
+    i.before i.after f0 f f1 why file k faults opens taken x
 
--- a read that failed on the way
-stood_before : (c : Command) (inputs paths : List (List ℕ)) (tree : List (List ℕ × List ℕ)) (input path : List ℕ) (d : Result Job (List ℕ)) (i0 i1 f0 f1 : Moment) → Contains paths path → RoseIn f0 f1 → lines_where c inputs paths tree input d i0 i1 f0 f1 Y.ReadFault path 0
-stood_before c inputs paths tree input path (Ok job) i0 i1 f0 f1 is rose = in_loading is refl rose refl
-stood_before c inputs paths tree input path (Err line) i0 i1 f0 f1 is rose = in_loading is refl rose refl
+-- the run of what the words come to, from the run of its plan
+pub planned-runs : (s : Result Tally Ended) (W : Telling) (p : Planned) (plan : Plan)
+    (tree tree' : List (List ℕ × List ℕ)) (i : Span) (f0 f f1 : Moment) (a b : Texts) → p.plan ≡ plan → tree' ≡ tree
+    → f.faults ≡ f0.faults → f.opens ≡ f0.opens → (f.taken < 2 ^ 64 - 1 → f0.taken ≤ f.taken)
+    → Runs s W (pieces plan tree' i.before.rest) (among plan tree' i (record { before = f; after = f1 })) a b
+    → Runs s W (pieces p.plan tree i.before.rest) (stood p tree i (record { before = f0; after = f1 })) a b
+planned-runs s W p plan tree tree' i f0 f f1 a b is t faults opens taken h =
+    let input = i.before.rest in
+    let there = subst (λ x. Runs s W (pieces plan x input) (among plan x i (record { before = f; after = f1 })) a b) t h in
+    let same = subst (λ x. Runs s W (pieces x tree input) (among x tree i (record { before = f; after = f1 })) a b)
+    (sym is) there in
+    runs-weaken W s (pieces p.plan tree input) (among p.plan tree i (record { before = f; after = f1 }))
+    (stood p tree i (record { before = f0; after = f1 })) a b
+    (λ why file k x. in_inputs (among_later p.plan tree i f0 f f1 why file k faults opens taken x)) same
 
-pub unread : (e : Ended) (W : Telling) (c : Command) (inputs paths : List (List ℕ)) (tree : List (List ℕ × List ℕ)) (input path : List ℕ) (d : Result Job (List ℕ)) (i0 i1 f0 f1 : Moment) (a : Texts) → (W.counts → a.number ≤ 2 ^ 64 - 1) → IsCutOf e Y.ReadFault path → Contains paths path → RoseIn f0 f1 → Breaks e W (lines_pieces c inputs tree input d) (lines_where c inputs paths tree input d i0 i1 f0 f1) a a
-unread e W c inputs paths tree input path d i0 i1 f0 f1 a fits is some rose =
-    breaks-cut W e Y.ReadFault path (lines_pieces c inputs tree input d) [] (lines_pieces c inputs tree input d) (lines_where c inputs paths tree input d i0 i1 f0 f1) a a is refl (has-nil is_stop) (wrote-none W a a refl fits) (stood_before c inputs paths tree input path d i0 i1 f0 f1 some rose)
+-- a plan that only says something reads no input
+no_input : reads_standard [] ≡ true → ⊥
+unfolding reads_standard
+no_input e = false≢true e
 
--- a refusal
-pub said-same : (s : Result Tally Ended) (W : Telling) (x y : List ℕ) (a b : Texts) → x ≡ y → Runs s W (stop_piece x ∷ []) Nowhere a b → Runs s W (stop_piece y ∷ []) Nowhere a b
-said-same s W x y a b e h = subst (λ z. Runs s W (stop_piece z ∷ []) Nowhere a b) e h
+pub said-goes : (s : Result Tally Ended) (plan : Plan) (P : Type 0) → IsSaid plan → GoesOn s (ReadsInput plan → P)
+said-goes (Ok tally) (Says ps) P is = λ goes reads. absurd (no_input reads)
+said-goes (Ok tally) (Reads m whole names) P is = absurd is
+said-goes (Err e) plan P is = tt
 
-pub refused-runs : (s : Result Tally Ended) (W : Telling) (c : Command) (inputs paths : List (List ℕ)) (tree : List (List ℕ × List ℕ)) (input line text : List ℕ) (d : Result Job (List ℕ)) (i0 i1 f0 f1 : Moment) (a b : Texts) → d ≡ Err line → text ≡ line → Runs s W (stop_piece text ∷ []) Nowhere a b → Runs s W (lines_pieces c inputs tree input d) (lines_where c inputs paths tree input d i0 i1 f0 f1) a b
-refused-runs s W c inputs paths tree input line text d i0 i1 f0 f1 a b is e h =
-    subst (λ x. Runs s W (lines_pieces c inputs tree input x) (lines_where c inputs paths tree input x i0 i1 f0 f1) a b) (sym is)
-    (runs-weaken W s (stop_piece line ∷ []) Nowhere (lines_where c inputs paths tree input (Err line) i0 i1 f0 f1) a b (λ why file k x. absurd x) (said-same s W text line a b e h))
+-- the run over the same plan, and over the same names
+pub match-runs : (s : Result Tally Ended) (W : Telling) (m : Maker) (whole : Bool) (names names' : List (List ℕ))
+    (plan : Plan) (tree : List (List ℕ × List ℕ)) (i f : Span) (a b : Texts) → plan ≡ Reads m whole names
+    → names' ≡ names → Runs s W (inputs_pieces (makes_of m) (reading whole) tree i.before.rest names')
+    (InInputs names' (λ front. length (inputs_pieces (makes_of m) (reading whole) tree i.before.rest front)) tree whole
+    i.before i.after f.before f.after) a b
+    → Runs s W (pieces plan tree i.before.rest) (among plan tree i f) a b
+match-runs s W m whole names names' plan tree i f a b is n h =
+    subst (λ x. Runs s W (pieces x tree i.before.rest) (among x tree i f) a b) (sym is)
+    (subst (λ x. Runs s W (pieces (Reads m whole x) tree i.before.rest) (among (Reads m whole x) tree i f) a b) n h)
 
--- a command, from its case
-pub what-same : (s : Result Tally Ended) (W : Telling) (c : Command) (what what' : What) (tree : List (List ℕ × List ℕ)) (input : List ℕ) (i0 i1 f0 f1 : Moment) (a b : Texts) → what' ≡ what → Runs s W (what_pieces c what tree input) (what_where c what tree input i0 i1 f0 f1) a b → Runs s W (what_pieces c what' tree input) (what_where c what' tree input i0 i1 f0 f1) a b
-what-same s W c what what' tree input i0 i1 f0 f1 a b e h = subst (λ w. Runs s W (what_pieces c w tree input) (what_where c w tree input i0 i1 f0 f1) a b) (sym e) h
+pub planned-goes : (s : Result Tally Ended) (p : Planned) (plan : Plan) (P : Type 0) → p.plan ≡ plan
+    → GoesOn s (ReadsInput plan → P) → GoesOn s (ReadsInput p.plan → P)
+planned-goes s p plan P is h = subst (λ x. GoesOn s (ReadsInput x → P)) (sym is) h
 
-pub not-built : (s : Result Tally Ended) (W : Telling) (c : Command) (what : What) (tree : List (List ℕ × List ℕ)) (input text : List ℕ) (i0 i1 f0 f1 : Moment) (a b : Texts) → ((p : List ℕ) (inputs : List (List ℕ)) → what ≡ V.Match p inputs → ⊥) → text ≡ codes "rosie: not yet\n" → Runs s W (stop_piece text ∷ []) Nowhere a b → Runs s W (what_pieces c what tree input) (what_where c what tree input i0 i1 f0 f1) a b
-not-built s W c (V.Match p inputs) tree input text i0 i1 f0 f1 a b isn't e h = absurd (isn't p inputs refl)
-not-built s W c (V.Grep p inputs) tree input text i0 i1 f0 f1 a b isn't e h = said-same s W text _ a b e h
-not-built s W c (V.Test file) tree input text i0 i1 f0 f1 a b isn't e h = said-same s W text _ a b e h
-not-built s W c V.List tree input text i0 i1 f0 f1 a b isn't e h = said-same s W text _ a b e h
-not-built s W c (V.Expand p) tree input text i0 i1 f0 f1 a b isn't e h = said-same s W text _ a b e h
-not-built s W c (V.Trace p inputs) tree input text i0 i1 f0 f1 a b isn't e h = said-same s W text _ a b e h
-not-built s W c (V.Sample seed lines) tree input text i0 i1 f0 f1 a b isn't e h = said-same s W text _ a b e h
-not-built s W c V.Repl tree input text i0 i1 f0 f1 a b isn't e h = said-same s W text _ a b e h
-not-built s W c (V.Compile p) tree input text i0 i1 f0 f1 a b isn't e h = said-same s W text _ a b e h
-not-built s W c (V.Class name) tree input text i0 i1 f0 f1 a b isn't e h = said-same s W text _ a b e h
-
--- what was asked for, from its case
-pub asked-same : (s : Result Tally Ended) (W : Telling) (x y : Asked) (tree : List (List ℕ × List ℕ)) (input : List ℕ) (i0 i1 f0 f1 : Moment) (a b : Texts) → y ≡ x → Runs s W (pieces x tree input) (stood x tree input i0 i1 f0 f1) a b → Runs s W (pieces y tree input) (stood y tree input i0 i1 f0 f1) a b
-asked-same s W x y tree input i0 i1 f0 f1 a b e h = subst (λ z. Runs s W (pieces z tree input) (stood z tree input i0 i1 f0 f1) a b) (sym e) h
+-- a read that failed on the way to the plan
+pub unread : (e : Ended) (W : Telling) (p : Planned) (tree : List (List ℕ × List ℕ)) (path : List ℕ) (i f : Span)
+    (a : Texts) → (W.counts → a.number ≤ 2 ^ 64 - 1) → IsCutOf e Y.ReadFault path → Contains p.asked path
+    → RoseIn f.before f.after → Breaks e W (pieces p.plan tree i.before.rest) (stood p tree i f) a a
+unread e W p tree path i f a fits is some rose =
+    let all = pieces p.plan tree i.before.rest in
+    breaks-cut W e Y.ReadFault path all [] all (stood p tree i f) a a is refl (has-nil is_stop)
+    (wrote-none W a a refl fits) (in_loading some refl rose refl)
 
 -- the standard input was read where the run came to its end
 read_flags : (s f h : Bool) → CameToEnd (flags_status s f h) → s ≡ false
@@ -119,28 +118,30 @@ inputs_not_spent names before tree whole i0 i1 f0 f1 file k short files (in_file
 inputs_not_spent names before tree whole i0 i1 f0 f1 file k short files (in_file front back n n' isn't (opened got o e at z long) x) = let l = long refl in let m = files front back file (got ++ f1.rest) n' at in absurd (omega arith)
 inputs_not_spent names before tree whole i0 i1 f0 f1 file k short files (in_standard front back n is isn't x e) = let l = x.long refl in absurd (omega arith)
 
-lines_not_spent : (c : Command) (inputs paths : List (List ℕ)) (tree : List (List ℕ × List ℕ)) (input : List ℕ) (d : Result Job (List ℕ)) (i0 i1 f0 f1 : Moment) (file : List ℕ) (k : ℕ) → length i0.rest < 2 ^ 32 → AreShort (input_names inputs) tree → lines_where c inputs paths tree input d i0 i1 f0 f1 Y.Spent file k → ⊥
-lines_not_spent c inputs paths tree input (Ok job) i0 i1 f0 f1 file k short files (in_loading at e rose z) = absurd (cc)
-lines_not_spent c inputs paths tree input (Ok job) i0 i1 f0 f1 file k short files (in_inputs x) = inputs_not_spent _ _ tree c.whole i0 i1 f0 f1 file k short files x
-lines_not_spent c inputs paths tree input (Err line) i0 i1 f0 f1 file k short files (in_loading at e rose z) = absurd (cc)
-lines_not_spent c inputs paths tree input (Err line) i0 i1 f0 f1 file k short files (in_inputs x) = x
+among_not_spent : (plan : Plan) (tree : List (List ℕ × List ℕ)) (i f : Span) (file : List ℕ) (k : ℕ)
+    → length i.before.rest < 2 ^ 32 → AreShort (inputs_of plan) tree → among plan tree i f Y.Spent file k → ⊥
+among_not_spent (Says ps) tree i f file k short files x = x
+among_not_spent (Reads m whole names) tree i f file k short files x =
+    inputs_not_spent names (λ front. length (inputs_pieces (makes_of m) (reading whole) tree i.before.rest front)) tree
+    whole i.before i.after f.before f.after file k short files x
 
-what_not_spent : (c : Command) (what : What) (tree : List (List ℕ × List ℕ)) (input : List ℕ) (i0 i1 f0 f1 : Moment) (file : List ℕ) (k : ℕ) → length i0.rest < 2 ^ 32 → AreShort (what_names what) tree → what_where c what tree input i0 i1 f0 f1 Y.Spent file k → ⊥
-what_not_spent c (V.Match p inputs) tree input i0 i1 f0 f1 file k short files x = lines_not_spent c inputs (asks c p tree) tree input (prepared c p tree) i0 i1 f0 f1 file k short files x
-what_not_spent c (V.Grep p inputs) tree input i0 i1 f0 f1 file k short files x = x
-what_not_spent c (V.Test name) tree input i0 i1 f0 f1 file k short files x = x
-what_not_spent c V.List tree input i0 i1 f0 f1 file k short files x = x
-what_not_spent c (V.Expand p) tree input i0 i1 f0 f1 file k short files x = x
-what_not_spent c (V.Trace p inputs) tree input i0 i1 f0 f1 file k short files x = x
-what_not_spent c (V.Sample seed lines) tree input i0 i1 f0 f1 file k short files x = x
-what_not_spent c V.Repl tree input i0 i1 f0 f1 file k short files x = x
-what_not_spent c (V.Compile p) tree input i0 i1 f0 f1 file k short files x = x
-what_not_spent c (V.Class name) tree input i0 i1 f0 f1 file k short files x = x
+pub not-spent : (p : Planned) (tree : List (List ℕ × List ℕ)) (i f : Span) (file : List ℕ) (k : ℕ)
+    → length i.before.rest < 2 ^ 32 → AreShort (inputs_of p.plan) tree → stood p tree i f Y.Spent file k → ⊥
+not-spent p tree i f file k short files (in_loading at e rose z) = absurd (cc)
+not-spent p tree i f file k short files (in_inputs x) = among_not_spent p.plan tree i f file k short files x
 
-pub not-spent : (asked : Asked) (tree : List (List ℕ × List ℕ)) (input : List ℕ) (i0 i1 f0 f1 : Moment) (file : List ℕ) (k : ℕ) → length i0.rest < 2 ^ 32 → AreShort (asked_names asked) tree → stood asked tree input i0 i1 f0 f1 Y.Spent file k → ⊥
-not-spent (Refuse text) tree input i0 i1 f0 f1 file k short files x = x
-not-spent (Do c) tree input i0 i1 f0 f1 file k short files x = what_not_spent c c.what tree input i0 i1 f0 f1 file k short files x
+-- what is told of all is told of what a command reads
+pub knows_files : (asked : Asked) (files : Type 0) → files → KnowsFiles asked files
+knows_files (Refuse text) files f = tt
+knows_files (Do c) files f = f
 
-pub knows : (asked : Asked) (files input : Type 0) → files → input → Knows asked files input
-knows (Refuse text) files input f i = tt
-knows (Do c) files input f i = (f, i)
+pub knows_inputs : (plan : Plan) (files input : Type 0) → files → input → KnowsInputs plan files input
+knows_inputs (Says ps) files input f i = tt
+knows_inputs (Reads m whole names) files input f i = (f, i)
+
+-- words that are refused only say so
+pub refused-said : (a : Asked) (tree : List (List ℕ × List ℕ)) (tells : Type 0) (plan : Plan) → IsRefused a
+    → ((p : Planned) → KnowsFiles a tells → IsPlanned a tree p → p.plan ≡ plan) → IsSaid plan
+refused-said (Refuse text) tree tells plan r h =
+    subst IsSaid (h (record { asked = []; plan = refusal text }) tt refl) tt
+refused-said (Do c) tree tells plan r h = absurd r

@@ -3,6 +3,9 @@ pub mod Options
 pub mod Lines
 pub mod Meant
 pub mod Prepared
+pub mod Words
+pub mod Plans
+pub mod Planned
 pub mod Report
 pub mod Promises
 pub mod inside

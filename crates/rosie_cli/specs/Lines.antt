@@ -1,5 +1,6 @@
 -- What a run of one goal makes of a line.
-use Rattle.std.specs.Prelude.{ℕ, ◌+◌, ◌*◌, Bool, true, false, not, ◌&&◌, nat_lt, if◌then◌else◌, List, [], ◌∷◌, ◌++◌, length, Option, Some, None, codes, chars}
+use Rattle.std.specs.Prelude.{ℕ, ◌+◌, ◌*◌, Bool, true, false, not, ◌&&◌, nat_lt, if◌then◌else◌, List, [], ◌++◌, length}
+use Rattle.std.specs.Prelude.{Option, Some, None, codes, chars}
 use Rattle.std.specs.Fmt.{decimal}
 use Rattle.rosie_run.specs.Lines.{Makes, line_fault}
 use Rattle.rosie_run.specs.Report.{Piece}

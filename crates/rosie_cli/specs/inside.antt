@@ -3,4 +3,5 @@ pub mod Jobs
 pub mod Printed
 pub mod ReadLiteral
 pub mod Preparing
+pub mod Planning
 pub mod Asking

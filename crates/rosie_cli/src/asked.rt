@@ -5,7 +5,7 @@ ghost use Rattle.rosie_words.specs.declared.fault.UsageFault.TheVariants as E;
 ghost use Rattle.rosie_words.specs.NotYet.{first_unbuilt};
 ghost use Rattle.rosie_words.specs.Printed.{fault_line, usage};
 ghost use Rattle.rosie_words.specs.Reading.{words_of};
-ghost use Rattle.rosie_cli.specs.Report as R;
+ghost use Rattle.rosie_cli.specs.Words as W;
 ghost use Rattle.rosie_cli.specs.inside.Asking.{asked_of};
 
 use rosie_run::NoMemory;
@@ -34,7 +34,7 @@ fn usage_text(alloc: Global, fault: &UsageFault) -> Result<String, NoMemory>
 
 /// The command, unless a word asks for what isn't built.
 fn built(alloc: Global, words: &[String], command: Command) -> Result<Asked, NoMemory>
-    ensures { IfOk result (λ asked. asked_of asked ≡ R.built command (first_unbuilt command (words_of words.now))) }
+    ensures { IfOk result (λ asked. asked_of asked ≡ W.built command (first_unbuilt command (words_of words.now))) }
 {
     match not_yet(words, &command) {
         Some(word) => Ok(Asked::Refuse(format!(in alloc; "rosie: not yet: {word}\n")?)),
@@ -44,7 +44,7 @@ fn built(alloc: Global, words: &[String], command: Command) -> Result<Asked, NoM
 
 /// What the words ask for.
 pub(crate) fn ask(alloc: Global, words: &[String]) -> Result<Asked, NoMemory>
-    ensures { IfOk result (λ asked. asked_of asked ≡ R.asked (words_of words.now)) }
+    ensures { IfOk result (λ asked. asked_of asked ≡ W.asked (words_of words.now)) }
 {
     match read_words(alloc, words) {
         Ok(command) => built(alloc, words, command),

@@ -1,15 +1,18 @@
-//! What the whole command does, as one call: [`rosie`] reads the words, prepares what they ask for, and runs it on each
-//! line of the inputs. `main` calls it with the real streams and files, and tests with those in memory.
+//! What the whole command does, as one call: [`rosie`] reads the words, makes a plan of what they ask for, and runs it.
+//! `main` calls it with the real streams and files, and tests with those in memory.
 //!
-//! `specs/Report.antt` defines the report of a run over the words, the tree of files and the standard input; the contract
-//! of [`rosie`] says what each answer tells of it. Each command is a case of the report, an arm of the call and a module
-//! of its own.
+//! `specs/Planned.antt` says what the words come to over the tree of files, and `specs/Plans.antt` what a plan writes;
+//! the contract of [`rosie`] says what each answer tells of that. Each command is a case of `IsPlanned`, an arm of
+//! `plan_command` and a module of its own. Only files are read for a plan, and nothing is written before it stands.
 #![tactic(auto)]
 
 mod asked;
 mod job;
 mod literal;
 mod match_job;
+mod match_plan;
+mod plan;
+mod planning;
 mod prepare;
 mod settings;
 mod texts;

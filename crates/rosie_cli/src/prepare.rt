@@ -1,25 +1,30 @@
-//! From a command's pattern to its code.
+//! From a pattern to its goal.
 
-ghost use Rattle.std.specs.Prelude.{◌≡◌, ◌<◌, ◌≤◌, ◌^◌, ◌-◌, [], ℕ, List, Ok, Err, chars, codes, string_bytes, IfOk, IfErr};
+ghost use Rattle.std.specs.Prelude.{◌≡◌, ◌<◌, ◌≤◌, ◌^◌, ◌-◌, [], ℕ, List, Ok, Result, Some};
+ghost use Rattle.std.specs.Prelude.{chars, IfOk, IfErr};
 ghost use Rattle.rosie_run.specs.Sources.{moment};
 ghost use Rattle.rpl_check.specs.Checked.{IsWhole};
 ghost use Rattle.rpl_check.specs.Goal.{peg_of};
 ghost use Rattle.rpl_core.specs.Table.{bodies_of};
 ghost use Rattle.rpl_core.specs.View.{core_of};
 ghost use Rattle.rosie_cli.specs.Literals.{literal_goal, literal_of};
-ghost use Rattle.rosie_cli.specs.inside.Preparing.{Prepares, IsOwn, IsAsked, HasCause, IsRefusal, IsLiteralGoal};
-ghost use Rattle.rosie_cli.specs.Prepared.{prepared, asks, within_limits, literal_job, of_literal};
+ghost use Rattle.rosie_cli.specs.Prepared.{Ready, IsPrepared, of_literal};
+ghost use Rattle.rosie_cli.specs.inside.Preparing.{Prepares, IsOwn, IsAsked, HasCause, IsLiteralGoal, ready_of};
 
-use crate::job::Job;
 use crate::literal::read_pattern;
 use rosie_io::Files;
 use rosie_run::NoMemory;
-use rosie_words::Command;
 use rpl_check::{CheckFault, Checked, CheckedPeg, check, check_pattern};
-use rpl_codegen::CompileFault;
 use rpl_core::{Peg, Rules};
 use rpl_text::Chars;
 use std::alloc::{AllocError, Global};
+
+/// A goal without faults, and the rules that it may call.
+#[derive(Drop)]
+pub(crate) struct Prepared {
+    pub(crate) rules: Checked,
+    pub(crate) goal: CheckedPeg,
+}
 
 /// Why there is nothing to run.
 #[derive(Drop)]
@@ -38,16 +43,6 @@ impl From<AllocError> for Unready {
 
     fn from(_error: AllocError) -> Unready {
         Unready::NoMemory
-    }
-}
-
-/// A refusal with this line.
-fn refused(alloc: Global, line: &str) -> Unready
-    ensures { IsRefusal result line.now }
-{
-    match String::from_str(alloc, line) {
-        Ok(line) => Unready::Refused(line),
-        Err(_) => Unready::NoMemory,
     }
 }
 
@@ -77,49 +72,46 @@ fn checked_literal(alloc: Global, rules: &Checked, goal: Peg) -> CheckedPeg
     }
 }
 
-/// The job of a literal.
-fn literal_job(alloc: Global, goal: Peg) -> Result<Job, Unready>
+/// The goal of a literal.
+fn literal_goal(alloc: Global, goal: Peg) -> Result<Prepared, NoMemory>
     requires { IsLiteralGoal (core_of goal) }
-    ensures prepares { (cs : List ℕ) → core_of goal ≡ literal_goal cs
-        → Prepares result (within_limits (literal_job cs)) }
-    ensures own { IfErr result IsOwn }
+    ensures prepares { IfOk result (λ ready. (cs : List ℕ) → core_of goal ≡ literal_goal cs
+        → of_literal (Some cs) ≡ Ok (ready_of ready)) }
+    ensures whole { IfOk result (λ ready. IsWhole (bodies_of ready.rules) (core_of (peg_of ready.goal))) }
 {
     let rules = no_rules(alloc)?;
     let goal = checked_literal(alloc, &rules, goal);
-    match Job::new(alloc, rules, goal) {
-        Ok(job) => Ok(job),
-        Err(fault) => match fault {
-            CompileFault::CodeTooLong => Err(refused(alloc, "rosie: (pattern):0: code too long\n")),
-            CompileFault::NoMemory => Err(Unready::NoMemory),
-        },
-    }
+    Ok(Prepared { rules, goal })
 }
 
-/// The job of a pattern.
-fn pattern_job(alloc: Global, pattern: &str) -> Result<Job, Unready>
+/// The goal of a pattern.
+fn pattern_goal(alloc: Global, pattern: &str) -> Result<Prepared, Unready>
     ensures prepares { Prepares result (of_literal (literal_of (chars pattern.now))) }
     ensures own { IfErr result IsOwn }
+    ensures whole { IfOk result (λ ready. IsWhole (bodies_of ready.rules) (core_of (peg_of ready.goal))) }
 {
     match read_pattern(alloc, pattern)? {
-        Some(goal) => literal_job(alloc, goal),
-        None => Err(refused(alloc, "rosie: (pattern):0: not yet\n")),
+        Some(goal) => Ok(literal_goal(alloc, goal)?),
+        None => {
+            let line = String::from_str(alloc, "rosie: (pattern):0: not yet\n")?;
+            Err(Unready::Refused(line))
+        }
     }
 }
 
-/// The job of a command's pattern, or the line of its first fault.
+/// The goal of a pattern, or the line of its first fault.
 pub(crate) fn prepare<F: Files>(
     alloc: Global,
-    _files: &mut F,
-    _command: &Command,
     pattern: &Chars,
-) -> Result<Job, Unready>
-    ensures prepares { F.tells → Prepares result (prepared _command.now pattern.now (F.tree _files.old)) }
-    ensures asked { F.tells → IfErr result (λ unready. IsAsked unready
-        (asks _command.now pattern.now (F.tree _files.old))) }
+    _files: &mut F,
+) -> Result<Prepared, Unready>
+    ensures prepares { F.tells → (asked : List (List ℕ)) (r : Result Ready (List ℕ))
+        → IsPrepared (F.tree _files.old) pattern.now asked r → Prepares result r × IfErr result (λ u. IsAsked u asked) }
+    ensures whole { IfOk result (λ ready. IsWhole (bodies_of ready.rules) (core_of (peg_of ready.goal))) }
     ensures cause { HasCause result (moment F.rest F.taken F.faults F.failed_opens _files.old)
         (moment F.rest F.taken F.faults F.failed_opens _files.new) }
     ensures taken { F.taken _files.new < 2 ^ 64 - 1 → F.taken _files.old ≤ F.taken _files.new }
     ensures tree { F.tree _files.new ≡ F.tree _files.old }
 {
-    pattern_job(alloc, pattern.as_str())
+    pattern_goal(alloc, pattern.as_str())
 }

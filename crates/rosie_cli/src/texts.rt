@@ -1,6 +1,7 @@
 //! The two texts of a line's piece.
 
-ghost use Rattle.std.specs.Prelude.{◌≡◌, ◌++◌, ℕ, [], if◌then◌else◌, not, ◌&&◌, codes, string_bytes, option_map, IfOk, OnOk};
+ghost use Rattle.std.specs.Prelude.{◌≡◌, ◌++◌, ℕ, [], if◌then◌else◌, not, ◌&&◌, codes, string_bytes};
+ghost use Rattle.std.specs.Prelude.{option_map, IfOk, OnOk};
 ghost use Rattle.std.specs.Fmt.{decimal};
 ghost use Rattle.std.specs.Option.{option_copied};
 ghost use Rattle.rosie_run.specs.Lines.{line_fault};

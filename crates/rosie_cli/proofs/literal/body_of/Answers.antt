@@ -1,4 +1,4 @@
-use Rattle.std.proofs.Common.{◌≡◌, length, ap, ◌∙◌, arith}
+use Rattle.std.proofs.Common.{ap, ◌∙◌, arith}
 use Rattle.rpl_core.specs.Core.{Seq}
 use Rattle.rpl_core.proofs.Rows.{seq_view}
 use Rattle.rosie_cli.proofs.Cores.{literal_long}

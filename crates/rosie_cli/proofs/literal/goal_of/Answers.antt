@@ -1,4 +1,4 @@
-use Rattle.std.proofs.Common.{◌≡◌, zero, suc, [], ◌∷◌, sym, ap, ◌∙◌, lit<}
+use Rattle.std.proofs.Common.{◌≡◌, zero, suc, [], ◌∷◌, ap, ◌∙◌, lit<}
 use Rattle.std.specs.Prelude.{chars}
 use Rattle.std.specs.Str.{IsAscii}
 use Rattle.std.proofs.lemmas.Str.{chars-IsAscii}

@@ -1,6 +1,5 @@
-use Rattle.std.proofs.Common.{◌≡◌, ◌<◌, ◌≤◌, length, sym, ap, subst, ◌∙◌, arith}
-use Rattle.std.specs.Prelude.{Some, None, chars}
-use Rattle.rosie_cli.specs.Literals.{literal_of}
+use Rattle.std.proofs.Common.{sym, ap, subst, ◌∙◌, arith}
+use Rattle.std.specs.Prelude.{Some, None}
 use Rattle.rosie_cli.specs.inside.ReadLiteral.{IsGoalOf}
 use Rattle.rosie_cli.proofs.Preparing.{long_pattern, short_pattern}
 use Rattle.rosie_cli.proofs.literal.read_pattern.Goals as goal

@@ -1,6 +1,5 @@
-use Rattle.std.proofs.Common.{◌≡◌, ap, ◌∙◌, sym, subst}
-use Rattle.std.specs.Prelude.{Some, IfOk, chars, option_map}
-use Rattle.rpl_core.specs.Captures.{all_named}
+use Rattle.std.proofs.Common.{ap}
+use Rattle.std.specs.Prelude.{Some, chars}
 use Rattle.rpl_core.specs.Program.{labels_of}
 use Rattle.rpl_encode.specs.Answer.{answer}
 use Rattle.rpl_encode.specs.Print.{placed}

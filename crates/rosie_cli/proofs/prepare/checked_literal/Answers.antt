@@ -1,4 +1,4 @@
-use Rattle.std.proofs.Common.{◌≡◌, ap, length}
+use Rattle.std.proofs.Common.{length}
 use Rattle.rpl_core.specs.Table.{bodies_of}
 use Rattle.rpl_core.specs.View.{core_of}
 use Rattle.rosie_cli.proofs.Cores.{is_faultless, no_calls_in}

@@ -1,4 +1,3 @@
-use Rattle.std.proofs.Common.{◌≡◌}
 use Rattle.std.proofs.lemmas.Grind.{merely}
 use Rattle.rpl_simulation.proofs.Answering.{answer_holds}
 use Rattle.rosie_cli.proofs.job.Job.new.Goals as goal

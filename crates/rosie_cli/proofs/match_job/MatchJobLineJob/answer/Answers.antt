@@ -1,9 +1,7 @@
 use Rattle.std.proofs.Common.{ap, ◌∙◌, ◌+◌}
-use Rattle.std.specs.Prelude.{chars}
 use Rattle.rpl_core.specs.Program.{instructions, labels_of}
-use Rattle.rosie_cli.specs.Lines.{budget_of}
 use Rattle.rosie_cli.specs.inside.Jobs.{job_of}
-use Rattle.rosie_cli.proofs.OneLine.{Ends, hit_ends, miss_ends, ran_over, said_piece, said_steps, over_piece, over_steps, made_ok, on_ok}
+use Rattle.rosie_cli.proofs.OneLine.{hit_ends, miss_ends, ran_over, said_piece, said_steps, over_piece, over_steps, made_ok, on_ok}
 use Rattle.rosie_cli.proofs.match_job.MatchJobLineJob.answer.Goals as goal
 
 pub returns-in_ok-fits-in-At-clause-made : goal.returns-in_ok-fits-in-At-clause-made

@@ -1,5 +1,4 @@
 use Rattle.std.proofs.Common.{◌≡◌, false, rules}
-use Rattle.std.specs.Prelude.{string_bytes}
 use Rattle.rosie_cli.proofs.OneLine.{made_ok, said_long}
 use Rattle.rosie_cli.proofs.texts.Texts.say.Goals as goal
 

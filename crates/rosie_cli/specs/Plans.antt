@@ -1,0 +1,67 @@
+-- A plan: what a command comes to before anything is written. Its pieces, and where reading may end its run.
+use Rattle.std.specs.Prelude.{ℕ, ◌≡◌, true, Bool, List, [], ◌∷◌, length}
+use Rattle.rosie_run.specs.Inputs.{inputs_pieces, reads_standard}
+use Rattle.rosie_run.specs.Lines.{Makes}
+use Rattle.rosie_run.specs.Report.{Piece, stop_piece, text_piece}
+use Rattle.rosie_run.specs.Sources.{Moment, moment}
+use Rattle.rosie_run.specs.Where.{InInputs, InRun, Nowhere}
+use Rattle.rosie_run.specs.declared.ended.Why.{Why}
+use Rattle.rosie_cli.specs.Lines.{Job, match_makes, reading}
+use Rattle.rosie_cli.specs.declared.settings.Settings.{Settings}
+
+-- what makes a piece of a line
+pub data Maker : Type 0 where
+  Matches : (settings : Settings) → (job : Job) → Maker
+
+abbrev pub makes_of : Maker → Makes
+makes_of (Matches s job) = match_makes s job
+
+-- pieces for which no input is read, or a piece for each line of the inputs with these names
+pub data Plan : Type 0 where
+  Says : (pieces : List Piece) → Plan
+  Reads : (maker : Maker) → (whole : Bool) → (names : List (List ℕ)) → Plan
+
+-- a refusal, and a text that is the whole answer
+abbrev pub refusal : List ℕ → Plan
+refusal line = Says (stop_piece line ∷ [])
+
+abbrev pub whole_answer : List ℕ → Plan
+whole_answer text = Says (text_piece text ∷ [])
+
+-- a plan, and the paths that are asked for on the way to it
+pub record Planned : Type 0 where
+  pub asked : List (List ℕ)
+  pub plan : Plan
+
+-- the pieces, over the tree of files and the standard input
+abbrev pub pieces : Plan → List (List ℕ × List ℕ) → List ℕ → List Piece
+pieces (Says ps) tree input = ps
+pieces (Reads m whole names) tree input = inputs_pieces (makes_of m) (reading whole) tree input names
+
+-- the names of the inputs; the standard input is among them
+abbrev pub inputs_of : Plan → List (List ℕ)
+inputs_of (Says ps) = []
+inputs_of (Reads m whole names) = names
+
+abbrev pub ReadsInput : Plan → Type 0
+ReadsInput plan = reads_standard (inputs_of plan) ≡ true
+
+-- a source before and after a run
+pub record Span : Type 0 where
+  pub before : Moment
+  pub after : Moment
+
+abbrev pub span : {S : Type 0} → (S → List ℕ) → (S → ℕ) → (S → ℕ) → (S → ℕ) → S → S → Span
+span rest taken faults opens a b =
+    record { before = moment rest taken faults opens a; after = moment rest taken faults opens b }
+
+-- where reading may end the run of a plan: among its inputs. `input` is the standard input
+abbrev pub among : Plan → List (List ℕ × List ℕ) → (input files : Span) → Why → List ℕ → ℕ → Type 0
+among (Says ps) tree input files = Nowhere
+among (Reads m whole names) tree input files =
+    InInputs names (λ front. length (inputs_pieces (makes_of m) (reading whole) tree input.before.rest front))
+    tree whole input.before input.after files.before files.after
+
+-- and on the way to it, where one of the paths is read
+abbrev pub stood : Planned → List (List ℕ × List ℕ) → (input files : Span) → Why → List ℕ → ℕ → Type 0
+stood p tree input files = InRun p.asked (among p.plan tree input files) files.before files.after

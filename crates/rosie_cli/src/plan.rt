@@ -1,0 +1,40 @@
+//! What a command comes to before anything is written.
+
+ghost use Rattle.std.specs.Prelude.{◌≡◌};
+
+use crate::match_job::MatchJob;
+use rosie_words::Paths;
+use std::alloc::AllocError;
+
+/// What a command comes to. Only files were read for it, and nothing is written.
+#[derive(Drop)]
+pub(crate) enum Plan {
+    /// A refusal, with this text.
+    Refuse(String),
+    /// A text that is the whole answer.
+    Answer(String),
+    /// A goal runs on each line of the inputs with these names.
+    Match {
+        job: MatchJob,
+        whole: bool,
+        names: Paths,
+    },
+}
+
+/// Why there is no plan.
+#[derive(Drop)]
+pub(crate) enum Unplanned {
+    NoMemory,
+    /// A read failed of the file of this path.
+    ReadFault(String),
+}
+
+impl From<AllocError> for Unplanned {
+    ghost use Rattle.rosie_cli.specs.declared.plan.Unplanned.TheVariants.{NoMemory};
+
+    ghost from_gives = { λ _ unplanned. unplanned ≡ NoMemory };
+
+    fn from(_error: AllocError) -> Unplanned {
+        Unplanned::NoMemory
+    }
+}

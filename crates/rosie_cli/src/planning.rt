@@ -1,0 +1,57 @@
+//! From the words to their plan.
+
+ghost use Rattle.std.specs.Prelude.{◌≡◌, ◌<◌, ◌≤◌, ◌^◌, ◌-◌};
+ghost use Rattle.rosie_run.specs.Sources.{moment};
+ghost use Rattle.rosie_words.specs.Reading.{words_of};
+ghost use Rattle.rosie_cli.specs.Planned.{IsPlannedAs, IsPlanned};
+ghost use Rattle.rosie_cli.specs.Plans.{Planned};
+ghost use Rattle.rosie_cli.specs.Report.{KnowsFiles};
+ghost use Rattle.rosie_cli.specs.Words.{asked, IsRefused};
+ghost use Rattle.rosie_cli.specs.inside.Planning.{Plans, HasCause};
+
+use crate::asked::{Asked, ask};
+use crate::match_plan::plan_lines;
+use crate::plan::{Plan, Unplanned};
+use crate::settings::settings_of;
+use rosie_io::Files;
+use rosie_words::{Command, What};
+use std::alloc::Global;
+
+/// The plan of a command.
+fn plan_command<F: Files>(alloc: Global, command: Command, files: &mut F) -> Result<Plan, Unplanned>
+    ensures plans { F.tells → (p : Planned) → IsPlannedAs command command.what (F.tree files.old) p → Plans result p }
+    ensures cause { HasCause result (moment F.rest F.taken F.faults F.failed_opens files.old)
+        (moment F.rest F.taken F.faults F.failed_opens files.new) }
+    ensures taken { F.taken files.new < 2 ^ 64 - 1 → F.taken files.old ≤ F.taken files.new }
+    ensures tree { F.tree files.new ≡ F.tree files.old }
+{
+    let settings = settings_of(&command);
+    let Command { what, .. } = command;
+    match what {
+        What::Match { pattern, inputs } => plan_lines(alloc, &pattern, settings, inputs, files),
+        _other => Ok(Plan::Refuse(String::from_str(alloc, "rosie: not yet\n")?)),
+    }
+}
+
+/// The plan of the words. Words that are refused read no file.
+pub(crate) fn plan<F: Files>(
+    alloc: Global,
+    words: &[String],
+    files: &mut F,
+) -> Result<Plan, Unplanned>
+    ensures plans { (p : Planned) → KnowsFiles (asked (words_of words.now)) F.tells
+        → IsPlanned (asked (words_of words.now)) (F.tree files.old) p → Plans result p }
+    ensures cause { HasCause result (moment F.rest F.taken F.faults F.failed_opens files.old)
+        (moment F.rest F.taken F.faults F.failed_opens files.new) }
+    ensures taken { F.taken files.new < 2 ^ 64 - 1 → F.taken files.old ≤ F.taken files.new }
+    ensures tree { F.tree files.new ≡ F.tree files.old }
+    ensures untouched { IsRefused (asked (words_of words.now)) → files.new ≡ files.old }
+{
+    match ask(alloc, words) {
+        Ok(asked) => match asked {
+            Asked::Refuse(text) => Ok(Plan::Refuse(text)),
+            Asked::Do(command) => plan_command(alloc, command, files),
+        },
+        Err(_) => Err(Unplanned::NoMemory),
+    }
+}
