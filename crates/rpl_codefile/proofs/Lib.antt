@@ -1,0 +1,11 @@
+pub mod Once
+pub mod One
+pub mod Items
+pub mod Texts
+pub mod Again
+pub mod Decides
+pub mod Copies
+pub mod Written
+pub mod Numbered
+pub mod Knowing
+pub mod Parts

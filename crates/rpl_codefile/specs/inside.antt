@@ -1,0 +1,3 @@
+-- Of private functions.
+pub mod Reading
+pub mod Tables

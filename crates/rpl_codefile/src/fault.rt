@@ -1,0 +1,36 @@
+// Why there is no program.
+ghost use Rattle.std.specs.Prelude.{◌≡◌};
+ghost use Rattle.rpl_codefile.specs.declared.fault.CodeFault.TheVariants as F;
+
+use rpl_core::NoMemory;
+use std::alloc::AllocFailed;
+use thiserror::Error;
+
+/// Why bytes give no program.
+#[derive(Clone, Copy, Debug, PartialEq, Eq, Error)]
+pub enum CodeFault {
+    #[error("out of memory")]
+    NoMemory,
+    /// They are the spelling of no code.
+    #[error("not a code file")]
+    NotCode,
+    /// They are the spelling of a code that isn't safe.
+    #[error("unsafe code")]
+    NotSafe,
+}
+
+impl From<NoMemory> for CodeFault {
+    ghost from_gives = { λ _ e. e ≡ F.NoMemory };
+
+    fn from(_error: NoMemory) -> CodeFault {
+        CodeFault::NoMemory
+    }
+}
+
+impl<T: Drop> From<AllocFailed<T>> for CodeFault {
+    ghost from_gives = { λ _ e. e ≡ F.NoMemory };
+
+    fn from(_error: AllocFailed<T>) -> CodeFault {
+        CodeFault::NoMemory
+    }
+}

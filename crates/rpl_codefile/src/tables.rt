@@ -1,0 +1,141 @@
+// Whether the tables of a file have just what its code uses, each once and in the order of the first uses. Nothing is
+// found by a hash, which a stranger's file could be made to defeat.
+ghost use Rattle.std.specs.Prelude.{◌≡◌, ◌↔◌, IsTrue, IfOk, Some, length};
+ghost use Rattle.rpl_codefile.specs.inside.Tables.{Apart, AreParts, IsOrdered, come, number_in, set_number};
+ghost use Rattle.rpl_codefile.specs.inside.Tables.{text_number, with_next};
+
+use regex_class::ClassRange;
+use rpl_classes::Set;
+use rpl_core::{Instr, Instrs, Labels, NoMemory, Program, Sets};
+use rpl_text::Chars;
+use std::alloc::Global;
+use std::collections::BTreeSet;
+
+/// A table of a file.
+#[derive(Clone, Copy)]
+pub(crate) enum Table {
+    Sets,
+    Texts,
+}
+
+/// The number of the set that an instruction names.
+fn set_number(item: Instr) -> Option<u32>
+    ensures { result ≡ set_number item }
+{
+    match item {
+        Instr::Set(set) | Instr::Span(set) | Instr::TestSet(_, set) => Some(set),
+        _ => None,
+    }
+}
+
+/// The number of the text that an instruction names.
+fn text_number(item: Instr) -> Option<u32>
+    ensures { result ≡ text_number item }
+{
+    match item {
+        Instr::Open(text) | Instr::Note(text) => Some(text),
+        _ => None,
+    }
+}
+
+/// The number by which an instruction names an entry of the table.
+fn number_in(table: Table, item: Instr) -> Option<u32>
+    ensures { result ≡ number_in table item }
+{
+    match table {
+        Table::Sets => set_number(item),
+        Table::Texts => text_number(item),
+    }
+}
+
+/// How many numbers have come, with this one: `None` where one below it hasn't.
+fn with_next(came: u64, number: Option<u32>) -> Option<u64>
+    ensures { result ≡ with_next came number }
+{
+    match number {
+        Some(number) if u64::from(number) > came => None,
+        Some(number) if u64::from(number) == came => Some(came + 1),
+        _ => Some(came),
+    }
+}
+
+/// How many entries of the table the code uses, where it uses each for the first time behind all before it.
+fn count_used(table: Table, code: &[Instr]) -> Option<u64>
+    ensures { result ≡ come (number_in table) 0 code.now }
+{
+    let mut came = 0;
+    for item in code {
+        came = with_next(came, number_in(table, *item))?;
+    }
+    Some(came)
+}
+
+/// The code uses each of so many entries of the table, for the first time in their order.
+fn uses_all(table: Table, code: &[Instr], count: usize) -> bool
+    ensures { IsTrue result ↔ (come (number_in table) 0 code.now ≡ Some count) }
+{
+    match count_used(table, code) {
+        Some(used) => used == count as u64,
+        None => false,
+    }
+}
+
+/// No two sets are the same.
+fn are_sets_apart(alloc: Global, sets: &[Set]) -> Result<bool, NoMemory>
+    ensures { IfOk result (λ apart. IsTrue apart ↔ Apart sets.now) }
+{
+    let mut known: BTreeSet<Vec<ClassRange>> = BTreeSet::new(alloc);
+    for set in sets {
+        if !known.insert(Vec::from_slice(alloc, set.ranges())?)? {
+            return Ok(false);
+        }
+    }
+    Ok(true)
+}
+
+/// No two texts are the same.
+fn are_texts_apart(alloc: Global, texts: &[Chars]) -> Result<bool, NoMemory>
+    ensures { IfOk result (λ apart. IsTrue apart ↔ Apart texts.now) }
+{
+    let mut known: BTreeSet<String> = BTreeSet::new(alloc);
+    for text in texts {
+        if !known.insert(String::from_str(alloc, text.as_str())?)? {
+            return Ok(false);
+        }
+    }
+    Ok(true)
+}
+
+/// The code has one or more instructions and not too many, its numbers are in range, and it uses each set and each
+/// text, for the first time in their order.
+fn is_ordered(code: &Instrs, sets: &Sets, texts: &Labels) -> bool
+    ensures { IsTrue result ↔ IsOrdered code.now sets.now texts.now }
+{
+    !code.is_empty()
+        && code.len() <= 1_048_576
+        && Program::are_in_range(code, sets, texts)
+        && uses_all(Table::Sets, code.as_slice(), sets.len())
+        && uses_all(Table::Texts, code.as_slice(), texts.len())
+}
+
+/// No two sets and no two texts are the same.
+fn are_apart(alloc: Global, sets: &Sets, texts: &Labels) -> Result<bool, NoMemory>
+    ensures { IfOk result (λ apart. IsTrue apart ↔ Apart sets.now × Apart texts.now) }
+{
+    Ok(are_sets_apart(alloc, sets.as_slice())? && are_texts_apart(alloc, texts.as_slice())?)
+}
+
+/// The parts are those of a file.
+pub(crate) fn are_parts(
+    alloc: Global,
+    code: &Instrs,
+    sets: &Sets,
+    texts: &Labels,
+) -> Result<bool, NoMemory>
+    ensures { IfOk result (λ are. IsTrue are ↔ AreParts code.now sets.now texts.now) }
+{
+    if !is_ordered(code, sets, texts) {
+        return Ok(false);
+    }
+    are_apart(alloc, sets, texts)
+}
