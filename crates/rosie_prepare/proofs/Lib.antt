@@ -1,0 +1,4 @@
+pub mod Loads
+pub mod Passing
+pub mod OneAnswer
+pub mod Roots

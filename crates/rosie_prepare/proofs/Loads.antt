@@ -1,0 +1,121 @@
+-- What a loading leaves, and what a set, or a pattern over it, then comes to.
+use Rattle.std.proofs.Common.{◌≡◌, ◌≢◌, ℕ, List, length, refl, sym, ◌∙◌, ap, subst, ◌<◌}
+use Rattle.std.specs.Prelude.{map, IfErr, IsErrAnd, Some, Result, Ok, Err, encode_utf8_all}
+use Rattle.std.specs.Prelude.{string_bytes}
+use Rattle.std.specs.List.{Contains}
+use Rattle.std.proofs.lemmas.List.{get_or-map, length-map}
+use Rattle.std.proofs.lemmas.List.Elements.{Contains-append_left}
+use Rattle.rosie_faults.specs.Lines.{Line, load_line}
+use Rattle.rosie_prepare.specs.Answers.{IsAsked, IsDue}
+use Rattle.rosie_prepare.specs.Prepared.{Comes, IsPrepared, OrLine, Ready, TableComes, Tree, Wanted, loaded, set_of}
+use Rattle.rosie_prepare.specs.declared.unready.Unready.{Unready}
+use Rattle.rosie_prepare.specs.declared.unready.Unready.TheVariants.{NoMemory, Refused, ReadFault}
+use Rattle.rosie_prepare.specs.inside.Steps.{StopsWith, Tells, TellsKind}
+use Rattle.rpl_package.proofs.Outcomes.{then_follows}
+use Rattle.rpl_package.specs.Asking.{Explains, Outcome, and_then, asked_then}
+use Rattle.rpl_package.specs.Roots.{Packages}
+use Rattle.rpl_scope.specs.Faults.{Or, ◌>>=◌}
+use Rattle.rpl_scope.specs.declared.fault.LoadFault.{LoadFault}
+use Rattle.rpl_scope.specs.declared.fault.LoadKind.{LoadKind}
+use Rattle.rpl_scope.specs.declared.fault.LoadKind.TheVariants as K
+use Rattle.rpl_syntax.specs.Expression.{Expr}
+
+-- ---- a fault of loading
+
+pub told_kind :
+    (k : LoadKind) (f : LoadFault) (u : Unready) → k ≢ K.NoMemory → k ≢ K.ReadFault → Tells (Some (load_line f)) u
+    → TellsKind k f u
+told_kind K.NoMemory f u memory reading h = absurd (memory refl)
+told_kind K.ReadFault f u memory reading h = absurd (reading refl)
+told_kind _ f u memory reading h = h
+
+stops_as :
+    {A : Type 0} (f : LoadFault) (u : Unready) (o : Outcome A) → o.answer ≡ Err f → Tells (Some (load_line f)) u
+    → StopsWith u o
+stops_as f NoMemory o e h = tt
+stops_as f (Refused line) o e h = let same : load_line f ≡ string_bytes line = cc in (f, e, same)
+stops_as f (ReadFault path) o e h = absurd h
+
+-- what stops the loading with a fault that may come of it
+pub stops_kind :
+    {A : Type 0} (k : LoadKind) (f : LoadFault) (u : Unready) (o : Outcome A) → Explains k f o → TellsKind k f u
+    → StopsWith u o
+stops_kind K.NoMemory f u o e h = subst (λ v. StopsWith v o) (sym h) tt
+stops_kind K.ReadFault f u o e h = subst (λ v. StopsWith v o) (sym h) e
+stops_kind _ f u o e h = stops_as f u o e h
+
+-- ---- the paths that are asked for
+
+-- a path is asked for by its bytes
+in_bytes : (xs : List (List ℕ)) (p : List ℕ) → Contains xs p → Contains (map encode_utf8_all xs) (encode_utf8_all p)
+in_bytes xs p c =
+    let k = c.0 in
+    let inside : k < length xs = c.1 in
+    let length_same : length (map encode_utf8_all xs) ≡ length xs = length-map xs encode_utf8_all in
+    let long : k < length (map encode_utf8_all xs) = subst (λ n. k < n) (sym length_same) inside in
+    (k, long, get_or-map encode_utf8_all xs k p (encode_utf8_all p) inside ∙ ap encode_utf8_all c.2)
+
+pub asked_in : {A : Type 0} (u : Unready) (o : Outcome A) → StopsWith u o → IsAsked u (map encode_utf8_all o.asked)
+asked_in NoMemory o h = tt
+asked_in (Refused line) o h = tt
+asked_in (ReadFault path) o h = in_bytes o.asked path h
+
+-- what stops a step stops all that follows
+pub stops_then :
+    {A B : Type 0} (u : Unready) (o : Outcome A) (next : A → Outcome B) → StopsWith u o
+    → StopsWith u (and_then o next)
+stops_then NoMemory o next h = tt
+stops_then (Refused line) o next h = (h.0, ap (λ r. r >>= λ x. (next x).answer) h.1, h.2)
+stops_then (ReadFault path) o next h = Contains-append_left o.asked (asked_then o.answer next) path h
+
+-- and behind a step that has an answer what stops the next
+pub stops_next :
+    {A B : Type 0} (u : Unready) (o : Outcome A) (x : A) (next : A → Outcome B) → o.answer ≡ Ok x
+    → StopsWith u (next x) → StopsWith u (and_then o next)
+stops_next NoMemory o x next e h = tt
+stops_next (Refused line) o x next e h = (h.0, sym (then_follows o x next e).0 ∙ h.1, h.2)
+stops_next (ReadFault path) o x next e h = (then_follows o x next e).1 path h
+
+-- ---- what it comes to
+
+-- roots alone
+pub due_set : (u : Unready) (o : Outcome Packages) → StopsWith u o → IsDue u (set_of o.answer)
+due_set NoMemory o h = tt
+due_set (Refused line) o h = ap set_of h.1 ∙ ap Err h.2
+due_set (ReadFault path) o h = tt
+
+table_refused :
+    (x : Or Packages) (f : LoadFault) (line : Line) (r : OrLine Packages) → x ≡ Err f → load_line f ≡ line
+    → TableComes x r → r ≡ Err line
+table_refused x f line r e l h = subst (λ y. TableComes y r) e h ∙ ap Err l
+
+pub due_table :
+    (u : Unready) (o : Outcome Packages) (r : OrLine Packages) → StopsWith u o → TableComes o.answer r → IsDue u r
+due_table NoMemory o r h c = tt
+due_table (Refused line) o r h c = table_refused o.answer h.0 (string_bytes line) r h.1 h.2 c
+due_table (ReadFault path) o r h c = tt
+
+-- roots and a pattern
+goal_refused :
+    (x : Or (Expr × Packages)) (f : LoadFault) (line : Line) (r : OrLine Ready) → x ≡ Err f → load_line f ≡ line
+    → Comes x r → r ≡ Err line
+goal_refused x f line r e l h = subst (λ y. Comes y r) e h ∙ ap Err l
+
+pub due_goal :
+    (u : Unready) (o : Outcome (Expr × Packages)) (r : OrLine Ready) → StopsWith u o → Comes o.answer r → IsDue u r
+due_goal NoMemory o r h c = tt
+due_goal (Refused line) o r h c = goal_refused o.answer h.0 (string_bytes line) r h.1 h.2 c
+due_goal (ReadFault path) o r h c = tt
+
+-- ---- what is asked for on the way to a pattern
+
+pub asked_through :
+    {X : Type 0} (result : Result X Unready) (u : Unready) (asked : List (List ℕ)) → IsErrAnd result (λ e. e ≡ u)
+    → IsAsked u asked → IfErr result (λ v. IsAsked v asked)
+asked_through (Ok x) u asked h k = tt
+asked_through (Err e) u asked h k = subst (λ v. IsAsked v asked) (sym h) k
+
+pub asked_prepared :
+    (tree : Tree) (w : Wanted) (asked : List (List ℕ)) (r : OrLine Ready) (h : IsPrepared tree w asked r) (u : Unready)
+    → StopsWith u (loaded tree w h.parse) → IsAsked u asked
+asked_prepared tree w asked r h u s = subst (IsAsked u) (sym h.paths) (asked_in u (loaded tree w h.parse) s)

@@ -1,0 +1,5 @@
+use Rattle.rosie_prepare.proofs.OneAnswer.{one_answer}
+use Rattle.rosie_prepare.proofs.laws.one_preparation.Goals as goal
+
+pub returns : goal.returns
+returns c = one_answer

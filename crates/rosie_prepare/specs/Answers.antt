@@ -1,0 +1,34 @@
+-- What an answer says of what is due.
+use Rattle.std.specs.Prelude.{◌≡◌, ℕ, List, Result, Ok, Err, encode_utf8_all, string_bytes}
+use Rattle.std.specs.List.{Contains}
+use Rattle.rosie_prepare.specs.Prepared.{OrLine}
+use Rattle.rosie_prepare.specs.declared.unready.Unready.{Unready}
+use Rattle.rosie_prepare.specs.declared.unready.Unready.TheVariants.{NoMemory, Refused, ReadFault}
+use Rattle.rosie_run.specs.Sources.{Moment, NoFewer, RoseIn, Still}
+
+-- a refusal has the line that is due; want of memory and a failed read say nothing of it
+abbrev pub IsDue : {A : Type 0} → Unready → OrLine A → Type 0
+IsDue NoMemory d = Unit {0}
+IsDue (Refused line) d = d ≡ Err (string_bytes line)
+IsDue (ReadFault path) d = Unit {0}
+
+-- what is made, as it is seen, is what is due, or a line is
+abbrev pub Prepares : {X A : Type 0} → (X → A) → Result X Unready → OrLine A → Type 0
+Prepares view (Ok x) d = d ≡ Ok (view x)
+Prepares view (Err u) d = IsDue u d
+
+-- a path that wasn't read is one of those that are asked for
+abbrev pub IsAsked : Unready → List (List ℕ) → Type 0
+IsAsked NoMemory paths = Unit {0}
+IsAsked (Refused line) paths = Unit {0}
+IsAsked (ReadFault path) paths = Contains paths (encode_utf8_all path)
+
+-- the counts of the files: a read or an open failed only where one of them rose
+abbrev pub Counts : Unready → Moment → Moment → Type 0
+Counts NoMemory f0 f1 = NoFewer f0 f1
+Counts (Refused line) f0 f1 = Still f0 f1
+Counts (ReadFault path) f0 f1 = NoFewer f0 f1 × RoseIn f0 f1
+
+abbrev pub HasCause : {X : Type 0} → Result X Unready → Moment → Moment → Type 0
+HasCause (Ok x) f0 f1 = Still f0 f1
+HasCause (Err u) f0 f1 = Counts u f0 f1

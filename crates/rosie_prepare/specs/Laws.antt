@@ -1,0 +1,9 @@
+-- What is wanted comes to one thing alone.
+use Rattle.std.specs.Prelude.{◌≡◌, ℕ, List}
+use Rattle.rosie_prepare.specs.Prepared.{IsPrepared, OrLine, Ready, Tree, Wanted}
+
+-- over a tree of files it comes to one answer, and the same paths are asked for on the way
+abbrev pub OnePreparation : Type 0
+OnePreparation =
+    (tree : Tree) (w : Wanted) (asked paths : List (List ℕ)) (r s : OrLine Ready)
+    → IsPrepared tree w asked r → IsPrepared tree w paths s → (asked ≡ paths) × (r ≡ s)

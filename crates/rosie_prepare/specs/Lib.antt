@@ -1,0 +1,5 @@
+pub mod Prepared
+pub mod Answers
+pub mod Views
+pub mod Laws
+pub mod inside

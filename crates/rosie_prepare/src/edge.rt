@@ -1,0 +1,148 @@
+// From roots and a pattern to what can be run.
+ghost use Rattle.std.specs.Prelude.{◌≡◌, ℕ, List, IfErr, IfOk, encode_utf8_all, false, map};
+ghost use Rattle.rosie_io.specs.Loading.{NotFewer};
+ghost use Rattle.rosie_prepare.specs.Answers.{HasCause, IsAsked, Prepares};
+ghost use Rattle.rosie_prepare.specs.Prepared.{IsPrepared, OrLine, Ready, TableComes, set_of};
+ghost use Rattle.rosie_prepare.specs.Views.{ready_seen, wanted_seen};
+ghost use Rattle.rosie_run.specs.Sources.{moment};
+ghost use Rattle.rpl_check.specs.Checked.{IsWhole};
+ghost use Rattle.rpl_check.specs.Goal.{peg_of};
+ghost use Rattle.rpl_core.specs.Table.{bodies_of};
+ghost use Rattle.rpl_core.specs.View.{core_of};
+ghost use Rattle.rpl_expand.specs.Sets.{table_of};
+ghost use Rattle.rpl_forms.specs.Rows.{rows_of};
+ghost use Rattle.rosie_prepare.specs.inside.Steps.{Leads};
+ghost use Rattle.rpl_package.specs.Goals.{ReadsGoal};
+ghost use Rattle.rpl_package.specs.Loading.{world};
+ghost use Rattle.rpl_package.specs.Patterns.{load_pattern};
+ghost use Rattle.rpl_package.specs.Roots.{Packages, load};
+ghost use Rattle.rpl_package.specs.Sets.{set_seen};
+ghost use Rattle.rpl_scope.specs.Faults.{Or};
+ghost use Rattle.rpl_simulation.specs.Laws.{IsCapture};
+ghost use Rattle.rpl_syntax.specs.Expression.{Expr as Said};
+ghost use Rattle.rpl_syntax.specs.View.{expr_of};
+
+use crate::prepared::{Prepared, PreparedRules};
+use crate::steps::{pass_goal, pass_rules};
+use crate::unready::{Unready, of_load};
+use crate::wanted::Wanted;
+use rosie_io::Files;
+use rpl_package::{Goal, LibPath, PackageSet, Roots, load, load_pattern};
+use rpl_syntax::Expr;
+use std::alloc::Global;
+
+/// The packages of the roots and of all that they import.
+fn load_roots<F: Files>(
+    alloc: Global,
+    files: &mut F,
+    folders: &LibPath,
+    roots: &Roots,
+) -> Result<PackageSet, Unready>
+    ensures gives { F.tells → Leads set_seen result (load (world (F.tree files.old) folders.now) roots.now) }
+    ensures cause { HasCause result (moment F.rest F.taken F.faults F.failed_opens files.old)
+        (moment F.rest F.taken F.faults F.failed_opens files.new) }
+    ensures taken { NotFewer (F.taken files.old) (F.taken files.new) }
+    ensures tree { F.tree files.new ≡ F.tree files.old }
+    ensures closed { F.is_open files.old ≡ false → F.is_open files.new ≡ false }
+{
+    match load(alloc, files, folders, roots) {
+        Ok(set) => Ok(set),
+        Err(fault) => Err(of_load(alloc, fault)),
+    }
+}
+
+/// The pattern over the packages of its roots, which may grow by its imports; or the line of the first fault.
+fn load_goal<F: Files>(
+    alloc: Global,
+    files: &mut F,
+    set: &mut PackageSet,
+    wanted: &Wanted<'_>,
+) -> Result<Expr, Unready>
+    ensures gives { F.tells → (parse : Or Said) → ReadsGoal wanted.now.fixed wanted.now.find wanted.now.text.now parse
+        → Leads (λ e. (expr_of e, set_seen set.new)) result
+        (load_pattern (world (F.tree files.old) wanted.now.folders.now) (set_seen set.old) parse) }
+    ensures cause { HasCause result (moment F.rest F.taken F.faults F.failed_opens files.old)
+        (moment F.rest F.taken F.faults F.failed_opens files.new) }
+    ensures taken { NotFewer (F.taken files.old) (F.taken files.new) }
+    ensures tree { F.tree files.new ≡ F.tree files.old }
+    ensures closed { F.is_open files.old ≡ false → F.is_open files.new ≡ false }
+{
+    let goal = Goal {
+        text: wanted.text,
+        fixed: wanted.fixed,
+        find: wanted.find,
+    };
+    match load_pattern(alloc, files, wanted.folders, set, &goal) {
+        Ok(expr) => Ok(expr),
+        Err(fault) => Err(of_load(alloc, fault)),
+    }
+}
+
+/// The packages of the roots and of all that they import, or the line of the first fault.
+pub fn load_set<F: Files>(
+    alloc: Global,
+    files: &mut F,
+    folders: &LibPath,
+    roots: &Roots,
+) -> Result<PackageSet, Unready>
+    ensures prepares { F.tells → Prepares set_seen result
+        (set_of (load (world (F.tree files.old) folders.now) roots.now).answer) }
+    ensures asked { F.tells → IfErr result (λ u. IsAsked u
+        (map encode_utf8_all (load (world (F.tree files.old) folders.now) roots.now).asked)) }
+    ensures cause { HasCause result (moment F.rest F.taken F.faults F.failed_opens files.old)
+        (moment F.rest F.taken F.faults F.failed_opens files.new) }
+    ensures taken { NotFewer (F.taken files.old) (F.taken files.new) }
+    ensures tree { F.tree files.new ≡ F.tree files.old }
+    ensures closed { F.is_open files.old ≡ false → F.is_open files.new ≡ false }
+{
+    load_roots(alloc, files, folders, roots)
+}
+
+/// The rule table of the roots and of all that they import, or the line of the first fault.
+pub fn prepare_rules<F: Files>(
+    alloc: Global,
+    files: &mut F,
+    folders: &LibPath,
+    roots: &Roots,
+) -> Result<PreparedRules, Unready>
+    ensures prepares { F.tells → (r : OrLine Packages)
+        → TableComes (load (world (F.tree files.old) folders.now) roots.now).answer r
+        → Prepares (λ p. set_seen p.set) result r }
+    ensures table { IfOk result (λ p. rows_of p.rules ≡ table_of (set_seen p.set)) }
+    ensures asked { F.tells → IfErr result (λ u. IsAsked u
+        (map encode_utf8_all (load (world (F.tree files.old) folders.now) roots.now).asked)) }
+    ensures cause { HasCause result (moment F.rest F.taken F.faults F.failed_opens files.old)
+        (moment F.rest F.taken F.faults F.failed_opens files.new) }
+    ensures taken { NotFewer (F.taken files.old) (F.taken files.new) }
+    ensures tree { F.tree files.new ≡ F.tree files.old }
+    ensures closed { F.is_open files.old ≡ false → F.is_open files.new ≡ false }
+{
+    let set = load_roots(alloc, files, folders, roots)?;
+    pass_rules(alloc, set)
+}
+
+/// What a command with a pattern runs, or the line of the first fault.
+///
+/// All of loading comes first, then what is too large, then what the check finds; in each pass the rules come before
+/// the pattern. What is ready can be compiled as it is.
+pub fn prepare<F: Files>(
+    alloc: Global,
+    files: &mut F,
+    wanted: &Wanted<'_>,
+) -> Result<Prepared, Unready>
+    ensures prepares { F.tells → (asked : List (List ℕ)) → (r : OrLine Ready)
+        → IsPrepared (F.tree files.old) (wanted_seen wanted.now) asked r → Prepares ready_seen result r }
+    ensures asked { F.tells → (asked : List (List ℕ)) → (r : OrLine Ready)
+        → IsPrepared (F.tree files.old) (wanted_seen wanted.now) asked r → IfErr result (λ u. IsAsked u asked) }
+    ensures whole { IfOk result (λ p. IsWhole (bodies_of p.rules) (core_of (peg_of p.goal))) }
+    ensures root { IfOk result (λ p. (label : List ℕ) × IsCapture (bodies_of p.rules) label (core_of (peg_of p.goal))) }
+    ensures cause { HasCause result (moment F.rest F.taken F.faults F.failed_opens files.old)
+        (moment F.rest F.taken F.faults F.failed_opens files.new) }
+    ensures taken { NotFewer (F.taken files.old) (F.taken files.new) }
+    ensures tree { F.tree files.new ≡ F.tree files.old }
+    ensures closed { F.is_open files.old ≡ false → F.is_open files.new ≡ false }
+{
+    let mut set = load_roots(alloc, files, wanted.folders, wanted.roots)?;
+    let expr = load_goal(alloc, files, &mut set, wanted)?;
+    pass_goal(alloc, set, expr)
+}

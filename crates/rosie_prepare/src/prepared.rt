@@ -1,0 +1,26 @@
+// What is ready to run.
+use rpl_check::{Checked, CheckedPeg};
+use rpl_package::PackageSet;
+use rpl_syntax::Expr;
+
+/// A pattern that is ready to be compiled.
+#[derive(Drop)]
+pub struct Prepared {
+    /// The packages: those of the roots, and all that they and the pattern import.
+    pub set: PackageSet,
+    /// The pattern's expression.
+    pub expr: Expr,
+    /// The rule table of the packages.
+    pub rules: Checked,
+    /// The pattern's core, under its root capture, over these rules.
+    pub goal: CheckedPeg,
+}
+
+/// Rules that are ready, where there is no pattern.
+#[derive(Drop)]
+pub struct PreparedRules {
+    /// The packages: those of the roots, and all that they import.
+    pub set: PackageSet,
+    /// The rule table of the packages.
+    pub rules: Checked,
+}

@@ -1,0 +1,135 @@
+// The second and the third pass: expansion and check.
+ghost use Rattle.std.specs.Prelude.{◌≡◌, ◌<◌, ℕ, List, IfErr, IfOk, None, Some, length, true};
+ghost use Rattle.std.specs.Option.{option_map};
+ghost use Rattle.rosie_faults.specs.Lines as L;
+ghost use Rattle.rosie_prepare.specs.Prepared.{OrLine, Passes, Ready, goal_in, ready, table_too_large, table_unsound};
+ghost use Rattle.rosie_prepare.specs.Prepared.{too_large, unsound};
+ghost use Rattle.rosie_prepare.specs.Answers.{Prepares};
+ghost use Rattle.rosie_prepare.specs.Views.{ready_seen};
+ghost use Rattle.rosie_prepare.specs.inside.Steps.{Finds, IsOwn};
+ghost use Rattle.rpl_check.specs.Blocks.{first_fault};
+ghost use Rattle.rpl_check.specs.Checked.{IsWhole};
+ghost use Rattle.rpl_check.specs.Facts.{Facts};
+ghost use Rattle.rpl_check.specs.Faults.{goal_fault};
+ghost use Rattle.rpl_check.specs.Goal.{peg_of};
+ghost use Rattle.rpl_core.specs.Listed.{blocks_in, bodies_in, rules_of};
+ghost use Rattle.rpl_core.specs.Order.{IsInOrder};
+ghost use Rattle.rpl_core.specs.Programs.{calls};
+ghost use Rattle.rpl_core.specs.Table.{bodies_of};
+ghost use Rattle.rpl_core.specs.View.{core_of};
+ghost use Rattle.rpl_expand.specs.Faults.{size_fault};
+ghost use Rattle.rpl_expand.specs.Sets.{table_of};
+ghost use Rattle.rpl_forms.specs.Rows.{rows_of};
+ghost use Rattle.rpl_package.specs.Roots.{Packages};
+ghost use Rattle.rpl_package.specs.Sets.{set_seen};
+ghost use Rattle.rpl_simulation.specs.Laws.{IsCapture};
+ghost use Rattle.rpl_syntax.specs.View.{expr_of};
+
+use crate::order::{in_order, over_rules, with_root};
+use crate::prepared::{Prepared, PreparedRules};
+use crate::unready::Unready;
+use rosie_faults::{check_line, expand_line};
+use rpl_check::{Checked, CheckedPeg, check, check_pattern};
+use rpl_core::{Peg, Rules};
+use rpl_expand::{expand, expand_pattern};
+use rpl_package::PackageSet;
+use rpl_syntax::Expr;
+use std::alloc::Global;
+
+/// The rule table of a set, unless a rule is too large.
+fn expand_rules(alloc: Global, set: &PackageSet) -> Result<Rules, Unready>
+    ensures exactly { Finds (option_map (L.expand_line (set_seen set.now))
+        (table_too_large (set_seen set.now))) result }
+    ensures table { IfOk result (λ rules. rows_of (rules_of rules) ≡ table_of (set_seen set.now)) }
+    ensures order { IfOk result (λ rules. IsInOrder (bodies_in rules) (blocks_in rules)) }
+{
+    match expand(alloc, set) {
+        Ok(rules) => Ok(in_order(rules)?),
+        Err(fault) => Err(Unready::Refused(expand_line(alloc, set, &fault)?)),
+    }
+}
+
+/// The core of a pattern over the rule table of its set, unless it is too large.
+fn expand_goal(alloc: Global, set: &PackageSet, rules: &Rules, expr: &Expr) -> Result<Peg, Unready>
+    requires { rows_of (rules_of rules.now) ≡ table_of (set_seen set.now) }
+    ensures exactly { Finds (option_map (L.expand_line (set_seen set.now))
+        (size_fault None (goal_in (set_seen set.now) (expr_of expr.now)))) result }
+    ensures goal { IfOk result (λ goal. core_of goal ≡ goal_in (set_seen set.now) (expr_of expr.now)) }
+    ensures calls { IfOk result (λ goal. (r : ℕ) → calls (core_of goal) r ≡ true → r < length (rules_of rules.now)) }
+    ensures root { IfOk result (λ goal. (label : List ℕ) × IsCapture (bodies_in rules.now) label (core_of goal)) }
+{
+    match expand_pattern(alloc, set, rules, expr) {
+        Ok(goal) => {
+            let goal = over_rules(rules, goal)?;
+            Ok(with_root(rules, goal)?)
+        }
+        Err(fault) => Err(Unready::Refused(expand_line(alloc, set, &fault)?)),
+    }
+}
+
+/// The rule table of a set, unless the check finds a fault.
+fn check_rules(alloc: Global, set: &PackageSet, rules: Rules) -> Result<Checked, Unready>
+    requires { IsInOrder (bodies_in rules) (blocks_in rules) }
+    ensures exactly { (d : Facts (bodies_in rules))
+        × Finds (option_map (L.check_line (set_seen set.now)) (first_fault d (blocks_in rules))) result }
+    ensures same { IfOk result (λ checked. checked ≡ rules_of rules) }
+{
+    match check(alloc, rules) {
+        Ok(checked) => Ok(checked),
+        Err(fault) => Err(Unready::Refused(check_line(alloc, set, &fault)?)),
+    }
+}
+
+/// The core of a pattern, unless the check finds a fault.
+fn check_goal(
+    alloc: Global,
+    set: &PackageSet,
+    rules: &Checked,
+    goal: Peg,
+) -> Result<CheckedPeg, Unready>
+    requires { (r : ℕ) → calls (core_of goal) r ≡ true → r < length rules.now }
+    ensures exactly { (d : Facts (bodies_of rules.now)) × Finds (option_map (L.check_line (set_seen set.now))
+        (goal_fault d.empties d.halting (core_of goal))) result }
+    ensures same { IfOk result (λ checked. peg_of checked ≡ goal) }
+    ensures whole { IfOk result (λ checked. IsWhole (bodies_of rules.now) (core_of (peg_of checked))) }
+{
+    match check_pattern(alloc, rules, goal) {
+        Ok(checked) => Ok(checked),
+        Err(fault) => Err(Unready::Refused(check_line(alloc, set, &fault)?)),
+    }
+}
+
+/// The rules of a set, unless one is too large or the check finds a fault.
+pub(crate) fn pass_rules(alloc: Global, set: PackageSet) -> Result<PreparedRules, Unready>
+    ensures prepares { (r : OrLine Packages)
+        → Passes (set_seen set) (table_too_large (set_seen set)) (table_unsound (set_seen set)) (set_seen set) r
+        → Prepares (λ p. set_seen p.set) result r }
+    ensures table { IfOk result (λ p. rows_of p.rules ≡ table_of (set_seen p.set)) }
+    ensures own { IfErr result IsOwn }
+{
+    let rules = expand_rules(alloc, &set)?;
+    let rules = check_rules(alloc, &set, rules)?;
+    Ok(PreparedRules { set, rules })
+}
+
+/// A pattern over a set, unless something is too large or the check finds a fault.
+pub(crate) fn pass_goal(alloc: Global, set: PackageSet, expr: Expr) -> Result<Prepared, Unready>
+    ensures prepares { (r : OrLine Ready)
+        → Passes (set_seen set) (too_large (set_seen set) (expr_of expr)) (unsound (set_seen set) (expr_of expr))
+        (ready (set_seen set) (expr_of expr)) r
+        → Prepares ready_seen result r }
+    ensures whole { IfOk result (λ p. IsWhole (bodies_of p.rules) (core_of (peg_of p.goal))) }
+    ensures root { IfOk result (λ p. (label : List ℕ) × IsCapture (bodies_of p.rules) label (core_of (peg_of p.goal))) }
+    ensures own { IfErr result IsOwn }
+{
+    let rules = expand_rules(alloc, &set)?;
+    let goal = expand_goal(alloc, &set, &rules, &expr)?;
+    let rules = check_rules(alloc, &set, rules)?;
+    let goal = check_goal(alloc, &set, &rules, goal)?;
+    Ok(Prepared {
+        set,
+        expr,
+        rules,
+        goal,
+    })
+}

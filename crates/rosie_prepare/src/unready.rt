@@ -1,0 +1,52 @@
+// Why there is nothing to run.
+ghost use Rattle.std.specs.Prelude.{Some};
+ghost use Rattle.rosie_faults.specs.Lines.{load_line};
+ghost use Rattle.rosie_prepare.specs.inside.Steps.{Tells, TellsLoad};
+
+use rosie_faults::{NoMemory, load_line};
+use rpl_package::{LoadFault, LoadKind};
+use rpl_text::Chars;
+use std::alloc::Global;
+
+/// Why there is nothing to run.
+#[derive(Debug, Drop)]
+pub enum Unready {
+    /// Memory is wanting.
+    NoMemory,
+    /// The roots or the pattern are refused, with this line, which ends with a line feed.
+    Refused(String),
+    /// The file of this path couldn't be opened or read.
+    ReadFault(Chars),
+}
+
+impl From<NoMemory> for Unready {
+    ghost use Rattle.std.specs.Prelude.{◌≡◌};
+    ghost use Rattle.rosie_prepare.specs.declared.unready.Unready.TheVariants as V;
+
+    ghost from_gives = { λ _ unready. unready ≡ V.NoMemory };
+
+    fn from(_error: NoMemory) -> Unready {
+        Unready::NoMemory
+    }
+}
+
+/// The refusal of a fault of loading, if there is memory for its line.
+fn refused(alloc: Global, fault: &LoadFault) -> Unready
+    ensures { Tells (Some (load_line fault.now)) result }
+{
+    match load_line(alloc, fault) {
+        Ok(line) => Unready::Refused(line),
+        Err(_) => Unready::NoMemory,
+    }
+}
+
+/// What a fault of loading comes to.
+pub(crate) fn of_load(alloc: Global, fault: LoadFault) -> Unready
+    ensures { TellsLoad fault result }
+{
+    match &fault.kind {
+        LoadKind::NoMemory => Unready::NoMemory,
+        LoadKind::ReadFault => Unready::ReadFault(fault.file),
+        _ => refused(alloc, &fault),
+    }
+}
