@@ -1,0 +1,6 @@
+pub mod Comments
+pub mod Verdicts
+pub mod Lines
+pub mod Faults
+pub mod Laws
+pub mod inside

@@ -1,0 +1,75 @@
+-- Whether what was found on a text is what a unit test says. Texts, names and the places of trees count bytes here.
+use Rattle.std.specs.Prelude.{◌≡◌, ℕ, ◌==◌, Bool, false, not, ◌&&◌, ◌||◌, nat_eq, List, [], ◌∷◌, ◌++◌, length, All}
+use Rattle.std.specs.Prelude.{Option, Some, None, codes, slice_index_or}
+use Rattle.std.specs.List.{list_any}
+use Rattle.std.specs.Str.{encode_utf8_all, bytes_eq}
+use Rattle.rpl_core.specs.Forest.{Forest, NoTree, Tree, Noted}
+use Rattle.rpl_core.specs.Program.{labels_of}
+use Rattle.rpl_core.specs.declared.program.Program.{Program}
+use Rattle.rpl_tree.specs.Trees.{IsLeaf, forest_of}
+use Rattle.rpl_tree.specs.declared.node.Node.{Node}
+use Rattle.rpl_unittest.specs.declared.test.Verb.{Verb}
+use Rattle.rpl_unittest.specs.declared.test.Verb.TheVariants.{Accepts, Rejects, Includes, Excludes}
+
+-- the bytes have no dot
+abbrev pub is_plain : List ℕ → Bool
+is_plain part = not (list_any (λ b. b == 46) part)
+
+-- the type of a node is the part, or, where the part has no dot, the part of this package
+abbrev pub is_type : (prefix part label : List ℕ) → Bool
+is_type prefix part label = bytes_eq label part || (is_plain part && bytes_eq label (prefix ++ 46 ∷ part))
+
+-- some tree, at any depth, has a type that passes; that of a note is `message`
+abbrev pub has_type : (List ℕ → Bool) → Forest → Bool
+has_type p NoTree = false
+has_type p (Tree label start end below behind) = p (encode_utf8_all label) || (has_type p below || has_type p behind)
+has_type p (Noted text place behind) = p (codes "message") || has_type p behind
+
+-- the trees inside the first one, which is the root, and where that ends
+abbrev pub below_root : Forest → Forest
+below_root NoTree = NoTree
+below_root (Tree label start end below behind) = below
+below_root (Noted text place behind) = NoTree
+
+abbrev pub end_of_root : Forest → ℕ
+end_of_root NoTree = 0
+end_of_root (Tree label start end below behind) = end
+end_of_root (Noted text place behind) = place
+
+-- the text is matched to its end
+abbrev pub is_whole : (text : List ℕ) → Option Forest → Bool
+is_whole text None = false
+is_whole text (Some f) = nat_eq (end_of_root f) (length text)
+
+-- it is matched, and some node below the root is the part, or none is
+abbrev pub includes : (prefix part : List ℕ) → Option Forest → Bool
+includes prefix part None = false
+includes prefix part (Some f) = has_type (is_type prefix part) (below_root f)
+
+abbrev pub excludes : (prefix part : List ℕ) → Option Forest → Bool
+excludes prefix part None = false
+excludes prefix part (Some f) = not (has_type (is_type prefix part) (below_root f))
+
+-- the test is met; where nothing was matched there are no trees
+abbrev pub is_met : Verb → (prefix part text : List ℕ) → Option Forest → Bool
+is_met Accepts prefix part text found = is_whole text found
+is_met Rejects prefix part text found = not (is_whole text found)
+is_met Includes prefix part text found = includes prefix part found
+is_met Excludes prefix part text found = excludes prefix part found
+
+-- the trees of nodes, with the texts of a program
+abbrev pub label_in : List (List ℕ) → ℕ → List ℕ
+label_in labels number = slice_index_or labels number []
+
+abbrev pub trees_in : Program → List Node → Forest
+trees_in program = forest_of (label_in (labels_of program))
+
+-- the bytes of a part, where there is one
+abbrev pub part_of : Option (List ℕ) → List ℕ
+part_of None = []
+part_of (Some part) = encode_utf8_all part
+
+-- the nodes are those of one tree: the first is its root, and all others are below it
+abbrev pub AreOneTree : List Node → Type 0
+AreOneTree [] = ⊥
+AreOneTree (n ∷ ns) = (n.note ≡ None) × (n.below ≡ length ns) × All IsLeaf (n ∷ ns)

@@ -1,0 +1,79 @@
+// Which lines are test comments.
+ghost use Rattle.std.specs.Prelude.{◌≡◌, ◌≤◌, length, drop};
+ghost use Rattle.std.specs.Option.{option_copied};
+ghost use Rattle.rpl_lexer.specs.Bytes.{is_space, run};
+ghost use Rattle.rpl_unittest.specs.Comments.{behind, trimmed, goes_on, if_test, comment_of};
+
+/// How many spaces and tabs stand at the front.
+fn spaces(bytes: &[u8]) -> usize
+    ensures value { result ≡ run is_space bytes.now }
+    ensures inside { result ≤ length bytes.now }
+{
+    let mut count = 0;
+    for byte in bytes {
+        if *byte != b' ' && *byte != b'\t' {
+            break;
+        }
+        count += 1;
+    }
+    count
+}
+
+/// Without the spaces and tabs at the front.
+fn past_spaces(bytes: &[u8]) -> &[u8]
+    ensures { result.now ≡ trimmed bytes.now }
+{
+    &bytes[spaces(bytes)..]
+}
+
+/// What stands behind a front, if the bytes begin with it.
+fn past<'a>(front: &[u8], bytes: &'a [u8]) -> Option<&'a [u8]>
+    ensures { option_copied result ≡ behind front.now bytes.now }
+{
+    match front {
+        [] => Some(bytes),
+        [first, fronts @ ..] => match bytes {
+            [] => None,
+            [byte, rest @ ..] => {
+                if *first == *byte {
+                    past(fronts, rest)
+                } else {
+                    None
+                }
+            }
+        },
+    }
+}
+
+/// There are bytes, and they begin with a space or a tab.
+fn goes_on(rest: Option<&[u8]>) -> bool
+    ensures { result ≡ goes_on (option_copied rest.entry) }
+{
+    matches!(rest, Some([b' ' | b'\t', ..]))
+}
+
+/// What stands behind the dashes of a test comment.
+fn comment_of(line: &[u8]) -> Option<&[u8]>
+    ensures { option_copied result ≡ comment_of line.now }
+{
+    match past(b"--", past_spaces(line)) {
+        None => None,
+        Some(rest) => {
+            if goes_on(past(b"test", past_spaces(rest))) {
+                Some(rest)
+            } else {
+                None
+            }
+        }
+    }
+}
+
+/// The same, of the text of a line.
+pub(crate) fn comment_in(line: &str) -> Option<&str>
+    ensures { option_copied result ≡ comment_of line.now }
+{
+    match comment_of(line.as_bytes()) {
+        None => None,
+        Some(rest) => Some(&line[line.len() - rest.len()..]),
+    }
+}

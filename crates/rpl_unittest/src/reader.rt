@@ -1,0 +1,60 @@
+// The tests of a text.
+ghost use Rattle.std.specs.Prelude.{◌≡◌, IfOk, IfErr};
+ghost use Rattle.rpl_unittest.specs.Comments.{HasTests};
+ghost use Rattle.rpl_unittest.specs.Faults.{IsFault};
+
+use crate::comment::comment_in;
+use crate::said::push_comment;
+use crate::test::Tests;
+use rpl_lexer::NoMemory;
+use std::alloc::Global;
+use thiserror::Error;
+
+/// Why a text has no tests.
+#[derive(Clone, Copy, Debug, PartialEq, Eq, Error)]
+pub enum TestFault {
+    /// Memory ran out.
+    #[error("out of memory")]
+    NoMemory,
+    /// A test comment says no test.
+    #[error("bad test in line {line}")]
+    BadTest {
+        /// The line of the comment, from 1.
+        line: u64,
+    },
+}
+
+impl From<NoMemory> for TestFault {
+    ghost use Rattle.rpl_unittest.specs.declared.reader.TestFault.TheVariants.{NoMemory};
+
+    ghost from_gives = { λ _ e. e ≡ NoMemory };
+
+    fn from(_cause: NoMemory) -> TestFault {
+        TestFault::NoMemory
+    }
+}
+
+/// The tests of a text, or the first line whose test comment says none.
+///
+/// A line is a test comment where its first characters but spaces and tabs are `--`, and the next word is `test`, with
+/// a space or a tab behind it. What follows the dashes is `test`, perhaps `local`, a name, then `accepts` or `rejects`,
+/// or `includes` or `excludes` with a part, and one quoted text or more with commas between them.
+pub fn read_tests(alloc: Global, text: &str) -> Result<Tests, TestFault>
+    ensures tests { IfOk result (HasTests text.now) }
+    ensures bad { IfErr result (IsFault text.now) }
+{
+    let mut tests = Tests::new(alloc);
+    let mut number = 0;
+    for line in text.split('\n') {
+        number += 1;
+        match comment_in(line) {
+            None => {}
+            Some(rest) => {
+                if !push_comment(alloc, &mut tests, number, rest)? {
+                    return Err(TestFault::BadTest { line: number });
+                }
+            }
+        }
+    }
+    Ok(tests)
+}

@@ -1,0 +1,34 @@
+// A unit test.
+use rpl_list::List;
+use rpl_text::Chars;
+
+/// What a test asks of a text.
+#[derive(Clone, Copy, Debug, PartialEq, Eq)]
+pub enum Verb {
+    /// It is matched to its end.
+    Accepts,
+    /// It is not matched to its end.
+    Rejects,
+    /// It is matched, with a node of the part's type below the root.
+    Includes,
+    /// It is matched, without such a node.
+    Excludes,
+}
+
+/// A test of one text.
+#[derive(Debug, Drop)]
+pub struct Test {
+    /// The line of its comment, from 1.
+    pub line: u64,
+    /// The name of the pattern.
+    pub name: Chars,
+    /// What it asks.
+    pub verb: Verb,
+    /// The part, of `Includes` and `Excludes` alone.
+    pub part: Option<Chars>,
+    /// The text.
+    pub text: Chars,
+}
+
+/// The tests of a file, in the order of their texts.
+pub type Tests = List<Test>;

@@ -1,0 +1,155 @@
+// Verdicts: what was found, beside what a test asks.
+ghost use Rattle.std.specs.Prelude.{◌≡◌, ◌≤◌, ◌∷◌, ◌++◌, ℕ, List, [], Some, drop, length, option_map, slice_get};
+ghost use Rattle.std.specs.Prelude.{IfSome};
+ghost use Rattle.std.specs.Option.{option_copied};
+ghost use Rattle.std.specs.List.{list_any};
+ghost use Rattle.std.specs.Str.{encode_utf8_all, bytes_eq};
+ghost use Rattle.rpl_core.specs.Program.{labels_of};
+ghost use Rattle.rpl_unittest.specs.Verdicts.{label_in, trees_in};
+ghost use Rattle.rpl_unittest.specs.Verdicts.{is_plain, is_type, is_whole, is_met, part_of, AreOneTree};
+ghost use Rattle.rpl_unittest.specs.inside.Nodes.{has_part, passes, type_at};
+
+use crate::test::{Test, Verb};
+use rpl_core::Program;
+use rpl_print::text_of;
+use rpl_text::Chars;
+use rpl_tree::{Forest, Node};
+
+/// There is no dot.
+fn is_plain(part: &str) -> bool
+    ensures { result ≡ is_plain part.now }
+{
+    for byte in part.as_bytes() {
+        if *byte == b'.' {
+            return false;
+        }
+    }
+    true
+}
+
+/// The bytes are a package, a dot and a part.
+fn is_joined(label: &[u8], prefix: &[u8], part: &[u8]) -> bool
+    ensures { result ≡ bytes_eq label.now (prefix.now ++ 46 ∷ part.now) }
+{
+    let len = prefix.len();
+    if label.len() <= len {
+        return false;
+    }
+    if label[len] != b'.' {
+        return false;
+    }
+    if &label[..len] != prefix {
+        return false;
+    }
+    &label[len + 1..] == part
+}
+
+/// The type of a node is the part, or the part of this package.
+fn is_type(prefix: &str, part: &str, label: &str) -> bool
+    ensures { result ≡ is_type prefix.now part.now label.now }
+{
+    label == part
+        || (is_plain(part) && is_joined(label.as_bytes(), prefix.as_bytes(), part.as_bytes()))
+}
+
+/// The text with this number.
+fn label_of(program: &Program, number: u32) -> &str
+    ensures { result.now ≡ encode_utf8_all (label_in (labels_of program.now) number) }
+{
+    program.label(number).unwrap_or("")
+}
+
+/// The type of a node.
+fn type_of(node: Node, program: &Program) -> &str
+    ensures { result.now ≡ type_at (labels_of program.now) node }
+{
+    match node.note {
+        Some(_) => "message",
+        None => label_of(program, node.label),
+    }
+}
+
+/// There is such a node, and it has the type.
+fn is_here(forest: &Forest, index: usize, prefix: &str, part: &str, program: &Program) -> bool
+    ensures { result ≡ passes (has_part program.now prefix.now part.now) (slice_get forest.now index) }
+{
+    match forest.get(index) {
+        Some(node) => is_type(prefix, part, type_of(node, program)),
+        None => false,
+    }
+}
+
+/// Some node behind the first has the type.
+fn has_type(forest: &Forest, prefix: &str, part: &str, program: &Program) -> bool
+    ensures { result ≡ list_any (has_part program.now prefix.now part.now) (drop 1 forest.now) }
+{
+    let len = forest.len();
+    for index in 1..len {
+        if is_here(forest, index, prefix, part, program) {
+            return true;
+        }
+    }
+    false
+}
+
+/// The text is matched to its end.
+fn is_whole(forest: &Forest, text: &str, program: &Program) -> bool
+    requires { AreOneTree forest.now }
+    ensures { result ≡ is_whole text.now (Some (trees_in program.now forest.now)) }
+{
+    match forest.get(0) {
+        Some(root) => root.end == text.len(),
+        None => false,
+    }
+}
+
+/// The bytes of a part, or none.
+fn part_of(part: &Option<Chars>) -> &str
+    ensures { result.now ≡ part_of part.now }
+{
+    match part {
+        Some(part) => text_of(part),
+        None => "",
+    }
+}
+
+/// The verdict over a match.
+fn judge_match(
+    verb: Verb,
+    prefix: &str,
+    part: &str,
+    text: &str,
+    forest: &Forest,
+    program: &Program,
+) -> bool
+    requires { AreOneTree forest.now }
+    ensures { result ≡ is_met verb prefix.now part.now text.now (Some (trees_in program.now forest.now)) }
+{
+    match verb {
+        Verb::Accepts => is_whole(forest, text, program),
+        Verb::Rejects => !is_whole(forest, text, program),
+        Verb::Includes => has_type(forest, prefix, part, program),
+        Verb::Excludes => !has_type(forest, prefix, part, program),
+    }
+}
+
+/// Whether the test is met, by what was found on its text: the match tree, or nothing where the text isn't matched. The
+/// forest is that of one tree, whose labels are the program's; `prefix` is the name of the file's package, empty where
+/// it has none. A part without a dot stands for the node of that type and for that of the file's package.
+pub fn judge(test: &Test, prefix: &str, found: Option<&Forest>, program: &Program) -> bool
+    requires { IfSome (option_copied found) AreOneTree }
+    ensures { let trees = option_map (trees_in program.now) (option_copied found.entry) in
+        result ≡ is_met test.now.verb prefix.now (part_of test.now.part) (encode_utf8_all test.now.text) trees }
+{
+    match found {
+        None => matches!(test.verb, Verb::Rejects),
+        Some(forest) => judge_match(
+            test.verb,
+            prefix,
+            part_of(&test.part),
+            text_of(&test.text),
+            forest,
+            program,
+        ),
+    }
+}
