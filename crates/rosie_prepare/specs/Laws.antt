@@ -1,4 +1,4 @@
--- What is wanted comes to one thing alone.
+-- What is wanted comes to one thing, and to one alone.
 use Rattle.std.specs.Prelude.{◌≡◌, ℕ, List}
 use Rattle.rosie_prepare.specs.Prepared.{IsPrepared, OrLine, Ready, Tree, Wanted}
 
@@ -7,3 +7,8 @@ abbrev pub OnePreparation : Type 0
 OnePreparation =
     (tree : Tree) (w : Wanted) (asked paths : List (List ℕ)) (r s : OrLine Ready)
     → IsPrepared tree w asked r → IsPrepared tree w paths s → (asked ≡ paths) × (r ≡ s)
+
+-- and there is one: the relation leaves nothing out
+abbrev pub SomePreparation : Type 0
+SomePreparation =
+    (tree : Tree) (w : Wanted) → (asked : List (List ℕ)) × (r : OrLine Ready) × IsPrepared tree w asked r

@@ -1,7 +1,8 @@
 // What holds of all that is wanted.
-ghost use Rattle.rosie_prepare.specs.Laws.{OnePreparation};
+ghost use Rattle.rosie_prepare.specs.Laws.{OnePreparation, SomePreparation};
 
-/// Over a tree of files, what is wanted comes to one thing alone.
+/// Over each tree of files, what is wanted comes to one thing, and to one alone.
 pub fn one_preparation()
-    ensures { OnePreparation }
+    ensures some { SomePreparation }
+    ensures only { OnePreparation }
 {}
