@@ -1,4 +1,4 @@
-use crate::print_program;
+use crate::{print_program, push_class};
 use rpl_classes::Set;
 use rpl_core::{Instr, Instrs, Labels, NoMemory, Program, Sets};
 use rpl_text::Chars;
@@ -61,5 +61,17 @@ fn each_instruction_has_its_text(rt: HostRuntime) -> Result<(), Fail> {
         }
         None => assert!(rt; false, "the numbers are in range"),
     }
+    Ok(())
+}
+
+#[test]
+fn a_class_has_a_line_for_each_range(rt: HostRuntime) -> Result<(), Fail> {
+    let mut text = String::new(rt.alloc());
+    push_class(
+        &mut text,
+        &Set::from_ranges(rt.alloc(), &[(0x30, 0x39), (0x5f, 0x5f)])?,
+    )?;
+    push_class(&mut text, &Set::empty(rt.alloc())?)?;
+    assert_eq!(rt; text.as_str(), "30-39\n5f\nnone\n");
     Ok(())
 }
