@@ -2,26 +2,20 @@
 ghost use Rattle.std.specs.Prelude.{◌≡◌, ◌≤◌, IfOk, OnOk, IsTrue, Some, chars, true};
 ghost use Rattle.rpl_core.specs.Core as C;
 ghost use Rattle.rpl_core.specs.Core.{Core};
-ghost use Rattle.rpl_core.specs.Listed.{rules_of};
 ghost use Rattle.rpl_core.specs.View.{core_of, cores, listed};
-ghost use Rattle.rpl_expand.specs.Expansion.{core, spaced};
 ghost use Rattle.rpl_expand.specs.Expansion as E;
+ghost use Rattle.rpl_expand.specs.inside.Bases.{Knows, base_scope, core_at, cores_at, shown, spaced_at};
 ghost use Rattle.rpl_expand.specs.inside.Items.{ahead, between, core_if};
-ghost use Rattle.rpl_expand.specs.inside.Scopes.{scope_seen};
-ghost use Rattle.rpl_forms.specs.Counting.{KnowsInners, seen, seen_all};
 ghost use Rattle.rpl_forms.specs.Forms as F;
-ghost use Rattle.rpl_forms.specs.Rows.{inners_of};
 ghost use Rattle.rpl_macro.specs.Kinds.{kind_of};
 ghost use Rattle.rpl_macro.specs.Macros.{text_of};
 ghost use Rattle.rpl_syntax.specs.View.{expr_of, exprs_all};
 
 use crate::NoMemory;
+use crate::base::Base;
 use crate::measure::{is_cooked, stands_alone};
 use crate::mode::Mode;
-use crate::scope::Scope;
-use rpl_core::{Peg, Pegs, Rules};
-use rpl_forms::Inner;
-use rpl_forms::inner::call;
+use rpl_core::{Peg, Pegs};
 use rpl_forms::make::{
     any, append, behind, choice, class, cooked_once, cooked_repeat, error, marked, message, note,
     pair, repeat, searched, seq, text,
@@ -55,20 +49,18 @@ fn is_once(least: u32, most: Option<u32>) -> bool
 /// The boundary behind an item, unless it stands alone.
 fn boundary_behind(
     alloc: Global,
-    rules: &Rules,
-    known: &[Option<Inner>],
+    base: &Base<'_>,
     inside: bool,
-    boundary: u32,
     alone: bool,
 ) -> Result<Option<Peg>, NoMemory>
-    requires { KnowsInners known.now (inners_of (rules_of rules.now)) }
+    requires { Knows base.now }
     ensures { IfOk result (λ o. core_if o
-        ≡ between alone (seen inside (inners_of (rules_of rules.now)) (C.Call boundary)) C.NoMore) }
+        ≡ between alone (shown base.now inside (C.Call base.now.scope.boundary)) C.NoMore) }
 {
     if alone {
         return Ok(None);
     }
-    Ok(Some(call(alloc, rules, known, inside, boundary)?))
+    Ok(Some(base.call(alloc, inside, base.scope.boundary)?))
 }
 
 /// An item more at the end, with what stands behind it.
@@ -95,18 +87,9 @@ fn predicate(alloc: Global, sign: Sign, body: Peg) -> Result<Peg, NoMemory>
 
 /// The core of an expression, behind the rules of a table; or what stands for it behind a look-behind.
 #[cycle(build)]
-pub(crate) fn build(
-    alloc: Global,
-    scope: &Scope<'_>,
-    rules: &Rules,
-    known: &[Option<Inner>],
-    mode: Mode,
-    e: &Expr,
-) -> Result<Peg, NoMemory>
-    requires { KnowsInners known.now (inners_of (rules_of rules.now)) }
-    ensures { IfOk result (λ p. core_of p
-        ≡ seen mode.inside (inners_of (rules_of rules.now))
-        (core mode.casing (scope_seen scope.now (inners_of (rules_of rules.now))) (expr_of e.now))) }
+pub(crate) fn build(alloc: Global, base: &Base<'_>, mode: Mode, e: &Expr) -> Result<Peg, NoMemory>
+    requires { Knows base.now }
+    ensures { IfOk result (λ p. core_of p ≡ core_at base.now mode (expr_of e.now)) }
 {
     match e {
         Expr::Text(chars) => text(alloc, mode.casing, chars.as_str()),
@@ -114,37 +97,35 @@ pub(crate) fn build(
         Expr::Any => any(alloc),
         Expr::Start => Ok(Peg::Start),
         Expr::End => Ok(Peg::End),
-        Expr::Boundary => call(alloc, rules, known, mode.inside, scope.boundary),
-        Expr::Name(name) => call(alloc, rules, known, mode.inside, scope.rule(name)),
-        Expr::Cooked(items) => build_cooked(alloc, scope, rules, known, mode, items.as_slice()),
-        Expr::Raw(items) => build_raw(alloc, scope, rules, known, mode, items.as_slice()),
+        Expr::Boundary => base.call(alloc, mode.inside, base.scope.boundary),
+        Expr::Name(name) => base.call(alloc, mode.inside, base.scope.rule(name)),
+        Expr::Cooked(items) => build_cooked(alloc, base, mode, items.as_slice()),
+        Expr::Raw(items) => build_raw(alloc, base, mode, items.as_slice()),
         Expr::Choice(parts) => {
-            let parts = build_all(alloc, scope, rules, known, mode, parts.as_slice())?;
+            let parts = build_all(alloc, base, mode, parts.as_slice())?;
             Ok(choice(parts))
         }
         Expr::Both(first, second) => {
-            let first = build(alloc, scope, rules, known, mode, first)?;
+            let first = build(alloc, base, mode, first)?;
             let before = Peg::And(Box::new(alloc, first)?);
-            let last = build(alloc, scope, rules, known, mode, second)?;
+            let last = build(alloc, base, mode, second)?;
             pair(alloc, before, last)
         }
         Expr::Prefix(Sign::Behind, item) => {
-            let body = build(alloc, scope, rules, known, mode.behind(), item)?;
+            let body = build(alloc, base, mode.behind(), item)?;
             behind(alloc, body)
         }
         Expr::Prefix(sign, item) => {
-            let body = build(alloc, scope, rules, known, mode, item)?;
+            let body = build(alloc, base, mode, item)?;
             predicate(alloc, *sign, body)
         }
-        Expr::Repeat { body, least, most } => build_repeat(
-            alloc, scope, rules, known, mode, body, *least, *most,
-        ),
+        Expr::Repeat { body, least, most } => build_repeat(alloc, base, mode, body, *least, *most),
         Expr::Macro { name, arg } => {
             let kind = Macro::named(name.name.as_str());
-            build_macro(alloc, scope, rules, known, mode, kind, arg)
+            build_macro(alloc, base, mode, kind, arg)
         }
         Expr::Marked(mark, body) => {
-            let body = build(alloc, scope, rules, known, mode, body)?;
+            let body = build(alloc, base, mode, body)?;
             marked(alloc, mode.inside, *mark, body)
         }
         Expr::Note(text) => note(alloc, mode.inside, text),
@@ -155,31 +136,28 @@ pub(crate) fn build(
 #[cycle(build)]
 fn build_repeat(
     alloc: Global,
-    scope: &Scope<'_>,
-    rules: &Rules,
-    known: &[Option<Inner>],
+    base: &Base<'_>,
     mode: Mode,
     body: &Expr,
     least: u32,
     most: Option<u32>,
 ) -> Result<Peg, NoMemory>
-    requires { KnowsInners known.now (inners_of (rules_of rules.now)) }
+    requires { Knows base.now }
     ensures { IfOk result (λ p. core_of p
-        ≡ seen mode.inside (inners_of (rules_of rules.now))
-        (F.repeated (E.is_cooked (expr_of body.now)) (C.Call scope.now.boundary)
-        (core mode.casing (scope_seen scope.now (inners_of (rules_of rules.now))) (expr_of body.now)) least most)) }
+        ≡ shown base.now mode.inside (F.repeated (E.is_cooked (expr_of body.now)) (C.Call base.now.scope.boundary)
+        (E.core mode.casing (base_scope base.now) (expr_of body.now)) least most)) }
 {
     if is_never(least, most) {
         return Ok(seq(Pegs::new(alloc)));
     }
-    let turn = build(alloc, scope, rules, known, mode, body)?;
+    let turn = build(alloc, base, mode, body)?;
     if !is_cooked(body) {
         return repeat(alloc, turn, least, most);
     }
     if is_once(least, most) {
         return cooked_once(alloc, turn, least);
     }
-    let boundary = call(alloc, rules, known, mode.inside, scope.boundary)?;
+    let boundary = base.call(alloc, mode.inside, base.scope.boundary)?;
     cooked_repeat(alloc, boundary, turn, least, most)
 }
 
@@ -187,25 +165,21 @@ fn build_repeat(
 #[cycle(build)]
 fn build_macro(
     alloc: Global,
-    scope: &Scope<'_>,
-    rules: &Rules,
-    known: &[Option<Inner>],
+    base: &Base<'_>,
     mode: Mode,
     kind: Option<Macro>,
     arg: &Expr,
 ) -> Result<Peg, NoMemory>
-    requires { KnowsInners known.now (inners_of (rules_of rules.now)) }
+    requires { Knows base.now }
     ensures { IfOk result (λ p. core_of p
-        ≡ seen mode.inside (inners_of (rules_of rules.now))
-        (F.macro_core kind (text_of (expr_of arg.now))
-        (core (F.casing_under kind mode.casing) (scope_seen scope.now (inners_of (rules_of rules.now)))
-        (expr_of arg.now)))) }
+        ≡ shown base.now mode.inside (F.macro_core kind (text_of (expr_of arg.now))
+        (E.core (F.casing_under kind mode.casing) (base_scope base.now) (expr_of arg.now)))) }
 {
     match kind {
         Some(Macro::Message) => message(alloc, mode.inside, arg),
-        Some(Macro::Error) => error(alloc, rules, known, mode.inside, arg),
+        Some(Macro::Error) => error(alloc, base.rules, base.known, mode.inside, arg),
         _ => {
-            let body = build(alloc, scope, rules, known, mode.under(kind), arg)?;
+            let body = build(alloc, base, mode.under(kind), arg)?;
             searched(alloc, mode.inside, kind, body)
         }
     }
@@ -213,24 +187,15 @@ fn build_macro(
 
 /// A raw group.
 #[cycle(build)]
-fn build_raw(
-    alloc: Global,
-    scope: &Scope<'_>,
-    rules: &Rules,
-    known: &[Option<Inner>],
-    mode: Mode,
-    items: &[Expr],
-) -> Result<Peg, NoMemory>
-    requires { KnowsInners known.now (inners_of (rules_of rules.now)) }
+fn build_raw(alloc: Global, base: &Base<'_>, mode: Mode, items: &[Expr]) -> Result<Peg, NoMemory>
+    requires { Knows base.now }
     ensures { IfOk result (λ p. core_of p
-        ≡ seen mode.inside (inners_of (rules_of rules.now))
-        (F.seq_of (E.cores mode.casing (scope_seen scope.now (inners_of (rules_of rules.now)))
-        (exprs_all items.now)))) }
+        ≡ shown base.now mode.inside (F.seq_of (E.cores mode.casing (base_scope base.now) (exprs_all items.now)))) }
 {
     match items {
-        [item] => build(alloc, scope, rules, known, mode, item),
+        [item] => build(alloc, base, mode, item),
         _ => {
-            let parts = build_all(alloc, scope, rules, known, mode, items)?;
+            let parts = build_all(alloc, base, mode, items)?;
             Ok(seq(parts))
         }
     }
@@ -238,24 +203,15 @@ fn build_raw(
 
 /// A cooked group.
 #[cycle(build)]
-fn build_cooked(
-    alloc: Global,
-    scope: &Scope<'_>,
-    rules: &Rules,
-    known: &[Option<Inner>],
-    mode: Mode,
-    items: &[Expr],
-) -> Result<Peg, NoMemory>
-    requires { KnowsInners known.now (inners_of (rules_of rules.now)) }
+fn build_cooked(alloc: Global, base: &Base<'_>, mode: Mode, items: &[Expr]) -> Result<Peg, NoMemory>
+    requires { Knows base.now }
     ensures { IfOk result (λ p. core_of p
-        ≡ seen mode.inside (inners_of (rules_of rules.now))
-        (F.seq_of (spaced mode.casing (scope_seen scope.now (inners_of (rules_of rules.now)))
-        (exprs_all items.now)))) }
+        ≡ shown base.now mode.inside (F.seq_of (E.spaced mode.casing (base_scope base.now) (exprs_all items.now)))) }
 {
     match items {
-        [item] => build(alloc, scope, rules, known, mode, item),
+        [item] => build(alloc, base, mode, item),
         _ => {
-            let parts = build_spaced(alloc, scope, rules, known, mode, items)?;
+            let parts = build_spaced(alloc, base, mode, items)?;
             Ok(seq(parts))
         }
     }
@@ -263,22 +219,13 @@ fn build_cooked(
 
 /// Some expressions.
 #[cycle(build)]
-fn build_all(
-    alloc: Global,
-    scope: &Scope<'_>,
-    rules: &Rules,
-    known: &[Option<Inner>],
-    mode: Mode,
-    items: &[Expr],
-) -> Result<Pegs, NoMemory>
-    requires { KnowsInners known.now (inners_of (rules_of rules.now)) }
-    ensures { IfOk result (λ ps. cores (listed ps)
-        ≡ seen_all mode.inside (inners_of (rules_of rules.now))
-        (E.cores mode.casing (scope_seen scope.now (inners_of (rules_of rules.now))) (exprs_all items.now))) }
+fn build_all(alloc: Global, base: &Base<'_>, mode: Mode, items: &[Expr]) -> Result<Pegs, NoMemory>
+    requires { Knows base.now }
+    ensures { IfOk result (λ ps. cores (listed ps) ≡ cores_at base.now mode (exprs_all items.now)) }
 {
     let mut parts = Pegs::new(alloc);
     for item in items {
-        let part = build(alloc, scope, rules, known, mode, item)?;
+        let part = build(alloc, base, mode, item)?;
         append(&mut parts, part)?;
     }
     Ok(parts)
@@ -288,22 +235,18 @@ fn build_all(
 #[cycle(build)]
 fn build_spaced(
     alloc: Global,
-    scope: &Scope<'_>,
-    rules: &Rules,
-    known: &[Option<Inner>],
+    base: &Base<'_>,
     mode: Mode,
     items: &[Expr],
 ) -> Result<Pegs, NoMemory>
-    requires { KnowsInners known.now (inners_of (rules_of rules.now)) }
-    ensures { IfOk result (λ ps. cores (listed ps)
-        ≡ seen_all mode.inside (inners_of (rules_of rules.now))
-        (spaced mode.casing (scope_seen scope.now (inners_of (rules_of rules.now))) (exprs_all items.now))) }
+    requires { Knows base.now }
+    ensures { IfOk result (λ ps. cores (listed ps) ≡ spaced_at base.now mode (exprs_all items.now)) }
 {
     let mut parts = Pegs::new(alloc);
     for number in 0..items.len() {
-        let part = build(alloc, scope, rules, known, mode, &items[number])?;
+        let part = build(alloc, base, mode, &items[number])?;
         let alone = stands_alone(items, number);
-        let behind = boundary_behind(alloc, rules, known, mode.inside, scope.boundary, alone)?;
+        let behind = boundary_behind(alloc, base, mode.inside, alone)?;
         append_item(&mut parts, part, behind)?;
     }
     Ok(parts)

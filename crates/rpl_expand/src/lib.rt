@@ -8,9 +8,11 @@
 //! most 1,024 deep. Besides, only memory can run out.
 #![tactic(auto)]
 
+mod base;
 mod build;
 mod built_in;
 mod fault;
+mod growing;
 mod laws;
 mod measure;
 mod mode;

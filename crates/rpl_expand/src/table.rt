@@ -1,37 +1,36 @@
-// The core of a pattern, and the table of rules.
-ghost use Rattle.std.specs.Prelude.{◌≡◌, ℕ, true, List, IfOk, IfErr, OnOk, chars, Option, Some, None, length, ◌<◌};
-ghost use Rattle.std.specs.Prelude.{◌≤◌, ◌+◌, [], ◌∷◌, ◌++◌, map};
+// The rule table of a set, and the core of a pattern over it.
+ghost use Rattle.std.specs.Prelude.{◌≡◌, ◌<◌, ℕ, true, List, IfOk, None, chars, length};
 ghost use Rattle.rpl_core.specs.Core.{Core};
 ghost use Rattle.rpl_core.specs.Listed.{rules_of};
 ghost use Rattle.rpl_core.specs.Order.{IsInOrder};
 ghost use Rattle.rpl_core.specs.Programs.{calls};
-ghost use Rattle.rpl_core.specs.Table.{blocks_of, bodies_of, names_of};
+ghost use Rattle.rpl_core.specs.Table.{blocks_of, bodies_of};
 ghost use Rattle.rpl_core.specs.View.{core_of};
-ghost use Rattle.rpl_forms.specs.Counting.{Counts, KnowsInners};
 ghost use Rattle.rpl_expand.specs.Faults.{Answers, size_fault, table_fault};
-ghost use Rattle.rpl_forms.specs.Rows.{inners_of, row_at, rows_of};
 ghost use Rattle.rpl_expand.specs.Sets.{captures_of, goal_of, makes_tree, scope_of, statements, table_of};
+ghost use Rattle.rpl_expand.specs.Table.{AreBound, IsOver, MakeTrees, captured, has_root, row_of};
 ghost use Rattle.rpl_expand.specs.inside.Statements.{statement_seen};
+ghost use Rattle.rpl_forms.specs.Counting.{Counts, KnowsInners};
+ghost use Rattle.rpl_forms.specs.Rows.{inners_of, row_at, rows_of};
 ghost use Rattle.rpl_package.specs.Sets.{set_seen};
 ghost use Rattle.rpl_package.specs.Targets.{halt_name, resolved};
-ghost use Rattle.rpl_expand.specs.Table.{AreBound, IsOver, MakeTrees, captured, goal, has_root, row_of, table};
 ghost use Rattle.rpl_simulation.specs.Laws.{IsCapture};
 ghost use Rattle.rpl_syntax.specs.View.{expr_of};
-ghost use Rattle.std.specs.Prelude.{codes};
 
 use crate::NoMemory;
+use crate::base::Base;
 use crate::build::build;
 use crate::built_in::built_in;
 use crate::fault::ExpandFault;
+use crate::growing::Growing;
 use crate::measure::measure;
 use crate::mode::Mode;
 use crate::scope::Scope;
 use crate::statement::Statement;
 use rpl_core::{Peg, Rule, Rules};
-use rpl_draft::LabelTable;
 use rpl_forms::count::node;
-use rpl_forms::inner::{inners, push_inner};
-use rpl_forms::{Count, Inner, MAX_DEPTH, MAX_SIZE};
+use rpl_forms::inner::inners;
+use rpl_forms::{Count, MAX_DEPTH, MAX_SIZE};
 use rpl_package::PackageSet;
 use rpl_syntax::Expr;
 use rpl_text::Chars;
@@ -82,70 +81,20 @@ fn has_root(scope: &Scope<'_>, e: &Expr) -> bool
     }
 }
 
-/// The names of the rules of a table, found by name.
-fn kept_names(alloc: Global, rules: &Rules) -> Result<LabelTable, NoMemory>
-    ensures { IfOk result (λ names. names ≡ names_of (rules_of rules.now)) }
-{
-    let mut names = LabelTable::new(alloc);
-    for number in 0..rules.len() as u32 {
-        let Some(rule) = rules.get(number) else {
-            return Err(NoMemory);
-        };
-        let place = names.keep(alloc, &rule.name)?;
-        if place != number {
-            return Err(NoMemory);
-        }
-    }
-    Ok(names)
-}
-
-/// Adds a rule to a table, to the names of its rules, and to what is known of what stands for them behind a
-/// look-behind. No set of packages has two rules of one name; a second one would be told as want of memory.
-fn push_rule(
-    alloc: Global,
-    rules: &mut Rules,
-    known: &mut Vec<Option<Inner>>,
-    names: &mut LabelTable,
-    rule: Rule,
-) -> Result<(), NoMemory>
-    requires few { length (rules_of rules.old) < 0xffff_ffff }
-    requires knows { KnowsInners known.old.items (inners_of (rules_of rules.old)) }
-    requires as_many { length known.old.items ≡ length (rules_of rules.old) }
-    requires names { names.old ≡ names_of (rules_of rules.old) }
-    ensures rules { OnOk result (rules_of rules.new ≡ rules_of rules.old ++ rule ∷ []) }
-    ensures knows { OnOk result (KnowsInners known.new.items (inners_of (rules_of rules.new))) }
-    ensures as_many { OnOk result (length known.new.items ≡ length (rules_of rules.new)) }
-    ensures names { OnOk result (names.new ≡ names_of (rules_of rules.new)) }
-{
-    let place = names.keep(alloc, &rule.name)?;
-    if place as usize != rules.len() {
-        return Err(NoMemory);
-    }
-    push_inner(known, &rule)?;
-    rules.push(rule)?;
-    Ok(())
-}
-
-/// The rule of a statement, behind these rules.
-fn make_rule(
-    alloc: Global,
-    rules: &Rules,
-    known: &[Option<Inner>],
-    statement: &Statement<'_>,
-) -> Result<Rule, NoMemory>
-    requires { KnowsInners known.now (inners_of (rules_of rules.now)) }
-    ensures { IfOk result (λ r. row_at r ≡ row_of (inners_of (rules_of rules.now)) (statement_seen statement.now)) }
+/// The rule of a statement, behind the rules of a table.
+fn make_rule(alloc: Global, table: &Growing, statement: &Statement<'_>) -> Result<Rule, NoMemory>
+    requires { KnowsInners table.now.known.items (inners_of (rules_of table.now.rules)) }
+    ensures { IfOk result (λ r. row_at r
+        ≡ row_of (inners_of (rules_of table.now.rules)) (statement_seen statement.now)) }
 {
     let name = Chars::from_str(alloc, statement.name)?;
     let label = name.copy(alloc)?;
-    let body = build(
-        alloc,
-        &statement.scope,
-        rules,
-        known,
-        Mode::plain(),
-        statement.body,
-    )?;
+    let base = Base {
+        scope: statement.scope,
+        rules: &table.rules,
+        known: &table.known,
+    };
+    let body = build(alloc, &base, Mode::plain(), statement.body)?;
     let body = under(alloc, statement.captures, label, body)?;
     Ok(Rule {
         name,
@@ -172,21 +121,20 @@ pub fn expand(alloc: Global, set: &PackageSet) -> Result<Rules, ExpandFault>
     ensures order { AreBound (statements (set_seen set.now))
         → IfOk result (λ rs. IsInOrder (bodies_of (rules_of rs)) (blocks_of (rules_of rs))) }
 {
-    let mut rules = built_in(alloc, halt_name(set))?;
-    let mut known = inners(alloc, &rules)?;
-    let mut names = kept_names(alloc, &rules)?;
+    let rules = built_in(alloc, halt_name(set))?;
+    let mut table = Growing::new(alloc, rules)?;
     for number in 2..set.rules() {
         let Some(statement) = Statement::of(set, number) else {
             unreachable!()
         };
-        let own = measure(&statement.scope, &known, false, statement.body);
+        let own = measure(&statement.scope, &table.known, false, statement.body);
         if let Err(fault) = check_size(Some(number), counts_under(statement.captures, own)) {
             return Err(fault);
         }
-        let rule = make_rule(alloc, &rules, &known, &statement)?;
-        push_rule(alloc, &mut rules, &mut known, &mut names, rule)?;
+        let rule = make_rule(alloc, &table, &statement)?;
+        table = table.with(alloc, rule)?;
     }
-    Ok(rules)
+    Ok(table.rules)
 }
 
 /// The core of a pattern over the rule table of its set, under its root capture unless it is the name of a rule that
@@ -215,7 +163,12 @@ pub fn expand_pattern(
     if let Err(fault) = check_size(None, counts_under(captures, own)) {
         return Err(fault);
     }
-    let body = build(alloc, &scope, rules, &known, Mode::plain(), e)?;
+    let base = Base {
+        scope,
+        rules,
+        known: &known,
+    };
+    let body = build(alloc, &base, Mode::plain(), e)?;
     let root = Chars::from_str(alloc, "*")?;
     Ok(under(alloc, captures, root, body)?)
 }

@@ -27,8 +27,8 @@ pub build-returns-in-Text : goal.build-returns-in-Text
 build-returns-in-Text t c =
     let b = c.args.mode.inside in
     let k = c.args.mode.casing in
-    let I = inners_of (rules_of c.args.rules.now) in
-    let s = scope_seen c.args.scope.now I in
+    let I = inners_of (rules_of c.args.base.now.rules.now) in
+    let s = scope_seen c.args.base.now.scope I in
     let same = ap (F.text_core k) c.as_str.ensures
     ∙ sym (ap (λ e. seen b I (core k s (expr_of e))) c.in-Text.is ∙ seen_text b I k c.in-Text.chars) in
     subst (λ q. IfOk c.text.result (λ p. core_of p ≡ q)) same c.text.ensures
@@ -37,8 +37,8 @@ pub build-returns-in-Class : goal.build-returns-in-Class
 build-returns-in-Class t c =
     let b = c.args.mode.inside in
     let k = c.args.mode.casing in
-    let I = inners_of (rules_of c.args.rules.now) in
-    let s = scope_seen c.args.scope.now I in
+    let I = inners_of (rules_of c.args.base.now.rules.now) in
+    let s = scope_seen c.args.base.now.scope I in
     let same = sym (ap (λ e. seen b I (core k s (expr_of e))) c.in-Class.is ∙ seen_set b I _) in
     subst (λ q. IfOk c.class.result (λ p. core_of p ≡ q)) same c.class.ensures
 
@@ -46,8 +46,8 @@ pub build-returns-in-Any : goal.build-returns-in-Any
 build-returns-in-Any t c =
     let b = c.args.mode.inside in
     let k = c.args.mode.casing in
-    let I = inners_of (rules_of c.args.rules.now) in
-    let s = scope_seen c.args.scope.now I in
+    let I = inners_of (rules_of c.args.base.now.rules.now) in
+    let s = scope_seen c.args.base.now.scope I in
     let same = sym (ap (λ e. seen b I (core k s (expr_of e))) c.in-Any.is ∙ seen_set b I F.any) in
     subst (λ q. IfOk c.any.result (λ p. core_of p ≡ q)) same c.any.ensures
 
@@ -55,24 +55,24 @@ pub build-returns-in-Start : goal.build-returns-in-Start
 build-returns-in-Start t c =
     let b = c.args.mode.inside in
     let k = c.args.mode.casing in
-    let I = inners_of (rules_of c.args.rules.now) in
-    let s = scope_seen c.args.scope.now I in
+    let I = inners_of (rules_of c.args.base.now.rules.now) in
+    let s = scope_seen c.args.base.now.scope I in
     sym (ap (λ e. seen b I (core k s (expr_of e))) c.in-Start.is ∙ seen_start b I)
 
 pub build-returns-in-End : goal.build-returns-in-End
 build-returns-in-End t c =
     let b = c.args.mode.inside in
     let k = c.args.mode.casing in
-    let I = inners_of (rules_of c.args.rules.now) in
-    let s = scope_seen c.args.scope.now I in
+    let I = inners_of (rules_of c.args.base.now.rules.now) in
+    let s = scope_seen c.args.base.now.scope I in
     sym (ap (λ e. seen b I (core k s (expr_of e))) c.in-End.is ∙ seen_end b I)
 
 pub build-returns-in-Cooked : goal.build-returns-in-Cooked
 build-returns-in-Cooked t c =
     let b = c.args.mode.inside in
     let k = c.args.mode.casing in
-    let I = inners_of (rules_of c.args.rules.now) in
-    let s = scope_seen c.args.scope.now I in
+    let I = inners_of (rules_of c.args.base.now.rules.now) in
+    let s = scope_seen c.args.base.now.scope I in
     let view = ap expr_of c.in-Cooked.is ∙ cooked_view c.in-Cooked.items in
     let same = ap (λ e. seen b I (core k s e)) view
     ∙ ap (λ l. seen b I (F.seq_of (spaced k s (exprs_all l)))) (sym c.as_slice.ensures) in
@@ -82,8 +82,8 @@ pub build-returns-in-Raw : goal.build-returns-in-Raw
 build-returns-in-Raw t c =
     let b = c.args.mode.inside in
     let k = c.args.mode.casing in
-    let I = inners_of (rules_of c.args.rules.now) in
-    let s = scope_seen c.args.scope.now I in
+    let I = inners_of (rules_of c.args.base.now.rules.now) in
+    let s = scope_seen c.args.base.now.scope I in
     let view = ap expr_of c.in-Raw.is ∙ raw_view c.in-Raw.items in
     let same = ap (λ e. seen b I (core k s e)) view
     ∙ ap (λ l. seen b I (F.seq_of (E.cores k s (exprs_all l)))) (sym c.as_slice-in-Raw.ensures) in
@@ -93,8 +93,8 @@ pub build-returns-in_ok-parts-in-Choice : goal.build-returns-in_ok-parts-in-Choi
 build-returns-in_ok-parts-in-Choice t c =
     let b = c.args.mode.inside in
     let k = c.args.mode.casing in
-    let I = inners_of (rules_of c.args.rules.now) in
-    let s = scope_seen c.args.scope.now I in
+    let I = inners_of (rules_of c.args.base.now.rules.now) in
+    let s = scope_seen c.args.base.now.scope I in
     let view = ap expr_of c.in-Choice.is ∙ choice_view c.in-Choice.parts in
     let same = ap (λ e. seen b I (core k s e)) view
     ∙ ap (λ l. seen b I (C.Choice (E.cores k s (exprs_all l)))) (sym c.as_slice-in-Choice.ensures)
@@ -105,8 +105,8 @@ pub build_raw-returns-in_ok-parts-in_default : goal.build_raw-returns-in_ok-part
 build_raw-returns-in_ok-parts-in_default t c =
     let b = c.args.mode.inside in
     let k = c.args.mode.casing in
-    let I = inners_of (rules_of c.args.rules.now) in
-    let s = scope_seen c.args.scope.now I in
+    let I = inners_of (rules_of c.args.base.now.rules.now) in
+    let s = scope_seen c.args.base.now.scope I in
     let es = c.args.items.now in
     let many : length es ≢ 1 =
     elim c.in_default.branch [
@@ -120,8 +120,8 @@ pub build_cooked-returns-in_ok-parts-in_default : goal.build_cooked-returns-in_o
 build_cooked-returns-in_ok-parts-in_default t c =
     let b = c.args.mode.inside in
     let k = c.args.mode.casing in
-    let I = inners_of (rules_of c.args.rules.now) in
-    let s = scope_seen c.args.scope.now I in
+    let I = inners_of (rules_of c.args.base.now.rules.now) in
+    let s = scope_seen c.args.base.now.scope I in
     let es = c.args.items.now in
     let many : length es ≢ 1 =
     elim c.in_default.branch [
@@ -135,8 +135,8 @@ pub build_all-loop-item-preserved : goal.build_all-loop-item-preserved
 build_all-loop-item-preserved t c =
     let b = c.args.mode.inside in
     let k = c.args.mode.casing in
-    let I = inners_of (rules_of c.args.rules.now) in
-    let s = scope_seen c.args.scope.now I in
+    let I = inners_of (rules_of c.args.base.now.rules.now) in
+    let s = scope_seen c.args.base.now.scope I in
     let es = c.args.items.now in
     let old = cores (listed c.loop-item.parts) in
     let made = c.in_ok-append.ensures ∙ ap (λ q. F.joined old (C.Then q C.NoMore)) c.in_ok-part.ensures in
@@ -147,8 +147,8 @@ pub build_all-returns : goal.build_all-returns
 build_all-returns t c =
     let b = c.args.mode.inside in
     let k = c.args.mode.casing in
-    let I = inners_of (rules_of c.args.rules.now) in
-    let s = scope_seen c.args.scope.now I in
+    let I = inners_of (rules_of c.args.base.now.rules.now) in
+    let s = scope_seen c.args.base.now.scope I in
     let es = c.args.items.now in
     P.all_made (cores (listed c.loop-item.parts)) _ _
     (P.none_left b I k s es c.loop-item.item-index c.loop-item-test.false) c.loop-item.invariant
@@ -157,8 +157,8 @@ pub build_spaced-loop-number-preserved : goal.build_spaced-loop-number-preserved
 build_spaced-loop-number-preserved t c =
     let b = c.args.mode.inside in
     let k = c.args.mode.casing in
-    let I = inners_of (rules_of c.args.rules.now) in
-    let s = scope_seen c.args.scope.now I in
+    let I = inners_of (rules_of c.args.base.now.rules.now) in
+    let s = scope_seen c.args.base.now.scope I in
     let es = c.args.items.now in
     let i = c.loop-number.number in
     let q = seen b I (C.Call s.boundary) in
@@ -174,8 +174,8 @@ pub build_spaced-returns : goal.build_spaced-returns
 build_spaced-returns t c =
     let b = c.args.mode.inside in
     let k = c.args.mode.casing in
-    let I = inners_of (rules_of c.args.rules.now) in
-    let s = scope_seen c.args.scope.now I in
+    let I = inners_of (rules_of c.args.base.now.rules.now) in
+    let s = scope_seen c.args.base.now.scope I in
     let es = c.args.items.now in
     P.all_made (cores (listed c.loop-number.parts)) _ _
     (P.none_spaced b I k s es c.loop-number.number c.loop-number-test.false) c.loop-number.invariant
@@ -184,8 +184,8 @@ pub build_repeat-returns-then-not-is_cooked : goal.build_repeat-returns-then-not
 build_repeat-returns-then-not-is_cooked t c =
     let b = c.args.mode.inside in
     let k = c.args.mode.casing in
-    let I = inners_of (rules_of c.args.rules.now) in
-    let s = scope_seen c.args.scope.now I in
+    let I = inners_of (rules_of c.args.base.now.rules.now) in
+    let s = scope_seen c.args.base.now.scope I in
     let p = core k s (expr_of c.args.body.now) in
     let l = c.args.least in
     let m = c.args.most in
@@ -200,8 +200,8 @@ pub build_repeat-returns-then-is_once : goal.build_repeat-returns-then-is_once
 build_repeat-returns-then-is_once t c =
     let b = c.args.mode.inside in
     let k = c.args.mode.casing in
-    let I = inners_of (rules_of c.args.rules.now) in
-    let s = scope_seen c.args.scope.now I in
+    let I = inners_of (rules_of c.args.base.now.rules.now) in
+    let s = scope_seen c.args.base.now.scope I in
     let p = core k s (expr_of c.args.body.now) in
     let l = c.args.least in
     let m = c.args.most in
@@ -217,8 +217,8 @@ pub build_repeat-returns : goal.build_repeat-returns
 build_repeat-returns t c =
     let b = c.args.mode.inside in
     let k = c.args.mode.casing in
-    let I = inners_of (rules_of c.args.rules.now) in
-    let s = scope_seen c.args.scope.now I in
+    let I = inners_of (rules_of c.args.base.now.rules.now) in
+    let s = scope_seen c.args.base.now.scope I in
     let p = core k s (expr_of c.args.body.now) in
     let l = c.args.least in
     let m = c.args.most in

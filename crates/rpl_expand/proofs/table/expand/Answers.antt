@@ -26,16 +26,16 @@ built_in-requires c = λ e. apart (binds_halt (set_seen c.args.set.now)) (sym c.
 pub loop-number-init : goal.loop-number-init
 loop-number-init c =
     let p = set_seen c.args.set.now in
-    let rs = rules_of c.in_ok-rules.rules in
-    let made : rows_of rs ≡ built_in (halt_name p) = c.in_ok-rules.ensures ∙ ap built_in c.halt_name.ensures in
+    let rs = rules_of c.in_ok-table.table.rules in
+    let made : rows_of rs ≡ built_in (halt_name p) =
+    ap (λ l. rows_of (rules_of l)) c.in_ok-table.ensures.rules ∙ c.in_ok-rules.ensures
+    ∙ ap built_in c.halt_name.ensures in
     record {
       table_is = ap (λ l. rows_of rs ++ rows (inners_of rs) l) (from_first p)
           ∙ whole_table rs (halt_name p) (statements p) made;
       fault_is = ap (λ l. table_fault 2 (rows (inners_of rs) l)) (from_first p)
           ∙ whole_fault rs (halt_name p) (statements p) made;
-      knows = c.in_ok-known.ensures.knows;
-      as_many = c.in_ok-known.ensures.as_many;
-      names = c.in_ok-names.ensures;
+      knows = c.in_ok-table.ensures.knows;
       place = two_rules rs (halt_name p) made;
       behind = omega arith;
     }
@@ -53,7 +53,7 @@ unreachable-requires c =
 pub returns-in-Err-clause-exactly : goal.returns-in-Err-clause-exactly
 returns-in-Err-clause-exactly c =
     let p = set_seen c.args.set.now in
-    let rs = rules_of c.loop-number.rules in
+    let rs = rules_of c.loop-number.table.rules in
     let I = inners_of rs in
     let n = c.loop-number.number in
     let s = statement_seen c.in-Some.statement in
@@ -72,7 +72,7 @@ returns-in-Err-clause-exactly c =
 pub loop-number-preserved : goal.loop-number-preserved
 loop-number-preserved c =
     let p = set_seen c.args.set.now in
-    let rs = rules_of c.loop-number.rules in
+    let rs = rules_of c.loop-number.table.rules in
     let I = inners_of rs in
     let n = c.loop-number.number in
     let s = statement_seen c.in-Some.statement in
@@ -93,15 +93,13 @@ loop-number-preserved c =
     let new = rows (inners_of (rs ++ r ∷ [])) (from p (n + 1)) in
     let e : old ≡ row_at r ∷ new =
     ap (rows I) (from_here p n s within there) ∙ rows_turn rs s (from p (n + 1)) r made in
-    let is = c.in_ok-push_rule.ensures.rules in
+    let is = c.in_ok-table-2.ensures.rules in
     record {
       table_is = subst (λ l. rows_of l ++ rows (inners_of l) (from p (n + 1)) ≡ table_of p) (sym is)
           (table_turn rs r old new (table_of p) e inv.table_is);
       fault_is = subst (λ l. table_fault (n + 1) (rows (inners_of l) (from p (n + 1))) ≡ table_fault 0 (table_of p))
           (sym is) (fault_turn n (row_at r) old new (table_fault 0 (table_of p)) e none inv.fault_is);
-      knows = c.in_ok-push_rule.ensures.knows;
-      as_many = c.in_ok-push_rule.ensures.as_many;
-      names = c.in_ok-push_rule.ensures.names;
+      knows = c.in_ok-table-2.ensures.knows;
       place = ap length is ∙ length-append rs (r ∷ []) ∙ omega (arith, inv.place);
       behind = omega (arith, inv.behind);
     }
@@ -117,17 +115,17 @@ returns-clause-exactly c =
     let p = set_seen c.args.set.now in
     let n = c.loop-number.number in
     let inv = c.loop-number.invariant in
-    sym inv.fault_is ∙ ap (λ l. table_fault n (rows (inners_of (rules_of c.loop-number.rules)) l))
+    sym inv.fault_is ∙ ap (λ l. table_fault n (rows (inners_of (rules_of c.loop-number.table.rules)) l))
     (from_end p n (omega (arith, c.loop-number-test.false, c.rules-number-end.ensures)))
 
 pub returns-clause-table : goal.returns-clause-table
 returns-clause-table c =
     let p = set_seen c.args.set.now in
     let n = c.loop-number.number in
-    made_whole p (rules_of c.loop-number.rules) n
+    made_whole p (rules_of c.loop-number.table.rules) n
     (omega (arith, c.loop-number-test.false, c.rules-number-end.ensures)) c.loop-number.invariant.table_is
 
 pub returns-clause-order : goal.returns-clause-order
 returns-clause-order c = λ a.
     let p = set_seen c.args.set.now in
-    in_order (halt_name p) (statements p) (rules_of c.loop-number.rules) a (returns-clause-table c)
+    in_order (halt_name p) (statements p) (rules_of c.loop-number.table.rules) a (returns-clause-table c)

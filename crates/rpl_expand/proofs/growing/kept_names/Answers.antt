@@ -6,7 +6,7 @@ use Rattle.std.proofs.lemmas.Option.{get_or_from_slice_get, slice_get-map, slice
 use Rattle.rpl_core.specs.Listed.{rules_of}
 use Rattle.rpl_core.specs.Table.{names_of}
 use Rattle.rpl_expand.proofs.TableSteps.{new_place}
-use Rattle.rpl_expand.proofs.table.kept_names.Goals as goal
+use Rattle.rpl_expand.proofs.growing.kept_names.Goals as goal
 
 pub loop-number-preserved : goal.loop-number-preserved
 loop-number-preserved c =

@@ -1,0 +1,31 @@
+// What an expression is expanded over.
+ghost use Rattle.std.specs.Prelude.{◌≡◌, IfOk};
+ghost use Rattle.rpl_core.specs.Core as C;
+ghost use Rattle.rpl_core.specs.View.{core_of};
+ghost use Rattle.rpl_expand.specs.inside.Bases.{Knows, shown};
+
+use crate::NoMemory;
+use crate::scope::Scope;
+use rpl_core::{Peg, Rules};
+use rpl_forms::Inner;
+use rpl_forms::inner::call;
+use std::alloc::Global;
+
+/// Where an expression stands, the rules of the table so far, and what is known of what stands for each of them behind
+/// a look-behind.
+#[derive(Clone, Copy)]
+pub(crate) struct Base<'a> {
+    pub(crate) scope: Scope<'a>,
+    pub(crate) rules: &'a Rules,
+    pub(crate) known: &'a [Option<Inner>],
+}
+
+impl Base<'_> {
+    /// A call of a rule, or what stands for it behind a look-behind.
+    pub(crate) fn call(&self, alloc: Global, inside: bool, rule: u32) -> Result<Peg, NoMemory>
+        requires { Knows self.now }
+        ensures { IfOk result (λ p. core_of p ≡ shown self.now inside (C.Call rule)) }
+    {
+        call(alloc, self.rules, self.known, inside, rule)
+    }
+}
