@@ -100,23 +100,23 @@ number_by t c b h e = ap (λ x. if x then Some (c - 1) else None) h ∙ ap Some 
 
 -- the block of a row in place
 block_from : (ms : List Module) (n b : ℕ) (w : Row) (l : Located 0 0 ms n w) → w.block ≡ Some b
-    → (in_block l.rule ≡ true) × (upto (before 0 ms l.owner) 0 l.module_.rules l.place - 1 ≡ b)
+    → (in_block l.rule ≡ true) × (upto (before 0 ms l.owner) 0 l.home.rules l.place - 1 ≡ b)
 block_from ms n b w l h =
-    numbered (in_block l.rule) (upto (before 0 ms l.owner) 0 l.module_.rules l.place) b
+    numbered (in_block l.rule) (upto (before 0 ms l.owner) 0 l.home.rules l.place) b
     (sym (ap (λ x. x.block) l.row) ∙ h)
 
 block_by : (ms : List Module) (n b : ℕ) (w : Row) (l : Located 0 0 ms n w) → l.rule.since ≡ l.rule.start
-    → upto (before 0 ms l.owner) 0 l.module_.rules l.place - 1 ≡ b → w.block ≡ Some b
+    → upto (before 0 ms l.owner) 0 l.home.rules l.place - 1 ≡ b → w.block ≡ Some b
 block_by ms n b w l h e =
-    ap (λ x. x.block) l.row ∙ number_by (in_block l.rule) (upto (before 0 ms l.owner) 0 l.module_.rules l.place) b
+    ap (λ x. x.block) l.row ∙ number_by (in_block l.rule) (upto (before 0 ms l.owner) 0 l.home.rules l.place) b
     (in_by l.rule h) e
 
 -- rows stand by module and place
 no_later : (ms : List Module) (n m : ℕ) (v w : Row) (a : Located 0 0 ms n v) (b : Located 0 0 ms m w) → n ≤ m
     → b.owner < a.owner → ⊥
 no_later ms n m v w a b le lt =
-    let f = first_later ms b.owner a.owner b.module_ b.at lt in
-    let p = nth_within b.module_.rules b.place b.rule b.has in
+    let f = first_later ms b.owner a.owner b.home b.at lt in
+    let p = nth_within b.home.rules b.place b.rule b.has in
     let x = a.number in let y = b.number in
     omega (arith, f, p, x, y, le)
 
@@ -147,12 +147,12 @@ module _ (ms : List Module) (all : AllLaid ms) (n m k b : ℕ) (u v w : Row) (le
     (f : Located 0 0 ms n u) (g : Located 0 0 ms m v) (h : Located 0 0 ms k w)
     (first : u.block ≡ Some b) (last : w.block ≡ Some b) where
   begun_at : (n : ℕ) (w : Row) (l : Located 0 0 ms n w) → w.block ≡ Some b
-      → before 0 ms l.owner + 1 ≤ upto (before 0 ms l.owner) 0 l.module_.rules l.place
+      → before 0 ms l.owner + 1 ≤ upto (before 0 ms l.owner) 0 l.home.rules l.place
   begun_at n w l e =
-      begun l.module_.rules l.place l.rule (all.each l.owner l.module_ l.at) l.has
+      begun l.home.rules l.place l.rule (all.each l.owner l.home l.at) l.has
       (in_from l.rule (block_from ms n b w l e).0) (before 0 ms l.owner)
 
-  counts : upto (before 0 ms f.owner) 0 f.module_.rules f.place ≡ upto (before 0 ms h.owner) 0 h.module_.rules h.place
+  counts : upto (before 0 ms f.owner) 0 f.home.rules f.place ≡ upto (before 0 ms h.owner) 0 h.home.rules h.place
   counts =
       let a = begun_at n u f first in let c = begun_at k w h last in
       let x = (block_from ms n b u f first).1 in let y = (block_from ms k b w h last).1 in
@@ -160,7 +160,7 @@ module _ (ms : List Module) (all : AllLaid ms) (n m k b : ℕ) (u v w : Row) (le
 
   apart : f.owner < h.owner → ⊥
   apart lt =
-      let a = before_later 0 ms f.owner h.owner f.place f.module_ f.at lt in
+      let a = before_later 0 ms f.owner h.owner f.place f.home f.at lt in
       let c = begun_at k w h last in
       let e = counts in
       omega (arith, a, c, e)
@@ -175,18 +175,18 @@ module _ (ms : List Module) (all : AllLaid ms) (n m k b : ℕ) (u v w : Row) (le
       let a = no_later ms n m u v f g le in let c = no_later ms m k v w g h up in let d = apart in
       omega (arith, a, c, d)
 
-  g_module : g.module_ ≡ f.module_
-  g_module = one_module ms g.owner f.owner g.module_ f.module_ g.at f.at g_owner
+  g_module : g.home ≡ f.home
+  g_module = one_module ms g.owner f.owner g.home f.home g.at f.at g_owner
 
-  h_module : h.module_ ≡ f.module_
-  h_module = one_module ms h.owner f.owner h.module_ f.module_ h.at f.at h_owner
+  h_module : h.home ≡ f.home
+  h_module = one_module ms h.owner f.owner h.home f.home h.at f.at h_owner
 
-  g_count : upto (before 0 ms g.owner) 0 g.module_.rules g.place ≡ upto
-      (before 0 ms f.owner) 0 f.module_.rules g.place
+  g_count : upto (before 0 ms g.owner) 0 g.home.rules g.place ≡ upto
+      (before 0 ms f.owner) 0 f.home.rules g.place
   g_count = ap₂ (λ o x. upto (before 0 ms o) 0 x.rules g.place) g_owner g_module
 
-  h_count : upto (before 0 ms h.owner) 0 h.module_.rules h.place ≡ upto
-      (before 0 ms f.owner) 0 f.module_.rules h.place
+  h_count : upto (before 0 ms h.owner) 0 h.home.rules h.place ≡ upto
+      (before 0 ms f.owner) 0 f.home.rules h.place
   h_count = ap₂ (λ o x. upto (before 0 ms o) 0 x.rules h.place) h_owner h_module
 
   places : (f.place ≤ g.place) × (g.place ≤ h.place)
@@ -196,10 +196,10 @@ module _ (ms : List Module) (all : AllLaid ms) (n m k b : ℕ) (u v w : Row) (le
       (omega (arith, x, y, a, le), omega (arith, y, z, a, c, up))
 
   between : (g.rule.since ≡ g.rule.start) ×
-      (upto (before 0 ms f.owner) 0 f.module_.rules g.place ≡ upto (before 0 ms f.owner) 0 f.module_.rules h.place)
+      (upto (before 0 ms f.owner) 0 f.home.rules g.place ≡ upto (before 0 ms f.owner) 0 f.home.rules h.place)
   between =
-      inside f.module_.rules (before 0 ms f.owner) f.place g.place h.place f.rule g.rule h.rule
-      (all.each f.owner f.module_ f.at) f.has
+      inside f.home.rules (before 0 ms f.owner) f.place g.place h.place f.rule g.rule h.rule
+      (all.each f.owner f.home f.at) f.has
       (sym (ap (λ x. nth x.rules g.place) g_module) ∙ g.has) (sym (ap (λ x. nth x.rules h.place) h_module) ∙ h.has)
       places.0 places.1
       (in_from h.rule (block_from ms k b w h last).0) (counts ∙ h_count)

@@ -180,12 +180,12 @@ all_entered f ms i k (S.One b) m n h plain is =
 all_entered f ms i k (S.Block hs vs) m n h plain is =
     let l = length m.rules in
     let first = block_rules k l true hs in
-    let then_ = block_rules k l false vs in
-    let c = both (in_turn (enter f) first m) (in_turn (enter f) then_) n
-    (sym (turns_append (enter f) first then_ m) ∙ is) in
+    let rest = block_rules k l false vs in
+    let c = both (in_turn (enter f) first m) (in_turn (enter f) rest) n
+    (sym (turns_append (enter f) first rest m) ∙ is) in
     let a = block_entered f ms i k l true hs m c.0 h (omega arith) (of_none m.rules) plain.0 c.1 in
     let b = block_entered f ms i k l false vs c.0 n a.entered.formed a.behind a.of_it plain.1 c.2 in
-    entered_on ms i l m c.0 n first then_ a.entered b.entered
+    entered_on ms i l m c.0 n first rest a.entered b.entered
 
 -- ---- its names
 

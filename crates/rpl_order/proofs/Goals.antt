@@ -111,8 +111,8 @@ module _ (w : World) (plain : HasPlainTexts w) (f : List ℕ) (i : ℕ) where
   brought_in s t (Some x) h e =
       let c = both (reach w (walk w w.most) [] f x s).answer (λ r. (put f x i r).answer) t e in
       let r = reached w (walk w w.most) (walks w plain w.most) [] f x s c.0 h c.1 in
-      let put_ = put_in f x c.0.0 i c.0.1 t (nth c.0.1.modules i) r.stock refl c.2 in
-      became_on s c.0.1 t (record { stock = r.stock; grows = r.grows }) put_
+      let after = put_in f x c.0.0 i c.0.1 t (nth c.0.1.modules i) r.stock refl c.2 in
+      became_on s c.0.1 t (record { stock = r.stock; grows = r.grows }) after
 
   names_in : (qs : List QName) (s t : Stock) → IsStock s → (each_in_turn (pattern_name w f i) qs s).answer ≡ Ok t
       → Became s t

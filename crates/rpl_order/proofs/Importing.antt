@@ -136,9 +136,9 @@ all_there : (o : Option Module) → 0 + length (rules_at o) ≤ size_of o
 all_there None = omega arith
 all_there (Some m) = omega arith
 
-by_form : (ms : List Module) (i : ℕ) (f : List ℕ) (e : Import) (as_ : ImportAs) (j : ℕ) (m n : Module)
+by_form : (ms : List Module) (i : ℕ) (f : List ℕ) (e : Import) (form : ImportAs) (j : ℕ) (m n : Module)
     → IsModule false ms i m → j < i
-    → take_as f e as_ j ms m ≡ Ok n → IsModule false ms i n
+    → take_as f e form j ms m ≡ Ok n → IsModule false ms i n
 by_form ms i f e Last j m n h lt is = prefix_added false ms i f e.at (last_part [] e.path) j m n h (inl lt) is
 by_form ms i f e (Named p) j m n h lt is = prefix_added false ms i f e.at p j m n h (inl lt) is
 by_form ms i f e Plain j m n h lt is =

@@ -116,11 +116,11 @@ early s e lt = ap (λ b. if b then Unknown else if e.hidden && nat_lt e.since s 
 
 module _ (a b : List Module) (m n : Module) (s : ℕ) (x : Referent) (grows : Grows a b) (more : Extends (suc s) m n)
   where
-    plain_stays : (k : List ℕ) (o : Option Entry) → first_of k m.names ≡ o → (u : Option Entry) → first_of k n.names ≡ u
+    plain_stays : (k : List ℕ) (o u : Option Entry) → first_of k m.names ≡ o → first_of k n.names ≡ u
         → plain k s o ≡ To x → plain k s u ≡ To x
-    plain_stays k (Some e) f u g h = ap (plain k s) (sym g ∙ more.names k e f) ∙ h
-    plain_stays k None f None g h = h
-    plain_stays k None f (Some e) g h = ap (halt_or k) (early s e (more.fresh k e f g)) ∙ h
+    plain_stays k (Some e) u f g h = ap (plain k s) (sym g ∙ more.names k e f) ∙ h
+    plain_stays k None None f g h = h
+    plain_stays k None (Some e) f g h = ap (halt_or k) (early s e (more.fresh k e f g)) ∙ h
 
     shared_stays : (j : ℕ) (k : List ℕ) (o : Option Module) → nth a j ≡ o → shared_of j k o ≡ To x
         → shared_of j k (nth b j) ≡ To x
@@ -141,7 +141,7 @@ module _ (a b : List Module) (m n : Module) (s : ℕ) (x : Referent) (grows : Gr
         ap (prefixed b s k) (more.prefixes c p f) ∙ counted_stays (nat_lt s p.since) p.number k h
 
     bound_stays : (k : List ℕ) (o : Option (List ℕ)) → bound_by a m s k o ≡ To x → bound_by b n s k o ≡ To x
-    bound_stays k None h = plain_stays k (first_of k m.names) refl (first_of k n.names) refl h
+    bound_stays k None h = plain_stays k (first_of k m.names) (first_of k n.names) refl refl h
     bound_stays k (Some []) h = h
     bound_stays k (Some (c ∷ p)) h = prefixed_stays (c ∷ p) k (first_of (c ∷ p) m.prefixes) refl h
 

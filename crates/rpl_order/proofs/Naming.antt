@@ -40,9 +40,9 @@ module _ (p : Packages) (sound : AreSound p.stock.modules) where
   in_row n w e q at is c =
       let l = located 0 0 p.stock.modules n w at in
       let same : l.rule.body ≡ e = (let k = body_is p n w at l in cc) in
-      let said = (sound.each l.owner l.module_ l.at).said.each l.place l.rule q l.has
+      let said = (sound.each l.owner l.home l.at).said.each l.place l.rule q l.has
       (subst (λ x. Contains (B.names x) q) (sym same) c) in
-      let t = has_target l.owner l.module_ l.rule.start q l.at said in
+      let t = has_target l.owner l.home l.rule.start q l.at said in
       (t.0, resolved_is p n w at l q ∙ t.1)
 
   by_row : (n : ℕ) (o : Option Row) (e : Expr) (q : QName) → nth (rows p.stock.modules) n ≡ o

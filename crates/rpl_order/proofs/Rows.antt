@@ -55,8 +55,8 @@ opens_from b k [] u p r h e o = absurd (cc)
 opens_from b k (x ∷ rs) zero p r h e o =
     let at : p ≡ k = omega (arith, e) in
     let same : x ≡ r = cc in
-    let open_ : opens k x ≡ true = subst (λ y. opens k y ≡ true) (sym same) (subst (λ q. opens q r ≡ true) at o) in
-    let c : begun_at b k x ≡ b + 1 = ap (λ t. if t then b + 1 else b) open_ in
+    let opened : opens k x ≡ true = subst (λ y. opens k y ≡ true) (sym same) (subst (λ q. opens q r ≡ true) at o) in
+    let c : begun_at b k x ≡ b + 1 = ap (λ t. if t then b + 1 else b) opened in
     omega (arith, c)
 opens_from b k (x ∷ rs) (suc u) p r h e o =
     let f = opens_from (begun_at b k x) (k + 1) rs u p r h (omega (arith, e)) o in
@@ -160,14 +160,14 @@ first_later (x ∷ ms) (suc i) (suc j) m h lt = let f = first_later ms i j m h (
 pub record Located (i b : ℕ) (ms : List Module) (n : ℕ) (w : Row) : Type 0 where
   pub owner : ℕ
   pub place : ℕ
-  pub module_ : Module
+  pub home : Module
   pub rule : Rule
-  pub at : nth ms owner ≡ Some module_
-  pub has : nth module_.rules place ≡ Some rule
+  pub at : nth ms owner ≡ Some home
+  pub has : nth home.rules place ≡ Some rule
   pub number : n + 2 ≡ first_rule ms owner + place
   pub from : ℕ
   pub counts : from ≡ i + owner
-  pub row : w ≡ row_of module_.label from place (upto (before b ms owner) 0 module_.rules place) rule
+  pub row : w ≡ row_of home.label from place (upto (before b ms owner) 0 home.rules place) rule
 
 module _ (i b : ℕ) (x : Module) (ms : List Module) (n : ℕ) (w : Row) where
   here : nth (rows_of x.label i 0 b x.rules) n ≡ Some w → Located i b (x ∷ ms) n w
@@ -181,7 +181,7 @@ module _ (i b : ℕ) (x : Module) (ms : List Module) (n : ℕ) (w : Row) where
       record {
         owner = 0;
         place = n;
-        module_ = x;
+        home = x;
         rule = f.0;
         at = refl;
         has = f.1;
@@ -199,7 +199,7 @@ module _ (i b : ℕ) (x : Module) (ms : List Module) (n : ℕ) (w : Row) where
       record {
         owner = suc l.owner;
         place = l.place;
-        module_ = l.module_;
+        home = l.home;
         rule = l.rule;
         at = l.at;
         has = l.has;

@@ -181,7 +181,7 @@ module _ (p : Packages) (rs : List Built) (same : rows_of rs ≡ table_of p) whe
         let l : Located 0 0 ms n w = record {
           owner = j;
           place = k;
-          module_ = t.owner;
+          home = t.owner;
           rule = t.rule;
           at = t.at;
           has = t.has;

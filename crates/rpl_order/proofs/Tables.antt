@@ -68,15 +68,15 @@ module _ (p : Packages) (n : ℕ) (w : Row) (at : nth (rows p.stock.modules) n �
 
   resolved_on : (q : QName) → resolved_at p q
       (Some (record { owner = l.owner; start = l.rule.start })) ≡ target p.stock.modules l.owner
-      (bound p.stock.modules l.module_ l.rule.start q)
+      (bound p.stock.modules l.home l.rule.start q)
   resolved_on q = ap (resolved_in p.stock.modules l.owner l.rule.start q) l.at
 
   pub resolved_is : (q : QName) → resolved p (Some (suc (suc n))) q ≡ target p.stock.modules l.owner
-      (bound p.stock.modules l.module_ l.rule.start q)
+      (bound p.stock.modules l.home l.rule.start q)
   resolved_is q = ap (resolved_at p q) site_is ∙ resolved_on q
 
   pub boundary_is : boundary_by (boundary p (Some (suc (suc n)))) ≡ rule_of
-      (target p.stock.modules l.owner (bound p.stock.modules l.module_ l.rule.start boundary_mark))
+      (target p.stock.modules l.owner (bound p.stock.modules l.home l.rule.start boundary_mark))
   boundary_is =
       ap (λ o. boundary_by (then o (λ s. Some (or_first (resolved_at p boundary_mark (Some s)))))) site_is
       ∙ first_is (resolved_at p boundary_mark (Some (record { owner = l.owner; start = l.rule.start })))
@@ -206,7 +206,7 @@ module _ (p : Packages) (sound : AreSound p.stock.modules) where
     abbrev May : ℕ → Type 0
     May x = (x < suc (suc n)) ⊎ AreTogether (table_blocks (statements p)) (suc (suc n)) x
 
-    together_with : (k : ℕ) (a : Rule) (x : ℕ) → nth l.module_.rules k ≡ Some a → l.place ≤ k → InOneBlock a l.rule
+    together_with : (k : ℕ) (a : Rule) (x : ℕ) → nth l.home.rules k ≡ Some a → l.place ≤ k → InOneBlock a l.rule
         → x ≡ first_rule p.stock.modules l.owner + k
         → AreTogether (table_blocks (statements p)) (suc (suc n)) x
     together_with k a x h le one e =
@@ -214,31 +214,31 @@ module _ (p : Packages) (sound : AreSound p.stock.modules) where
         let j = (first_rule p.stock.modules l.owner + k) - 2 in
         let at_j : j + 2 ≡ first_rule p.stock.modules l.owner + k = omega (arith, least) in
         let is : suc (suc j) ≡ x = omega (arith, at_j, e) in
-        let t = together p.stock.modules l.owner l.place k n j l.module_ a l.rule l.at
-        (laid.each l.owner l.module_ l.at) h l.has le one l.number at_j in (
+        let t = together p.stock.modules l.owner l.place k n j l.home a l.rule l.at
+        (laid.each l.owner l.home l.at) h l.has le one l.number at_j in (
           t.0,
           block_is p n t.1 t.3 ∙ t.4,
           subst (λ y. block_at (slice_get (table_blocks (statements p)) y) ≡ Some t.0) is (block_is p j t.2 t.5 ∙ t.6),
         )
 
-    may_be : (x : Result Target NameFault) → Aims p.stock.modules l.owner l.module_ l.place l.rule x → May (rule_of x)
+    may_be : (x : Result Target NameFault) → Aims p.stock.modules l.owner l.home l.place l.rule x → May (rule_of x)
     may_be x (inl lt) = let e = l.number in inl (omega (arith, e, lt))
     may_be x (inr g) = inr (together_with g.0 g.1 (rule_of x) g.2 g.3 g.4 g.5)
 
     name_is : (q : QName) → May (rule_of (resolved p (Some (suc (suc n))) q))
     name_is q =
-        let found = bound p.stock.modules l.module_ l.rule.start q in
-        let here = aims p.stock.modules l.owner l.module_ l.place l.rule l.at (laid.each l.owner l.module_ l.at) l.has
+        let found = bound p.stock.modules l.home l.rule.start q in
+        let here = aims p.stock.modules l.owner l.home l.place l.rule l.at (laid.each l.owner l.home l.at) l.has
         q.name found
-        (sees p.stock.modules sound l.owner l.module_ l.at l.rule.start q) in
+        (sees p.stock.modules sound l.owner l.home l.at l.rule.start q) in
         subst May (sym (ap rule_of (resolved_is p n w at l q))) (may_be (target p.stock.modules l.owner found) here)
 
     mark_is : boundary_by (boundary p (Some (suc (suc n)))) < suc (suc n)
     mark_is =
-        let found = bound p.stock.modules l.module_ l.rule.start boundary_mark in
-        let here = mark_aims p.stock.modules l.owner l.module_ l.place l.rule l.at (laid.each l.owner l.module_ l.at)
+        let found = bound p.stock.modules l.home l.rule.start boundary_mark in
+        let here = mark_aims p.stock.modules l.owner l.home l.place l.rule l.at (laid.each l.owner l.home l.at)
         l.has found
-        (sees p.stock.modules sound l.owner l.module_ l.at l.rule.start boundary_mark) in
+        (sees p.stock.modules sound l.owner l.home l.at l.rule.start boundary_mark) in
         let e = l.number in
         let same = boundary_is p n w at l in
         omega (arith, here, e, same)

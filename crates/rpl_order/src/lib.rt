@@ -1,9 +1,10 @@
-//! The order of what is loaded: what holds of every set of packages that `rpl_package` loads, for the expansion and the
-//! checks that come after it.
+//! The order of what is loaded: what holds of every set of packages that the definition of loading gives, for the
+//! expansion and the checks that come after it.
 //!
-//! It is for those who prepare a command, and need not ask at run time whether a loaded table is in order. It holds no
-//! code: each function has no parameters and an empty body, and its contract is a law about the definitions of
-//! `rpl_package` and `rpl_expand` alone, whose statement stands in `specs/Laws.antt`.
+//! It is for those who prepare a command: where the files tell what they hold, a look at run time whether a loaded
+//! table is in order always finds that it is. It holds no code: each function has no parameters and an empty body, and
+//! its contract is a law about the definitions of `rpl_package` and `rpl_expand` alone, whose statement stands in
+//! `specs/Laws.antt`.
 #![tactic(auto)]
 
 ghost use Rattle.rpl_order.specs.Laws.{LoadedIsBound, PatternsResolve, ScopesAreOver};
