@@ -38,7 +38,15 @@ usage: rosie [options] match PATTERN [FILE ...]
        rosie [options] class NAME
 ";
 
-static CASES: [Case; 24] = [
+const LOG: &[u8] =
+    b"alias d = [:digit:]\ndate = {d{4} \"-\" d{2} \"-\" d{2}}\nlevel = [:upper:]+\n";
+
+const NUM: &[u8] = b"package num\nlocal alias d = [:digit:]\nint = d+\n";
+
+const LONG_CODE: &str =
+    "{\"x\" <{\"a\"{0,255} / \"a\"{0,255} / \"a\"{0,255} / \"a\"{0,255} / \"a\"{0,255} / \"a\"{0,255}}}";
+
+static CASES: [Case; 34] = [
     Case {
         shows: "one literal",
         words: LITERAL,
@@ -85,30 +93,124 @@ static CASES: [Case; 24] = [
         status: Status::LineFault,
     },
     Case {
-        shows: "a group isn't built",
-        words: &["match", "{\"a\""],
-        tree: &[],
-        input: b"a\n",
-        out: "",
-        err: "rosie: (pattern):0: not yet\n",
-        status: Status::Refused,
-    },
-    Case {
         shows: "another command isn't built",
-        words: &["grep", "\"a\""],
+        words: &["list", "--rpl", "x = \"a\""],
         tree: &[],
         input: b"a\n",
         out: "",
-        err: "rosie: not yet: grep\n",
+        err: "rosie: not yet: list\n",
         status: Status::Refused,
     },
     Case {
         shows: "an option isn't built",
-        words: &["match", "-f", "a.rpl", "\"a\""],
+        words: &["match", "--code-file", "a"],
         tree: &[],
         input: b"a\n",
         out: "",
-        err: "rosie: not yet: -f\n",
+        err: "rosie: not yet: --code-file\n",
+        status: Status::Refused,
+    },
+    Case {
+        shows: "rules of a file, with their names in the answer",
+        words: &["match", "-f", "log.rpl", "date level"],
+        tree: &[("log.rpl", LOG)],
+        input: b"2024-05-01 ERROR disk full\n",
+        out: "{\"type\":\"*\",\"s\":1,\"e\":17,\"data\":\"2024-05-01 ERROR\",\"subs\":\
+              [{\"type\":\"date\",\"s\":1,\"e\":11,\"data\":\"2024-05-01\"},\
+              {\"type\":\"level\",\"s\":12,\"e\":17,\"data\":\"ERROR\"}]}\n",
+        err: "",
+        status: Status::Matched,
+    },
+    Case {
+        shows: "a package that the pattern imports, found in the library path",
+        words: &["match", "--libpath", "no:lib", "num.int"],
+        tree: &[("lib/num.rpl", NUM)],
+        input: b"42 x\n",
+        out: "{\"type\":\"num.int\",\"s\":1,\"e\":3,\"data\":\"42\"}\n",
+        err: "",
+        status: Status::Matched,
+    },
+    Case {
+        shows: "a name that the package hides",
+        words: &["match", "num.d"],
+        tree: &[("./num.rpl", NUM)],
+        input: b"42 x\n",
+        out: "",
+        err: "rosie: (pattern):0: hidden name: num.d\n",
+        status: Status::Refused,
+    },
+    Case {
+        shows: "the fault of a file comes before that of the pattern",
+        words: &["match", "--rpl", "grammar x = {x \"a\"} / \"a\" end", "x"],
+        tree: &[],
+        input: b"a\n",
+        out: "",
+        err: "rosie: (rpl 1):8: left recursion in x\n",
+        status: Status::Refused,
+    },
+    Case {
+        shows: "each hit of a line",
+        words: &["grep", "-o", "json", "\"a\""],
+        tree: &[],
+        input: b"xaya\n",
+        out: "{\"type\":\"*\",\"s\":1,\"e\":5,\"data\":\"xaya\",\"subs\":\
+              [{\"type\":\"find.*\",\"s\":2,\"e\":3,\"data\":\"a\"},\
+              {\"type\":\"find.*\",\"s\":4,\"e\":5,\"data\":\"a\"}]}\n",
+        err: "",
+        status: Status::Matched,
+    },
+    Case {
+        shows: "a search prints the lines, and with -a tells the others",
+        words: &["grep", "-a", "\"x\""],
+        tree: &[],
+        input: b"ax\nb\n",
+        out: "ax\n",
+        err: "b\n",
+        status: Status::Matched,
+    },
+    Case {
+        shows: "the pattern is the text itself",
+        words: &["grep", "-F", "a.b"],
+        tree: &[],
+        input: b"xa.by\naXb\n",
+        out: "xa.by\n",
+        err: "",
+        status: Status::Matched,
+    },
+    Case {
+        shows: "a fault of the check",
+        words: &["grep", "\"x\"*"],
+        tree: &[],
+        input: b"x\n",
+        out: "",
+        err: "rosie: (pattern):0: empty loop in *\n",
+        status: Status::Refused,
+    },
+    Case {
+        shows: "a pattern that is too large",
+        words: &["match", "{\"ab\"{255}}{255}"],
+        tree: &[],
+        input: b"ab\n",
+        out: "",
+        err: "rosie: (pattern):0: too large: *\n",
+        status: Status::Refused,
+    },
+    Case {
+        shows: "a code that is too long",
+        words: &["match", LONG_CODE],
+        tree: &[],
+        input: b"x\n",
+        out: "",
+        err: "rosie: (pattern):0: code too long\n",
+        status: Status::Refused,
+    },
+    Case {
+        shows: "a file of rules that is missing",
+        words: &["match", "-f", "no.rpl", "x"],
+        tree: &[],
+        input: b"a\n",
+        out: "",
+        err: "rosie: no.rpl: no such file\n",
         status: Status::Refused,
     },
     Case {
@@ -299,6 +401,24 @@ fn a_line_over_the_limit_is_reported(rt: HostRuntime) -> Result<(), Fail> {
             "rosie: -:1: line too long\n"
         )
     );
+    Ok(())
+}
+
+/// The first call of a device.
+const FIRST: &[u64] = &[1];
+
+#[test]
+fn a_file_of_rules_that_is_not_opened_ends_the_run(rt: HostRuntime) -> Result<(), Fail> {
+    let sure = Outside::new(&[("log.rpl", LOG)], b"a\n");
+    let outside = Outside {
+        files: Device {
+            most: 10,
+            fails: FIRST,
+        },
+        ..sure
+    };
+    let got = run_on(rt.alloc(), &["match", "-f", "log.rpl", "date"], outside)?;
+    assert!(rt; expect(&got, Status::ReadFault, "", "rosie: log.rpl: read failed\n"));
     Ok(())
 }
 

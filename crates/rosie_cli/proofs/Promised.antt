@@ -4,6 +4,8 @@ use Rattle.std.proofs.Common.{length, refl, sym, ◌∙◌, ap, subst, arith}
 use Rattle.std.specs.Prelude.{Option, Some, None, chars, codes, nat_lt}
 use Rattle.std.specs.List.{All}
 use Rattle.std.specs.Str.{is_utf8}
+use Rattle.std.proofs.Math.Logic.{∥∥₁_elim}
+use Rattle.std.proofs.Props.{props}
 use Rattle.std.proofs.lemmas.Bool.{false≢true}
 use Rattle.std.proofs.lemmas.Str.{IsUtf8-from_is_utf8}
 use Rattle.rosie_io.specs.Lines.{lines}
@@ -15,30 +17,19 @@ use Rattle.rosie_run.specs.declared.lines.Reading.{Reading}
 use Rattle.rosie_run.specs.declared.mark.Mark.TheVariants.{Hit, Miss}
 use Rattle.rosie_run.proofs.Onward.{lines_none}
 use Rattle.rosie_run.proofs.Pieces.{has-nil, has-append, has-up, up-all}
-use Rattle.rosie_words.specs.declared.command.Command.{Command}
-use Rattle.rosie_words.specs.declared.command.What.{What}
-use Rattle.rosie_words.specs.declared.command.What.TheVariants as W
-use Rattle.rpl_core.specs.Instr.{Instr}
 use Rattle.rpl_core.specs.Meaning.{Outcome}
 use Rattle.rpl_core.specs.Outcome.{outcome, work_of}
-use Rattle.rpl_core.specs.Programs.{IsCode}
 use Rattle.rpl_core.specs.Run.{Answer, Matched, Failed, Unfinished, run}
 use Rattle.rpl_encode.specs.Answer.{most_bytes}
 use Rattle.rpl_encode.specs.Print.{print}
 use Rattle.rpl_simulation.specs.Laws.{Tells}
-use Rattle.rpl_simulation.proofs.Answering.{answer_holds}
 use Rattle.rosie_cli.specs.declared.settings.Settings.{Settings}
 use Rattle.rosie_cli.specs.Lines.{Job, reading, budget_of, is_over, made, matches}
 use Rattle.rosie_cli.specs.Lines.{unanswered, answered, outcome_piece, match_makes}
-use Rattle.rosie_cli.specs.Literals.{literal_goal, literal_of}
-use Rattle.rosie_cli.specs.Options.{settings_of}
-use Rattle.rosie_cli.specs.Planned.{input_names, IsRun, IsLines, IsPlannedAs, IsPlanned}
-use Rattle.rosie_cli.specs.Plans.{Maker, Matches, makes_of, Plan, Says, Reads, refusal, Planned, pieces}
-use Rattle.rosie_cli.specs.Prepared.{of_literal}
+use Rattle.rosie_cli.specs.Meant.{IsMeant}
+use Rattle.rosie_cli.specs.Plans.{Maker, Matches, makes_of, Plan, Says, Reads, pieces}
 use Rattle.rosie_cli.specs.Promises.{PaysFor, Pays, BudgetIsDue, IsWithin, IsAllowed, SoundFile, IsSound}
 use Rattle.rosie_cli.specs.Report.{report}
-use Rattle.rosie_cli.specs.Words.{Asked, Refuse, Do}
-use Rattle.rosie_cli.proofs.Cores.{literal_stays, literal_whole}
 use Rattle.rosie_cli.proofs.OneLine.{are_scalars}
 
 -- a budget is due
@@ -47,54 +38,15 @@ over_tells o b (Matched n i cs) e h = absurd (false≢true e)
 over_tells o b (Failed n) e h = absurd (false≢true e)
 over_tells o b Unfinished e h = h
 
--- a literal's code does what the literal means
-literal_due : (s : Settings) (cs : List ℕ) (code : List Instr) → IsCode [] (literal_goal cs) code
-    → PaysFor s (record { rules = []; goal = literal_goal cs; code = code })
-literal_due s cs code is = λ line u over.
-    over_tells (outcome [] (literal_goal cs) (chars line)) (budget_of s (chars line))
-    (run code (chars line) (budget_of s (chars line))) over
-    (answer_holds (λ r. false) [] (literal_goal cs) code (literal_stays cs) is (chars line)
-    (are_scalars line (IsUtf8-from_is_utf8 line u)) (literal_whole cs (chars line)) (budget_of s (chars line)))
+pays_prop : (s : Settings) (job : Job) → IsProp (PaysFor s job)
+pays_prop s job = Prim.hlevel props
 
-limits_due : (s : Settings) (names : List (List ℕ)) (job : Job) (b : Bool) (refused : Plan) → BudgetIsDue refused
-    → PaysFor s job → BudgetIsDue (cond b refused (Reads (Matches s job) s.whole names))
-limits_due s names job true refused h k = h
-limits_due s names job false refused h k = k
-
-run_due : (s : Settings) (names : List (List ℕ)) (o : Option (List ℕ)) (plan : Plan)
-    → IsRun s names (of_literal o) plan → BudgetIsDue plan
-run_due s names None plan is = subst BudgetIsDue (sym is) tt
-run_due s names (Some cs) plan is =
-    let job : Job = record { rules = []; goal = literal_goal cs; code = is.0 } in
-    subst BudgetIsDue (sym is.2) (limits_due s names job (nat_lt 1048576 (length is.0))
-    (refusal (codes "rosie: (pattern):0: code too long\n")) tt (literal_due s cs is.0 is.1))
-
-lines_due : (s : Settings) (pattern : List ℕ) (inputs : List (List ℕ)) (tree : List (List ℕ × List ℕ)) (p : Planned)
-    → IsLines s pattern inputs tree p → BudgetIsDue p.plan
-lines_due s pattern inputs tree p is =
-    run_due s (input_names inputs) (literal_of pattern) p.plan
-    (subst (λ r. IsRun s (input_names inputs) r p.plan) is.prepares.comes is.runs)
-
--- a refusal has no budget
-refused_due : (p : Planned) (text : List ℕ) → p ≡ record { asked = []; plan = refusal text } → BudgetIsDue p.plan
-refused_due p text e = subst (λ (x : Planned). BudgetIsDue x.plan) (sym e) tt
-
-what_due : (c : Command) (what : What) (tree : List (List ℕ × List ℕ)) (p : Planned) → IsPlannedAs c what tree p
-    → BudgetIsDue p.plan
-what_due c (W.Match pattern inputs) tree p is = lines_due (settings_of c) pattern inputs tree p is
-what_due c (W.Grep pattern inputs) tree p is = refused_due p _ is
-what_due c (W.Test name) tree p is = refused_due p _ is
-what_due c W.List tree p is = refused_due p _ is
-what_due c (W.Expand pattern) tree p is = refused_due p _ is
-what_due c (W.Trace pattern inputs) tree p is = refused_due p _ is
-what_due c (W.Sample seed n) tree p is = refused_due p _ is
-what_due c W.Repl tree p is = refused_due p _ is
-what_due c (W.Compile pattern) tree p is = refused_due p _ is
-what_due c (W.Class name) tree p is = refused_due p _ is
-
-pub budget-due : (a : Asked) (tree : List (List ℕ × List ℕ)) (p : Planned) → IsPlanned a tree p → BudgetIsDue p.plan
-budget-due (Refuse text) tree p is = refused_due p text is
-budget-due (Do c) tree p is = what_due c c.what tree p is
+-- a job whose code does what its goal means
+pub job-due : (s : Settings) (job : Job) → ∥ IsMeant job ∥₁ → PaysFor s job
+job-due s job meant = ∥∥₁_elim meant (pays_prop s job) (λ m. λ line u over.
+    over_tells (outcome job.rules job.goal (chars line)) (budget_of s (chars line))
+    (run job.code (chars line) (budget_of s (chars line))) over
+    (m (chars line) (are_scalars line (IsUtf8-from_is_utf8 line u)) (budget_of s (chars line))))
 
 -- no piece ends the run, and none has no answer
 record Clean (ps : List Piece) : Type 0 where

@@ -1,13 +1,15 @@
 -- From a plan to its run, and to what is told of it.
-use Rattle.std.proofs.Common.{ℕ, ◌≡◌, inl, inr, ◌-◌, ◌^◌, ◌<◌, ◌≤◌, Bool, true, false, List, [], ◌++◌}
+use Rattle.std.proofs.Common.{ℕ, ◌≡◌, ◌≢◌, ◌⊎◌, inl, inr, ◌-◌, ◌^◌, ◌<◌, ◌≤◌, Bool, true, false, List, [], ◌++◌}
 use Rattle.std.proofs.Common.{length, refl, sym, ◌∙◌, subst, arith}
 use Rattle.std.specs.Prelude.{Result, Ok, Err, IfOk}
 use Rattle.std.specs.List.{Contains}
 use Rattle.std.proofs.lemmas.Bool.{false≢true}
-use Rattle.rosie_run.specs.Headline.{CameToEnd, AreShort}
+use Rattle.rosie_io.specs.Counts.{Rose}
+use Rattle.rosie_run.specs.Causes.{ReadsCause, OutputCause}
+use Rattle.rosie_run.specs.Headline.{CameToEnd, AreShort, Headline, IsComplete}
 use Rattle.rosie_run.specs.Inputs.{inputs_pieces, reads_standard}
 use Rattle.rosie_run.specs.Outputs.{Telling, Texts}
-use Rattle.rosie_run.specs.Report.{is_stop}
+use Rattle.rosie_run.specs.Report.{Piece, has, is_stop, is_fault}
 use Rattle.rosie_run.specs.Runs.{Breaks, Runs, IsCutOf, GoesOn}
 use Rattle.rosie_run.specs.Sources.{Moment, RoseIn}
 use Rattle.rosie_run.specs.Where.{not_opened, opened, InInputs, in_file, in_standard, in_loading, in_inputs}
@@ -18,16 +20,21 @@ use Rattle.rosie_run.specs.declared.ended.Ended.TheVariants as E
 use Rattle.rosie_run.specs.declared.ended.Why.{Why}
 use Rattle.rosie_run.specs.declared.ended.Why.TheVariants as Y
 use Rattle.rosie_run.specs.declared.status.Status.{Status}
+use Rattle.rosie_run.specs.declared.status.Status.TheVariants.{Matched, NoMatch, Refused, LineFault}
+use Rattle.rosie_run.specs.declared.status.Status.TheVariants.{ReadFault, WriteFault, NoMemory, Spent}
 use Rattle.rosie_run.specs.declared.tally.Tally.{Tally}
 use Rattle.rosie_run.proofs.Breaking.{runs-weaken, breaks-cut}
+use Rattle.rosie_run.proofs.Headlines.{completes}
 use Rattle.rosie_run.proofs.Inward.{file_later}
 use Rattle.rosie_run.proofs.Pieces.{has-nil, wrote-none}
 use Rattle.rosie_cli.specs.Lines.{reading}
 use Rattle.rosie_cli.specs.Planned.{IsPlanned}
-use Rattle.rosie_cli.specs.Plans.{Maker, Plan, Says, Reads, Planned, Span, makes_of, refusal, pieces, inputs_of, ReadsInput, among, stood}
+use Rattle.rosie_cli.specs.Plans.{Maker, Plan, Says, Reads, Planned, Span, makes_of, refusal}
+use Rattle.rosie_cli.specs.Plans.{pieces, inputs_of, ReadsInput, among, stood}
+use Rattle.rosie_cli.specs.Promises.{HasRun}
 use Rattle.rosie_cli.specs.Report.{KnowsFiles, KnowsInputs}
 use Rattle.rosie_cli.specs.Words.{Asked, Refuse, Do, IsRefused}
-use Rattle.rosie_cli.specs.inside.Planning.{IsSaid}
+use Rattle.rosie_cli.specs.inside.Planning.{IsSaid, HasStepped}
 
 -- a run that a piece ended doesn't go on
 pub goes-stop : (s : Result Tally Ended) (P : Type 0) → IfOk s (λ t. t.stop ≡ true) → GoesOn s P
@@ -145,3 +152,45 @@ pub refused-said : (a : Asked) (tree : List (List ℕ × List ℕ)) (tells : Typ
 refused-said (Refuse text) tree tells plan r h =
     subst IsSaid (h (record { asked = []; plan = refusal text }) tt refl) tt
 refused-said (Do c) tree tells plan r h = absurd r
+
+-- the run of a plan came to an end of its own, or the machine made a step
+ran_flags : (s f h : Bool) (status : Status) (n0 n1 : ℕ) → status ≡ flags_status s f h → HasRun status n0 n1
+ran_flags true f h status n0 n1 e = subst (λ x. HasRun x n0 n1) (sym e) tt
+ran_flags false true h status n0 n1 e = subst (λ x. HasRun x n0 n1) (sym e) tt
+ran_flags false false true status n0 n1 e = subst (λ x. HasRun x n0 n1) (sym e) tt
+ran_flags false false false status n0 n1 e = subst (λ x. HasRun x n0 n1) (sym e) tt
+
+stepped_why : (why : Why) (n0 n1 : ℕ) → HasRun (why_status why) n0 n1 → n1 ≢ n0
+stepped_why Y.ReadFault n0 n1 h = h
+stepped_why Y.Spent n0 n1 h = h
+
+pub stepped-of : (r : Result Tally Ended) (s : Status) (W : Telling) (b d : Texts) (n0 n1 : ℕ) → Closes r s W b d
+    → HasRun s n0 n1 → HasStepped r n0 n1
+stepped-of (Ok tally) s W b d n0 n1 c ran = tt
+stepped-of (Err E.NoMemory) s W b d n0 n1 c ran = subst (λ x. HasRun x n0 n1) c.1 ran
+stepped-of (Err E.WriteFault) s W b d n0 n1 c ran = subst (λ x. HasRun x n0 n1) c.1 ran
+stepped-of (Err (E.Cut why text)) s W b d n0 n1 c ran = elim c.1 [
+  | inl e ↦ stepped_why why n0 n1 (subst (λ x. HasRun x n0 n1) e.0 ran)
+  | inr e ↦ subst (λ x. HasRun x n0 n1) e.0 ran
+]
+
+-- where nothing goes wrong there is an answer, if a run that comes to its end has no fault
+module _ (W : Telling) (ps : List Piece) (Where : Why → List ℕ → ℕ → Type 0) (a b : Texts) (i0 i1 f0 f1 : Moment)
+    (o0 o1 e0 e1 n0 n1 : ℕ) (i : RoseIn i0 i1 → ⊥) (f : RoseIn f0 f1 → ⊥) (o : Rose o0 o1 → ⊥) (e : Rose e0 e1 → ⊥)
+    (few : (file : List ℕ) (k : ℕ) → Where Y.Spent file k → ⊥) where
+  pub completes-if : (answer : Status)
+      → (HasRun answer n0 n1 → (has is_stop ps ≡ false) × (has is_fault ps ≡ false))
+      → Headline answer W ps Where a b → ReadsCause answer i0 i1 f0 f1 → OutputCause answer o0 o1 e0 e1
+      → IsComplete answer ps
+  completes-if Matched ok h r w =
+      completes W ps Where a b i0 i1 f0 f1 o0 o1 e0 e1 i f o e few (ok tt).0 (ok tt).1 Matched h r w
+  completes-if NoMatch ok h r w =
+      completes W ps Where a b i0 i1 f0 f1 o0 o1 e0 e1 i f o e few (ok tt).0 (ok tt).1 NoMatch h r w
+  completes-if Refused ok h r w =
+      completes W ps Where a b i0 i1 f0 f1 o0 o1 e0 e1 i f o e few (ok tt).0 (ok tt).1 Refused h r w
+  completes-if LineFault ok h r w =
+      completes W ps Where a b i0 i1 f0 f1 o0 o1 e0 e1 i f o e few (ok tt).0 (ok tt).1 LineFault h r w
+  completes-if ReadFault ok h r w = elim r.2 [ inl x ↦ absurd (i x) | inr x ↦ absurd (f x) ]
+  completes-if Spent ok h r w = absurd (few h.file h.k h.stood)
+  completes-if WriteFault ok h r w = elim w.2 [ inl x ↦ absurd (o x) | inr x ↦ absurd (e x) ]
+  completes-if NoMemory ok h r w = tt

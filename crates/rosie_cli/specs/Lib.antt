@@ -1,8 +1,6 @@
-pub mod Literals
 pub mod Options
 pub mod Lines
 pub mod Meant
-pub mod Prepared
 pub mod Words
 pub mod Plans
 pub mod Planned

@@ -1,5 +1,5 @@
 -- What is promised of the lines of a run: when a budget is due, and where nothing goes wrong.
-use Rattle.std.specs.Prelude.{ℕ, ◌≡◌, ◌+◌, ◌*◌, ◌<◌, ◌≤◌, Bool, true, false, List, ◌∷◌, ◌++◌, Option, None, Some}
+use Rattle.std.specs.Prelude.{ℕ, ◌≡◌, ◌≢◌, ◌+◌, ◌*◌, ◌<◌, ◌≤◌, Bool, true, false, List, ◌∷◌, ◌++◌, Option, None, Some}
 use Rattle.std.specs.Prelude.{length, chars}
 use Rattle.std.specs.List.{All}
 use Rattle.std.specs.Str.{is_utf8}
@@ -7,6 +7,8 @@ use Rattle.rosie_io.specs.Lines.{lines}
 use Rattle.rosie_io.specs.Opening.{file_of}
 use Rattle.rosie_run.specs.Inputs.{is_standard, reads_standard}
 use Rattle.rosie_run.specs.Report.{has, is_stop, is_fault}
+use Rattle.rosie_run.specs.declared.status.Status.{Status}
+use Rattle.rosie_run.specs.declared.status.Status.TheVariants.{Matched, NoMatch, Refused, LineFault}
 use Rattle.rpl_core.specs.Outcome.{outcome, work_of}
 use Rattle.rpl_core.specs.Run.{run}
 use Rattle.rpl_encode.specs.Answer.{most_bytes}
@@ -27,6 +29,14 @@ Pays (Matches s job) = PaysFor s job
 abbrev pub BudgetIsDue : Plan → Type 0
 BudgetIsDue (Says ps) = Unit {0}
 BudgetIsDue (Reads m whole names) = Pays m
+
+-- the run came to the end of its report, or the machine made a step: so many were made before, and so many now
+abbrev pub HasRun : Status → (before now : ℕ) → Type 0
+HasRun Matched before now = Unit {0}
+HasRun NoMatch before now = Unit {0}
+HasRun Refused before now = Unit {0}
+HasRun LineFault before now = Unit {0}
+HasRun _ before now = now ≢ before
 
 -- a line that every limit allows
 pub record IsWithin (s : Settings) (job : Job) (line : List ℕ) : Type 0 where

@@ -1,7 +1,5 @@
 -- Words of private functions alone. No public contract cites them.
 pub mod Jobs
 pub mod Printed
-pub mod ReadLiteral
-pub mod Preparing
 pub mod Planning
 pub mod Asking

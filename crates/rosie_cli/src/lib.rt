@@ -8,12 +8,10 @@
 
 mod asked;
 mod job;
-mod literal;
 mod match_job;
 mod match_plan;
 mod plan;
 mod planning;
-mod prepare;
 mod settings;
 mod texts;
 mod top;

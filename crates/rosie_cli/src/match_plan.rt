@@ -1,6 +1,7 @@
 //! The plan of a command that runs a pattern on each line.
 
 ghost use Rattle.std.specs.Prelude.{◌≡◌, ◌<◌, ◌≤◌, ◌^◌, ◌-◌, Ok, IfOk, encode_utf8_all};
+ghost use Rattle.rosie_prepare.specs.Views.{ready_seen, wanted_seen};
 ghost use Rattle.rosie_run.specs.Inputs.{names_of};
 ghost use Rattle.rosie_run.specs.Sources.{moment};
 ghost use Rattle.rpl_check.specs.Checked.{IsWhole};
@@ -9,15 +10,16 @@ ghost use Rattle.rpl_core.specs.Table.{bodies_of};
 ghost use Rattle.rpl_core.specs.View.{core_of};
 ghost use Rattle.rosie_cli.specs.Planned.{input_names, IsRun, IsLines};
 ghost use Rattle.rosie_cli.specs.Plans.{Planned};
-ghost use Rattle.rosie_cli.specs.inside.Planning.{Plans, HasCause, PlansRun};
-ghost use Rattle.rosie_cli.specs.inside.Preparing.{ready_of};
+ghost use Rattle.rosie_cli.specs.Promises.{BudgetIsDue};
+ghost use Rattle.rosie_cli.specs.inside.Planning.{plan_of, Plans, HasCause, PlansRun};
 
 use crate::job::Job;
 use crate::match_job::MatchJob;
 use crate::plan::{Plan, Unplanned};
-use crate::prepare::{Prepared, Unready, prepare};
 use crate::settings::Settings;
+use rosie_faults::compile_line;
 use rosie_io::Files;
+use rosie_prepare::{Prepared, Unready, Wanted, prepare};
 use rosie_run::NoMemory;
 use rosie_words::Paths;
 use rpl_codegen::CompileFault;
@@ -43,7 +45,8 @@ fn plan_job(
     inputs: Paths,
 ) -> Result<Plan, NoMemory>
     requires { IsWhole (bodies_of ready.rules) (core_of (peg_of ready.goal)) }
-    ensures { IfOk result (λ plan. PlansRun plan (IsRun settings (input_names inputs) (Ok (ready_of ready)))) }
+    ensures plans { IfOk result (λ plan. PlansRun plan (IsRun settings (input_names inputs) (Ok (ready_seen ready)))) }
+    ensures due { IfOk result (λ plan. BudgetIsDue (plan_of plan)) }
 {
     let names = input_names(alloc, inputs)?;
     match Job::new(alloc, ready.rules, ready.goal) {
@@ -56,10 +59,7 @@ fn plan_job(
             })
         }
         Err(fault) => match fault {
-            CompileFault::CodeTooLong => {
-                let line = String::from_str(alloc, "rosie: (pattern):0: code too long\n")?;
-                Ok(Plan::Refuse(line))
-            }
+            CompileFault::CodeTooLong => Ok(Plan::Refuse(compile_line(alloc)?)),
             CompileFault::NoMemory => Err(AllocError),
         },
     }
@@ -68,19 +68,20 @@ fn plan_job(
 /// The plan of a pattern that runs on each line of the inputs.
 pub(crate) fn plan_lines<F: Files>(
     alloc: Global,
-    pattern: &Chars,
+    wanted: &Wanted<'_>,
     settings: Settings,
     inputs: Paths,
     files: &mut F,
 ) -> Result<Plan, Unplanned>
-    ensures plans { F.tells → (p : Planned) → IsLines settings pattern.now inputs (F.tree files.old) p
+    ensures plans { F.tells → (p : Planned) → IsLines settings (wanted_seen wanted.now) inputs (F.tree files.old) p
         → Plans result p }
+    ensures due { IfOk result (λ plan. BudgetIsDue (plan_of plan)) }
     ensures cause { HasCause result (moment F.rest F.taken F.faults F.failed_opens files.old)
         (moment F.rest F.taken F.faults F.failed_opens files.new) }
     ensures taken { F.taken files.new < 2 ^ 64 - 1 → F.taken files.old ≤ F.taken files.new }
     ensures tree { F.tree files.new ≡ F.tree files.old }
 {
-    match prepare(alloc, pattern, files) {
+    match prepare(alloc, files, wanted) {
         Ok(ready) => Ok(plan_job(alloc, ready, settings, inputs)?),
         Err(unready) => match unready {
             Unready::NoMemory => Err(Unplanned::NoMemory),

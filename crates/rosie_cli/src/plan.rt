@@ -4,6 +4,7 @@ ghost use Rattle.std.specs.Prelude.{◌≡◌};
 
 use crate::match_job::MatchJob;
 use rosie_words::Paths;
+use rpl_text::Chars;
 use std::alloc::AllocError;
 
 /// What a command comes to. Only files were read for it, and nothing is written.
@@ -26,7 +27,7 @@ pub(crate) enum Plan {
 pub(crate) enum Unplanned {
     NoMemory,
     /// A read failed of the file of this path.
-    ReadFault(String),
+    ReadFault(Chars),
 }
 
 impl From<AllocError> for Unplanned {

@@ -1,34 +1,63 @@
 //! From the words to their plan.
 
-ghost use Rattle.std.specs.Prelude.{◌≡◌, ◌<◌, ◌≤◌, ◌^◌, ◌-◌};
+ghost use Rattle.std.specs.Prelude.{◌≡◌, ◌<◌, ◌≤◌, ◌^◌, ◌-◌, IfOk};
 ghost use Rattle.rosie_run.specs.Sources.{moment};
 ghost use Rattle.rosie_words.specs.Reading.{words_of};
 ghost use Rattle.rosie_cli.specs.Planned.{IsPlannedAs, IsPlanned};
 ghost use Rattle.rosie_cli.specs.Plans.{Planned};
+ghost use Rattle.rosie_cli.specs.Promises.{BudgetIsDue};
 ghost use Rattle.rosie_cli.specs.Report.{KnowsFiles};
 ghost use Rattle.rosie_cli.specs.Words.{asked, IsRefused};
-ghost use Rattle.rosie_cli.specs.inside.Planning.{Plans, HasCause};
+ghost use Rattle.rosie_cli.specs.inside.Planning.{plan_of, Plans, HasCause};
 
 use crate::asked::{Asked, ask};
 use crate::match_plan::plan_lines;
 use crate::plan::{Plan, Unplanned};
 use crate::settings::settings_of;
 use rosie_io::Files;
+use rosie_prepare::Wanted;
 use rosie_words::{Command, What};
+use rpl_print::text_of;
 use std::alloc::Global;
 
 /// The plan of a command.
 fn plan_command<F: Files>(alloc: Global, command: Command, files: &mut F) -> Result<Plan, Unplanned>
     ensures plans { F.tells → (p : Planned) → IsPlannedAs command command.what (F.tree files.old) p → Plans result p }
+    ensures due { IfOk result (λ plan. BudgetIsDue (plan_of plan)) }
     ensures cause { HasCause result (moment F.rest F.taken F.faults F.failed_opens files.old)
         (moment F.rest F.taken F.faults F.failed_opens files.new) }
     ensures taken { F.taken files.new < 2 ^ 64 - 1 → F.taken files.old ≤ F.taken files.new }
     ensures tree { F.tree files.new ≡ F.tree files.old }
 {
     let settings = settings_of(&command);
-    let Command { what, .. } = command;
+    let Command {
+        what,
+        roots,
+        folders,
+        fixed,
+        ..
+    } = command;
     match what {
-        What::Match { pattern, inputs } => plan_lines(alloc, &pattern, settings, inputs, files),
+        What::Match { pattern, inputs } => {
+            let wanted = Wanted {
+                roots: &roots,
+                folders: &folders,
+                text: text_of(&pattern),
+                fixed,
+                find: false,
+            };
+            plan_lines(alloc, &wanted, settings, inputs, files)
+        }
+        What::Grep { pattern, inputs } => {
+            let wanted = Wanted {
+                roots: &roots,
+                folders: &folders,
+                text: text_of(&pattern),
+                fixed,
+                find: true,
+            };
+            plan_lines(alloc, &wanted, settings, inputs, files)
+        }
         _other => Ok(Plan::Refuse(String::from_str(alloc, "rosie: not yet\n")?)),
     }
 }
@@ -41,6 +70,7 @@ pub(crate) fn plan<F: Files>(
 ) -> Result<Plan, Unplanned>
     ensures plans { (p : Planned) → KnowsFiles (asked (words_of words.now)) F.tells
         → IsPlanned (asked (words_of words.now)) (F.tree files.old) p → Plans result p }
+    ensures due { IfOk result (λ plan. BudgetIsDue (plan_of plan)) }
     ensures cause { HasCause result (moment F.rest F.taken F.faults F.failed_opens files.old)
         (moment F.rest F.taken F.faults F.failed_opens files.new) }
     ensures taken { F.taken files.new < 2 ^ 64 - 1 → F.taken files.old ≤ F.taken files.new }

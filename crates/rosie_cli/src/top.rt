@@ -10,10 +10,10 @@ ghost use Rattle.rosie_run.specs.Sources.{moment, RoseIn};
 ghost use Rattle.rosie_words.specs.Reading.{words_of};
 ghost use Rattle.rosie_cli.specs.Planned.{IsPlanned};
 ghost use Rattle.rosie_cli.specs.Plans.{Planned, pieces, inputs_of, ReadsInput, span, among, stood};
-ghost use Rattle.rosie_cli.specs.Promises.{BudgetIsDue, IsSound};
+ghost use Rattle.rosie_cli.specs.Promises.{BudgetIsDue, HasRun, IsSound};
 ghost use Rattle.rosie_cli.specs.Report.{report, KnowsFiles, KnowsInputs};
 ghost use Rattle.rosie_cli.specs.Words.{asked, IsRefused};
-ghost use Rattle.rosie_cli.specs.inside.Planning.{plan_of, IsSaid};
+ghost use Rattle.rosie_cli.specs.inside.Planning.{plan_of, IsSaid, HasStepped};
 
 use crate::plan::{Plan, Unplanned};
 use crate::planning::plan;
@@ -21,6 +21,7 @@ use crate::settings::MOST_BYTES;
 use rosie_io::{Files, Sink, Source};
 use rosie_run::{Ended, Mark, Reading, Status, Tally, Why, cut, finish, run_inputs, say};
 use rpl_machine::Steps;
+use rpl_print::text_of;
 use std::alloc::Global;
 use std::sync::ledger::Ledger;
 
@@ -83,6 +84,9 @@ fn run_words<F: Files, I: Source, O: Sink, E: Sink, L: Ledger>(
         (span F.rest F.taken F.faults F.failed_opens files.old files.new))
         (texts O.written O.number E.written out.old err.old steps.old)
         (texts O.written O.number E.written out.new err.new steps.new) }
+    ensures due { (p : Planned) → KnowsFiles (asked (words_of words.now)) F.tells
+        → IsPlanned (asked (words_of words.now)) (F.tree files.old) p → HasStepped result steps.old steps.new
+        → BudgetIsDue p.plan }
     ensures rest { F.tells → I.tells → (p : Planned) → IsPlanned (asked (words_of words.now)) (F.tree files.old) p
         → GoesOn result (ReadsInput p.plan → I.rest input.new ≡ []) }
     ensures cause { SourcesCause result (moment I.rest I.taken I.faults I.failed_opens input.old)
@@ -96,7 +100,7 @@ fn run_words<F: Files, I: Source, O: Sink, E: Sink, L: Ledger>(
         Ok(mut plan) => run_plan(alloc, &mut plan, files, input, out, err, steps),
         Err(unplanned) => match unplanned {
             Unplanned::NoMemory => Err(Ended::NoMemory),
-            Unplanned::ReadFault(path) => Err(cut(alloc, Why::ReadFault, path.as_str())),
+            Unplanned::ReadFault(path) => Err(cut(alloc, Why::ReadFault, text_of(&path))),
         },
     }
 }
@@ -131,7 +135,8 @@ pub fn rosie<F: Files, I: Source, O: Sink, E: Sink, L: Ledger>(
     ensures untouched { IsRefused (asked (words_of words.now)) → (files.new ≡ files.old) × (input.new ≡ input.old) }
 
     // No line is said to pass its budget that the budget pays for; and where nothing goes wrong, there is an answer.
-    ensures budget_is_due { (p : Planned) → IsPlanned (asked (words_of words.now)) (F.tree files.old) p
+    ensures budget_is_due { (p : Planned) → KnowsFiles (asked (words_of words.now)) F.tells
+        → IsPlanned (asked (words_of words.now)) (F.tree files.old) p → HasRun result steps.old steps.new
         → BudgetIsDue p.plan }
     ensures complete { F.tells → I.tells → (p : Planned)
         → IsPlanned (asked (words_of words.now)) (F.tree files.old) p

@@ -7,8 +7,8 @@ use Rattle.rosie_words.specs.declared.table.CommandName.TheVariants as C
 use Rattle.rosie_words.specs.declared.table.OptionName.{OptionName}
 use Rattle.rosie_words.specs.declared.table.OptionName.TheVariants as O
 use Rattle.rosie_words.specs.declared.command.Command.{Command}
-use Rattle.rosie_words.specs.declared.command.Root.{Root}
-use Rattle.rosie_words.specs.declared.command.Root.TheVariants as R
+use Rattle.rpl_package.specs.declared.rooted.Root.{Root}
+use Rattle.rpl_package.specs.declared.rooted.Root.TheVariants as R
 use Rattle.rosie_words.specs.declared.command.Style.{Style}
 use Rattle.rosie_words.specs.declared.command.Style.TheVariants as S
 use Rattle.rosie_words.specs.declared.command.What.{What}

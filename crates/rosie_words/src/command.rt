@@ -1,16 +1,8 @@
 //! What the words ask for.
 
-use crate::lists::{LibPath, Paths, Roots};
+use crate::lists::Paths;
+use rpl_package::{LibPath, Roots};
 use rpl_text::Chars;
-
-/// Where RPL text comes from.
-#[derive(Debug, Drop)]
-pub enum Root {
-    /// The file at this path, of `-f`.
-    File(Chars),
-    /// The text itself, of `--rpl`.
-    Given(Chars),
-}
 
 /// How a match is printed.
 #[derive(Clone, Copy, Debug, PartialEq, Eq)]

@@ -17,9 +17,9 @@ mod unbuilt;
 mod value;
 mod what;
 
-pub use command::{Command, Root, Style, What};
+pub use command::{Command, Style, What};
 pub use fault::UsageFault;
-pub use lists::{LibPath, Paths, Roots};
+pub use lists::Paths;
 pub use printed::{fault_line, usage};
 pub use reading::{no_reading_is_want_of_memory, read_words};
 pub use std::alloc::AllocError as NoMemory;

@@ -8,11 +8,11 @@ ghost use Rattle.rosie_words.specs.Settings.{settings_of, put, command_from};
 ghost use Rattle.rosie_words.specs.declared.fault.UsageFault.TheVariants as E;
 
 use crate::NoMemory;
-use crate::command::{Command, Root, Style, What};
+use crate::command::{Command, Style, What};
 use crate::fault::UsageFault;
-use crate::lists::{LibPath, Roots};
 use crate::table::{CommandName, OptionName};
 use crate::value::{bad_value, number_in, style_named};
+use rpl_package::{LibPath, Root, Roots};
 use rpl_text::Chars;
 use std::alloc::Global;
 

@@ -1,4 +1,5 @@
 use super::*;
+use rpl_package::{LibPath, Root, Roots};
 use std::alloc::{AllocError, Global};
 use std::process::Abort;
 use std::test::*;

@@ -27,9 +27,13 @@ fn is_built(option: OptionName) -> bool
 {
     matches!(
         option,
-        OptionName::Output
+        OptionName::File
+            | OptionName::Rpl
+            | OptionName::LibPath
+            | OptionName::Output
             | OptionName::WholeFile
             | OptionName::All
+            | OptionName::FixedStrings
             | OptionName::Budget
             | OptionName::Steps
     )
@@ -39,7 +43,10 @@ fn is_built(option: OptionName) -> bool
 fn names_built(word: &str) -> bool
     ensures { result ≡ command_is_built (table.command_named word.now) }
 {
-    matches!(command_named(word), Some(CommandName::Match))
+    matches!(
+        command_named(word),
+        Some(CommandName::Match | CommandName::Grep)
+    )
 }
 
 impl Place {

@@ -1,8 +1,10 @@
 -- How contracts see a plan, and what comes of making one.
-use Rattle.std.specs.Prelude.{◌≡◌, ℕ, List, Result, Ok, Err, string_bytes, encode_utf8_all}
+use Rattle.std.specs.Prelude.{◌≡◌, ◌≢◌, ℕ, List, Result, Ok, Err, string_bytes, encode_utf8_all}
 use Rattle.std.specs.List.{Contains}
 use Rattle.rosie_run.specs.Inputs.{names_of}
 use Rattle.rosie_run.specs.Sources.{Moment, Still, NoFewer, RoseIn}
+use Rattle.rosie_run.specs.declared.ended.Ended.{Ended}
+use Rattle.rosie_run.specs.declared.tally.Tally.{Tally}
 use Rattle.rosie_cli.specs.Plans as P
 use Rattle.rosie_cli.specs.inside.Jobs.{job_of}
 use Rattle.rosie_cli.specs.declared.plan.Plan.{Plan}
@@ -23,7 +25,7 @@ PlansRun plan IsMeant = (p : P.Plan) → IsMeant p → p ≡ plan_of plan
 -- the path that wasn't read is one of those that are asked for
 abbrev pub IsUnread : Unplanned → List (List ℕ) → Type 0
 IsUnread NoMemory asked = Unit {0}
-IsUnread (ReadFault path) asked = Contains asked (string_bytes path)
+IsUnread (ReadFault path) asked = Contains asked (encode_utf8_all path)
 
 abbrev pub Plans : Result Plan Unplanned → P.Planned → Type 0
 Plans (Ok plan) p = p.plan ≡ plan_of plan
@@ -42,3 +44,8 @@ HasCause (Err unplanned) f0 f1 = Counts unplanned f0 f1
 abbrev pub IsSaid : P.Plan → Type 0
 IsSaid (P.Says ps) = Unit {0}
 IsSaid (P.Reads m whole names) = ⊥
+
+-- the run of a plan came to an end of its own, or the machine made a step
+abbrev pub HasStepped : Result Tally Ended → (before now : ℕ) → Type 0
+HasStepped (Ok tally) before now = Unit {0}
+HasStepped (Err ended) before now = now ≢ before

@@ -1,27 +1,34 @@
 use Rattle.std.proofs.Common.{◌∙◌, ap, sym}
 use Rattle.std.specs.Prelude.{encode_utf8_all}
+use Rattle.rosie_prepare.specs.Views.{ready_seen}
+use Rattle.rosie_prepare.proofs.Passing.{bodies-rows_of}
 use Rattle.rosie_run.specs.Inputs.{names_of}
-use Rattle.rpl_check.specs.Goal.{peg_of}
 use Rattle.rpl_core.specs.Table.{bodies_of}
-use Rattle.rpl_core.specs.View.{core_of}
 use Rattle.rosie_cli.specs.Planned.{input_names}
 use Rattle.rosie_cli.specs.Plans.{refusal}
 use Rattle.rosie_cli.specs.inside.Jobs.{job_of}
 use Rattle.rosie_cli.proofs.Limits.{job_plans, long_plans, match-same}
+use Rattle.rosie_cli.proofs.Promised.{job-due}
 use Rattle.rosie_cli.proofs.match_plan.plan_job.Goals as goal
 
-pub returns-in-Ok : goal.returns-in-Ok
-returns-in-Ok c = λ p is.
+pub returns-in-Ok-clause-plans : goal.returns-in-Ok-clause-plans
+returns-in-Ok-clause-plans c = λ p is.
     let ready = c.args.ready in
     let s = c.args.settings in
     let made = c.in_ok-job-in-Ok in
     match-same s made.job.settings (job_of c.in-Ok.job) (job_of made.job.job) (input_names c.args.inputs)
     (names_of encode_utf8_all c.in_ok-names.names) p made.ensures.settings made.ensures.job c.in_ok-names.ensures
-    (job_plans s (input_names c.args.inputs) (bodies_of ready.rules) (core_of (peg_of ready.goal)) p is
+    (job_plans s (input_names c.args.inputs) (ready_seen ready) (bodies_of ready.rules) (bodies-rows_of ready.rules) p is
     (job_of c.in-Ok.job) c.in-Ok.ensures.job)
 
-pub returns-in-CodeTooLong : goal.returns-in-CodeTooLong
-returns-in-CodeTooLong c = λ p is.
+pub returns-in-Ok-clause-due : goal.returns-in-Ok-clause-due
+returns-in-Ok-clause-due c =
+    let made = c.in_ok-job-in-Ok.job in
+    job-due made.settings (job_of made.job) made.job.meant
+
+pub returns-in-CodeTooLong-clause-plans : goal.returns-in-CodeTooLong-clause-plans
+returns-in-CodeTooLong-clause-plans c = λ p is.
     let ready = c.args.ready in
-    long_plans c.args.settings (input_names c.args.inputs) (bodies_of ready.rules) (core_of (peg_of ready.goal)) p is
-    (c.in-Err.ensures.too_long c.in-CodeTooLong.is) ∙ ap refusal (sym c.in_ok-line-in-CodeTooLong.ensures.ok)
+    long_plans c.args.settings (input_names c.args.inputs) (ready_seen ready) (bodies_of ready.rules)
+    (bodies-rows_of ready.rules) p is (c.in-Err.ensures.too_long c.in-CodeTooLong.is)
+    ∙ ap refusal (sym c.in_ok-compile_line-in-CodeTooLong.ensures)

@@ -1,9 +1,9 @@
-use Rattle.rosie_run.proofs.Headlines.{headline, output-cause, reads-cause, completes}
+use Rattle.rosie_run.proofs.Headlines.{headline, output-cause, reads-cause}
 use Rattle.rosie_words.specs.Reading.{words_of}
 use Rattle.rosie_cli.specs.Report.{report}
 use Rattle.rosie_cli.specs.Words.{asked}
-use Rattle.rosie_cli.proofs.Promised.{budget-due, no-stop, no-fault}
-use Rattle.rosie_cli.proofs.Whole.{read-of, not-spent, knows_files, knows_inputs}
+use Rattle.rosie_cli.proofs.Promised.{no-stop, no-fault}
+use Rattle.rosie_cli.proofs.Whole.{read-of, not-spent, knows_files, knows_inputs, stepped-of, completes-if}
 use Rattle.rosie_cli.proofs.top.rosie.Goals as goal
 
 pub returns-clause-headline : goal.returns-clause-headline
@@ -28,15 +28,20 @@ returns-clause-writes g c =
     c.run_words-run.ensures.sinks c.finish.ensures.cause
 
 pub returns-clause-budget_is_due : goal.returns-clause-budget_is_due
-returns-clause-budget_is_due g c = budget-due (asked (words_of c.args.words.now)) (g.F.Source.tree c.args.files.now)
+returns-clause-budget_is_due g c = λ p files is ran.
+    c.run_words-run.ensures.due p files is
+    (stepped-of c.run_words-run.result c.finish.result _ _ _ c.args.steps.now c.run_words-run.new.steps
+    (c.finish.ensures.closes 0) ran)
 
 pub returns-clause-complete : goal.returns-clause-complete
 returns-clause-complete g c = λ t u p is i f o e short files sound.
     let a = asked (words_of c.args.words.now) in
     let tree = g.F.Source.tree c.args.files.now in
     let input = g.I.Source.rest c.args.input.now in
-    let due = budget-due a tree p is in
-    completes _ _ _ _ _ _ _ _ _ _ _ _ _ i f o e (λ file k x. not-spent p tree _ _ file k short files x)
-    (no-stop p.plan tree input due sound) (no-fault p.plan tree input due sound) c.finish.result
-    (returns-clause-headline g c p (knows_files a _ t) is (knows_inputs p.plan _ _ t u))
+    let known = knows_files a _ t in
+    completes-if _ _ _ _ _ _ _ _ _ _ _ _ _ c.args.steps.now c.run_words-run.new.steps i f o e
+    (λ file k x. not-spent p tree _ _ file k short files x) c.finish.result
+    (λ ran. let due = returns-clause-budget_is_due g c p known is ran in
+    (no-stop p.plan tree input due sound, no-fault p.plan tree input due sound))
+    (returns-clause-headline g c p known is (knows_inputs p.plan _ _ t u))
     (returns-clause-reads g c) (returns-clause-writes g c)
