@@ -1,6 +1,7 @@
 // What every loaded set gives: its table is in order, and its pattern calls rules of the table and makes one tree.
-// These are laws of `rpl_order` over each tree of files. But real files tell no tree, so nothing is known of what is loaded
-// from them, and each is looked at here once more; where it didn't hold there would be no answer but want of memory.
+// These are laws of `rpl_order` over each tree of files. But real files tell no tree, so nothing is known of what is
+// loaded from them, and each is looked at here once more; where it didn't hold there would be no answer but want of
+// memory.
 ghost use Rattle.std.specs.Prelude.{◌≡◌, ◌<◌, ℕ, List, IfOk, IsTrue, length, true};
 ghost use Rattle.rpl_core.specs.Listed.{blocks_in, bodies_in, rules_of};
 ghost use Rattle.rpl_core.specs.Order.{IsInOrder};
