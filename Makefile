@@ -1,8 +1,10 @@
 # What one types here. `make test` is the whole gate.
 PREFIX ?= /usr/local
+BIN = $(DESTDIR)$(PREFIX)/bin
+SHARE = $(DESTDIR)$(PREFIX)/share
 PROGRAM = crates/rosie/out/rosie
 
-.PHONY: build check try test install clean
+.PHONY: build check try test install uninstall clean
 
 # Proves and builds the program, where a source is newer than it.
 build:
@@ -24,10 +26,23 @@ test:
 	./rosie --build
 	tests/run
 	tests/manual
+	tests/install
 
+# The program, its man page, the examples, and completions for three shells.
 install: build
-	install -d $(DESTDIR)$(PREFIX)/bin
-	install -m 755 $(PROGRAM) $(DESTDIR)$(PREFIX)/bin/rosie
+	install -d $(BIN) $(SHARE)/man/man1 $(SHARE)/rosie/examples $(SHARE)/bash-completion/completions $(SHARE)/zsh/site-functions \
+		$(SHARE)/fish/vendor_completions.d
+	install -m 755 $(PROGRAM) $(BIN)/rosie
+	tools/manual_page > $(SHARE)/man/man1/rosie.1
+	install -m 644 examples/* $(SHARE)/rosie/examples
+	install -m 644 completions/rosie.bash $(SHARE)/bash-completion/completions/rosie
+	install -m 644 completions/_rosie $(SHARE)/zsh/site-functions/_rosie
+	install -m 644 completions/rosie.fish $(SHARE)/fish/vendor_completions.d/rosie.fish
+
+uninstall:
+	rm -f $(BIN)/rosie $(SHARE)/man/man1/rosie.1 $(SHARE)/bash-completion/completions/rosie
+	rm -f $(SHARE)/zsh/site-functions/_rosie $(SHARE)/fish/vendor_completions.d/rosie.fish
+	rm -rf $(SHARE)/rosie
 
 clean:
 	rm -rf crates/*/out tests/.work
