@@ -1,9 +1,11 @@
 // From a code file to its program.
-ghost use Rattle.std.specs.Prelude.{◌≡◌, ◌≢◌, ◌<◌, ◌≤◌, ◌-◌, ◌^◌, ℕ, Some, false, codes, length};
+ghost use Rattle.std.specs.Prelude.{◌≡◌, ◌≢◌, ◌<◌, ◌≤◌, ◌-◌, ◌^◌, ℕ, Some, false, codes, length, IfOk};
 ghost use Rattle.rosie_code.specs.Loaded.{IsRead, HasCause, Loads};
 ghost use Rattle.rosie_code.specs.inside.Telling.{IsToldOfFile, Reads, Refuses};
 ghost use Rattle.rosie_io.specs.Opening.{file_of};
 ghost use Rattle.rosie_run.specs.Sources.{moment};
+ghost use Rattle.rpl_core.specs.Program.{instructions};
+ghost use Rattle.rpl_safe.specs.Safe.{IsSafe};
 
 use crate::unloaded::Unloaded;
 use rosie_io::{FileFault, Files, read_bytes};
@@ -56,6 +58,7 @@ fn program_of(alloc: Global, path: &str, bytes: &[u8]) -> Result<Program, Unload
 /// The program of the code file at that path, or why there is none. Its code is safe.
 pub fn load_code<F: Files>(alloc: Global, files: &mut F, path: &str) -> Result<Program, Unloaded>
     ensures loads { F.tells → Loads path.now (file_of path.now (F.tree files.old)) result }
+    ensures safe { IfOk result (λ program. IsSafe (instructions program)) }
     ensures cause { HasCause result (moment F.rest F.taken F.faults F.failed_opens files.old)
         (moment F.rest F.taken F.faults F.failed_opens files.new) }
     ensures taken { F.taken files.new < 2 ^ 64 - 1 → F.taken files.old ≤ F.taken files.new }
