@@ -1,0 +1,5 @@
+pub mod Evaluations
+pub mod Laws
+pub mod Printed
+pub mod Traces
+pub mod inside

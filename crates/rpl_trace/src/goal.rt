@@ -1,0 +1,59 @@
+// The trace of a checked goal.
+ghost use Rattle.std.specs.Prelude.{◌≡◌, ◌≢◌, ◌<◌, ◌≤◌, ℕ, List, IfOk, IfErr, OnOk};
+ghost use Rattle.std.specs.Str.{encode_utf8_all};
+ghost use Rattle.rpl_core.specs.Meaning.{Open};
+ghost use Rattle.rpl_core.specs.Outcome.{outcome, work_of};
+ghost use Rattle.rpl_core.specs.Table.{bodies_of, names_of};
+ghost use Rattle.rpl_core.specs.View.{core_of};
+ghost use Rattle.rpl_check.specs.Goal.{peg_of};
+ghost use Rattle.rpl_text.specs.Seen.{text_of};
+ghost use Rattle.rpl_trace.specs.Evaluations as S;
+ghost use Rattle.rpl_trace.specs.Printed as P;
+ghost use Rattle.rpl_trace.specs.Traces.{place_behind};
+ghost use Rattle.rpl_trace.specs.declared.answer.TraceFault.TheVariants as X;
+
+use crate::answer::{Trace, TraceFault};
+use crate::endings::place_of;
+use crate::event::End;
+use crate::lines::lines;
+use crate::task::Task;
+use crate::text::printed;
+use crate::tracer::Tracer;
+use rpl_check::{Checked, CheckedPeg};
+use rpl_text::{Chars, Text};
+use std::alloc::Global;
+
+/// The trace of a checked goal on a text: the evaluations that its outcome makes, printed.
+///
+/// It is refused exactly where the outcome takes more work than `limit`, and no more evaluations than that are made. It
+/// takes time and memory for each of them and for what is printed, and no stack. It needs that the goal means something
+/// on every text, as each goal does that `check_pattern` lets pass.
+pub fn trace(
+    alloc: Global,
+    checked: &Checked,
+    goal: &CheckedPeg,
+    text: Text<'_>,
+    limit: u32,
+) -> Result<Trace, TraceFault>
+    requires { (t : List ℕ) → outcome (bodies_of checked.now) (core_of (peg_of goal.now)) t ≢ Open }
+    ensures printed { let R = bodies_of checked.now in let g = core_of (peg_of goal.now) in
+        let t = text_of text.entry in
+        IfOk result (λ x. encode_utf8_all x.printed ≡ P.printed (names_of checked.now) t 0 (S.trace R g t)) }
+    ensures end { let R = bodies_of checked.now in let g = core_of (peg_of goal.now) in
+        let t = text_of text.entry in IfOk result (λ x. x.end ≡ place_behind t (outcome R g t)) }
+    ensures within { let R = bodies_of checked.now in let g = core_of (peg_of goal.now) in
+        let t = text_of text.entry in OnOk result (work_of (outcome R g t) ≤ limit) }
+    ensures refused { let R = bodies_of checked.now in let g = core_of (peg_of goal.now) in
+        let t = text_of text.entry in IfErr result (λ e. e ≡ X.TraceTooLong → limit < work_of (outcome R g t)) }
+{
+    let rules = checked.rules();
+    let mut tracer = Tracer::new(alloc, limit);
+    tracer.push(Task::Evaluate(goal.peg()))?;
+    let end = tracer.finish(rules, text, End::At(0))?;
+    let lines = lines(alloc, tracer.events)?;
+    let bytes = printed(alloc, rules, lines)?;
+    Ok(Trace {
+        printed: Chars::from_str(alloc, &bytes)?,
+        end: place_of(end),
+    })
+}
