@@ -46,7 +46,7 @@ const NUM: &[u8] = b"package num\nlocal alias d = [:digit:]\nint = d+\n";
 const LONG_CODE: &str =
     "{\"x\" <{\"a\"{0,255} / \"a\"{0,255} / \"a\"{0,255} / \"a\"{0,255} / \"a\"{0,255} / \"a\"{0,255}}}";
 
-static CASES: [Case; 34] = [
+static CASES: [Case; 36] = [
     Case {
         shows: "one literal",
         words: LITERAL,
@@ -91,6 +91,24 @@ static CASES: [Case; 34] = [
         out: TWO_ANSWERS,
         err: "rosie: -:2: not UTF-8\n",
         status: Status::LineFault,
+    },
+    Case {
+        shows: "the ranges of a class",
+        words: &["class", "digit"],
+        tree: &[],
+        input: b"",
+        out: "30-39\n",
+        err: "",
+        status: Status::Matched,
+    },
+    Case {
+        shows: "a name that stands for no class",
+        words: &["class", "nosuchclass"],
+        tree: &[],
+        input: b"",
+        out: "",
+        err: "rosie: unknown class: nosuchclass\n",
+        status: Status::Refused,
     },
     Case {
         shows: "another command isn't built",

@@ -3,6 +3,7 @@ pub mod Lines
 pub mod Meant
 pub mod Words
 pub mod Plans
+pub mod Classes
 pub mod Planned
 pub mod Report
 pub mod Promises

@@ -6,8 +6,10 @@ use Rattle.rosie_prepare.specs.Prepared.{Tree, Wanted, Ready, OrLine, IsPrepared
 use Rattle.rosie_words.specs.declared.command.Command.{Command}
 use Rattle.rosie_words.specs.declared.command.What.{What}
 use Rattle.rosie_words.specs.declared.command.What.TheVariants as W
+use Rattle.rpl_classes.specs.Classes.{set_named}
 use Rattle.rpl_core.specs.Instr.{Instr}
 use Rattle.rpl_core.specs.Programs.{IsCode}
+use Rattle.rosie_cli.specs.Classes.{class_plan}
 use Rattle.rosie_cli.specs.declared.settings.Settings.{Settings}
 use Rattle.rosie_cli.specs.Lines.{Job}
 use Rattle.rosie_cli.specs.Options.{settings_of}
@@ -54,6 +56,7 @@ wanted c pattern find = record {
 abbrev pub IsPlannedAs : Command → What → Tree → Planned → Type 0
 IsPlannedAs c (W.Match pattern inputs) tree p = IsLines (settings_of c) (wanted c pattern false) inputs tree p
 IsPlannedAs c (W.Grep pattern inputs) tree p = IsLines (settings_of c) (wanted c pattern true) inputs tree p
+IsPlannedAs c (W.Class name) tree p = p ≡ record { asked = []; plan = class_plan name (set_named name) }
 IsPlannedAs c _ tree p = p ≡ record { asked = []; plan = refusal (codes "rosie: not yet\n") }
 
 -- and of all words

@@ -7,6 +7,7 @@
 #![tactic(auto)]
 
 mod asked;
+mod class_plan;
 mod job;
 mod match_job;
 mod match_plan;

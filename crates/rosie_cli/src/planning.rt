@@ -11,6 +11,7 @@ ghost use Rattle.rosie_cli.specs.Words.{asked, IsRefused};
 ghost use Rattle.rosie_cli.specs.inside.Planning.{plan_of, Plans, HasCause};
 
 use crate::asked::{Asked, ask};
+use crate::class_plan::plan_class;
 use crate::match_plan::plan_lines;
 use crate::plan::{Plan, Unplanned};
 use crate::settings::settings_of;
@@ -58,6 +59,7 @@ fn plan_command<F: Files>(alloc: Global, command: Command, files: &mut F) -> Res
             };
             plan_lines(alloc, &wanted, settings, inputs, files)
         }
+        What::Class { name } => Ok(plan_class(alloc, &name)?),
         _other => Ok(Plan::Refuse(String::from_str(alloc, "rosie: not yet\n")?)),
     }
 }

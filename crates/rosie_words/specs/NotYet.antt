@@ -13,7 +13,7 @@ use Rattle.rosie_words.specs.Roles.{Front, Free, Role, Argument, Plain, Full, Wa
 
 -- what is built
 abbrev pub built_commands : List CommandName
-built_commands = C.Match ∷ C.Grep ∷ []
+built_commands = C.Match ∷ C.Grep ∷ C.Class ∷ []
 
 abbrev pub built_options : List OptionName
 built_options =

@@ -45,7 +45,7 @@ fn names_built(word: &str) -> bool
 {
     matches!(
         command_named(word),
-        Some(CommandName::Match | CommandName::Grep)
+        Some(CommandName::Match | CommandName::Grep | CommandName::Class)
     )
 }
 

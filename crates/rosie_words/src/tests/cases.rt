@@ -218,6 +218,7 @@ pub(super) const NOT_YET: &[&str] = &[
     "match|-o|line|p => ",
     "-w|grep|-F|p => ",
     "match|p|--rpl|x|-f|a|--libpath|b => ",
+    "class|Greek => ",
     "--libpath|.|list => list",
     "-F|trace|p => trace",
     "sample|1|2 => sample",
