@@ -46,7 +46,7 @@ const NUM: &[u8] = b"package num\nlocal alias d = [:digit:]\nint = d+\n";
 const LONG_CODE: &str =
     "{\"x\" <{\"a\"{0,255} / \"a\"{0,255} / \"a\"{0,255} / \"a\"{0,255} / \"a\"{0,255} / \"a\"{0,255}}}";
 
-static CASES: [Case; 36] = [
+static CASES: [Case; 38] = [
     Case {
         shows: "one literal",
         words: LITERAL,
@@ -112,11 +112,11 @@ static CASES: [Case; 36] = [
     },
     Case {
         shows: "another command isn't built",
-        words: &["list", "--rpl", "x = \"a\""],
+        words: &["repl"],
         tree: &[],
         input: b"a\n",
         out: "",
-        err: "rosie: not yet: list\n",
+        err: "rosie: not yet: repl\n",
         status: Status::Refused,
     },
     Case {
@@ -127,6 +127,25 @@ static CASES: [Case; 36] = [
         out: "",
         err: "rosie: not yet: --code-file\n",
         status: Status::Refused,
+    },
+    Case {
+        shows: "the names that a pattern may use",
+        words: &["list", "--rpl", "alias d = [:digit:] n = d+"],
+        tree: &[],
+        input: b"",
+        out: "d alias -\nn capture n\n",
+        err: "",
+        status: Status::Matched,
+    },
+    Case {
+        shows: "what a pattern stands for, with its program",
+        words: &["expand", "--code", "--rpl", "x = \"a\"", "x"],
+        tree: &[],
+        input: b"",
+        out: "pattern x\n* = (call x)\nx = (capture x (set 61))\n\
+              0 call 2\n1 finish\n2 open x\n3 set 61\n4 close\n5 return\n",
+        err: "",
+        status: Status::Matched,
     },
     Case {
         shows: "rules of a file, with their names in the answer",

@@ -4,6 +4,8 @@ pub mod Meant
 pub mod Words
 pub mod Plans
 pub mod Classes
+pub mod Listing
+pub mod Expanding
 pub mod Planned
 pub mod Report
 pub mod Promises

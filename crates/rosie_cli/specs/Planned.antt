@@ -11,7 +11,9 @@ use Rattle.rpl_core.specs.Instr.{Instr}
 use Rattle.rpl_core.specs.Programs.{IsCode}
 use Rattle.rosie_cli.specs.Classes.{class_plan}
 use Rattle.rosie_cli.specs.declared.settings.Settings.{Settings}
+use Rattle.rosie_cli.specs.Expanding.{IsExpanded}
 use Rattle.rosie_cli.specs.Lines.{Job}
+use Rattle.rosie_cli.specs.Listing.{IsListed}
 use Rattle.rosie_cli.specs.Options.{settings_of}
 use Rattle.rosie_cli.specs.Plans.{Matches, Plan, Reads, Planned, refusal}
 use Rattle.rosie_cli.specs.Words.{Asked, Refuse, Do}
@@ -57,6 +59,8 @@ abbrev pub IsPlannedAs : Command → What → Tree → Planned → Type 0
 IsPlannedAs c (W.Match pattern inputs) tree p = IsLines (settings_of c) (wanted c pattern false) inputs tree p
 IsPlannedAs c (W.Grep pattern inputs) tree p = IsLines (settings_of c) (wanted c pattern true) inputs tree p
 IsPlannedAs c (W.Class name) tree p = p ≡ record { asked = []; plan = class_plan name (set_named name) }
+IsPlannedAs c W.List tree p = IsListed c.roots c.folders tree p
+IsPlannedAs c (W.Expand pattern) tree p = IsExpanded (wanted c pattern false) c.code tree p
 IsPlannedAs c _ tree p = p ≡ record { asked = []; plan = refusal (codes "rosie: not yet\n") }
 
 -- and of all words

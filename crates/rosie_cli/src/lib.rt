@@ -8,7 +8,9 @@
 
 mod asked;
 mod class_plan;
+mod expand_plan;
 mod job;
+mod list_plan;
 mod match_job;
 mod match_plan;
 mod plan;

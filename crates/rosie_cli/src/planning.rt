@@ -12,6 +12,8 @@ ghost use Rattle.rosie_cli.specs.inside.Planning.{plan_of, Plans, HasCause};
 
 use crate::asked::{Asked, ask};
 use crate::class_plan::plan_class;
+use crate::expand_plan::plan_expansion;
+use crate::list_plan::plan_list;
 use crate::match_plan::plan_lines;
 use crate::plan::{Plan, Unplanned};
 use crate::settings::settings_of;
@@ -36,6 +38,7 @@ fn plan_command<F: Files>(alloc: Global, command: Command, files: &mut F) -> Res
         roots,
         folders,
         fixed,
+        code,
         ..
     } = command;
     match what {
@@ -60,6 +63,17 @@ fn plan_command<F: Files>(alloc: Global, command: Command, files: &mut F) -> Res
             plan_lines(alloc, &wanted, settings, inputs, files)
         }
         What::Class { name } => Ok(plan_class(alloc, &name)?),
+        What::List => plan_list(alloc, &roots, &folders, files),
+        What::Expand { pattern } => {
+            let wanted = Wanted {
+                roots: &roots,
+                folders: &folders,
+                text: text_of(&pattern),
+                fixed,
+                find: false,
+            };
+            plan_expansion(alloc, &wanted, code, files)
+        }
         _other => Ok(Plan::Refuse(String::from_str(alloc, "rosie: not yet\n")?)),
     }
 }

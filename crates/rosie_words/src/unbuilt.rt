@@ -36,6 +36,7 @@ fn is_built(option: OptionName) -> bool
             | OptionName::FixedStrings
             | OptionName::Budget
             | OptionName::Steps
+            | OptionName::Code
     )
 }
 
@@ -45,7 +46,13 @@ fn names_built(word: &str) -> bool
 {
     matches!(
         command_named(word),
-        Some(CommandName::Match | CommandName::Grep | CommandName::Class)
+        Some(
+            CommandName::Match
+                | CommandName::Grep
+                | CommandName::List
+                | CommandName::Expand
+                | CommandName::Class
+        )
     )
 }
 
