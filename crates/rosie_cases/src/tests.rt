@@ -46,7 +46,7 @@ const NUM: &[u8] = b"package num\nlocal alias d = [:digit:]\nint = d+\n";
 const LONG_CODE: &str =
     "{\"x\" <{\"a\"{0,255} / \"a\"{0,255} / \"a\"{0,255} / \"a\"{0,255} / \"a\"{0,255} / \"a\"{0,255}}}";
 
-static CASES: [Case; 38] = [
+static CASES: [Case; 19] = [
     Case {
         shows: "one literal",
         words: LITERAL,
@@ -223,6 +223,10 @@ static CASES: [Case; 38] = [
         err: "rosie: (pattern):0: empty loop in *\n",
         status: Status::Refused,
     },
+];
+
+/// The rest of the table: one constant of all rows is more than the check of one function takes.
+static MORE_CASES: [Case; 19] = [
     Case {
         shows: "a pattern that is too large",
         words: &["match", "{\"ab\"{255}}{255}"],
@@ -403,24 +407,26 @@ fn expect(got: &Outcome, status: Status, out: &str, err: &str) -> bool {
         && got.err.as_slice() == err.as_bytes()
 }
 
+/// What the first case shows whose answer is another, or nothing where all are as they are wanted.
+fn first_wrong(alloc: Global, cases: &[Case]) -> Result<&'static str, AllocError> {
+    for case in cases {
+        let got = run_on(alloc, case.words, Outside::new(case.tree, case.input))?;
+        if !expect(&got, case.status, case.out, case.err) {
+            return Ok(case.shows);
+        }
+    }
+    Ok("")
+}
+
 #[test]
 fn answers(rt: HostRuntime) -> Result<(), Fail> {
-    for case in &CASES {
-        let got = run_on(rt.alloc(), case.words, Outside::new(case.tree, case.input))?;
-        assert_eq!(rt;
-            got.out.as_slice(),
-            case.out.as_bytes(),
-            "out: {}",
-            case.shows
-        );
-        assert_eq!(rt;
-            got.err.as_slice(),
-            case.err.as_bytes(),
-            "err: {}",
-            case.shows
-        );
-        assert_eq!(rt; got.status, case.status, "status: {}", case.shows);
-    }
+    assert_eq!(rt; first_wrong(rt.alloc(), &CASES)?, "");
+    Ok(())
+}
+
+#[test]
+fn answers_of_options_and_inputs(rt: HostRuntime) -> Result<(), Fail> {
+    assert_eq!(rt; first_wrong(rt.alloc(), &MORE_CASES)?, "");
     Ok(())
 }
 

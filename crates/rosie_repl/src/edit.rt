@@ -56,12 +56,6 @@ pub fn read_edit(line: &str) -> Option<Edit<'_>>
 {
     match line.split_once(' ') {
         Some((sign, rest)) => by_sign(sign, rest),
-        None => {
-            if line == "u" {
-                Some(Edit::Undo)
-            } else {
-                None
-            }
-        }
+        None => { if line == "u" { Some(Edit::Undo) } else { None } }
     }
 }

@@ -50,12 +50,33 @@ fn changes_and_goes_back(rt: HostRuntime) -> Result<(), Fail> {
 
 #[test]
 fn reads(rt: HostRuntime) {
-    assert!(rt; matches!(read_edit("= 1 x = \"b\""), Some(Edit::Replace(1, "x = \"b\""))));
+    assert!(rt;
+        matches!(
+            read_edit("= 1 x = \"b\""),
+            Some(Edit::Replace(1, "x = \"b\""))
+        )
+    );
     assert!(rt; matches!(read_edit("- 007"), Some(Edit::Remove(7))));
-    assert!(rt; matches!(read_edit("- 18446744073709551615"), Some(Edit::Remove(18_446_744_073_709_551_615))));
+    assert!(rt;
+        matches!(
+            read_edit("- 18446744073709551615"),
+            Some(Edit::Remove(18_446_744_073_709_551_615))
+        )
+    );
     assert!(rt; matches!(read_edit("> a b"), Some(Edit::Try("a b"))));
     let others = [
-        "", "+", "= 1", "- 18446744073709551616", "- 1 ", "- -1", "u ", "u\r", "x y", " u", "++ a", "+x a",
+        "",
+        "+",
+        "= 1",
+        "- 18446744073709551616",
+        "- 1 ",
+        "- -1",
+        "u ",
+        "u\r",
+        "x y",
+        " u",
+        "++ a",
+        "+x a",
     ];
     for line in others {
         assert!(rt; read_edit(line).is_none(), "{line}");
