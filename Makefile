@@ -25,6 +25,7 @@ test:
 	tests/proofs
 	./rosie --build
 	tests/run
+	tests/expand
 	tests/manual
 	tests/install
 

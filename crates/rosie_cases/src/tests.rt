@@ -120,12 +120,12 @@ static CASES: [Case; 19] = [
         status: Status::Refused,
     },
     Case {
-        shows: "an option isn't built",
+        shows: "a code file that isn't there",
         words: &["match", "--code-file", "a"],
         tree: &[],
         input: b"a\n",
         out: "",
-        err: "rosie: not yet: --code-file\n",
+        err: "rosie: a: no such file\n",
         status: Status::Refused,
     },
     Case {
@@ -465,10 +465,25 @@ fn a_file_of_rules_that_is_not_opened_ends_the_run(rt: HostRuntime) -> Result<()
     Ok(())
 }
 
-/// Two files, and the standard input between them.
-const IN_TURN: &[&str] = &["match", "-a", "\"ab\"", "f", "-", "g"];
+/// Two files, and the standard input between them, with a rule of an imported package.
+const IN_TURN: &[&str] = &[
+    "match",
+    "-a",
+    "--rpl",
+    "import p",
+    "--libpath",
+    "lib",
+    "p.ab",
+    "f",
+    "-",
+    "g",
+];
 
-const TREE: &[(&str, &[u8])] = &[("f", b"ab\nx\n"), ("g", b"\xff\nab")];
+const TREE: &[(&str, &[u8])] = &[
+    ("f", b"ab\nx\n"),
+    ("g", b"\xff\nab"),
+    ("lib/p.rpl", b"package p ab = \"ab\""),
+];
 
 /// A line that matches, one that is no text, and one that matches.
 const THREE_LINES: &[u8] = b"ab\n\xff\nab\n";
@@ -511,9 +526,9 @@ fn run_failing(alloc: Global, failing: Failing, number: u64) -> Result<Outcome, 
     run_on(alloc, IN_TURN, outside)
 }
 
-/// How often a device is called in that run, by hand, in threes of bytes: `f` is opened, and its five bytes and its end
-/// are read; so is `g` with its four; the input has eight bytes and its end; `out` has four lines of 37 bytes and some
-/// flushes; `err` has `x` with a line feed, and two faults of 22 bytes.
+/// How often a device is called in that run, by hand, in threes of bytes: the package is opened, and its 19 bytes and
+/// its end are read; so are `f` with its five and `g` with its four; the input has eight bytes and its end; `out` has
+/// four lines of 40 bytes and some flushes; `err` has `x` with a line feed, and two faults of 22 bytes.
 #[test]
 fn each_call_of_each_device_fails_in_turn(rt: HostRuntime) -> Result<(), Fail> {
     let whole = run_on(rt.alloc(), IN_TURN, Outside::new(TREE, THREE_LINES))?;
@@ -523,9 +538,9 @@ fn each_call_of_each_device_fails_in_turn(rt: HostRuntime) -> Result<(), Fail> {
         b"x\nrosie: -:2: not UTF-8\nrosie: g:1: not UTF-8\n".as_slice()
     );
     for (device, behind, status) in [
-        (Failing::Files, 9u64, Status::ReadFault),
+        (Failing::Files, 18u64, Status::ReadFault),
         (Failing::Input, 5, Status::ReadFault),
-        (Failing::Out, 53, Status::WriteFault),
+        (Failing::Out, 57, Status::WriteFault),
         (Failing::Err, 18, Status::WriteFault),
     ] {
         for number in 1..behind {

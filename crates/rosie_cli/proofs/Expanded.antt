@@ -1,5 +1,5 @@
 -- From a pattern that is ready to the text of what it stands for.
-use Rattle.std.proofs.Common.{ℕ, ◌≡◌, ◌<◌, ◌≤◌, Bool, true, false, cond, List, ◌++◌, length, sym, ◌∙◌, ap, subst, arith}
+use Rattle.std.proofs.Common.{ℕ, ◌≡◌, ◌≤◌, Bool, true, false, cond, List, ◌++◌, length, ◌∙◌, ap, subst, arith}
 use Rattle.std.specs.Prelude.{Ok, nat_lt}
 use Rattle.rosie_faults.specs.Lines.{compile_line}
 use Rattle.rosie_prepare.specs.Prepared.{Ready, bodies}

@@ -1,74 +1,35 @@
--- When a budget is due, and that a run over allowed lines has no fault.
-use Rattle.std.proofs.Common.{ℕ, suc, ◌≡◌, ◌+◌, ◌*◌, ◌<◌, ◌≤◌, Bool, true, false, ◌||◌, not, cond, List, [], ◌∷◌, ◌++◌}
+-- That a run over allowed lines has no fault.
+use Rattle.std.proofs.Common.{ℕ, suc, ◌≡◌, ◌+◌, Bool, true, false, ◌||◌, cond, List, [], ◌∷◌, ◌++◌}
 use Rattle.std.proofs.Common.{length, refl, sym, ◌∙◌, ap, subst, arith}
-use Rattle.std.specs.Prelude.{Option, Some, None, chars, codes, nat_lt}
+use Rattle.std.specs.Prelude.{Option, Some, None, codes, nat_lt}
 use Rattle.std.specs.List.{All}
 use Rattle.std.specs.Str.{is_utf8}
-use Rattle.std.proofs.Math.Logic.{∥∥₁_elim}
-use Rattle.std.proofs.Props.{props}
-use Rattle.std.proofs.lemmas.Bool.{false≢true}
-use Rattle.std.proofs.lemmas.Str.{IsUtf8-from_is_utf8}
 use Rattle.rosie_io.specs.Lines.{lines}
 use Rattle.rosie_io.specs.Opening.{file_of}
 use Rattle.rosie_run.specs.Inputs.{is_standard, file_pieces, one_pieces, left_after, inputs_pieces, reads_standard}
 use Rattle.rosie_run.specs.Lines.{Makes, line_fault, line_piece, pieces_from, input_pieces}
-use Rattle.rosie_run.specs.Report.{Piece, has, is_stop, is_fault, fault_piece}
+use Rattle.rosie_run.specs.Report.{Piece, has, is_stop, is_fault, fault_piece, text_piece}
 use Rattle.rosie_run.specs.declared.lines.Reading.{Reading}
-use Rattle.rosie_run.specs.declared.mark.Mark.TheVariants.{Hit, Miss}
 use Rattle.rosie_run.proofs.Onward.{lines_none}
 use Rattle.rosie_run.proofs.Pieces.{has-nil, has-append, has-up, up-all}
-use Rattle.rpl_core.specs.Meaning.{Outcome}
-use Rattle.rpl_core.specs.Outcome.{outcome, work_of}
-use Rattle.rpl_core.specs.Run.{Answer, Matched, Failed, Unfinished, run}
-use Rattle.rpl_encode.specs.Answer.{most_bytes}
-use Rattle.rpl_encode.specs.Print.{print}
-use Rattle.rpl_simulation.specs.Laws.{Tells}
-use Rattle.rosie_cli.specs.declared.settings.Settings.{Settings}
-use Rattle.rosie_cli.specs.Lines.{Job, reading, budget_of, is_over, made, matches}
-use Rattle.rosie_cli.specs.Lines.{unanswered, answered, outcome_piece, match_makes}
-use Rattle.rosie_cli.specs.Meant.{IsMeant}
-use Rattle.rosie_cli.specs.Plans.{Maker, Matches, makes_of, Plan, Says, Reads, pieces}
-use Rattle.rosie_cli.specs.Promises.{PaysFor, Pays, BudgetIsDue, IsWithin, IsAllowed, SoundFile, IsSound}
+use Rattle.rosie_jobs.specs.Lines.{reading}
+use Rattle.rosie_jobs.specs.Limits.{Pays, IsAllowed}
+use Rattle.rosie_jobs.specs.Makers.{Maker, makes_of}
+use Rattle.rosie_jobs.proofs.Allowed.{IsGood, good_made, short_line, text_line}
+use Rattle.rosie_cli.specs.Plans.{Plan, Says, Writes, Reads, pieces}
+use Rattle.rosie_cli.specs.Promises.{IsPromised, SoundFile, IsSound}
 use Rattle.rosie_cli.specs.Report.{report}
-use Rattle.rosie_cli.proofs.OneLine.{are_scalars}
-
--- a budget is due
-over_tells : (o : Outcome) (b : ℕ) (a : Answer) → is_over a ≡ true → Tells o b a → b < 4 * work_of o + 2
-over_tells o b (Matched n i cs) e h = absurd (false≢true e)
-over_tells o b (Failed n) e h = absurd (false≢true e)
-over_tells o b Unfinished e h = h
-
-pays_prop : (s : Settings) (job : Job) → IsProp (PaysFor s job)
-pays_prop s job = Prim.hlevel props
-
--- a job whose code does what its goal means
-pub job-due : (s : Settings) (job : Job) → ∥ IsMeant job ∥₁ → PaysFor s job
-job-due s job meant = ∥∥₁_elim meant (pays_prop s job) (λ m. λ line u over.
-    over_tells (outcome job.rules job.goal (chars line)) (budget_of s (chars line))
-    (run job.code (chars line) (budget_of s (chars line))) over
-    (m (chars line) (are_scalars line (IsUtf8-from_is_utf8 line u)) (budget_of s (chars line))))
 
 -- no piece ends the run, and none has no answer
 record Clean (ps : List Piece) : Type 0 where
   stays : has is_stop ps ≡ false
   answers : has is_fault ps ≡ false
 
-abbrev IsGood : Piece → Type 0
-IsGood p = (is_stop p.mark ≡ false) × (is_fault p.mark ≡ false)
-
 good_else : (b : Bool) (p q : Piece) → b ≡ false → IsGood q → IsGood (cond b p q)
 good_else b p q e h = subst (λ x. IsGood (cond x p q)) (sym e) h
 
 good_then : (b : Bool) (p q : Piece) → b ≡ true → IsGood p → IsGood (cond b p q)
 good_then b p q e h = subst (λ x. IsGood (cond x p q)) (sym e) h
-
-good_mark : (b : Bool) → (is_stop (cond b Hit Miss) ≡ false) × (is_fault (cond b Hit Miss) ≡ false)
-good_mark true = (refl, refl)
-good_mark false = (refl, refl)
-
-not_true : (b : Bool) → (b ≡ true → ⊥) → b ≡ false
-not_true true h = absurd (h refl)
-not_true false h = refl
 
 clean_nil : Clean []
 clean_nil = record { stays = has-nil is_stop; answers = has-nil is_fault }
@@ -82,33 +43,6 @@ clean_append ps qs h k = record {
   stays = has-append is_stop ps qs ∙ ap (λ b. b || has is_stop qs) h.stays ∙ k.stays;
   answers = has-append is_fault ps qs ∙ ap (λ b. b || has is_fault qs) h.answers ∙ k.answers;
 }
-
-module _ (s : Settings) (job : Job) (due : PaysFor s job) where
-  good_text : (file : List ℕ) (n : ℕ) (line : List ℕ) → IsWithin s job line → IsGood (match_makes s job file n line)
-  unfolding match_makes
-  good_text file n line a =
-      let ran = run job.code (chars line) (budget_of s (chars line)) in
-      let o = outcome job.rules job.goal (chars line) in
-      let cost = made (budget_of s (chars line)) ran in
-      let text = print s.style (chars line) o in
-      let within : is_over ran ≡ false = not_true (is_over ran) (λ over.
-      let d = due line a.text over in let b = a.budget in absurd (omega arith)) in
-      let fits : nat_lt most_bytes (length text) ≡ false = let h = a.answer in grind (arith, h) in
-      good_else (is_over ran) (unanswered (line_fault file n (codes "budget spent")) cost)
-      (outcome_piece s file n line o cost) within
-      (good_then (not (nat_lt most_bytes (length text))) (answered s line text (matches o) cost cost)
-      (unanswered (line_fault file n (codes "answer too long")) cost) (ap not fits) (good_mark (matches o)))
-
--- of each maker: a line that is allowed is text, short enough, and has an answer
-good_made : (m : Maker) → Pays m → (file : List ℕ) (n : ℕ) (line : List ℕ) → IsAllowed m line
-    → IsGood (makes_of m file n line)
-good_made (Matches s job) due file n line a = good_text s job due file n line a
-
-short_line : (m : Maker) (line : List ℕ) → IsAllowed m line → length line ≤ 16777216
-short_line (Matches s job) line a = a.short
-
-text_line : (m : Maker) (line : List ℕ) → IsAllowed m line → is_utf8 line ≡ true
-text_line (Matches s job) line a = a.text
 
 module _ (m : Maker) (due : Pays m) (whole : Bool) where
   abbrev makes : Makes
@@ -177,18 +111,19 @@ module _ (m : Maker) (due : Pays m) (whole : Bool) where
       (left_allowed left name (reads_standard more) (is_standard name) refl here)
       (λ front back n e isn't. k (name ∷ front) back n (ap (λ xs. name ∷ xs) e) isn't))
 
-plan_clean : (plan : Plan) (tree : List (List ℕ × List ℕ)) (input : List ℕ) → BudgetIsDue plan
+plan_clean : (plan : Plan) (tree : List (List ℕ × List ℕ)) (input : List ℕ) → IsPromised plan
     → IsSound plan tree input → Clean (pieces plan tree input)
 plan_clean (Says ps) tree input due h = record { stays = h.0; answers = h.1 }
+plan_clean (Writes bytes) tree input due h = clean_cons (text_piece bytes) [] (refl, refl) clean_nil
 plan_clean (Reads m whole names) tree input due h = clean_inputs m due whole tree input names h.standard h.files
 
 -- a sound run has neither
-pub no-stop : (plan : Plan) (tree : List (List ℕ × List ℕ)) (input : List ℕ) → BudgetIsDue plan
+pub no-stop : (plan : Plan) (tree : List (List ℕ × List ℕ)) (input : List ℕ) → IsPromised plan
     → IsSound plan tree input → has is_stop (report plan tree input) ≡ false
 unfolding report
 no-stop plan tree input due h = has-up (pieces plan tree input) ∙ (plan_clean plan tree input due h).stays
 
-pub no-fault : (plan : Plan) (tree : List (List ℕ × List ℕ)) (input : List ℕ) → BudgetIsDue plan
+pub no-fault : (plan : Plan) (tree : List (List ℕ × List ℕ)) (input : List ℕ) → IsPromised plan
     → IsSound plan tree input → has is_fault (report plan tree input) ≡ false
 unfolding report
 no-fault plan tree input due h =

@@ -27,9 +27,10 @@ use Rattle.rosie_run.proofs.Breaking.{runs-weaken, breaks-cut}
 use Rattle.rosie_run.proofs.Headlines.{completes}
 use Rattle.rosie_run.proofs.Inward.{file_later}
 use Rattle.rosie_run.proofs.Pieces.{has-nil, wrote-none}
-use Rattle.rosie_cli.specs.Lines.{reading}
+use Rattle.rosie_jobs.specs.Lines.{reading}
+use Rattle.rosie_jobs.specs.Makers.{Maker, makes_of}
 use Rattle.rosie_cli.specs.Planned.{IsPlanned}
-use Rattle.rosie_cli.specs.Plans.{Maker, Plan, Says, Reads, Planned, Span, makes_of, refusal}
+use Rattle.rosie_cli.specs.Plans.{Plan, Says, Writes, Reads, Planned, Span, refusal}
 use Rattle.rosie_cli.specs.Plans.{pieces, inputs_of, ReadsInput, among, stood}
 use Rattle.rosie_cli.specs.Promises.{HasRun}
 use Rattle.rosie_cli.specs.Report.{KnowsFiles, KnowsInputs}
@@ -51,6 +52,7 @@ among_later : (plan : Plan) (tree : List (List ℕ × List ℕ)) (i : Span) (f0 
     → (f.taken < 2 ^ 64 - 1 → f0.taken ≤ f.taken) → among plan tree i (record { before = f; after = f1 }) why file k
     → among plan tree i (record { before = f0; after = f1 }) why file k
 among_later (Says ps) tree i f0 f f1 why file k faults opens taken x = x
+among_later (Writes bytes) tree i f0 f f1 why file k faults opens taken x = x
 among_later (Reads m whole names) tree i f0 f f1 why file k faults opens taken x =
     inputs_later names (λ front. length (inputs_pieces (makes_of m) (reading whole) tree i.before.rest front)) tree whole
     i.before i.after f0 f f1 why file k faults opens taken x
@@ -77,6 +79,7 @@ no_input e = false≢true e
 
 pub said-goes : (s : Result Tally Ended) (plan : Plan) (P : Type 0) → IsSaid plan → GoesOn s (ReadsInput plan → P)
 said-goes (Ok tally) (Says ps) P is = λ goes reads. absurd (no_input reads)
+said-goes (Ok tally) (Writes bytes) P is = λ goes reads. absurd (no_input reads)
 said-goes (Ok tally) (Reads m whole names) P is = absurd is
 said-goes (Err e) plan P is = tt
 
@@ -128,6 +131,7 @@ inputs_not_spent names before tree whole i0 i1 f0 f1 file k short files (in_stan
 among_not_spent : (plan : Plan) (tree : List (List ℕ × List ℕ)) (i f : Span) (file : List ℕ) (k : ℕ)
     → length i.before.rest < 2 ^ 32 → AreShort (inputs_of plan) tree → among plan tree i f Y.Spent file k → ⊥
 among_not_spent (Says ps) tree i f file k short files x = x
+among_not_spent (Writes bytes) tree i f file k short files x = x
 among_not_spent (Reads m whole names) tree i f file k short files x =
     inputs_not_spent names (λ front. length (inputs_pieces (makes_of m) (reading whole) tree i.before.rest front)) tree
     whole i.before i.after f.before f.after file k short files x
@@ -144,6 +148,7 @@ knows_files (Do c) files f = f
 
 pub knows_inputs : (plan : Plan) (files input : Type 0) → files → input → KnowsInputs plan files input
 knows_inputs (Says ps) files input f i = tt
+knows_inputs (Writes bytes) files input f i = tt
 knows_inputs (Reads m whole names) files input f i = (f, i)
 
 -- words that are refused only say so

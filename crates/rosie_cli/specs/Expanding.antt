@@ -1,5 +1,5 @@
 -- The plan of `expand`.
-use Rattle.std.specs.Prelude.{◌≡◌, ℕ, Bool, true, false, List, [], ◌++◌, Ok, Err, nat_lt, length, if◌then◌else◌}
+use Rattle.std.specs.Prelude.{◌≡◌, ℕ, Bool, true, false, List, ◌++◌, Ok, Err, nat_lt, length, if◌then◌else◌}
 use Rattle.rosie_faults.specs.Lines.{compile_line}
 use Rattle.rosie_prepare.specs.Prepared.{IsPrepared, OrLine, Ready, Tree, Wanted, bodies}
 use Rattle.rosie_show.specs.Expansions.{IsExpansion}

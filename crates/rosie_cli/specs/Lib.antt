@@ -1,12 +1,13 @@
 pub mod Options
-pub mod Lines
-pub mod Meant
 pub mod Words
 pub mod Plans
 pub mod Classes
 pub mod Listing
 pub mod Expanding
+pub mod Compiling
+pub mod CodeFiles
 pub mod Planned
 pub mod Report
 pub mod Promises
+pub mod Laws
 pub mod inside

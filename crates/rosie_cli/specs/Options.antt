@@ -4,7 +4,7 @@ use Rattle.rpl_encode.specs.declared.style.Style.TheVariants as V
 use Rattle.rosie_words.specs.declared.command.Command.{Command}
 use Rattle.rosie_words.specs.declared.command.Style.{Style}
 use Rattle.rosie_words.specs.declared.command.Style.TheVariants as S
-use Rattle.rosie_cli.specs.declared.settings.Settings.{Settings}
+use Rattle.rosie_jobs.specs.declared.settings.Settings.{Settings}
 
 -- the style of an answer
 abbrev pub style_of : Style → E.Style

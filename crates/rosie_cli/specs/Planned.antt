@@ -1,6 +1,6 @@
 -- What the words come to over the tree of files.
 use Rattle.std.specs.Prelude.{ℕ, ◌≡◌, Bool, true, false, nat_lt, if◌then◌else◌, map, List, [], ◌∷◌, length}
-use Rattle.std.specs.Prelude.{Ok, Err, codes, encode_utf8_all}
+use Rattle.std.specs.Prelude.{Ok, Err, Option, Some, None, codes, encode_utf8_all}
 use Rattle.rosie_faults.specs.Lines.{compile_line}
 use Rattle.rosie_prepare.specs.Prepared.{Tree, Wanted, Ready, OrLine, IsPrepared, bodies}
 use Rattle.rosie_words.specs.declared.command.Command.{Command}
@@ -8,14 +8,18 @@ use Rattle.rosie_words.specs.declared.command.What.{What}
 use Rattle.rosie_words.specs.declared.command.What.TheVariants as W
 use Rattle.rpl_classes.specs.Classes.{set_named}
 use Rattle.rpl_core.specs.Instr.{Instr}
+use Rattle.rpl_forms.specs.Rows.{Row}
 use Rattle.rpl_core.specs.Programs.{IsCode}
+use Rattle.rosie_jobs.specs.Lines.{Job}
+use Rattle.rosie_jobs.specs.Makers.{Matches, Traces}
+use Rattle.rosie_jobs.specs.declared.settings.Settings.{Settings}
 use Rattle.rosie_cli.specs.Classes.{class_plan}
-use Rattle.rosie_cli.specs.declared.settings.Settings.{Settings}
+use Rattle.rosie_cli.specs.CodeFiles.{IsCodeLines}
+use Rattle.rosie_cli.specs.Compiling.{IsCompiled}
 use Rattle.rosie_cli.specs.Expanding.{IsExpanded}
-use Rattle.rosie_cli.specs.Lines.{Job}
 use Rattle.rosie_cli.specs.Listing.{IsListed}
 use Rattle.rosie_cli.specs.Options.{settings_of}
-use Rattle.rosie_cli.specs.Plans.{Matches, Plan, Reads, Planned, refusal}
+use Rattle.rosie_cli.specs.Plans.{Plan, Reads, Planned, refusal}
 use Rattle.rosie_cli.specs.Words.{Asked, Refuse, Do}
 
 -- the names of the inputs: without any it is the standard input
@@ -26,23 +30,36 @@ names_or (name ∷ more) = name ∷ more
 abbrev pub input_names : List (List ℕ) → List (List ℕ)
 input_names inputs = names_or (map encode_utf8_all inputs)
 
--- a goal with its code runs on each line, unless the code is too long
-abbrev pub within_limits : Settings → List (List ℕ) → Job → Plan
-within_limits s names job =
-    if nat_lt 1048576 (length job.code) then refusal compile_line else Reads (Matches s job) s.whole names
+-- the job of what is ready, with this code
+abbrev pub job_with : Ready → List Instr → Job
+job_with r code = record { rules = bodies r.rules; goal = r.goal; code = code }
 
--- what is prepared runs on each line; where it isn't, that is told
-abbrev pub IsRun : Settings → List (List ℕ) → OrLine Ready → Plan → Type 0
-IsRun s names (Err line) plan = plan ≡ refusal line
-IsRun s names (Ok r) plan =
+-- what is prepared runs by the plan of its rules and its job; where it isn't, or where its code is too long, that is
+-- told
+abbrev pub within_limit : Plan → List Instr → Plan
+within_limit plan code = if nat_lt 1048576 (length code) then refusal compile_line else plan
+
+abbrev pub IsRun : (List Row → Job → Plan) → OrLine Ready → Plan → Type 0
+IsRun run (Err line) plan = plan ≡ refusal line
+IsRun run (Ok r) plan =
     (code : List Instr) × IsCode (bodies r.rules) r.goal code
-    × (plan ≡ within_limits s names (record { rules = bodies r.rules; goal = r.goal; code = code }))
+    × (plan ≡ within_limit (run r.rules (job_with r code)) code)
 
--- the plan of a command that runs a pattern on each line
-pub record IsLines (s : Settings) (w : Wanted) (inputs : List (List ℕ)) (tree : Tree) (p : Planned) : Type 0 where
+-- the plan of a command that runs a pattern
+pub record IsRunning (run : List Row → Job → Plan) (w : Wanted) (tree : Tree) (p : Planned) : Type 0 where
   pub ready : OrLine Ready
   pub prepares : IsPrepared tree w p.asked ready
-  pub runs : IsRun s (input_names inputs) ready p.plan
+  pub runs : IsRun run ready p.plan
+
+-- it is matched on each line of the inputs, or is traced there, where the rules are told by their full names
+abbrev pub full_names : List Row → List (List ℕ)
+full_names = map (λ r. r.name)
+
+abbrev pub matching : Settings → (inputs : List (List ℕ)) → List Row → Job → Plan
+matching s inputs rules job = Reads (Matches s job) s.whole (input_names inputs)
+
+abbrev pub tracing : (limit : ℕ) → (whole : Bool) → (inputs : List (List ℕ)) → List Row → Job → Plan
+tracing limit whole inputs rules job = Reads (Traces limit (full_names rules) job) whole (input_names inputs)
 
 -- what a command wants of its pattern, which it matches from the start of a line or looks for
 abbrev pub wanted : Command → List ℕ → (find : Bool) → Wanted
@@ -54,13 +71,22 @@ wanted c pattern find = record {
   find = find;
 }
 
+-- the plan of `match`: of its pattern, or of its code file
+abbrev pub IsMatch : Command → Option (List ℕ) → List ℕ → List (List ℕ) → Tree → Planned → Type 0
+IsMatch c None pattern inputs tree p = IsRunning (matching (settings_of c) inputs) (wanted c pattern false) tree p
+IsMatch c (Some path) pattern inputs tree p =
+    IsCodeLines (settings_of c) (encode_utf8_all path) (input_names inputs) tree p
+
 -- the plan of each command
 abbrev pub IsPlannedAs : Command → What → Tree → Planned → Type 0
-IsPlannedAs c (W.Match pattern inputs) tree p = IsLines (settings_of c) (wanted c pattern false) inputs tree p
-IsPlannedAs c (W.Grep pattern inputs) tree p = IsLines (settings_of c) (wanted c pattern true) inputs tree p
+IsPlannedAs c (W.Match pattern inputs) tree p = IsMatch c c.code_file pattern inputs tree p
+IsPlannedAs c (W.Grep pattern inputs) tree p = IsRunning (matching (settings_of c) inputs) (wanted c pattern true) tree p
 IsPlannedAs c (W.Class name) tree p = p ≡ record { asked = []; plan = class_plan name (set_named name) }
 IsPlannedAs c W.List tree p = IsListed c.roots c.folders tree p
 IsPlannedAs c (W.Expand pattern) tree p = IsExpanded (wanted c pattern false) c.code tree p
+IsPlannedAs c (W.Compile pattern) tree p = IsCompiled (wanted c pattern false) tree p
+IsPlannedAs c (W.Trace pattern inputs) tree p =
+    IsRunning (tracing c.limit c.whole inputs) (wanted c pattern false) tree p
 IsPlannedAs c _ tree p = p ≡ record { asked = []; plan = refusal (codes "rosie: not yet\n") }
 
 -- and of all words

@@ -1,24 +1,18 @@
 -- A plan: what a command comes to before anything is written. Its pieces, and where reading may end its run.
 use Rattle.std.specs.Prelude.{ℕ, ◌≡◌, true, Bool, List, [], ◌∷◌, length}
 use Rattle.rosie_run.specs.Inputs.{inputs_pieces, reads_standard}
-use Rattle.rosie_run.specs.Lines.{Makes}
 use Rattle.rosie_run.specs.Report.{Piece, stop_piece, text_piece}
 use Rattle.rosie_run.specs.Sources.{Moment, moment}
 use Rattle.rosie_run.specs.Where.{InInputs, InRun, Nowhere}
 use Rattle.rosie_run.specs.declared.ended.Why.{Why}
-use Rattle.rosie_cli.specs.Lines.{Job, match_makes, reading}
-use Rattle.rosie_cli.specs.declared.settings.Settings.{Settings}
+use Rattle.rosie_jobs.specs.Lines.{reading}
+use Rattle.rosie_jobs.specs.Makers.{Maker, makes_of}
 
--- what makes a piece of a line
-pub data Maker : Type 0 where
-  Matches : (settings : Settings) → (job : Job) → Maker
-
-abbrev pub makes_of : Maker → Makes
-makes_of (Matches s job) = match_makes s job
-
--- pieces for which no input is read, or a piece for each line of the inputs with these names
+-- pieces for which no input is read, the bytes of a code file that is the whole answer, or a piece for each line of the
+-- inputs with these names
 pub data Plan : Type 0 where
   Says : (pieces : List Piece) → Plan
+  Writes : (bytes : List ℕ) → Plan
   Reads : (maker : Maker) → (whole : Bool) → (names : List (List ℕ)) → Plan
 
 -- a refusal, and a text that is the whole answer
@@ -36,11 +30,13 @@ pub record Planned : Type 0 where
 -- the pieces, over the tree of files and the standard input
 abbrev pub pieces : Plan → List (List ℕ × List ℕ) → List ℕ → List Piece
 pieces (Says ps) tree input = ps
+pieces (Writes bytes) tree input = text_piece bytes ∷ []
 pieces (Reads m whole names) tree input = inputs_pieces (makes_of m) (reading whole) tree input names
 
 -- the names of the inputs; the standard input is among them
 abbrev pub inputs_of : Plan → List (List ℕ)
 inputs_of (Says ps) = []
+inputs_of (Writes bytes) = []
 inputs_of (Reads m whole names) = names
 
 abbrev pub ReadsInput : Plan → Type 0
@@ -58,6 +54,7 @@ span rest taken faults opens a b =
 -- where reading may end the run of a plan: among its inputs. `input` is the standard input
 abbrev pub among : Plan → List (List ℕ × List ℕ) → (input files : Span) → Why → List ℕ → ℕ → Type 0
 among (Says ps) tree input files = Nowhere
+among (Writes bytes) tree input files = Nowhere
 among (Reads m whole names) tree input files =
     InInputs names (λ front. length (inputs_pieces (makes_of m) (reading whole) tree input.before.rest front))
     tree whole input.before input.after files.before files.after

@@ -1,34 +1,29 @@
--- What is promised of the lines of a run: when a budget is due, and where nothing goes wrong.
-use Rattle.std.specs.Prelude.{ℕ, ◌≡◌, ◌≢◌, ◌+◌, ◌*◌, ◌<◌, ◌≤◌, Bool, true, false, List, ◌∷◌, ◌++◌, Option, None, Some}
-use Rattle.std.specs.Prelude.{length, chars}
+-- What is promised of a run: when a budget is due, that a written code is safe, and where nothing goes wrong.
+use Rattle.std.specs.Prelude.{ℕ, ◌≡◌, ◌≢◌, Bool, true, false, List, ◌∷◌, ◌++◌, Option, None, Some}
 use Rattle.std.specs.List.{All}
-use Rattle.std.specs.Str.{is_utf8}
 use Rattle.rosie_io.specs.Lines.{lines}
 use Rattle.rosie_io.specs.Opening.{file_of}
 use Rattle.rosie_run.specs.Inputs.{is_standard, reads_standard}
 use Rattle.rosie_run.specs.Report.{has, is_stop, is_fault}
 use Rattle.rosie_run.specs.declared.status.Status.{Status}
 use Rattle.rosie_run.specs.declared.status.Status.TheVariants.{Matched, NoMatch, Refused, LineFault}
-use Rattle.rpl_core.specs.Outcome.{outcome, work_of}
-use Rattle.rpl_core.specs.Run.{run}
-use Rattle.rpl_encode.specs.Answer.{most_bytes}
-use Rattle.rpl_encode.specs.Print.{print}
-use Rattle.rosie_cli.specs.declared.settings.Settings.{Settings}
-use Rattle.rosie_cli.specs.Lines.{Job, budget_of, is_over}
-use Rattle.rosie_cli.specs.Plans.{Maker, Matches, Plan, Says, Reads}
+use Rattle.rpl_codefile.specs.Spelling.{Spells}
+use Rattle.rpl_core.specs.Instr.{Instr}
+use Rattle.rpl_safe.specs.Safe.{IsSafe}
+use Rattle.rosie_jobs.specs.Limits.{Pays, IsAllowed}
+use Rattle.rosie_jobs.specs.Makers.{Maker}
+use Rattle.rosie_cli.specs.Plans.{Plan, Says, Writes, Reads}
 
--- a line passes its budget only where four times the work of its meaning and two is over it
-abbrev pub PaysFor : Settings → Job → Type 0
-PaysFor s job =
-    (line : List ℕ) → is_utf8 line ≡ true → is_over (run job.code (chars line) (budget_of s (chars line))) ≡ true
-    → budget_of s (chars line) < 4 * work_of (outcome job.rules job.goal (chars line)) + 2
+-- the bytes spell a safe code
+abbrev pub SpellsSafe : List ℕ → Type 0
+SpellsSafe bytes = (code : List Instr) × Spells code bytes × IsSafe code
 
-abbrev pub Pays : Maker → Type 0
-Pays (Matches s job) = PaysFor s job
-
-abbrev pub BudgetIsDue : Plan → Type 0
-BudgetIsDue (Says ps) = Unit {0}
-BudgetIsDue (Reads m whole names) = Pays m
+-- what is promised of a plan: a line is said to pass its budget only where that is due, and a code that is written as a
+-- file is safe
+abbrev pub IsPromised : Plan → Type 0
+IsPromised (Says ps) = Unit {0}
+IsPromised (Writes bytes) = SpellsSafe bytes
+IsPromised (Reads m whole names) = Pays m
 
 -- the run came to the end of its report, or the machine made a step: so many were made before, and so many now
 abbrev pub HasRun : Status → (before now : ℕ) → Type 0
@@ -37,16 +32,6 @@ HasRun NoMatch before now = Unit {0}
 HasRun Refused before now = Unit {0}
 HasRun LineFault before now = Unit {0}
 HasRun _ before now = now ≢ before
-
--- a line that every limit allows
-pub record IsWithin (s : Settings) (job : Job) (line : List ℕ) : Type 0 where
-  pub short : length line ≤ 16777216
-  pub text : is_utf8 line ≡ true
-  pub budget : 4 * work_of (outcome job.rules job.goal (chars line)) + 2 ≤ budget_of s (chars line)
-  pub answer : length (print s.style (chars line) (outcome job.rules job.goal (chars line))) ≤ most_bytes
-
-abbrev pub IsAllowed : Maker → List ℕ → Type 0
-IsAllowed (Matches s job) line = IsWithin s job line
 
 -- an input that isn't missing, and whose lines are allowed
 abbrev pub SoundFile : Maker → Bool → Option (List ℕ) → Type 0
@@ -63,4 +48,5 @@ pub record SoundInputs (m : Maker) (whole : Bool) (names : List (List ℕ)) (tre
 -- a plan that refuses nothing and has an answer for each of its pieces, over lines that every limit allows
 abbrev pub IsSound : Plan → List (List ℕ × List ℕ) → List ℕ → Type 0
 IsSound (Says ps) tree input = (has is_stop ps ≡ false) × (has is_fault ps ≡ false)
+IsSound (Writes bytes) tree input = Unit {0}
 IsSound (Reads m whole names) tree input = SoundInputs m whole names tree input

@@ -9,7 +9,7 @@ ghost use Rattle.rpl_core.specs.Table.{bodies_of};
 ghost use Rattle.rpl_core.specs.View.{core_of};
 ghost use Rattle.rosie_cli.specs.Expanding.{IsExpanded, Expands};
 ghost use Rattle.rosie_cli.specs.Plans.{Planned};
-ghost use Rattle.rosie_cli.specs.Promises.{BudgetIsDue};
+ghost use Rattle.rosie_cli.specs.Promises.{IsPromised};
 ghost use Rattle.rosie_cli.specs.inside.Planning.{plan_of, Plans, HasCause, PlansRun};
 
 use crate::plan::{Plan, Unplanned};
@@ -26,7 +26,7 @@ use std::alloc::{AllocError, Global};
 fn plan_text(alloc: Global, ready: &Prepared, wants_code: bool) -> Result<Plan, NoMemory>
     requires { IsWhole (bodies_of ready.now.rules) (core_of (peg_of ready.now.goal)) }
     ensures plans { IfOk result (λ plan. PlansRun plan (Expands wants_code (Ok (ready_seen ready.now)))) }
-    ensures due { IfOk result (λ plan. BudgetIsDue (plan_of plan)) }
+    ensures due { IfOk result (λ plan. IsPromised (plan_of plan)) }
 {
     let mut text = expansion_text(alloc, &ready.expr, &ready.rules, &ready.goal)?;
     if !wants_code {
@@ -53,7 +53,7 @@ pub(crate) fn plan_expansion<F: Files>(
 ) -> Result<Plan, Unplanned>
     ensures plans { F.tells → (p : Planned) → IsExpanded (wanted_seen wanted.now) wants_code (F.tree files.old) p
         → Plans result p }
-    ensures due { IfOk result (λ plan. BudgetIsDue (plan_of plan)) }
+    ensures due { IfOk result (λ plan. IsPromised (plan_of plan)) }
     ensures cause { HasCause result (moment F.rest F.taken F.faults F.failed_opens files.old)
         (moment F.rest F.taken F.faults F.failed_opens files.new) }
     ensures taken { F.taken files.new < 2 ^ 64 - 1 → F.taken files.old ≤ F.taken files.new }

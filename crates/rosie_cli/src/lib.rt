@@ -8,16 +8,18 @@
 
 mod asked;
 mod class_plan;
+mod code_plan;
+mod compile_plan;
 mod expand_plan;
-mod job;
+mod laws;
 mod list_plan;
-mod match_job;
 mod match_plan;
+mod options;
 mod plan;
 mod planning;
-mod settings;
-mod texts;
 mod top;
+mod trace_plan;
 
+pub use laws::compiled_is_run;
 pub use rosie_run::Status;
 pub use top::rosie;

@@ -4,7 +4,7 @@ ghost use Rattle.std.specs.Prelude.{◌≡◌, ◌<◌, ◌≤◌, ◌^◌, ◌-
 ghost use Rattle.rosie_run.specs.Sources.{moment};
 ghost use Rattle.rosie_cli.specs.Listing.{IsListed};
 ghost use Rattle.rosie_cli.specs.Plans.{Planned};
-ghost use Rattle.rosie_cli.specs.Promises.{BudgetIsDue};
+ghost use Rattle.rosie_cli.specs.Promises.{IsPromised};
 ghost use Rattle.rosie_cli.specs.inside.Planning.{plan_of, Plans, HasCause};
 
 use crate::plan::{Plan, Unplanned};
@@ -22,7 +22,7 @@ pub(crate) fn plan_list<F: Files>(
     files: &mut F,
 ) -> Result<Plan, Unplanned>
     ensures plans { F.tells → (p : Planned) → IsListed roots.now folders.now (F.tree files.old) p → Plans result p }
-    ensures due { IfOk result (λ plan. BudgetIsDue (plan_of plan)) }
+    ensures due { IfOk result (λ plan. IsPromised (plan_of plan)) }
     ensures cause { HasCause result (moment F.rest F.taken F.faults F.failed_opens files.old)
         (moment F.rest F.taken F.faults F.failed_opens files.new) }
     ensures taken { F.taken files.new < 2 ^ 64 - 1 → F.taken files.old ≤ F.taken files.new }

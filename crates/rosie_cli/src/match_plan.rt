@@ -8,17 +8,15 @@ ghost use Rattle.rpl_check.specs.Checked.{IsWhole};
 ghost use Rattle.rpl_check.specs.Goal.{peg_of};
 ghost use Rattle.rpl_core.specs.Table.{bodies_of};
 ghost use Rattle.rpl_core.specs.View.{core_of};
-ghost use Rattle.rosie_cli.specs.Planned.{input_names, IsRun, IsLines};
+ghost use Rattle.rosie_cli.specs.Planned.{input_names, matching, IsRun, IsRunning};
 ghost use Rattle.rosie_cli.specs.Plans.{Planned};
-ghost use Rattle.rosie_cli.specs.Promises.{BudgetIsDue};
+ghost use Rattle.rosie_cli.specs.Promises.{IsPromised};
 ghost use Rattle.rosie_cli.specs.inside.Planning.{plan_of, Plans, HasCause, PlansRun};
 
-use crate::job::Job;
-use crate::match_job::MatchJob;
 use crate::plan::{Plan, Unplanned};
-use crate::settings::Settings;
 use rosie_faults::compile_line;
 use rosie_io::Files;
+use rosie_jobs::{Job, MatchJob, Settings};
 use rosie_prepare::{Prepared, Unready, Wanted, prepare};
 use rosie_run::NoMemory;
 use rosie_words::Paths;
@@ -27,7 +25,7 @@ use rpl_text::Chars;
 use std::alloc::{AllocError, Global};
 
 /// The names of the inputs: without any it is the standard input.
-fn input_names(alloc: Global, mut inputs: Paths) -> Result<Paths, NoMemory>
+pub(crate) fn input_names(alloc: Global, mut inputs: Paths) -> Result<Paths, NoMemory>
     ensures { IfOk result (λ names. names_of encode_utf8_all names ≡ input_names inputs) }
 {
     if !inputs.is_empty() {
@@ -45,8 +43,8 @@ fn plan_job(
     inputs: Paths,
 ) -> Result<Plan, NoMemory>
     requires { IsWhole (bodies_of ready.rules) (core_of (peg_of ready.goal)) }
-    ensures plans { IfOk result (λ plan. PlansRun plan (IsRun settings (input_names inputs) (Ok (ready_seen ready)))) }
-    ensures due { IfOk result (λ plan. BudgetIsDue (plan_of plan)) }
+    ensures plans { IfOk result (λ plan. PlansRun plan (IsRun (matching settings inputs) (Ok (ready_seen ready)))) }
+    ensures due { IfOk result (λ plan. IsPromised (plan_of plan)) }
 {
     let names = input_names(alloc, inputs)?;
     match Job::new(alloc, ready.rules, ready.goal) {
@@ -73,9 +71,9 @@ pub(crate) fn plan_lines<F: Files>(
     inputs: Paths,
     files: &mut F,
 ) -> Result<Plan, Unplanned>
-    ensures plans { F.tells → (p : Planned) → IsLines settings (wanted_seen wanted.now) inputs (F.tree files.old) p
-        → Plans result p }
-    ensures due { IfOk result (λ plan. BudgetIsDue (plan_of plan)) }
+    ensures plans { F.tells → (p : Planned)
+        → IsRunning (matching settings inputs) (wanted_seen wanted.now) (F.tree files.old) p → Plans result p }
+    ensures due { IfOk result (λ plan. IsPromised (plan_of plan)) }
     ensures cause { HasCause result (moment F.rest F.taken F.faults F.failed_opens files.old)
         (moment F.rest F.taken F.faults F.failed_opens files.new) }
     ensures taken { F.taken files.new < 2 ^ 64 - 1 → F.taken files.old ≤ F.taken files.new }

@@ -2,7 +2,8 @@
 
 ghost use Rattle.std.specs.Prelude.{◌≡◌};
 
-use crate::match_job::MatchJob;
+use rosie_io::Bytes;
+use rosie_jobs::{CodeJob, MatchJob, TraceJob};
 use rosie_words::Paths;
 use rpl_text::Chars;
 use std::alloc::AllocError;
@@ -14,9 +15,23 @@ pub(crate) enum Plan {
     Refuse(String),
     /// A text that is the whole answer.
     Answer(String),
+    /// The bytes of a code file, which are the whole answer.
+    Write(Bytes),
     /// A goal runs on each line of the inputs with these names.
     Match {
         job: MatchJob,
+        whole: bool,
+        names: Paths,
+    },
+    /// A goal is traced on each line of the inputs with these names.
+    Trace {
+        job: TraceJob,
+        whole: bool,
+        names: Paths,
+    },
+    /// The code of a file runs on each line of the inputs with these names.
+    Run {
+        job: CodeJob,
         whole: bool,
         names: Paths,
     },

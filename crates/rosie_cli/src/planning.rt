@@ -5,18 +5,21 @@ ghost use Rattle.rosie_run.specs.Sources.{moment};
 ghost use Rattle.rosie_words.specs.Reading.{words_of};
 ghost use Rattle.rosie_cli.specs.Planned.{IsPlannedAs, IsPlanned};
 ghost use Rattle.rosie_cli.specs.Plans.{Planned};
-ghost use Rattle.rosie_cli.specs.Promises.{BudgetIsDue};
+ghost use Rattle.rosie_cli.specs.Promises.{IsPromised};
 ghost use Rattle.rosie_cli.specs.Report.{KnowsFiles};
 ghost use Rattle.rosie_cli.specs.Words.{asked, IsRefused};
 ghost use Rattle.rosie_cli.specs.inside.Planning.{plan_of, Plans, HasCause};
 
 use crate::asked::{Asked, ask};
 use crate::class_plan::plan_class;
+use crate::code_plan::plan_code;
+use crate::compile_plan::plan_compiled;
 use crate::expand_plan::plan_expansion;
 use crate::list_plan::plan_list;
 use crate::match_plan::plan_lines;
+use crate::options::settings_of;
 use crate::plan::{Plan, Unplanned};
-use crate::settings::settings_of;
+use crate::trace_plan::{Bounds, plan_traces};
 use rosie_io::Files;
 use rosie_prepare::Wanted;
 use rosie_words::{Command, What};
@@ -26,7 +29,7 @@ use std::alloc::Global;
 /// The plan of a command.
 fn plan_command<F: Files>(alloc: Global, command: Command, files: &mut F) -> Result<Plan, Unplanned>
     ensures plans { F.tells → (p : Planned) → IsPlannedAs command command.what (F.tree files.old) p → Plans result p }
-    ensures due { IfOk result (λ plan. BudgetIsDue (plan_of plan)) }
+    ensures due { IfOk result (λ plan. IsPromised (plan_of plan)) }
     ensures cause { HasCause result (moment F.rest F.taken F.faults F.failed_opens files.old)
         (moment F.rest F.taken F.faults F.failed_opens files.new) }
     ensures taken { F.taken files.new < 2 ^ 64 - 1 → F.taken files.old ≤ F.taken files.new }
@@ -39,19 +42,25 @@ fn plan_command<F: Files>(alloc: Global, command: Command, files: &mut F) -> Res
         folders,
         fixed,
         code,
+        code_file,
+        limit,
+        whole,
         ..
     } = command;
     match what {
-        What::Match { pattern, inputs } => {
-            let wanted = Wanted {
-                roots: &roots,
-                folders: &folders,
-                text: text_of(&pattern),
-                fixed,
-                find: false,
-            };
-            plan_lines(alloc, &wanted, settings, inputs, files)
-        }
+        What::Match { pattern, inputs } => match code_file {
+            None => {
+                let wanted = Wanted {
+                    roots: &roots,
+                    folders: &folders,
+                    text: text_of(&pattern),
+                    fixed,
+                    find: false,
+                };
+                plan_lines(alloc, &wanted, settings, inputs, files)
+            }
+            Some(path) => plan_code(alloc, path, settings, inputs, files),
+        },
         What::Grep { pattern, inputs } => {
             let wanted = Wanted {
                 roots: &roots,
@@ -74,6 +83,27 @@ fn plan_command<F: Files>(alloc: Global, command: Command, files: &mut F) -> Res
             };
             plan_expansion(alloc, &wanted, code, files)
         }
+        What::Compile { pattern } => {
+            let wanted = Wanted {
+                roots: &roots,
+                folders: &folders,
+                text: text_of(&pattern),
+                fixed,
+                find: false,
+            };
+            plan_compiled(alloc, &wanted, files)
+        }
+        What::Trace { pattern, inputs } => {
+            let wanted = Wanted {
+                roots: &roots,
+                folders: &folders,
+                text: text_of(&pattern),
+                fixed,
+                find: false,
+            };
+            let bounds = Bounds { limit, whole };
+            plan_traces(alloc, &wanted, bounds, inputs, files)
+        }
         _other => Ok(Plan::Refuse(String::from_str(alloc, "rosie: not yet\n")?)),
     }
 }
@@ -86,7 +116,7 @@ pub(crate) fn plan<F: Files>(
 ) -> Result<Plan, Unplanned>
     ensures plans { (p : Planned) → KnowsFiles (asked (words_of words.now)) F.tells
         → IsPlanned (asked (words_of words.now)) (F.tree files.old) p → Plans result p }
-    ensures due { IfOk result (λ plan. BudgetIsDue (plan_of plan)) }
+    ensures due { IfOk result (λ plan. IsPromised (plan_of plan)) }
     ensures cause { HasCause result (moment F.rest F.taken F.faults F.failed_opens files.old)
         (moment F.rest F.taken F.faults F.failed_opens files.new) }
     ensures taken { F.taken files.new < 2 ^ 64 - 1 → F.taken files.old ≤ F.taken files.new }

@@ -10,15 +10,15 @@ ghost use Rattle.rosie_run.specs.Sources.{moment, RoseIn};
 ghost use Rattle.rosie_words.specs.Reading.{words_of};
 ghost use Rattle.rosie_cli.specs.Planned.{IsPlanned};
 ghost use Rattle.rosie_cli.specs.Plans.{Planned, pieces, inputs_of, ReadsInput, span, among, stood};
-ghost use Rattle.rosie_cli.specs.Promises.{BudgetIsDue, HasRun, IsSound};
+ghost use Rattle.rosie_cli.specs.Promises.{IsPromised, HasRun, IsSound};
 ghost use Rattle.rosie_cli.specs.Report.{report, KnowsFiles, KnowsInputs};
 ghost use Rattle.rosie_cli.specs.Words.{asked, IsRefused};
 ghost use Rattle.rosie_cli.specs.inside.Planning.{plan_of, IsSaid, HasStepped};
 
 use crate::plan::{Plan, Unplanned};
 use crate::planning::plan;
-use crate::settings::MOST_BYTES;
 use rosie_io::{Files, Sink, Source};
+use rosie_jobs::MOST_BYTES;
 use rosie_run::{Ended, Mark, Reading, Status, Tally, Why, cut, finish, run_inputs, say};
 use rpl_machine::Steps;
 use rpl_print::text_of;
@@ -54,7 +54,24 @@ fn run_plan<F: Files, I: Source, O: Sink, E: Sink, L: Ledger>(
     match plan {
         Plan::Refuse(text) => say(out, err, &[], text.as_bytes(), Mark::Stop),
         Plan::Answer(text) => say(out, err, text.as_bytes(), &[], Mark::Hit),
+        Plan::Write(bytes) => say(out, err, bytes.as_slice(), &[], Mark::Hit),
         Plan::Match { job, whole, names } => {
+            let reading = Reading {
+                whole: *whole,
+                most: MOST_BYTES,
+            };
+            let names = names.as_slice();
+            run_inputs(alloc, job, reading, names, files, input, out, err, steps)
+        }
+        Plan::Trace { job, whole, names } => {
+            let reading = Reading {
+                whole: *whole,
+                most: MOST_BYTES,
+            };
+            let names = names.as_slice();
+            run_inputs(alloc, job, reading, names, files, input, out, err, steps)
+        }
+        Plan::Run { job, whole, names } => {
             let reading = Reading {
                 whole: *whole,
                 most: MOST_BYTES,
@@ -86,7 +103,7 @@ fn run_words<F: Files, I: Source, O: Sink, E: Sink, L: Ledger>(
         (texts O.written O.number E.written out.new err.new steps.new) }
     ensures due { (p : Planned) → KnowsFiles (asked (words_of words.now)) F.tells
         → IsPlanned (asked (words_of words.now)) (F.tree files.old) p → HasStepped result steps.old steps.new
-        → BudgetIsDue p.plan }
+        → IsPromised p.plan }
     ensures rest { F.tells → I.tells → (p : Planned) → IsPlanned (asked (words_of words.now)) (F.tree files.old) p
         → GoesOn result (ReadsInput p.plan → I.rest input.new ≡ []) }
     ensures cause { SourcesCause result (moment I.rest I.taken I.faults I.failed_opens input.old)
@@ -134,10 +151,11 @@ pub fn rosie<F: Files, I: Source, O: Sink, E: Sink, L: Ledger>(
         → CameToEnd result → ReadsInput p.plan → I.rest input.new ≡ [] }
     ensures untouched { IsRefused (asked (words_of words.now)) → (files.new ≡ files.old) × (input.new ≡ input.old) }
 
-    // No line is said to pass its budget that the budget pays for; and where nothing goes wrong, there is an answer.
-    ensures budget_is_due { (p : Planned) → KnowsFiles (asked (words_of words.now)) F.tells
+    // No line is said to pass its budget that the budget pays for, and a code that is written as a file is safe; and
+    // where nothing goes wrong, there is an answer.
+    ensures promised { (p : Planned) → KnowsFiles (asked (words_of words.now)) F.tells
         → IsPlanned (asked (words_of words.now)) (F.tree files.old) p → HasRun result steps.old steps.new
-        → BudgetIsDue p.plan }
+        → IsPromised p.plan }
     ensures complete { F.tells → I.tells → (p : Planned)
         → IsPlanned (asked (words_of words.now)) (F.tree files.old) p
         → ¬ RoseIn (moment I.rest I.taken I.faults I.failed_opens input.old)

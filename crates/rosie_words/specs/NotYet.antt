@@ -13,11 +13,12 @@ use Rattle.rosie_words.specs.Roles.{Front, Free, Role, Argument, Plain, Full, Wa
 
 -- what is built
 abbrev pub built_commands : List CommandName
-built_commands = C.Match ∷ C.Grep ∷ C.List ∷ C.Expand ∷ C.Class ∷ []
+built_commands = C.Match ∷ C.Grep ∷ C.List ∷ C.Expand ∷ C.Trace ∷ C.Compile ∷ C.Class ∷ []
 
 abbrev pub built_options : List OptionName
 built_options =
-    O.File ∷ O.Rpl ∷ O.LibPath ∷ O.Output ∷ O.WholeFile ∷ O.All ∷ O.FixedStrings ∷ O.Budget ∷ O.Steps ∷ O.Code ∷ []
+    O.File ∷ O.Rpl ∷ O.LibPath ∷ O.Output ∷ O.WholeFile ∷ O.All ∷ O.FixedStrings ∷ O.Budget ∷ O.Steps ∷ O.Code
+    ∷ O.Limit ∷ O.CodeFile ∷ []
 
 -- an option, a command is built
 abbrev pub is_built : OptionName → Bool

@@ -37,6 +37,8 @@ fn is_built(option: OptionName) -> bool
             | OptionName::Budget
             | OptionName::Steps
             | OptionName::Code
+            | OptionName::Limit
+            | OptionName::CodeFile
     )
 }
 
@@ -51,6 +53,8 @@ fn names_built(word: &str) -> bool
                 | CommandName::Grep
                 | CommandName::List
                 | CommandName::Expand
+                | CommandName::Trace
+                | CommandName::Compile
                 | CommandName::Class
         )
     )

@@ -11,8 +11,6 @@ mod head;
 mod layout;
 mod reach;
 mod size;
-#[cfg(test)]
-mod tests;
 mod whole;
 mod writing;
 

@@ -1,12 +1,14 @@
 //! Tests of the check, the compiler and the machine on patterns in words: faults, meanings and runs that were worked by
 //! hand, and thousands of generated patterns and texts, on which the plain programs that compute the definitions answer
-//! the same. Nothing stands on this crate.
+//! the same; codes that were worked by hand, and codes that are safe or not. Nothing stands on this crate.
 #![tactic(auto)]
 
 #[cfg(test)]
 mod cases;
 #[cfg(test)]
 mod code_words;
+#[cfg(test)]
+mod codes;
 #[cfg(test)]
 mod endings;
 #[cfg(test)]
@@ -19,6 +21,8 @@ mod made;
 mod names;
 #[cfg(test)]
 mod plain_check;
+#[cfg(test)]
+mod safe_code;
 #[cfg(test)]
 mod shown;
 #[cfg(test)]

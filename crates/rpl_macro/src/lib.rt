@@ -10,8 +10,6 @@ mod fault;
 mod kind;
 mod laws;
 mod recase;
-#[cfg(test)]
-mod tests;
 mod uses;
 
 pub use casing::Casing;

@@ -21,8 +21,6 @@ mod set;
 mod stock;
 mod table;
 mod targets;
-#[cfg(test)]
-mod tests;
 mod walk;
 
 pub use edge::{load, load_pattern};

@@ -18,8 +18,6 @@ mod piece;
 mod refusal;
 mod statements;
 mod steps;
-#[cfg(test)]
-mod tests;
 mod walk;
 
 pub use fault::{ParseFault, ParseKind};

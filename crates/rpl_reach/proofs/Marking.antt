@@ -1,43 +1,13 @@
 -- How marks are added.
-use Rattle.std.proofs.Common.{◌≡◌, ℕ, zero, suc, ◌<◌, List, [], ◌∷◌, ◌++◌, length, get_or, set, refl, sym, ap, ◌∙◌}
+use Rattle.std.proofs.Common.{◌≡◌, ℕ, ◌<◌, List, [], ◌∷◌, ◌++◌, length, get_or, set, refl, sym, ap, ◌∙◌}
 use Rattle.std.proofs.Common.{⊎_elim, arith, length-append, length-set, eq-eqb, get_or-set_same, get_or-set_other}
-use Rattle.std.proofs.Math.Bool.{or-false}
 use Rattle.std.proofs.lemmas.Bool.{cases_eq, lt-ltb, ne_eqb}
 use Rattle.std.specs.Prelude.{Bool, true, false, ◌||◌, ◌&&◌, not, nat_eq, nat_lt}
 use Rattle.rpl_reach.specs.Marked.{marked}
-use Rattle.rpl_reach.specs.inside.Searching.{unmarked, waits, Marks}
+use Rattle.rpl_reach.specs.inside.Searching.{Marks}
+use Rattle.rpl_core.specs.inside.Marks.{unmarked, waits}
+use Rattle.rpl_core.proofs.Marking.{joined, later, more, never, not_new, unmarked_less, waits_more}
 use Rattle.rpl_reach.specs.declared.reach.Search.{Search}
-
--- Bools
-never : (m b : Bool) → m ≡ (m || (b && false))
-never true b = refl
-never false true = refl
-never false false = refl
-
-not_new : (w m : Bool) → w ≡ (w || (m && not m))
-not_new true m = refl
-not_new false true = refl
-not_new false false = refl
-
-joined : (m b f g : Bool) → ((m || (b && f)) || (b && g)) ≡ (m || (b && (f || g)))
-joined true b f g = refl
-joined false false f g = refl
-joined false true f g = refl
-
-later : (w m m1 m2 : Bool) → (m ≡ true → m1 ≡ true) → (m1 ≡ true → m2 ≡ true) →
-    ((w || (m1 && not m)) || (m2 && not m1)) ≡ (w || (m2 && not m))
-later true m m1 m2 h k = refl
-later false true true true h k = refl
-later false true true false h k = refl
-later false true false true h k = let e = h refl in absurd (cc)
-later false true false false h k = refl
-later false false true true h k = refl
-later false false true false h k = let e = k refl in absurd (cc)
-later false false false true h k = refl
-later false false false false h k = refl
-
-more : (m m1 x : Bool) → m1 ≡ (m || x) → m ≡ true → m1 ≡ true
-more m m1 x e t = e ∙ ap (λ b. b || x) t
 
 -- no marks
 pub marks_none : (s : Search) → Marks (λ r. false) s s
@@ -68,22 +38,6 @@ marks_then f g s s1 s2 a b = record {
 }
 
 -- one mark
-pub waits_more : (xs : List ℕ) (k r : ℕ) → waits (xs ++ k ∷ []) r ≡ (waits xs r || nat_eq k r)
-waits_more [] k r = or-false (nat_eq k r)
-waits_more (x ∷ xs) k r = ap (λ b. nat_eq x r || b) (waits_more xs k r) ∙ assoc (nat_eq x r) (waits xs r) (nat_eq k r)
-  where
-    assoc : (a b c : Bool) → (a || (b || c)) ≡ ((a || b) || c)
-    assoc true b c = refl
-    assoc false b c = refl
-
-unmarked_less : (bs : List Bool) (k : ℕ) → k < length bs → get_or bs k false ≡ false →
-    suc (unmarked (set bs k true)) ≡ unmarked bs
-unmarked_less [] k lt unset = absurd (omega arith)
-unmarked_less (true ∷ bs) zero lt unset = absurd (cc)
-unmarked_less (false ∷ bs) zero lt unset = refl
-unmarked_less (true ∷ bs) (suc k) lt unset = unmarked_less bs k (omega arith) unset
-unmarked_less (false ∷ bs) (suc k) lt unset = ap suc (unmarked_less bs k (omega arith) unset)
-
 marks_one : (bs : List Bool) (k r : ℕ) → k < length bs → get_or bs k false ≡ false →
     get_or (set bs k true) r false ≡ (get_or bs r false || (nat_lt r (length bs) && nat_eq k r))
 marks_one bs k r lt unset = ⊎_elim same other (cases_eq k r)

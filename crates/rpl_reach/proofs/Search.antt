@@ -11,9 +11,10 @@ use Rattle.rpl_core.specs.View.{core_of}
 use Rattle.rpl_core.specs.declared.rules.Rule.{Rule}
 use Rattle.rpl_reach.specs.Marked.{CallsAreRules}
 use Rattle.rpl_reach.specs.Marked.{marked, MarksReached}
-use Rattle.rpl_reach.specs.inside.Searching.{waits, Marks, Reached}
+use Rattle.rpl_reach.specs.inside.Searching.{Marks, Reached}
+use Rattle.rpl_core.specs.inside.Marks.{waits}
 use Rattle.rpl_reach.specs.declared.reach.Search.{Search}
-use Rattle.rpl_reach.proofs.Marking.{waits_more}
+use Rattle.rpl_core.proofs.Marking.{waits_more}
 
 -- where a mark comes from, and where it goes
 whence : (x m b f : Bool) → x ≡ (m || (b && f)) → x ≡ true → (m ≡ true) ⊎ (f ≡ true)

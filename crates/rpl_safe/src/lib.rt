@@ -12,8 +12,6 @@ mod finding;
 mod laws;
 mod marks;
 mod steps;
-#[cfg(test)]
-mod tests;
 mod verify;
 mod whole_tree;
 

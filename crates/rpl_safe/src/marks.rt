@@ -45,6 +45,20 @@ impl Mark {
         }
     }
 
+    /// The same but for the last entry.
+    pub(crate) fn with_last(self, last: Option<u32>) -> Mark
+        ensures { result ≡ record self { last = last } }
+    {
+        Mark { last, ..self }
+    }
+
+    /// The same but for how many trees are open.
+    pub(crate) fn with_trees(self, trees: u32) -> Mark
+        ensures { result ≡ record self { trees = trees } }
+    {
+        Mark { trees, ..self }
+    }
+
     /// Both are the same shape.
     pub(crate) fn is(self, other: Mark) -> bool
         ensures { IsTrue result ↔ (self ≡ other) }

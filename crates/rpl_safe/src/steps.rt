@@ -1,11 +1,89 @@
 // How each instruction changes the shape of the stack.
-ghost use Rattle.std.specs.Prelude.{◌≡◌, ℕ, ◌<◌, List};
+ghost use Rattle.std.specs.Prelude.{◌≡◌, ℕ, ◌<◌, ◌&&◌, nat_eq, List, [], ◌∷◌, Some};
 ghost use Rattle.regex_class.specs.Ranges.{Range};
 ghost use Rattle.rpl_core.specs.Numbers.{instr_of};
-ghost use Rattle.rpl_safe.specs.inside.Marks.{given_of, marks_at, next_mark};
+ghost use Rattle.rpl_safe.specs.Safe.{one_less, only};
+ghost use Rattle.rpl_safe.specs.inside.Marks.{given_of, is_done_mark, last_of, marks_at, next_mark, to, with_last};
 
 use crate::marks::{Mark, Next, last_mark};
 use rpl_core::Instr;
+
+/// On at `target` without the last entry.
+fn commit(marks: &[Option<Mark>], target: u32, mark: Mark) -> Next
+    ensures { given_of result
+        ≡ with_last (last_of (marks_at marks.now) mark.last) (λ k. to target (record mark { last = k.last })) }
+{
+    match last_mark(marks, mark.last) {
+        Some(entry) => Next::To(target, mark.with_last(entry.last)),
+        None => Next::Lacks,
+    }
+}
+
+/// On at `target` with the last entry, where as many trees are open as when it was left.
+fn commit_partly(marks: &[Option<Mark>], target: u32, mark: Mark) -> Next
+    ensures { given_of result
+        ≡ with_last (last_of (marks_at marks.now) mark.last)
+        (λ k. only (nat_eq k.trees mark.trees) ((target, mark) ∷ [])) }
+{
+    match last_mark(marks, mark.last) {
+        Some(entry) => {
+            if entry.trees == mark.trees {
+                Next::To(target, mark)
+            } else {
+                Next::Lacks
+            }
+        }
+        None => Next::Lacks,
+    }
+}
+
+/// On at `target` as the stack was when the last entry was left.
+fn commit_back(marks: &[Option<Mark>], target: u32, mark: Mark) -> Next
+    ensures { given_of result
+        ≡ with_last (last_of (marks_at marks.now) mark.last) (λ k. to target (record k { frame = mark.frame })) }
+{
+    match last_mark(marks, mark.last) {
+        Some(entry) => Next::To(
+            target,
+            Mark {
+                frame: mark.frame,
+                ..entry
+            },
+        ),
+        None => Next::Lacks,
+    }
+}
+
+/// Nowhere, where there is a last entry to fail over.
+fn fail_over(marks: &[Option<Mark>], mark: Mark) -> Next
+    ensures { given_of result ≡ with_last (last_of (marks_at marks.now) mark.last) (λ k. Some []) }
+{
+    match last_mark(marks, mark.last) {
+        Some(_) => Next::Nowhere,
+        None => Next::Lacks,
+    }
+}
+
+/// Nowhere, where the frame is of the right kind and is done.
+fn end_frame(is_right: bool, mark: Mark) -> Next
+    ensures { given_of result ≡ only (is_right && is_done_mark mark) [] }
+{
+    if is_right && mark.is_done() {
+        Next::Nowhere
+    } else {
+        Next::Lacks
+    }
+}
+
+/// On behind the end of a tree, where one is open.
+fn close(behind: u32, mark: Mark) -> Next
+    ensures { given_of result ≡ one_less mark.trees (λ c. to behind (record mark { trees = c })) }
+{
+    if mark.trees == 0 {
+        return Next::Lacks;
+    }
+    Next::To(behind, mark.with_trees(mark.trees - 1))
+}
 
 /// Where the instruction at the address lets a run go on that comes to it with the shape of this mark.
 pub(crate) fn goes_on(marks: &[Option<Mark>], instr: Instr, address: u32, mark: Mark) -> Next
@@ -23,49 +101,11 @@ pub(crate) fn goes_on(marks: &[Option<Mark>], instr: Instr, address: u32, mark: 
         | Instr::Note(_)
         | Instr::Span(_) => { Next::To(behind, mark) }
         Instr::TestSet(to, _) => Next::ToBoth(behind, mark, to, mark),
-        Instr::Choice(to) => Next::ToBoth(
-            behind,
-            Mark {
-                last: Some(to),
-                ..mark
-            },
-            to,
-            mark,
-        ),
-        Instr::Commit(to) => match last_mark(marks, mark.last) {
-            Some(entry) => Next::To(
-                to,
-                Mark {
-                    last: entry.last,
-                    ..mark
-                },
-            ),
-            None => Next::Lacks,
-        },
-        Instr::PartialCommit(to) => match last_mark(marks, mark.last) {
-            Some(entry) => {
-                if entry.trees == mark.trees {
-                    Next::To(to, mark)
-                } else {
-                    Next::Lacks
-                }
-            }
-            None => Next::Lacks,
-        },
-        Instr::BackCommit(to) | Instr::Meet(to) => match last_mark(marks, mark.last) {
-            Some(entry) => Next::To(
-                to,
-                Mark {
-                    frame: mark.frame,
-                    ..entry
-                },
-            ),
-            None => Next::Lacks,
-        },
-        Instr::FailTwice => match last_mark(marks, mark.last) {
-            Some(_) => Next::Nowhere,
-            None => Next::Lacks,
-        },
+        Instr::Choice(to) => Next::ToBoth(behind, mark.with_last(Some(to)), to, mark),
+        Instr::Commit(to) => commit(marks, to, mark),
+        Instr::PartialCommit(to) => commit_partly(marks, to, mark),
+        Instr::BackCommit(to) | Instr::Meet(to) => commit_back(marks, to, mark),
+        Instr::FailTwice => fail_over(marks, mark),
         Instr::Fail | Instr::Halt => Next::Nowhere,
         Instr::Call(to) => {
             if to == 0 {
@@ -73,38 +113,9 @@ pub(crate) fn goes_on(marks: &[Option<Mark>], instr: Instr, address: u32, mark: 
             }
             Next::ToBoth(to, Mark::fresh(to), behind, mark)
         }
-        Instr::Return => {
-            if mark.frame != 0 && mark.is_done() {
-                Next::Nowhere
-            } else {
-                Next::Lacks
-            }
-        }
-        Instr::Open(_) => Next::To(
-            behind,
-            Mark {
-                trees: mark.trees + 1,
-                ..mark
-            },
-        ),
-        Instr::Close => {
-            if mark.trees == 0 {
-                return Next::Lacks;
-            }
-            Next::To(
-                behind,
-                Mark {
-                    trees: mark.trees - 1,
-                    ..mark
-                },
-            )
-        }
-        Instr::Finish => {
-            if mark.frame == 0 && mark.is_done() {
-                Next::Nowhere
-            } else {
-                Next::Lacks
-            }
-        }
+        Instr::Return => end_frame(mark.frame != 0, mark),
+        Instr::Open(_) => Next::To(behind, mark.with_trees(mark.trees + 1)),
+        Instr::Close => close(behind, mark),
+        Instr::Finish => end_frame(mark.frame == 0, mark),
     }
 }

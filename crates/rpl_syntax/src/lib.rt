@@ -13,8 +13,6 @@ mod module;
 mod name;
 mod print;
 mod printer;
-#[cfg(test)]
-mod tests;
 mod token;
 
 pub use build::{choose, join, wrap};

@@ -5,18 +5,20 @@ use Rattle.rosie_run.specs.Inputs.{names_of}
 use Rattle.rosie_run.specs.Sources.{Moment, Still, NoFewer, RoseIn}
 use Rattle.rosie_run.specs.declared.ended.Ended.{Ended}
 use Rattle.rosie_run.specs.declared.tally.Tally.{Tally}
+use Rattle.rosie_jobs.specs.Jobs.{matcher_of, runner_of, tracer_of}
 use Rattle.rosie_cli.specs.Plans as P
-use Rattle.rosie_cli.specs.inside.Jobs.{job_of}
 use Rattle.rosie_cli.specs.declared.plan.Plan.{Plan}
-use Rattle.rosie_cli.specs.declared.plan.Plan.TheVariants.{Refuse, Answer, Match}
+use Rattle.rosie_cli.specs.declared.plan.Plan.TheVariants.{Refuse, Answer, Write, Match, Trace, Run}
 use Rattle.rosie_cli.specs.declared.plan.Unplanned.{Unplanned}
 use Rattle.rosie_cli.specs.declared.plan.Unplanned.TheVariants.{NoMemory, ReadFault}
 
 abbrev pub plan_of : Plan → P.Plan
 plan_of (Refuse text) = P.refusal (string_bytes text)
 plan_of (Answer text) = P.whole_answer (string_bytes text)
-plan_of (Match job whole names) =
-    P.Reads (P.Matches job.settings (job_of job.job)) whole (names_of encode_utf8_all names)
+plan_of (Write bytes) = P.Writes bytes
+plan_of (Match job whole names) = P.Reads (matcher_of job) whole (names_of encode_utf8_all names)
+plan_of (Trace job whole names) = P.Reads (tracer_of job) whole (names_of encode_utf8_all names)
+plan_of (Run job whole names) = P.Reads (runner_of job) whole (names_of encode_utf8_all names)
 
 -- each plan that is meant is this one
 abbrev pub PlansRun : Plan → (P.Plan → Type 0) → Type 0
@@ -43,6 +45,7 @@ HasCause (Err unplanned) f0 f1 = Counts unplanned f0 f1
 -- no input is read
 abbrev pub IsSaid : P.Plan → Type 0
 IsSaid (P.Says ps) = Unit {0}
+IsSaid (P.Writes bytes) = Unit {0}
 IsSaid (P.Reads m whole names) = ⊥
 
 -- the run of a plan came to an end of its own, or the machine made a step

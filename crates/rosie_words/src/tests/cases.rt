@@ -222,7 +222,8 @@ pub(super) const NOT_YET: &[&str] = &[
     "--libpath|.|list => ",
     "expand|--code|p => ",
     "test|f => test",
-    "-F|trace|p => trace",
+    "-F|trace|--limit|5|p => ",
     "sample|1|2 => sample",
-    "match|a|--code-file|c => --code-file",
+    "match|a|--code-file|c => ",
+    "compile|-F|p => ",
 ];

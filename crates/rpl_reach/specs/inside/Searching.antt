@@ -1,21 +1,10 @@
 -- The search for the rules that a goal reaches.
-use Rattle.std.specs.Prelude.{◌≡◌, ℕ, suc, ◌+◌, ◌<◌, Bool, true, false, ◌||◌, ◌&&◌, not, nat_eq, nat_lt, ◌⊎◌}
-use Rattle.std.specs.Prelude.{List, [], ◌∷◌, length, Some, slice_get}
+use Rattle.std.specs.Prelude.{◌≡◌, ℕ, ◌+◌, ◌<◌, Bool, true, ◌||◌, ◌&&◌, not, nat_lt, ◌⊎◌, List, length, Some, slice_get}
 use Rattle.rpl_core.specs.Core.{Core}
 use Rattle.rpl_core.specs.Programs.{calls, Reaches}
+use Rattle.rpl_core.specs.inside.Marks.{unmarked, waits}
 use Rattle.rpl_reach.specs.Marked.{marked}
 use Rattle.rpl_reach.specs.declared.reach.Search.{Search}
-
--- how many rules have no mark
-abbrev pub unmarked : List Bool → ℕ
-unmarked [] = 0
-unmarked (true ∷ bs) = unmarked bs
-unmarked (false ∷ bs) = suc (unmarked bs)
-
--- the rule is in the list
-abbrev pub waits : List ℕ → ℕ → Bool
-waits [] r = false
-waits (q ∷ qs) r = nat_eq q r || waits qs r
 
 -- the rules of the table that pass the test are marked as well, and those marked anew wait
 pub record Marks (test : ℕ → Bool) (old new : Search) : Type 0 where

@@ -2,7 +2,7 @@ use Rattle.std.proofs.Common.{[], ◌∷◌, ◌++◌, refl, sym, ap, ◌∙◌,
 use Rattle.std.specs.Prelude.{codes, encode_utf8_all}
 use Rattle.rosie_run.specs.Inputs.{names_of}
 use Rattle.rosie_cli.specs.Planned.{input_names}
-use Rattle.rosie_cli.proofs.OneLine.{spelled}
+use Rattle.rosie_jobs.proofs.OneLine.{spelled}
 use Rattle.rosie_cli.proofs.match_plan.input_names.Goals as goal
 
 pub returns : goal.returns

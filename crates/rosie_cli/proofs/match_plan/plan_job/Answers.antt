@@ -4,31 +4,27 @@ use Rattle.rosie_prepare.specs.Views.{ready_seen}
 use Rattle.rosie_prepare.proofs.Passing.{bodies-rows_of}
 use Rattle.rosie_run.specs.Inputs.{names_of}
 use Rattle.rpl_core.specs.Table.{bodies_of}
-use Rattle.rosie_cli.specs.Planned.{input_names}
+use Rattle.rosie_jobs.specs.Jobs.{job_of, matcher_of}
+use Rattle.rosie_jobs.specs.Makers.{Matches}
+use Rattle.rosie_cli.specs.Planned.{input_names, matching}
 use Rattle.rosie_cli.specs.Plans.{refusal}
-use Rattle.rosie_cli.specs.inside.Jobs.{job_of}
-use Rattle.rosie_cli.proofs.Limits.{job_plans, long_plans, match-same}
-use Rattle.rosie_cli.proofs.Promised.{job-due}
+use Rattle.rosie_cli.proofs.Limits.{job_plans, long_plans, reads-same}
 use Rattle.rosie_cli.proofs.match_plan.plan_job.Goals as goal
 
 pub returns-in-Ok-clause-plans : goal.returns-in-Ok-clause-plans
 returns-in-Ok-clause-plans c = λ p is.
     let ready = c.args.ready in
     let s = c.args.settings in
+    let job = job_of c.in-Ok.job in
     let made = c.in_ok-job-in-Ok in
-    match-same s made.job.settings (job_of c.in-Ok.job) (job_of made.job.job) (input_names c.args.inputs)
-    (names_of encode_utf8_all c.in_ok-names.names) p made.ensures.settings made.ensures.job c.in_ok-names.ensures
-    (job_plans s (input_names c.args.inputs) (ready_seen ready) (bodies_of ready.rules) (bodies-rows_of ready.rules) p is
-    (job_of c.in-Ok.job) c.in-Ok.ensures.job)
-
-pub returns-in-Ok-clause-due : goal.returns-in-Ok-clause-due
-returns-in-Ok-clause-due c =
-    let made = c.in_ok-job-in-Ok.job in
-    job-due made.settings (job_of made.job) made.job.meant
+    reads-same (Matches s job) (matcher_of made.job) s.whole (input_names c.args.inputs)
+    (names_of encode_utf8_all c.in_ok-names.names) p made.ensures.maker c.in_ok-names.ensures
+    (job_plans (matching s c.args.inputs) (ready_seen ready) (bodies_of ready.rules) (bodies-rows_of ready.rules) p is
+    job c.in-Ok.ensures.job)
 
 pub returns-in-CodeTooLong-clause-plans : goal.returns-in-CodeTooLong-clause-plans
 returns-in-CodeTooLong-clause-plans c = λ p is.
     let ready = c.args.ready in
-    long_plans c.args.settings (input_names c.args.inputs) (ready_seen ready) (bodies_of ready.rules)
+    long_plans (matching c.args.settings c.args.inputs) (ready_seen ready) (bodies_of ready.rules)
     (bodies-rows_of ready.rules) p is (c.in-Err.ensures.too_long c.in-CodeTooLong.is)
     ∙ ap refusal (sym c.in_ok-compile_line-in-CodeTooLong.ensures)

@@ -27,8 +27,8 @@ returns-clause-writes g c =
     output-cause c.run_words-run.result c.finish.result _ _ _ _ _ _ _ _ _ (c.finish.ensures.closes 0)
     c.run_words-run.ensures.sinks c.finish.ensures.cause
 
-pub returns-clause-budget_is_due : goal.returns-clause-budget_is_due
-returns-clause-budget_is_due g c = λ p files is ran.
+pub returns-clause-promised : goal.returns-clause-promised
+returns-clause-promised g c = λ p files is ran.
     c.run_words-run.ensures.due p files is
     (stepped-of c.run_words-run.result c.finish.result _ _ _ c.args.steps.now c.run_words-run.new.steps
     (c.finish.ensures.closes 0) ran)
@@ -41,7 +41,7 @@ returns-clause-complete g c = λ t u p is i f o e short files sound.
     let known = knows_files a _ t in
     completes-if _ _ _ _ _ _ _ _ _ _ _ _ _ c.args.steps.now c.run_words-run.new.steps i f o e
     (λ file k x. not-spent p tree _ _ file k short files x) c.finish.result
-    (λ ran. let due = returns-clause-budget_is_due g c p known is ran in
+    (λ ran. let due = returns-clause-promised g c p known is ran in
     (no-stop p.plan tree input due sound, no-fault p.plan tree input due sound))
     (returns-clause-headline g c p known is (knows_inputs p.plan _ _ t u))
     (returns-clause-reads g c) (returns-clause-writes g c)

@@ -1,9 +1,8 @@
 use Rattle.std.proofs.Common.{ap, sym, subst}
 use Rattle.std.specs.Prelude.{encode_utf8_all}
 use Rattle.rosie_run.specs.Inputs.{names_of}
-use Rattle.rosie_cli.specs.Plans.{Matches}
+use Rattle.rosie_jobs.specs.Jobs.{matcher_of, runner_of, tracer_of}
 use Rattle.rosie_cli.specs.Report.{KnowsInputs}
-use Rattle.rosie_cli.specs.inside.Jobs.{job_of}
 use Rattle.rosie_cli.specs.inside.Planning.{plan_of, IsSaid}
 use Rattle.rosie_cli.proofs.Whole.{said-goes, match-runs}
 use Rattle.rosie_cli.proofs.top.run_plan.Goals as goal
@@ -13,11 +12,34 @@ returns-in-Answer-clause-rest g c = λ t u.
     said-goes c.say-in-Answer.result (plan_of c.args.plan.now) _
     (subst (λ x. IsSaid (plan_of x)) (sym c.in-Answer.is) tt)
 
+pub returns-in-Write-clause-rest : goal.returns-in-Write-clause-rest
+returns-in-Write-clause-rest g c = λ t u.
+    said-goes c.say-in-Write.result (plan_of c.args.plan.now) _
+    (subst (λ x. IsSaid (plan_of x)) (sym c.in-Write.is) tt)
+
 pub returns-in-Match-clause-runs : goal.returns-in-Match-clause-runs
 returns-in-Match-clause-runs g c = λ knows.
     let m = c.in-Match in
     let tells = subst (λ x. KnowsInputs (plan_of x) g.F.Source.tells g.I.Source.tells) m.is knows in
-    match-runs c.run_inputs.result _ (Matches m.job.settings (job_of m.job.job)) m.whole
+    match-runs c.run_inputs.result _ (matcher_of m.job) m.whole
     (names_of encode_utf8_all m.names) (names_of encode_utf8_all c.as_slice-names.result.now) (plan_of c.args.plan.now)
     (g.F.Source.tree c.args.files.now) _ _ _ _ (ap plan_of m.is)
     (ap (names_of encode_utf8_all) c.as_slice-names.ensures) (c.run_inputs.ensures.runs tells.0 tells.1)
+
+pub returns-in-Trace-clause-runs : goal.returns-in-Trace-clause-runs
+returns-in-Trace-clause-runs g c = λ knows.
+    let m = c.in-Trace in
+    let tells = subst (λ x. KnowsInputs (plan_of x) g.F.Source.tells g.I.Source.tells) m.is knows in
+    match-runs c.run_inputs-in-Trace.result _ (tracer_of m.job) m.whole
+    (names_of encode_utf8_all m.names) (names_of encode_utf8_all c.as_slice-names-in-Trace.result.now) (plan_of c.args.plan.now)
+    (g.F.Source.tree c.args.files.now) _ _ _ _ (ap plan_of m.is)
+    (ap (names_of encode_utf8_all) c.as_slice-names-in-Trace.ensures) (c.run_inputs-in-Trace.ensures.runs tells.0 tells.1)
+
+pub returns-in-Run-clause-runs : goal.returns-in-Run-clause-runs
+returns-in-Run-clause-runs g c = λ knows.
+    let m = c.in-Run in
+    let tells = subst (λ x. KnowsInputs (plan_of x) g.F.Source.tells g.I.Source.tells) m.is knows in
+    match-runs c.run_inputs-in-Run.result _ (runner_of m.job) m.whole
+    (names_of encode_utf8_all m.names) (names_of encode_utf8_all c.as_slice-names-in-Run.result.now) (plan_of c.args.plan.now)
+    (g.F.Source.tree c.args.files.now) _ _ _ _ (ap plan_of m.is)
+    (ap (names_of encode_utf8_all) c.as_slice-names-in-Run.ensures) (c.run_inputs-in-Run.ensures.runs tells.0 tells.1)

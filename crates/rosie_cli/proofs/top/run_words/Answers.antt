@@ -2,7 +2,7 @@ use Rattle.std.proofs.Common.{sym, subst, ◌∙◌}
 use Rattle.std.specs.List.{Contains}
 use Rattle.rosie_run.proofs.Pieces.{fronts-none}
 use Rattle.rosie_words.specs.Reading.{words_of}
-use Rattle.rosie_cli.specs.Promises.{BudgetIsDue}
+use Rattle.rosie_cli.specs.Promises.{IsPromised}
 use Rattle.rosie_cli.specs.Report.{KnowsInputs}
 use Rattle.rosie_cli.specs.Words.{asked}
 use Rattle.rosie_cli.specs.inside.Planning.{plan_of}
@@ -40,4 +40,4 @@ returns-in-Ok-clause-untouched g c = λ refused.
 
 pub returns-in-Ok-clause-due : goal.returns-in-Ok-clause-due
 returns-in-Ok-clause-due g c = λ p files is stepped.
-    subst BudgetIsDue (sym (c.in-Ok.ensures.plans p files is)) c.in-Ok.ensures.due
+    subst IsPromised (sym (c.in-Ok.ensures.plans p files is)) c.in-Ok.ensures.due

@@ -2,7 +2,8 @@ use Rattle.std.proofs.Common.{◌+◌, length}
 use Rattle.rpl_core.specs.Listed.{rules_of}
 use Rattle.rpl_core.specs.Table.{bodies_of}
 use Rattle.rpl_core.specs.View.{core_of}
-use Rattle.rpl_reach.specs.inside.Searching.{Reached, unmarked}
+use Rattle.rpl_reach.specs.inside.Searching.{Reached}
+use Rattle.rpl_core.specs.inside.Marks.{unmarked}
 use Rattle.rpl_reach.proofs.reach.reached.Given as goal
 
 abbrev pub invariant-loop-number : goal.invariant-loop-number

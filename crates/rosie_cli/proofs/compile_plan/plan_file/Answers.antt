@@ -1,0 +1,39 @@
+use Rattle.std.proofs.Common.{◌≤◌, ◌∙◌, ap, length, sym, arith}
+use Rattle.rosie_prepare.specs.Views.{ready_seen}
+use Rattle.rosie_prepare.proofs.Passing.{bodies-rows_of}
+use Rattle.rpl_check.specs.Goal.{peg_of}
+use Rattle.rpl_core.specs.Program.{instructions}
+use Rattle.rpl_core.specs.Table.{bodies_of}
+use Rattle.rpl_core.specs.View.{core_of}
+use Rattle.rosie_cli.specs.Plans.{refusal}
+use Rattle.rosie_cli.proofs.Compiled.{code_counts, code_is_some, file_plan, long_file}
+use Rattle.rosie_cli.proofs.compile_plan.plan_file.Goals as goal
+
+pub write_code-requires-clause-some : goal.write_code-requires-clause-some
+write_code-requires-clause-some c =
+    let ready = c.args.ready.now in
+    let program = c.in-Ok.program in
+    let some = code_is_some (bodies_of ready.rules) (core_of (peg_of ready.goal)) (instructions program)
+    c.in-Ok.ensures.code in
+    omega (arith, code_counts program, some)
+
+pub returns-in_ok-write_code-in-Ok-clause-plans : goal.returns-in_ok-write_code-in-Ok-clause-plans
+returns-in_ok-write_code-in-Ok-clause-plans c = λ p is.
+    let ready = c.args.ready.now in
+    let program = c.in-Ok.program in
+    let within = c.in-Ok.ensures.fits in
+    let fits : length (instructions program) ≤ 1048576 = omega (arith, code_counts program, within) in
+    file_plan (ready_seen ready) (bodies_of ready.rules) (bodies-rows_of ready.rules) p is (instructions program)
+    c.in-Ok.ensures.code fits _ c.in_ok-write_code-in-Ok.ensures
+
+pub returns-in_ok-write_code-in-Ok-clause-due : goal.returns-in_ok-write_code-in-Ok-clause-due
+returns-in_ok-write_code-in-Ok-clause-due c =
+    let root = c.requires.root in
+    (instructions c.in-Ok.program, c.in_ok-write_code-in-Ok.ensures, c.in-Ok.ensures.safe root.0 root.1)
+
+pub returns-in_ok-compile_line-in-CodeTooLong-clause-plans : goal.returns-in_ok-compile_line-in-CodeTooLong-clause-plans
+returns-in_ok-compile_line-in-CodeTooLong-clause-plans c = λ p is.
+    let ready = c.args.ready.now in
+    long_file (ready_seen ready) (bodies_of ready.rules) (bodies-rows_of ready.rules) p is
+    (c.in-Err.ensures.too_long c.in-CodeTooLong.is)
+    ∙ ap refusal (sym c.in_ok-compile_line-in-CodeTooLong.ensures)

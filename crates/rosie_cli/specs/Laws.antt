@@ -1,0 +1,28 @@
+-- What holds of `compile` and `match` together.
+use Rattle.std.specs.Prelude.{◌≡◌, ◌≤◌, ℕ, List, Ok, Some, length}
+use Rattle.rosie_code.specs.Loaded.{most_bytes}
+use Rattle.rosie_io.specs.Opening.{file_of}
+use Rattle.rosie_jobs.specs.Makers.{Runs}
+use Rattle.rosie_jobs.specs.declared.settings.Settings.{Settings}
+use Rattle.rosie_prepare.specs.Prepared.{IsPrepared, Ready, Tree, Wanted, bodies}
+use Rattle.rpl_core.specs.Instr.{Instr}
+use Rattle.rpl_core.specs.Programs.{IsCode}
+use Rattle.rosie_cli.specs.CodeFiles.{IsCodeLines}
+use Rattle.rosie_cli.specs.Compiling.{IsCompiled}
+use Rattle.rosie_cli.specs.Plans.{Plan, Planned, Reads, Writes}
+use Rattle.rosie_cli.specs.Promises.{IsPromised}
+
+-- the plan runs the code of what is wanted, over the tree where that was compiled
+abbrev pub RunsItsCode : Wanted → Tree → (asked : List (List ℕ)) → Settings → List (List ℕ) → Plan → Type 0
+RunsItsCode w tree asked s names plan =
+    (r : Ready) × (code : List Instr) × IsPrepared tree w asked (Ok r) × IsCode (bodies r.rules) r.goal code
+    × (plan ≡ Reads (Runs s code) s.whole names)
+
+-- The bytes that `compile` writes for a pattern are run by `match` as the very code of that pattern, wherever they lie
+-- as a file; unless they are too long for one.
+abbrev pub RunsWhatIsCompiled : Type 0
+RunsWhatIsCompiled =
+    (w : Wanted) (tree : Tree) (p : Planned) (bytes : List ℕ) → IsCompiled w tree p → p.plan ≡ Writes bytes
+    → IsPromised p.plan → length bytes ≤ most_bytes
+    → (s : Settings) (path : List ℕ) (names : List (List ℕ)) (there : Tree) (q : Planned)
+    → file_of path there ≡ Some bytes → IsCodeLines s path names there q → RunsItsCode w tree p.asked s names q.plan

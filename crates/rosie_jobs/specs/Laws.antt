@@ -1,0 +1,36 @@
+-- What holds of all jobs.
+use Rattle.std.specs.Prelude.{◌≡◌, ℕ, true, List, chars}
+use Rattle.std.specs.Str.{is_utf8}
+use Rattle.rpl_core.specs.Outcome.{outcome}
+use Rattle.rpl_trace.specs.Evaluations.{Evaluations, NoneLeft, One, Ending, Unsaid, trace}
+use Rattle.rpl_trace.specs.Traces.{ending_place, place_behind}
+use Rattle.rosie_jobs.specs.Limits.{IsTraceable, IsWithin, PaysFor}
+use Rattle.rosie_jobs.specs.Lines.{Job, code_makes, match_makes}
+use Rattle.rosie_jobs.specs.Meant.{IsMeant}
+use Rattle.rosie_jobs.specs.Traces.{trace_makes}
+use Rattle.rosie_jobs.specs.declared.settings.Settings.{Settings}
+
+-- how the first evaluation ends: it is that of the goal
+abbrev pub first_ending : Evaluations → Ending
+first_ending NoneLeft = Unsaid
+first_ending (One k i e f r) = e
+
+-- a line counts as a match with both, or with neither, and the trace ends where the match does
+pub record Agree (s : Settings) (limit : ℕ) (names : List (List ℕ)) (job : Job) (file : List ℕ) (n : ℕ) (line : List ℕ)
+    : Type 0 where
+  pub marks : (trace_makes limit names job file n line).mark ≡ (match_makes s job file n line).mark
+  pub places : ending_place (chars line) (first_ending (trace job.rules job.goal (chars line)))
+      ≡ place_behind (chars line) (outcome job.rules job.goal (chars line))
+
+-- a trace and a match of a job, whose budget is spent only where that is due, agree on each line within both limits
+abbrev pub TracesAgree : Type 0
+TracesAgree =
+    (s : Settings) (limit : ℕ) (names : List (List ℕ)) (job : Job) → PaysFor s job
+    → (file : List ℕ) (n : ℕ) (line : List ℕ) → IsWithin s job line → IsTraceable limit job line
+    → Agree s limit names job file n line
+
+-- where a goal's code does what the goal means, the code alone makes of each line what the goal makes of it
+abbrev pub RunsAsItsGoal : Type 0
+RunsAsItsGoal =
+    (s : Settings) (job : Job) → IsMeant job → (file : List ℕ) (n : ℕ) (line : List ℕ) → is_utf8 line ≡ true
+    → match_makes s job file n line ≡ code_makes s job.code file n line

@@ -1,0 +1,142 @@
+//! The run of a program on a line, and what is printed of it.
+
+ghost use Rattle.std.specs.Prelude.{◌≡◌, ◌≤◌, ◌^◌, ◌+◌, Some, length, chars, string_bytes, IfOk, OnOk};
+ghost use Rattle.rosie_run.specs.Made.{IsMade};
+ghost use Rattle.rpl_core.specs.Forest as F;
+ghost use Rattle.rpl_core.specs.Meaning.{Outcome};
+ghost use Rattle.rpl_core.specs.Program.{instructions, labels_of};
+ghost use Rattle.rpl_core.specs.Run as R;
+ghost use Rattle.rpl_encode.specs.Answer.{answer};
+ghost use Rattle.rpl_encode.specs.Print.{placed};
+ghost use Rattle.rpl_machine.specs.Shown.{captures_of, CapturesIn};
+ghost use Rattle.rpl_text.specs.Places.{at};
+ghost use Rattle.rosie_jobs.specs.Lines.{budget_of, budget_or, made, ran_piece};
+ghost use Rattle.rosie_jobs.specs.inside.Printed.{IsShown, Printed};
+
+use crate::settings::Settings;
+use crate::texts::Texts;
+use rosie_run::{Mark, NoMemory};
+use rpl_core::{Caught, Program};
+use rpl_encode::Style;
+use rpl_machine::{Answer, RunFault, Scratch, Steps, run};
+use rpl_text::Text;
+use rpl_tree::Forest;
+use std::alloc::{AllocError, Global};
+use std::sync::ledger::Ledger;
+
+/// How many entries the machine's lists have room for from the start.
+const ENTRIES: u64 = 65_536;
+
+/// Runs a program on one line after the other, and prints what it matched. All of its memory is kept from line to line.
+#[derive(Drop)]
+pub(crate) struct LineRun {
+    pub(crate) settings: Settings,
+    scratch: Scratch,
+    forest: Forest,
+    pub(crate) texts: Texts,
+}
+
+/// How many characters a line has. Where all of its bytes are ASCII, which is seen many at a time, each is one.
+fn characters(line: &str) -> u64
+    requires { length line.now ≤ 2 ^ 30 }
+    ensures exact { result ≡ length (chars line.now) }
+    ensures few { result ≤ length line.now }
+{
+    if line.as_bytes().is_ascii() {
+        return line.len() as u64;
+    }
+    line.chars().count() as u64
+}
+
+/// The steps that a line may take: those that are given, else a million, and a thousand for each of its characters.
+fn budget_or(given: Option<u64>, line: &str) -> u64
+    requires { length line.now ≤ 2 ^ 30 }
+    ensures { result ≡ budget_or given (chars line.now) }
+{
+    match given {
+        Some(budget) => budget,
+        None => 1_000_000 + 1_000 * characters(line),
+    }
+}
+
+/// Prints the answer of a run that matched with these captures. Whether it isn't too long.
+fn print_match(
+    texts: &mut Texts,
+    forest: &mut Forest,
+    captures: &[Caught],
+    style: Style,
+    line: &str,
+    program: &Program,
+) -> Result<bool, NoMemory>
+    ensures { IfOk result (λ fits. (f : F.Forest)
+        → captures_of (chars line.now) (labels_of program.now) captures.now ≡ F.flat f
+        → CapturesIn (chars line.now) captures.now
+        → Printed fits (answer style line.now (Some (placed (at (chars line.now)) f))) texts.new.answer) }
+{
+    forest.fill(captures)?;
+    texts.print(style, line, Some(forest), program)
+}
+
+impl LineRun {
+    pub(crate) fn new(alloc: Global, settings: Settings) -> Result<LineRun, NoMemory>
+        ensures { IfOk result (λ made. made.settings ≡ settings) }
+    {
+        let mut scratch = Scratch::new(alloc);
+        scratch.reserve(ENTRIES)?;
+        Ok(LineRun {
+            settings,
+            scratch,
+            forest: Forest::new(alloc),
+            texts: Texts::new(alloc),
+        })
+    }
+
+    /// Makes the piece of a line, whatever outcome the run shows.
+    pub(crate) fn answer<L: Ledger>(
+        &mut self,
+        program: &Program,
+        file: &str,
+        number: u64,
+        line: &str,
+        steps: &mut Steps<L>,
+    ) -> Result<Mark, NoMemory>
+        requires { length line.now ≤ 2 ^ 30 }
+        ensures same { self.new.settings ≡ self.old.settings }
+        ensures made { (o : Outcome)
+            → IsShown (R.run (instructions program.now) (chars line.now) (budget_of self.old.settings (chars line.now))) o
+            → IfOk result (λ mark. IsMade mark self.new.texts.answer (string_bytes self.new.texts.told)
+            (ran_piece self.old.settings file.now number line.now o
+            (R.run (instructions program.now) (chars line.now) (budget_of self.old.settings (chars line.now))))) }
+        ensures steps { OnOk result (steps.new ≡ steps.old + made (budget_of self.old.settings (chars line.now))
+            (R.run (instructions program.now) (chars line.now) (budget_of self.old.settings (chars line.now)))) }
+    {
+        let settings = self.settings;
+        let budget = budget_or(settings.budget, line);
+        match run(program, Text::new(line), budget, &mut self.scratch, steps) {
+            Ok(answer) => match answer {
+                Answer::At { steps, .. } => {
+                    let captures = self.scratch.captures();
+                    let fits = print_match(
+                        &mut self.texts,
+                        &mut self.forest,
+                        captures,
+                        settings.style,
+                        line,
+                        program,
+                    )?;
+                    self.texts
+                        .say(settings, file, number, line, fits, true, steps)
+                }
+                Answer::Fail { steps } => {
+                    let fits = self.texts.print(settings.style, line, None, program)?;
+                    self.texts
+                        .say(settings, file, number, line, fits, false, steps)
+                }
+            },
+            Err(fault) => match fault {
+                RunFault::Budget => self.texts.fault(file, number, "budget spent"),
+                RunFault::NoMemory => Err(AllocError),
+            },
+        }
+    }
+}

@@ -1,0 +1,140 @@
+//! The two texts of a line's piece.
+
+ghost use Rattle.std.specs.Prelude.{◌≡◌, ◌++◌, ℕ, [], if◌then◌else◌, not, ◌&&◌, codes, string_bytes};
+ghost use Rattle.std.specs.Prelude.{option_map, IfOk, OnOk};
+ghost use Rattle.std.specs.Fmt.{decimal};
+ghost use Rattle.std.specs.Option.{option_copied};
+ghost use Rattle.rosie_run.specs.Lines.{line_fault};
+ghost use Rattle.rosie_run.specs.Made.{IsMade};
+ghost use Rattle.rpl_encode.specs.Answer.{answer};
+ghost use Rattle.rpl_encode.specs.Labels.{trees_in};
+ghost use Rattle.rosie_jobs.specs.Lines.{told, unanswered, said};
+ghost use Rattle.rosie_jobs.specs.inside.Printed.{Printed};
+
+use crate::settings::Settings;
+use rosie_run::{Mark, NoMemory, line_fault};
+use rpl_core::Program;
+use rpl_encode::{AnswerText, EncodeFault, Style};
+use rpl_tree::Forest;
+use std::alloc::{AllocError, Global};
+
+/// What was made of a line, in memory that is kept from line to line.
+#[derive(Drop)]
+pub(crate) struct Texts {
+    alloc: Global,
+    /// The text for `out`.
+    pub(crate) answer: AnswerText,
+    /// The text for `err`.
+    pub(crate) told: String,
+}
+
+/// How a line with an answer, and how one that matched counts.
+fn mark_of(hit: bool) -> Mark
+    ensures { result ≡ (if hit then Mark.Hit else Mark.Miss) }
+{
+    if hit { Mark::Hit } else { Mark::Miss }
+}
+
+impl Texts {
+    /// No texts.
+    pub(crate) fn new(alloc: Global) -> Texts {
+        Texts {
+            alloc,
+            answer: AnswerText::new(alloc),
+            told: String::new(alloc),
+        }
+    }
+
+    /// Prints the answer of a line. Whether it isn't too long.
+    pub(crate) fn print(
+        &mut self,
+        style: Style,
+        line: &str,
+        found: Option<&Forest>,
+        program: &Program,
+    ) -> Result<bool, NoMemory>
+        ensures { IfOk result (λ fits. Printed fits
+            (answer style line.now (option_map (trees_in program.now) (option_copied found.entry))) self.new.answer) }
+    {
+        match self.answer.fill(style, line, found, program) {
+            Ok(()) => Ok(true),
+            Err(fault) => match fault {
+                EncodeFault::AnswerTooLong => Ok(false),
+                EncodeFault::NoMemory => Err(AllocError),
+            },
+        }
+    }
+
+    /// Says that a line has no answer, and why.
+    pub(crate) fn fault(&mut self, file: &str, number: u64, text: &str) -> Result<Mark, NoMemory>
+        ensures { (cost : ℕ) → IfOk result (λ mark. IsMade mark self.new.answer (string_bytes self.new.told)
+            (unanswered (line_fault file.now number text.now) cost)) }
+    {
+        self.told = line_fault(self.alloc, file, number, text)?;
+        self.answer = AnswerText::new(self.alloc);
+        Ok(Mark::Fault)
+    }
+
+    /// Adds the line to what is told, where that is wanted.
+    fn tell_line(&mut self, line: &str, wanted: bool) -> Result<(), NoMemory>
+        ensures told { OnOk result (string_bytes self.new.told ≡ string_bytes self.old.told
+            ++ (if wanted then line.now ++ codes "\n" else [])) }
+        ensures answer { self.new.answer ≡ self.old.answer }
+    {
+        if !wanted {
+            return Ok(());
+        }
+        self.told.push_str(line)?;
+        self.told.push_str("\n")
+    }
+
+    /// Adds the number of steps to what is told, where that is wanted.
+    fn tell_steps(&mut self, steps: u64, wanted: bool) -> Result<(), NoMemory>
+        ensures told { OnOk result (string_bytes self.new.told ≡ string_bytes self.old.told
+            ++ (if wanted then codes "steps " ++ (decimal steps ++ codes "\n") else [])) }
+        ensures answer { self.new.answer ≡ self.old.answer }
+    {
+        if !wanted {
+            return Ok(());
+        }
+        let text = format!(in self.alloc; "steps {steps}\n")?;
+        self.told.push_str(text.as_str())
+    }
+
+    /// Says of a line what is told beside its answer.
+    fn tell(
+        &mut self,
+        settings: Settings,
+        line: &str,
+        hit: bool,
+        steps: u64,
+    ) -> Result<(), NoMemory>
+        ensures told { OnOk result (string_bytes self.new.told ≡ told settings line.now hit steps) }
+        ensures answer { self.new.answer ≡ self.old.answer }
+    {
+        self.told.clear();
+        self.tell_line(line, settings.all && !hit)?;
+        self.tell_steps(steps, settings.steps)
+    }
+
+    /// The texts of a line whose answer was printed.
+    pub(crate) fn say(
+        &mut self,
+        settings: Settings,
+        file: &str,
+        number: u64,
+        line: &str,
+        fits: bool,
+        hit: bool,
+        steps: u64,
+    ) -> Result<Mark, NoMemory>
+        ensures { (cost : ℕ) → IfOk result (λ mark. IsMade mark self.new.answer (string_bytes self.new.told)
+            (said settings file.now number line.now fits self.old.answer hit steps cost)) }
+    {
+        if !fits {
+            return self.fault(file, number, "answer too long");
+        }
+        self.tell(settings, line, hit, steps)?;
+        Ok(mark_of(hit))
+    }
+}

@@ -1,0 +1,58 @@
+-- Texts come to one thing, alone and with a pattern.
+use Rattle.std.proofs.Common.{◌≡◌, ℕ, List, sym, ◌∙◌, ap, subst}
+use Rattle.std.specs.Prelude.{Option, Ok, Err, Some, None}
+use Rattle.rosie_prepare.specs.Prepared.{OrLine, Passes, Ready, TableComes, TableFacts, Tree, Wanted, found, blocks, bodies}
+use Rattle.rosie_prepare.specs.Prepared.{table_too_large, table_unsound}
+use Rattle.rosie_prepare.proofs.OneAnswer.{one_answer}
+use Rattle.rosie_prepare.proofs.Passing.{first_same}
+use Rattle.rpl_check.specs.Faults as C
+use Rattle.rpl_core.proofs.Codes.{code_holds}
+use Rattle.rpl_core.specs.Instr.{Instr}
+use Rattle.rpl_expand.specs.Faults as E
+use Rattle.rpl_expand.specs.Sets.{table_of}
+use Rattle.rpl_package.specs.Loading.{world}
+use Rattle.rpl_package.specs.Roots.{Packages, load}
+use Rattle.rpl_scope.specs.Faults.{Or}
+use Rattle.rosie_jobs.specs.Lines.{Job}
+use Rattle.rosie_session.specs.Laws.{OneLoading}
+use Rattle.rosie_session.specs.Loading.{Compiles, IsGoalLoad, IsLoad, Load, given, within_limit}
+
+passes_one :
+    {A : Type 0} (p : Packages) (t : Option E.Fault) (fault : TableFacts p → Option C.Fault) (a : A) (r q : OrLine A)
+    → ((d e : TableFacts p) → fault d ≡ fault e) → Passes p t fault a r → Passes p t fault a q → r ≡ q
+passes_one p (Some f) fault a r q same h k = h ∙ sym k
+passes_one p None fault a r q same h k = h.1 ∙ ap (found p a) (same h.0 k.0) ∙ sym k.1
+
+table_one : (x : Or Packages) (r q : OrLine Packages) → TableComes x r → TableComes x q → r ≡ q
+table_one (Err f) r q h k = h ∙ sym k
+table_one (Ok p) r q h k =
+    passes_one p (table_too_large p) (table_unsound p) p r q (λ c d. first_same _ d c (blocks (table_of p))) h k
+
+alike : {A : Type 0} (l m : Load A) → l.asked ≡ m.asked → l.answer ≡ m.answer → l ≡ m
+alike l m e f =
+    let first : l ≡ record { asked = m.asked; answer = l.answer } = ap (λ x. record { asked = x; answer = l.answer }) e in
+    first ∙ ap (λ x. record { asked = m.asked; answer = x }) f
+
+load_one : (tree : Tree) (folders texts : List (List ℕ)) (l m : Load Packages) → IsLoad tree folders texts l
+    → IsLoad tree folders texts m → l ≡ m
+load_one tree folders texts l m h k =
+    alike l m (h.asked ∙ sym k.asked)
+    (table_one (load (world tree folders) (given texts)).answer l.answer m.answer h.comes k.comes)
+
+compiles_one : (r : OrLine Ready) (a b : OrLine Job) → Compiles r a → Compiles r b → a ≡ b
+compiles_one (Err line) a b h k = h ∙ sym k
+compiles_one (Ok r) a b h k =
+    let same : h.0 ≡ k.0 = code_holds (bodies r.rules) r.goal h.0 k.0 h.1 k.1 in
+    h.2 ∙ ap (λ c. within_limit (record { rules = bodies r.rules; goal = r.goal; code = c })) same ∙ sym k.2
+
+goal_one : (tree : Tree) (v : Wanted) (l m : Load Job) → IsGoalLoad tree v l → IsGoalLoad tree v m → l ≡ m
+goal_one tree v l m h k =
+    let same = one_answer tree v l.asked m.asked h.ready k.ready h.prepares k.prepares in
+    alike l m same.0 (compiles_one k.ready l.answer m.answer (subst (λ r. Compiles r l.answer) same.1 h.compiles) k.compiles)
+
+pub one_holds : OneLoading
+one_holds tree folders v w h k = (
+  λ texts. load_one tree folders texts (v.texts texts) (w.texts texts) (h.texts texts) (k.texts texts),
+  λ texts pattern.
+      goal_one tree _ (v.goal texts pattern) (w.goal texts pattern) (h.goals texts pattern) (k.goals texts pattern),
+)

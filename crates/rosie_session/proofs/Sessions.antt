@@ -1,0 +1,263 @@
+-- The laws of sessions.
+use Rattle.std.proofs.Common.{◌≡◌, ◌≢◌, inl, inr, ℕ, ◌+◌, Bool, true, false, cond, List, [], ◌∷◌, length, refl, sym}
+use Rattle.std.proofs.Common.{ap, subst, arith, ◌∙◌, rules}
+use Rattle.std.specs.Prelude.{codes, nat_lt, chars, not, Option, Some, None, Result, Ok, Err}
+use Rattle.std.specs.Str.{is_utf8}
+use Rattle.std.proofs.lemmas.Str.{IsUtf8-from_ascii, is_utf8-from_IsUtf8}
+use Rattle.rosie_io.specs.Lines.{lines}
+use Rattle.rosie_jobs.specs.Lines.{Job, budget_of, is_over, made, match_makes, matches, answered, outcome_piece, unanswered}
+use Rattle.rosie_prepare.specs.Prepared.{OrLine}
+use Rattle.rosie_repl.specs.Edits.{Edit, Add, Replace, Remove, Pattern, Try, Undo, edit_of, in_chars}
+use Rattle.rosie_repl.specs.Session.{Kept, Session, begun, changed, kept_by, onward, undone}
+use Rattle.rosie_run.specs.Report.{Piece, fault_piece, has, is_stop}
+use Rattle.rosie_run.specs.declared.mark.Mark.{Mark}
+use Rattle.rosie_run.specs.declared.mark.Mark.TheVariants.{Hit, Miss, Fault, Stop}
+use Rattle.rosie_run.proofs.Pieces.{has-nil}
+use Rattle.rpl_core.specs.Meaning.{Outcome}
+use Rattle.rpl_core.specs.Outcome.{outcome}
+use Rattle.rpl_core.specs.Run.{run}
+use Rattle.rpl_encode.specs.Answer.{most_bytes}
+use Rattle.rpl_encode.specs.Print.{print}
+use Rattle.rosie_session.specs.Laws.{NoStopLaw, SameAnswer, TryLaw, UndoLaw, is_change}
+use Rattle.rosie_session.specs.Loading.{Load, Loading}
+use Rattle.rosie_session.specs.Replay.{Turn, accepted, change_turn, edit_turn, job_piece, judged_by, loaded, ok_piece, or_no}
+use Rattle.rosie_session.specs.Replay.{pieces_of, plain, refused, session_fault, tried, try_turn, turn, turns_from, undo_turn}
+
+-- a line that is too long, or no text, or is a command
+abbrev pub by_tests : Loading → ℕ → Session → Option Edit → (long text : Bool) → Turn
+by_tests w m s o long text =
+    cond long (refused s [] (session_fault m (codes "line too long")))
+    (cond text (edit_turn w m s o) (refused s [] (session_fault m (codes "not UTF-8"))))
+
+pub turn_by : (w : Loading) (m : ℕ) (s : Session) (line : List ℕ)
+    → turn w m s line ≡ by_tests w m s (edit_of line) (nat_lt 1048576 (length line)) (is_utf8 line)
+unfolding turn
+turn_by w m s line = refl
+
+-- ---- undo
+
+-- after `u`
+undoes : (w : Loading) (n : ℕ) (s : Session) → turn w n s (codes "u") ≡ undo_turn n s (undone s)
+undoes w n s =
+    let one : is_utf8 (codes "u") ≡ true = is_utf8-from_IsUtf8 (codes "u") (IsUtf8-from_ascii (codes "u") (search rules)) in
+    turn_by w n s (codes "u") ∙ ap (λ b. by_tests w n s (Some Undo) false b) one
+
+abbrev GoesBack : Loading → ℕ → Session → Turn → Type 0
+GoesBack w n s t = t.piece.mark ≢ Fault → turn w n t.session (codes "u") ≡ accepted s []
+
+judged_back : {A : Type 0} (w : Loading) (n : ℕ) (s : Session) (k : Kept) (asked : List (List ℕ)) (o : OrLine A)
+    → GoesBack w n s (judged_by s (record { now = k; past = s.now ∷ s.past }) asked o)
+judged_back w n s k asked (Ok a) h = undoes w n (record { now = k; past = s.now ∷ s.past })
+judged_back w n s k asked (Err text) h = absurd (h refl)
+
+loaded_back : (w : Loading) (n : ℕ) (s : Session) (k : Kept) (e : Edit)
+    → GoesBack w n s (loaded w e s (record { now = k; past = s.now ∷ s.past }))
+loaded_back w n s k (Pattern text) = judged_back w n s k (w.goal k.texts text).asked (w.goal k.texts text).answer
+loaded_back w n s k (Add text) = judged_back w n s k (w.texts k.texts).asked (w.texts k.texts).answer
+loaded_back w n s k (Replace j text) = judged_back w n s k (w.texts k.texts).asked (w.texts k.texts).answer
+loaded_back w n s k (Remove j) = judged_back w n s k (w.texts k.texts).asked (w.texts k.texts).answer
+loaded_back w n s k (Try line) = judged_back w n s k (w.texts k.texts).asked (w.texts k.texts).answer
+loaded_back w n s k Undo = judged_back w n s k (w.texts k.texts).asked (w.texts k.texts).answer
+
+change_back : (w : Loading) (m n : ℕ) (s : Session) (e : Edit) (o : Option Kept)
+    → GoesBack w n s (change_turn w m s e (onward s o))
+change_back w m n s e None h = absurd (h refl)
+change_back w m n s e (Some k) h = loaded_back w n s k e h
+
+edit_back : (w : Loading) (m n : ℕ) (s : Session) (e : Edit) → is_change e ≡ true
+    → GoesBack w n s (edit_turn w m s (Some e))
+edit_back w m n s (Add text) c h = change_back w m n s (in_chars (Add text)) (kept_by (in_chars (Add text)) s.now) h
+edit_back w m n s (Replace k text) c h =
+    change_back w m n s (in_chars (Replace k text)) (kept_by (in_chars (Replace k text)) s.now) h
+edit_back w m n s (Remove k) c h = change_back w m n s (in_chars (Remove k)) (kept_by (in_chars (Remove k)) s.now) h
+edit_back w m n s (Pattern text) c h =
+    change_back w m n s (in_chars (Pattern text)) (kept_by (in_chars (Pattern text)) s.now) h
+edit_back w m n s (Try line) c h = absurd (cc)
+edit_back w m n s Undo c h = absurd (cc)
+
+any_back : (w : Loading) (m n : ℕ) (s : Session) (e : Edit) (a b : Bool) → is_change e ≡ true
+    → GoesBack w n s (by_tests w m s (Some e) a b)
+any_back w m n s e true b c h = absurd (h refl)
+any_back w m n s e false true c h = edit_back w m n s e c h
+any_back w m n s e false false c h = absurd (h refl)
+
+pub undo_holds : UndoLaw
+undo_holds w m n s line e q c =
+    let a = nat_lt 1048576 (length line) in
+    let b = is_utf8 line in
+    let is : turn w m s line ≡ by_tests w m s (Some e) a b =
+    turn_by w m s line ∙ ap (λ o. by_tests w m s o a b) q in
+    subst (GoesBack w n s) (sym is) (any_back w m n s e a b c)
+
+-- ---- a line that is tried
+
+same_all : (m n : ℕ) (p : Piece) → SameAnswer m n p p
+same_all m n p = record { out = refl; err = inl refl; mark = refl; cost = refl }
+
+same_fault : (m n : ℕ) (text : List ℕ) (cost : ℕ)
+    → SameAnswer m n (unanswered (session_fault m text) cost) (unanswered (session_fault n text) cost)
+same_fault m n text cost = record { out = refl; err = inr (text, refl, refl); mark = refl; cost = refl }
+
+same_if : (b : Bool) (m n : ℕ) (p q r s : Piece) → SameAnswer m n p q → SameAnswer m n r s
+    → SameAnswer m n (cond b p r) (cond b q s)
+same_if true m n p q r s h k = h
+same_if false m n p q r s h k = k
+
+outcome_same : (m n : ℕ) (line : List ℕ) (o : Outcome) (cost : ℕ)
+    → SameAnswer m n (outcome_piece plain (codes "(session)") m line o cost)
+    (outcome_piece plain (codes "(session)") n line o cost)
+outcome_same m n line o cost =
+    let text = print plain.style (chars line) o in
+    same_if (not (nat_lt most_bytes (length text))) m n _ _ _ _
+    (same_all m n (answered plain line text (matches o) cost cost)) (same_fault m n (codes "answer too long") cost)
+
+made_same : (m n : ℕ) (job : Job) (line : List ℕ)
+    → SameAnswer m n (match_makes plain job (codes "(session)") m line) (match_makes plain job (codes "(session)") n line)
+unfolding match_makes
+made_same m n job line =
+    let a = run job.code (chars line) (budget_of plain (chars line)) in
+    let cost = made (budget_of plain (chars line)) a in
+    same_if (is_over a) m n _ _ _ _ (same_fault m n (codes "budget spent") cost)
+    (outcome_same m n line (outcome job.rules job.goal (chars line)) cost)
+
+no_same : (m n : ℕ) (a b : Mark) (p q : Piece) → a ≡ b → SameAnswer m n p q → SameAnswer m n (or_no a p) (or_no b q)
+no_same m n a b p q e h = subst (λ x. SameAnswer m n (or_no a p) (or_no x q)) e (by_mark a)
+  where
+    by_mark : (x : Mark) → SameAnswer m n (or_no x p) (or_no x q)
+    by_mark Hit = h
+    by_mark Miss = record { out = refl; err = h.err; mark = h.mark; cost = h.cost }
+    by_mark Fault = h
+    by_mark Stop = h
+
+tried_same : (m n : ℕ) (line : List ℕ) (r : OrLine Job) → SameAnswer m n (tried m line r) (tried n line r)
+tried_same m n line (Ok job) = let h = made_same m n job line in no_same m n _ _ _ _ h.mark h
+tried_same m n line (Err text) = same_all m n (fault_piece text)
+
+abbrev AnswersAs : Loading → ℕ → ℕ → Session → Session → Turn → Turn → Type 0
+AnswersAs w m n s r t u = SameAnswer m n t.piece u.piece × (t.session ≡ s)
+
+pattern_same : (w : Loading) (m n : ℕ) (s r : Session) (k : Kept) (line : List ℕ) (o : Option (List ℕ)) → s.now ≡ k → r.now ≡ k
+    → AnswersAs w m n s r (try_turn w m s o line) (try_turn w n r o line)
+pattern_same w m n s r k line None e f = (same_fault m n (codes "no pattern") 0, refl)
+pattern_same w m n s r k line (Some pattern) e f = (
+  subst (λ x. SameAnswer m n (tried m line (w.goal s.now.texts pattern).answer) (tried n line (w.goal x.texts pattern).answer)) (e ∙ sym f)
+      (tried_same m n line (w.goal s.now.texts pattern).answer),
+  refl,
+)
+
+try_same : (w : Loading) (m n : ℕ) (s r : Session) (line : List ℕ) → s.now ≡ r.now
+    → AnswersAs w m n s r (try_turn w m s s.now.pattern line) (try_turn w n r r.now.pattern line)
+try_same w m n s r line e =
+    subst (λ k. AnswersAs w m n s r (try_turn w m s s.now.pattern line) (try_turn w n r k.pattern line)) e
+    (pattern_same w m n s r r.now line s.now.pattern e refl)
+
+any_same : (w : Loading) (m n : ℕ) (s r : Session) (line : List ℕ) (a b : Bool) → s.now ≡ r.now
+    → AnswersAs w m n s r (by_tests w m s (Some (Try line)) a b) (by_tests w n r (Some (Try line)) a b)
+any_same w m n s r line true b e = (same_fault m n (codes "line too long") 0, refl)
+any_same w m n s r line false true e = try_same w m n s r line e
+any_same w m n s r line false false e = (same_fault m n (codes "not UTF-8") 0, refl)
+
+pub try_holds : TryLaw
+try_holds w m n s r line tried q e =
+    let a = nat_lt 1048576 (length line) in
+    let b = is_utf8 line in
+    let one : turn w m s line ≡ by_tests w m s (Some (Try tried)) a b =
+    turn_by w m s line ∙ ap (λ o. by_tests w m s o a b) q in
+    let two : turn w n r line ≡ by_tests w n r (Some (Try tried)) a b =
+    turn_by w n r line ∙ ap (λ o. by_tests w n r o a b) q in
+    let h = any_same w m n s r tried a b e in
+    let g = subst (λ t. AnswersAs w m n s r t (turn w n r line)) (sym one)
+    (subst (λ t. AnswersAs w m n s r (by_tests w m s (Some (Try tried)) a b) t) (sym two) h) in
+    record { same = g.0; stays = g.1 }
+
+-- ---- no piece ends a session
+
+abbrev GoesOn : Piece → Type 0
+GoesOn p = is_stop p.mark ≡ false
+
+goes_if : (b : Bool) (p q : Piece) → GoesOn p → GoesOn q → GoesOn (cond b p q)
+goes_if true p q h k = h
+goes_if false p q h k = k
+
+mark_if : (b : Bool) → is_stop (cond b Hit Miss) ≡ false
+mark_if true = refl
+mark_if false = refl
+
+made_goes : (n : ℕ) (job : Job) (line : List ℕ) → GoesOn (match_makes plain job (codes "(session)") n line)
+unfolding match_makes
+made_goes n job line =
+    let a = run job.code (chars line) (budget_of plain (chars line)) in
+    let cost = made (budget_of plain (chars line)) a in
+    let o = outcome job.rules job.goal (chars line) in
+    let text = print plain.style (chars line) o in
+    goes_if (is_over a) (unanswered (session_fault n (codes "budget spent")) cost)
+    (outcome_piece plain (codes "(session)") n line o cost) refl
+    (goes_if (not (nat_lt most_bytes (length text))) (answered plain line text (matches o) cost cost)
+    (unanswered (session_fault n (codes "answer too long")) cost) (mark_if (matches o)) refl)
+
+no_goes : (a : Mark) (p : Piece) → GoesOn p → GoesOn (or_no a p)
+no_goes Hit p h = h
+no_goes Miss p h = h
+no_goes Fault p h = h
+no_goes Stop p h = h
+
+tried_goes : (n : ℕ) (line : List ℕ) (r : OrLine Job) → GoesOn (tried n line r)
+tried_goes n line (Ok job) = no_goes _ _ (made_goes n job line)
+tried_goes n line (Err text) = refl
+
+try_goes : (w : Loading) (n : ℕ) (s : Session) (o : Option (List ℕ)) (line : List ℕ) → GoesOn (try_turn w n s o line).piece
+try_goes w n s None line = refl
+try_goes w n s (Some p) line = tried_goes n line (w.goal s.now.texts p).answer
+
+judged_goes : {A : Type 0} (s after : Session) (asked : List (List ℕ)) (o : OrLine A) → GoesOn (judged_by s after asked o).piece
+judged_goes s after asked (Ok a) = refl
+judged_goes s after asked (Err text) = refl
+
+loaded_goes : (w : Loading) (e : Edit) (s after : Session) → GoesOn (loaded w e s after).piece
+loaded_goes w (Pattern text) s after = judged_goes s after _ (w.goal after.now.texts text).answer
+loaded_goes w (Add text) s after = judged_goes s after _ (w.texts after.now.texts).answer
+loaded_goes w (Replace k text) s after = judged_goes s after _ (w.texts after.now.texts).answer
+loaded_goes w (Remove k) s after = judged_goes s after _ (w.texts after.now.texts).answer
+loaded_goes w (Try line) s after = judged_goes s after _ (w.texts after.now.texts).answer
+loaded_goes w Undo s after = judged_goes s after _ (w.texts after.now.texts).answer
+
+change_goes : (w : Loading) (n : ℕ) (s : Session) (e : Edit) (o : Option Session) → GoesOn (change_turn w n s e o).piece
+change_goes w n s e None = refl
+change_goes w n s e (Some after) = loaded_goes w e s after
+
+undo_goes : (n : ℕ) (s : Session) (o : Option Session) → GoesOn (undo_turn n s o).piece
+undo_goes n s None = refl
+undo_goes n s (Some before) = refl
+
+edit_goes : (w : Loading) (n : ℕ) (s : Session) (o : Option Edit) → GoesOn (edit_turn w n s o).piece
+edit_goes w n s None = refl
+edit_goes w n s (Some (Add text)) = change_goes w n s (in_chars (Add text)) (changed (in_chars (Add text)) s)
+edit_goes w n s (Some (Replace k text)) = change_goes w n s (in_chars (Replace k text)) (changed (in_chars (Replace k text)) s)
+edit_goes w n s (Some (Remove k)) = change_goes w n s (in_chars (Remove k)) (changed (in_chars (Remove k)) s)
+edit_goes w n s (Some (Pattern text)) = change_goes w n s (in_chars (Pattern text)) (changed (in_chars (Pattern text)) s)
+edit_goes w n s (Some (Try line)) = try_goes w n s s.now.pattern line
+edit_goes w n s (Some Undo) = undo_goes n s (undone s)
+
+tests_go : (w : Loading) (n : ℕ) (s : Session) (o : Option Edit) (a b : Bool) → GoesOn (by_tests w n s o a b).piece
+tests_go w n s o true b = refl
+tests_go w n s o false true = edit_goes w n s o
+tests_go w n s o false false = refl
+
+pub turn_goes : (w : Loading) (n : ℕ) (s : Session) (line : List ℕ) → is_stop (turn w n s line).piece.mark ≡ false
+turn_goes w n s line =
+    subst (λ t. GoesOn t.piece) (sym (turn_by w n s line))
+    (tests_go w n s (edit_of line) (nat_lt 1048576 (length line)) (is_utf8 line))
+
+has_cons : (p : Piece) (ps : List Piece) → is_stop p.mark ≡ false → has is_stop ps ≡ false → has is_stop (p ∷ ps) ≡ false
+unfolding has
+has_cons p ps h k = grind (arith, h, k)
+
+pub all_go : (w : Loading) (n : ℕ) (s : Session) (ls : List (List ℕ)) → has is_stop (pieces_of (turns_from w n s ls)) ≡ false
+unfolding turns_from
+all_go w n s [] = has-nil is_stop
+all_go w n s (line ∷ more) =
+    has_cons (turn w (n + 1) s line).piece _ (turn_goes w (n + 1) s line)
+    (all_go w (n + 1) (turn w (n + 1) s line).session more)
+
+pub never_stops : NoStopLaw
+never_stops w input = all_go w 0 begun (lines false input)

@@ -1,0 +1,4 @@
+pub mod Loading
+pub mod Replay
+pub mod Where
+pub mod Laws

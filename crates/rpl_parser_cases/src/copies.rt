@@ -1,0 +1,125 @@
+// Copies of expressions: each call that allocates is run with ample memory, and its copy is printed.
+use rpl_classes::Set;
+use rpl_syntax::{Expr, Exprs, Mark, QName, Sign, print_expr};
+use rpl_text::Chars;
+use std::alloc::Global;
+use std::process::Abort;
+use std::test::Fail;
+
+fn name(alloc: Global, prefix: Option<&str>, name: &str, at: usize) -> Result<QName, Fail> {
+    let prefix = match prefix {
+        Some(prefix) => Some(Chars::from_str(alloc, prefix)?),
+        None => None,
+    };
+    let name = Chars::from_str(alloc, name)?;
+    Ok(QName { prefix, name, at })
+}
+
+fn two(alloc: Global, first: Expr, second: Expr) -> Result<Exprs, Fail> {
+    let mut list = Exprs::new(alloc);
+    list.push(first)?;
+    list.push(second)?;
+    Ok(list)
+}
+
+/// `("a\"" [^[a-z]])`
+fn cooked(alloc: Global) -> Result<Expr, Fail> {
+    let text = Expr::Text(Chars::from_str(alloc, "a\"")?);
+    let class = Expr::Class {
+        set: Set::range(alloc, 'a', 'z')?,
+        negated: true,
+    };
+    Ok(Expr::Cooked(two(alloc, text, class)?))
+}
+
+/// `{^ $}{2,3}`
+fn repeat(alloc: Global) -> Result<Expr, Fail> {
+    let body = Expr::Raw(two(alloc, Expr::Start, Expr::End)?);
+    Ok(Expr::Repeat {
+        body: Box::new(alloc, body)?,
+        least: 2,
+        most: Some(3),
+    })
+}
+
+/// `!. & {^ $}{2,3}`
+fn both(alloc: Global) -> Result<Expr, Fail> {
+    let prefix = Expr::Prefix(Sign::Not, Box::new(alloc, Expr::Any)?);
+    let first = Box::new(alloc, prefix)?;
+    let second = Box::new(alloc, repeat(alloc)?)?;
+    Ok(Expr::Both(first, second))
+}
+
+/// `f:net.ip`
+fn call(alloc: Global) -> Result<Expr, Fail> {
+    let arg = Expr::Name(name(alloc, Some("net"), "ip", 9)?);
+    let arg = Box::new(alloc, arg)?;
+    let name = name(alloc, None, "f", 7)?;
+    Ok(Expr::Macro { name, arg })
+}
+
+/// `("a\"" [^[a-z]]) / {!. & {^ $}{2,3}} / f:net.ip`
+fn sample(alloc: Global) -> Result<Expr, Fail> {
+    let mut parts = two(alloc, cooked(alloc)?, both(alloc)?)?;
+    parts.push(call(alloc)?)?;
+    Ok(Expr::Choice(parts))
+}
+
+fn expect_copy(rt: &impl Abort, alloc: Global, e: &Expr, want: &str) -> Result<(), Fail> {
+    let copy = e.copy(alloc)?;
+    let printed = print_expr(alloc, e)?;
+    assert_eq!(rt; printed.as_str(), want);
+    let printed = print_expr(alloc, &copy)?;
+    assert_eq!(rt; printed.as_str(), want);
+    Ok(())
+}
+
+#[test]
+fn copies_of_expressions(rt: HostRuntime) -> Result<(), Fail> {
+    let alloc = rt.alloc();
+    let want = "(\"a\\\"\" [^[\\U00000061-\\U0000007A]]) / {!. & {^ $}{2,3}} / f:net.ip";
+    expect_copy(&rt, alloc, &sample(alloc)?, want)?;
+    expect_copy(&rt, alloc, &Expr::Boundary, "~")
+}
+
+#[test]
+fn copies_of_what_macros_make(rt: HostRuntime) -> Result<(), Fail> {
+    let alloc = rt.alloc();
+    let note = Expr::Note(Chars::from_str(alloc, "no")?);
+    let marked = Expr::Marked(Mark::Skip, Box::new(alloc, note)?);
+    let copy = marked.copy(alloc)?;
+    let Expr::Marked(Mark::Skip, body) = &copy else {
+        return Err(Fail::from("the mark is kept"));
+    };
+    assert!(rt; matches!(&**body, Expr::Note(_)));
+    expect_copy(&rt, alloc, &copy, "\"no\"")
+}
+
+#[test]
+fn copies_of_lists(rt: HostRuntime) -> Result<(), Fail> {
+    let alloc = rt.alloc();
+    let list = two(alloc, sample(alloc)?, Expr::Any)?;
+    let copy = list.copy(alloc)?;
+    assert_eq!(rt; copy.len(), 2);
+    let last = copy.get(1).ok_or("the second")?;
+    assert_eq!(rt; print_expr(alloc, last)?.as_str(), ".");
+    let group = Expr::Raw(copy);
+    let want = "{{(\"a\\\"\" [^[\\U00000061-\\U0000007A]]) / {!. & {^ $}{2,3}} / f:net.ip} .}";
+    assert_eq!(rt; print_expr(alloc, &group)?.as_str(), want);
+    Ok(())
+}
+
+#[test]
+fn copies_of_names(rt: HostRuntime) -> Result<(), Fail> {
+    let alloc = rt.alloc();
+    let copy = name(alloc, Some("net"), "ip", 9)?.copy(alloc)?;
+    assert_eq!(rt;
+        copy.prefix.as_ref().map(|prefix| prefix.as_str()),
+        Some("net")
+    );
+    assert_eq!(rt; copy.name.as_str(), "ip");
+    assert_eq!(rt; copy.at, 9);
+    let copy = name(alloc, None, "f", 0)?.copy(alloc)?;
+    assert!(rt; copy.prefix.is_none());
+    Ok(())
+}
