@@ -26,6 +26,7 @@ test:
 	./rosie --build
 	tests/run
 	tests/expand
+	tests/examples
 	tests/manual
 	tests/install
 

@@ -43,10 +43,13 @@ const LOG: &[u8] =
 
 const NUM: &[u8] = b"package num\nlocal alias d = [:digit:]\nint = d+\n";
 
+const TESTED: &[u8] = b"q = \"a\"\np = {{q \"x\"} / \"ab\"}\n\
+    -- test p accepts \"ab\"\n-- test p includes q \"ab\"\n";
+
 const LONG_CODE: &str =
     "{\"x\" <{\"a\"{0,255} / \"a\"{0,255} / \"a\"{0,255} / \"a\"{0,255} / \"a\"{0,255} / \"a\"{0,255}}}";
 
-static CASES: [Case; 19] = [
+static CASES: [Case; 20] = [
     Case {
         shows: "one literal",
         words: LITERAL,
@@ -111,13 +114,13 @@ static CASES: [Case; 19] = [
         status: Status::Refused,
     },
     Case {
-        shows: "another command isn't built",
+        shows: "a session over a file",
         words: &["repl"],
-        tree: &[],
-        input: b"a\n",
-        out: "",
-        err: "rosie: not yet: repl\n",
-        status: Status::Refused,
+        tree: &[("./m.rpl", b"package m x = \"a\"")],
+        input: b"? m.x\n> ab\n+ y = x\nu\n> ab\n",
+        out: "ok 0\n{\"type\":\"m.x\",\"s\":1,\"e\":2,\"data\":\"a\"}\nok 0\n",
+        err: "rosie: (rpl 1):4: unknown name: x\nrosie: (session):5: no pattern\n",
+        status: Status::LineFault,
     },
     Case {
         shows: "a code file that isn't there",
@@ -146,6 +149,15 @@ static CASES: [Case; 19] = [
               0 call 2\n1 finish\n2 open x\n3 set 61\n4 close\n5 return\n",
         err: "",
         status: Status::Matched,
+    },
+    Case {
+        shows: "the tests of a file, one of which isn't met",
+        words: &["test", "t.rpl"],
+        tree: &[("t.rpl", TESTED)],
+        input: b"",
+        out: "t.rpl:4: p includes q \"ab\"\nt.rpl: 2 tests, 1 failed\n",
+        err: "",
+        status: Status::NoMatch,
     },
     Case {
         shows: "rules of a file, with their names in the answer",
@@ -226,7 +238,7 @@ static CASES: [Case; 19] = [
 ];
 
 /// The rest of the table: one constant of all rows is more than the check of one function takes.
-static MORE_CASES: [Case; 19] = [
+static MORE_CASES: [Case; 20] = [
     Case {
         shows: "a pattern that is too large",
         words: &["match", "{\"ab\"{255}}{255}"],
@@ -395,6 +407,15 @@ static MORE_CASES: [Case; 19] = [
         tree: &[("f", b"a1"), ("f", b"a2")],
         input: b"",
         out: "a1\n",
+        err: "",
+        status: Status::Matched,
+    },
+    Case {
+        shows: "what the lines of a sample come to",
+        words: &["sample", "1", "4"],
+        tree: &[],
+        input: b"ab\n",
+        out: "lines 4\nmatched 3\nbytes 466\n",
         err: "",
         status: Status::Matched,
     },

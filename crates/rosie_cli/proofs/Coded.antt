@@ -13,7 +13,7 @@ use Rattle.rpl_safe.specs.Safe.{IsSafe}
 use Rattle.rosie_cli.specs.CodeFiles.{IsCodeLines, code_plan}
 use Rattle.rosie_cli.specs.Compiling.{Compiles}
 use Rattle.rosie_cli.specs.Laws.{RunsItsCode, RunsWhatIsCompiled}
-use Rattle.rosie_cli.specs.Plans.{Plan, Planned, Says, Writes, Reads}
+use Rattle.rosie_cli.specs.Plans.{Plan, Planned, Says, Writes, Tries, Reads, Samples, Replays}
 use Rattle.rosie_cli.specs.Promises.{IsPromised, SpellsSafe}
 
 -- the plan is that of what is loaded, by whatever name the path is known
@@ -28,12 +28,18 @@ code_plans s path text names tree p r is e h =
 abbrev bytes_of : List ℕ → Plan → List ℕ
 bytes_of bytes (Says ps) = bytes
 bytes_of bytes (Writes b) = b
+bytes_of bytes (Tries b trials) = bytes
 bytes_of bytes (Reads m whole names) = bytes
+bytes_of bytes (Samples r) = bytes
+bytes_of bytes (Replays w) = bytes
 
 abbrev IsSaying : Plan → Type 0
 IsSaying (Says ps) = Unit {0}
 IsSaying (Writes b) = ⊥
+IsSaying (Tries b trials) = Unit {0}
 IsSaying (Reads m whole names) = Unit {0}
+IsSaying (Samples r) = Unit {0}
+IsSaying (Replays w) = Unit {0}
 
 -- a code that spells these bytes is safe where some code does that is
 safe_too : (code : List Instr) (bytes : List ℕ) → Spells code bytes → SpellsSafe bytes → IsSafe code

@@ -5,3 +5,9 @@ pub mod Compiled
 pub mod Coded
 pub mod Whole
 pub mod Promised
+pub mod SomeMarks
+pub mod SomeOrder
+pub mod SomePlan
+pub mod OnePlan
+pub mod Sampled
+pub mod Replayed

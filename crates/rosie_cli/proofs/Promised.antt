@@ -1,7 +1,7 @@
 -- That a run over allowed lines has no fault.
 use Rattle.std.proofs.Common.{ℕ, suc, ◌≡◌, ◌+◌, Bool, true, false, ◌||◌, cond, List, [], ◌∷◌, ◌++◌}
 use Rattle.std.proofs.Common.{length, refl, sym, ◌∙◌, ap, subst, arith}
-use Rattle.std.specs.Prelude.{Option, Some, None, codes, nat_lt}
+use Rattle.std.specs.Prelude.{Option, Some, None, codes, map, nat_lt}
 use Rattle.std.specs.List.{All}
 use Rattle.std.specs.Str.{is_utf8}
 use Rattle.rosie_io.specs.Lines.{lines}
@@ -16,7 +16,13 @@ use Rattle.rosie_jobs.specs.Lines.{reading}
 use Rattle.rosie_jobs.specs.Limits.{Pays, IsAllowed}
 use Rattle.rosie_jobs.specs.Makers.{Maker, makes_of}
 use Rattle.rosie_jobs.proofs.Allowed.{IsGood, good_made, short_line, text_line}
-use Rattle.rosie_cli.specs.Plans.{Plan, Says, Writes, Reads, pieces}
+use Rattle.rosie_verdicts.proofs.Paid.{suite-clean}
+use Rattle.rosie_cli.specs.Plans.{Plan, Says, Writes, Tries, Reads, pieces, Samples, Replays}
+use Rattle.rosie_sample.specs.Counting.{counts_piece, line_pieces, muted, sample_pieces}
+use Rattle.rosie_sample.specs.Lines.{sample}
+use Rattle.rosie_sample.specs.Runs.{Sampled}
+use Rattle.rosie_sample.proofs.Counting.{has-muted}
+use Rattle.rosie_session.proofs.Sessions.{never_stops}
 use Rattle.rosie_cli.specs.Promises.{IsPromised, SoundFile, IsSound}
 use Rattle.rosie_cli.specs.Report.{report}
 
@@ -111,11 +117,25 @@ module _ (m : Maker) (due : Pays m) (whole : Bool) where
       (left_allowed left name (reads_standard more) (is_standard name) refl here)
       (λ front back n e isn't. k (name ∷ front) back n (ap (λ xs. name ∷ xs) e) isn't))
 
+clean_sample : (r : Sampled) → Pays r.maker → All (IsAllowed r.maker) (sample r.seed r.lines)
+    → Clean (sample_pieces (makes_of r.maker) r.seed r.lines)
+unfolding sample_pieces
+clean_sample r due h =
+    let all = line_pieces (makes_of r.maker) r.seed r.lines in
+    let clean : Clean all = clean_lines r.maker due false (codes "-") 0 (sample r.seed r.lines) h in
+    clean_append (map muted all) (counts_piece r.lines all ∷ [])
+    (record { stays = has-muted is_stop all ∙ clean.stays; answers = has-muted is_fault all ∙ clean.answers })
+    (clean_cons (counts_piece r.lines all) [] (refl, refl) clean_nil)
+
 plan_clean : (plan : Plan) (tree : List (List ℕ × List ℕ)) (input : List ℕ) → IsPromised plan
     → IsSound plan tree input → Clean (pieces plan tree input)
 plan_clean (Says ps) tree input due h = record { stays = h.0; answers = h.1 }
 plan_clean (Writes bytes) tree input due h = clean_cons (text_piece bytes) [] (refl, refl) clean_nil
+plan_clean (Tries b trials) tree input due h =
+    let clean = suite-clean b trials due h in record { stays = clean.stays; answers = clean.answers }
 plan_clean (Reads m whole names) tree input due h = clean_inputs m due whole tree input names h.standard h.files
+plan_clean (Samples r) tree input due h = clean_sample r due h
+plan_clean (Replays w) tree input due h = record { stays = never_stops w input; answers = h }
 
 -- a sound run has neither
 pub no-stop : (plan : Plan) (tree : List (List ℕ × List ℕ)) (input : List ℕ) → IsPromised plan

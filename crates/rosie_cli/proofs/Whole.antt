@@ -1,6 +1,6 @@
 -- From a plan to its run, and to what is told of it.
 use Rattle.std.proofs.Common.{ℕ, ◌≡◌, ◌≢◌, inl, inr, ◌-◌, ◌^◌, ◌<◌, ◌≤◌, Bool, true, false, List, [], ◌++◌}
-use Rattle.std.proofs.Common.{length, refl, sym, ◌∙◌, subst, arith}
+use Rattle.std.proofs.Common.{length, refl, sym, ◌∙◌, ap, subst, arith}
 use Rattle.std.specs.Prelude.{Result, Ok, Err, IfOk}
 use Rattle.std.specs.List.{Contains}
 use Rattle.std.proofs.lemmas.Bool.{false≢true}
@@ -12,7 +12,7 @@ use Rattle.rosie_run.specs.Outputs.{Telling, Texts}
 use Rattle.rosie_run.specs.Report.{Piece, has, is_stop, is_fault}
 use Rattle.rosie_run.specs.Runs.{Breaks, Runs, IsCutOf, GoesOn}
 use Rattle.rosie_run.specs.Sources.{Moment, RoseIn}
-use Rattle.rosie_run.specs.Where.{not_opened, opened, InInputs, in_file, in_standard, in_loading, in_inputs}
+use Rattle.rosie_run.specs.Where.{Nowhere, not_opened, opened, InInputs, in_file, in_standard, in_loading, in_inputs}
 use Rattle.rosie_run.specs.Statuses.{flags_status}
 use Rattle.rosie_run.specs.Closing.{Closes, why_status}
 use Rattle.rosie_run.specs.declared.ended.Ended.{Ended}
@@ -29,11 +29,16 @@ use Rattle.rosie_run.proofs.Inward.{file_later}
 use Rattle.rosie_run.proofs.Pieces.{has-nil, wrote-none}
 use Rattle.rosie_jobs.specs.Lines.{reading}
 use Rattle.rosie_jobs.specs.Makers.{Maker, makes_of}
-use Rattle.rosie_cli.specs.Planned.{IsPlanned}
-use Rattle.rosie_cli.specs.Plans.{Plan, Says, Writes, Reads, Planned, Span, refusal}
+use Rattle.rosie_verdicts.specs.Trials.{Bench, Trial, suite_pieces}
+use Rattle.rosie_cli.specs.Planned.{IsPlanned, IsPlannedAs}
+use Rattle.rosie_cli.specs.Plans.{Plan, Says, Writes, Tries, Reads, Planned, Span, refusal, Samples, Replays}
+use Rattle.rosie_words.specs.declared.command.Command.{Command}
+use Rattle.rosie_session.specs.Loading.{Loading}
+use Rattle.rosie_session.specs.Replay.{replay}
+use Rattle.rosie_session.specs.Where.{InSession, in_lines, in_load}
 use Rattle.rosie_cli.specs.Plans.{pieces, inputs_of, ReadsInput, among, stood}
 use Rattle.rosie_cli.specs.Promises.{HasRun}
-use Rattle.rosie_cli.specs.Report.{KnowsFiles, KnowsInputs}
+use Rattle.rosie_cli.specs.Report.{IsAnswer, KnowsFiles, KnowsInputs}
 use Rattle.rosie_cli.specs.Words.{Asked, Refuse, Do, IsRefused}
 use Rattle.rosie_cli.specs.inside.Planning.{IsSaid, HasStepped}
 
@@ -47,15 +52,30 @@ inputs_later : (names : List (List ℕ)) (before : List (List ℕ) → ℕ) (tre
 inputs_later names before tree whole i0 i1 f0 f f1 why file k faults opens taken (in_file front back n is isn't x e) = in_file front back n is isn't (file_later tree whole f0 f f1 why file n faults opens taken x) e
 inputs_later names before tree whole i0 i1 f0 f f1 why file k faults opens taken (in_standard front back n is isn't x e) = in_standard front back n is isn't x e
 
+rose_later : (f0 f f1 : Moment) → f.faults ≡ f0.faults → f.opens ≡ f0.opens → RoseIn f f1 → RoseIn f0 f1
+rose_later f0 f f1 faults opens (inl r) = inl (subst (λ x. Rose x f1.faults) faults r)
+rose_later f0 f f1 faults opens (inr r) = inr (subst (λ x. Rose x f1.opens) opens r)
+
+session_later : (w : Loading) (input : List ℕ) (i0 i1 f0 f f1 : Moment) (why : Why) (file : List ℕ) (k : ℕ)
+    → f.faults ≡ f0.faults → f.opens ≡ f0.opens → InSession w input i0 i1 f f1 why file k
+    → InSession w input i0 i1 f0 f1 why file k
+session_later w input i0 i1 f0 f f1 why file k faults opens (in_lines x) = in_lines x
+session_later w input i0 i1 f0 f f1 why file k faults opens (in_load t at asks is rose) =
+    in_load t at asks is (rose_later f0 f f1 faults opens rose)
+
 among_later : (plan : Plan) (tree : List (List ℕ × List ℕ)) (i : Span) (f0 f f1 : Moment) (why : Why)
     (file : List ℕ) (k : ℕ) → f.faults ≡ f0.faults → f.opens ≡ f0.opens
     → (f.taken < 2 ^ 64 - 1 → f0.taken ≤ f.taken) → among plan tree i (record { before = f; after = f1 }) why file k
     → among plan tree i (record { before = f0; after = f1 }) why file k
 among_later (Says ps) tree i f0 f f1 why file k faults opens taken x = x
 among_later (Writes bytes) tree i f0 f f1 why file k faults opens taken x = x
+among_later (Tries b trials) tree i f0 f f1 why file k faults opens taken x = x
 among_later (Reads m whole names) tree i f0 f f1 why file k faults opens taken x =
     inputs_later names (λ front. length (inputs_pieces (makes_of m) (reading whole) tree i.before.rest front)) tree whole
     i.before i.after f0 f f1 why file k faults opens taken x
+among_later (Samples r) tree i f0 f f1 why file k faults opens taken x = x
+among_later (Replays w) tree i f0 f f1 why file k faults opens taken x =
+    session_later w i.before.rest i.before i.after f0 f f1 why file k faults opens x
 
 -- the run of what the words come to, from the run of its plan
 pub planned-runs : (s : Result Tally Ended) (W : Telling) (p : Planned) (plan : Plan)
@@ -72,6 +92,14 @@ planned-runs s W p plan tree tree' i f0 f f1 a b is t faults opens taken h =
     (stood p tree i (record { before = f0; after = f1 })) a b
     (λ why file k x. in_inputs (among_later p.plan tree i f0 f f1 why file k faults opens taken x)) same
 
+-- where no file was read for the plan
+pub refused-runs : (s : Result Tally Ended) (W : Telling) (p : Planned) (plan : Plan) (tree : List (List ℕ × List ℕ))
+    (i : Span) (f0 f1 : Moment) (a b : Texts) → p.plan ≡ plan
+    → Runs s W (pieces plan tree i.before.rest) (among plan tree i (record { before = f0; after = f1 })) a b
+    → Runs s W (pieces p.plan tree i.before.rest) (stood p tree i (record { before = f0; after = f1 })) a b
+refused-runs s W p plan tree i f0 f1 a b is h =
+    planned-runs s W p plan tree tree i f0 f0 f1 a b is refl refl refl (λ _. omega arith) h
+
 -- a plan that only says something reads no input
 no_input : reads_standard [] ≡ true → ⊥
 unfolding reads_standard
@@ -80,7 +108,10 @@ no_input e = false≢true e
 pub said-goes : (s : Result Tally Ended) (plan : Plan) (P : Type 0) → IsSaid plan → GoesOn s (ReadsInput plan → P)
 said-goes (Ok tally) (Says ps) P is = λ goes reads. absurd (no_input reads)
 said-goes (Ok tally) (Writes bytes) P is = λ goes reads. absurd (no_input reads)
+said-goes (Ok tally) (Tries b trials) P is = λ goes reads. absurd (no_input reads)
 said-goes (Ok tally) (Reads m whole names) P is = absurd is
+said-goes (Ok tally) (Samples r) P is = λ goes reads. absurd (no_input reads)
+said-goes (Ok tally) (Replays w) P is = absurd is
 said-goes (Err e) plan P is = tt
 
 -- the run over the same plan, and over the same names
@@ -93,6 +124,13 @@ pub match-runs : (s : Result Tally Ended) (W : Telling) (m : Maker) (whole : Boo
 match-runs s W m whole names names' plan tree i f a b is n h =
     subst (λ x. Runs s W (pieces x tree i.before.rest) (among x tree i f) a b) (sym is)
     (subst (λ x. Runs s W (pieces (Reads m whole x) tree i.before.rest) (among (Reads m whole x) tree i f) a b) n h)
+
+-- and over the same tests
+pub test-runs : (s : Result Tally Ended) (W : Telling) (bench : Bench) (trials : List Trial) (plan : Plan)
+    (tree : List (List ℕ × List ℕ)) (i f : Span) (a b : Texts) → plan ≡ Tries bench trials
+    → Runs s W (suite_pieces bench trials) Nowhere a b → Runs s W (pieces plan tree i.before.rest) (among plan tree i f) a b
+test-runs s W bench trials plan tree i f a b is h =
+    subst (λ x. Runs s W (pieces x tree i.before.rest) (among x tree i f) a b) (sym is) h
 
 pub planned-goes : (s : Result Tally Ended) (p : Planned) (plan : Plan) (P : Type 0) → p.plan ≡ plan
     → GoesOn s (ReadsInput plan → P) → GoesOn s (ReadsInput p.plan → P)
@@ -128,13 +166,22 @@ inputs_not_spent names before tree whole i0 i1 f0 f1 file k short files (in_file
 inputs_not_spent names before tree whole i0 i1 f0 f1 file k short files (in_file front back n n' isn't (opened got o e at z long) x) = let l = long refl in let m = files front back file (got ++ f1.rest) n' at in absurd (omega arith)
 inputs_not_spent names before tree whole i0 i1 f0 f1 file k short files (in_standard front back n is isn't x e) = let l = x.long refl in absurd (omega arith)
 
+session_not_spent : (w : Loading) (input : List ℕ) (i0 i1 f0 f1 : Moment) (file : List ℕ) (k : ℕ)
+    → length i0.rest < 2 ^ 32 → InSession w input i0 i1 f0 f1 Y.Spent file k → ⊥
+session_not_spent w input i0 i1 f0 f1 file k short (in_lines x) = let l = x.1.long refl in absurd (omega arith)
+session_not_spent w input i0 i1 f0 f1 file k short (in_load t at asks is rose) = absurd (cc)
+
 among_not_spent : (plan : Plan) (tree : List (List ℕ × List ℕ)) (i f : Span) (file : List ℕ) (k : ℕ)
     → length i.before.rest < 2 ^ 32 → AreShort (inputs_of plan) tree → among plan tree i f Y.Spent file k → ⊥
 among_not_spent (Says ps) tree i f file k short files x = x
 among_not_spent (Writes bytes) tree i f file k short files x = x
+among_not_spent (Tries b trials) tree i f file k short files x = x
 among_not_spent (Reads m whole names) tree i f file k short files x =
     inputs_not_spent names (λ front. length (inputs_pieces (makes_of m) (reading whole) tree i.before.rest front)) tree
     whole i.before i.after f.before f.after file k short files x
+among_not_spent (Samples r) tree i f file k short files x = x
+among_not_spent (Replays w) tree i f file k short files x =
+    session_not_spent w i.before.rest i.before i.after f.before f.after file k short x
 
 pub not-spent : (p : Planned) (tree : List (List ℕ × List ℕ)) (i f : Span) (file : List ℕ) (k : ℕ)
     → length i.before.rest < 2 ^ 32 → AreShort (inputs_of p.plan) tree → stood p tree i f Y.Spent file k → ⊥
@@ -149,14 +196,45 @@ knows_files (Do c) files f = f
 pub knows_inputs : (plan : Plan) (files input : Type 0) → files → input → KnowsInputs plan files input
 knows_inputs (Says ps) files input f i = tt
 knows_inputs (Writes bytes) files input f i = tt
+knows_inputs (Tries b trials) files input f i = tt
 knows_inputs (Reads m whole names) files input f i = (f, i)
+knows_inputs (Samples r) files input f i = tt
+knows_inputs (Replays w) files input f i = (f, i)
 
--- words that are refused only say so
-pub refused-said : (a : Asked) (tree : List (List ℕ × List ℕ)) (tells : Type 0) (plan : Plan) → IsRefused a
-    → ((p : Planned) → KnowsFiles a tells → IsPlanned a tree p → p.plan ≡ plan) → IsSaid plan
-refused-said (Refuse text) tree tells plan r h =
-    subst IsSaid (h (record { asked = []; plan = refusal text }) tt refl) tt
-refused-said (Do c) tree tells plan r h = absurd r
+-- words that are refused have a plan that says so
+pub refused-plan : (a : Asked) (text : List ℕ) (tree : List (List ℕ × List ℕ)) (p : Planned) → Refuse text ≡ a
+    → IsPlanned a tree p → p.plan ≡ refusal text
+refused-plan a text tree p e is =
+    ap (λ (q : Planned). q.plan) (subst (λ (x : Asked). IsPlanned x tree p) (sym e) is)
+
+-- and the plan of others is that of their command
+pub do-planned : (a : Asked) (c : Command) (tree : List (List ℕ × List ℕ)) (p : Planned) → Do c ≡ a
+    → IsPlanned a tree p → IsPlannedAs c c.what tree p
+do-planned a c tree p e is = subst (λ (x : Asked). IsPlanned x tree p) (sym e) is
+
+pub do-knows : (a : Asked) (c : Command) (files : Type 0) → Do c ≡ a → KnowsFiles a files → files
+do-knows a c files e knows = subst (λ (x : Asked). KnowsFiles x files) (sym e) knows
+
+pub do-goes-on : (a : Asked) (c : Command) → Do c ≡ a → IsRefused a → ⊥
+do-goes-on a c e refused = subst IsRefused (sym e) refused
+
+-- a session, from its own run
+abbrev pub session_planned : Loading → Planned
+session_planned w = record { asked = []; plan = Replays w }
+
+pub session-runs : (s : Result Tally Ended) (W : Telling) (p : Planned) (w : Loading) (tree : List (List ℕ × List ℕ))
+    (i f : Span) (a b : Texts) → p ≡ session_planned w
+    → Runs s W (replay w i.before.rest) (InSession w i.before.rest i.before i.after f.before f.after) a b
+    → Runs s W (pieces p.plan tree i.before.rest) (stood p tree i f) a b
+session-runs s W p w tree i f a b is h =
+    let input = i.before.rest in
+    subst (λ (q : Planned). Runs s W (pieces q.plan tree input) (stood q tree i f) a b) (sym is)
+    (runs-weaken W s (replay w input) (InSession w input i.before i.after f.before f.after)
+    (stood (session_planned w) tree i f) a b (λ why file k x. in_inputs x) h)
+
+pub session-goes : (s : Result Tally Ended) (p : Planned) (P : Type 0) → GoesOn s P → GoesOn s (ReadsInput p.plan → P)
+session-goes (Ok tally) p P h = λ goes _. h goes
+session-goes (Err e) p P h = tt
 
 -- the run of a plan came to an end of its own, or the machine made a step
 ran_flags : (s f h : Bool) (status : Status) (n0 n1 : ℕ) → status ≡ flags_status s f h → HasRun status n0 n1
@@ -199,3 +277,15 @@ module _ (W : Telling) (ps : List Piece) (Where : Why → List ℕ → ℕ → T
   completes-if Spent ok h r w = absurd (few h.file h.k h.stood)
   completes-if WriteFault ok h r w = elim w.2 [ inl x ↦ absurd (o x) | inr x ↦ absurd (e x) ]
   completes-if NoMemory ok h r w = tt
+
+  -- where no read and no write goes wrong the answer is the report's
+  pub answers-all : (answer : Status) → Headline answer W ps Where a b → ReadsCause answer i0 i1 f0 f1
+      → OutputCause answer o0 o1 e0 e1 → IsAnswer answer ps
+  answers-all Matched h r w = inl h.status
+  answers-all NoMatch h r w = inl h.status
+  answers-all Refused h r w = inl h.status
+  answers-all LineFault h r w = inl h.status
+  answers-all ReadFault h r w = elim r.2 [ inl x ↦ absurd (i x) | inr x ↦ absurd (f x) ]
+  answers-all Spent h r w = absurd (few h.file h.k h.stood)
+  answers-all WriteFault h r w = elim w.2 [ inl x ↦ absurd (o x) | inr x ↦ absurd (e x) ]
+  answers-all NoMemory h r w = inr refl

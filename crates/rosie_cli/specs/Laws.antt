@@ -1,16 +1,39 @@
--- What holds of `compile` and `match` together.
-use Rattle.std.specs.Prelude.{◌≡◌, ◌≤◌, ℕ, List, Ok, Some, length}
+-- What holds of all words, and of `compile` and `match` together.
+use Rattle.std.specs.Prelude.{◌≡◌, ◌≤◌, ℕ, Bool, true, false, List, Ok, Some, length, is_some}
 use Rattle.rosie_code.specs.Loaded.{most_bytes}
 use Rattle.rosie_io.specs.Opening.{file_of}
 use Rattle.rosie_jobs.specs.Makers.{Runs}
 use Rattle.rosie_jobs.specs.declared.settings.Settings.{Settings}
 use Rattle.rosie_prepare.specs.Prepared.{IsPrepared, Ready, Tree, Wanted, bodies}
+use Rattle.rosie_words.specs.declared.command.Command.{Command}
+use Rattle.rosie_words.specs.declared.command.What.{What}
+use Rattle.rosie_words.specs.declared.command.What.TheVariants as W
 use Rattle.rpl_core.specs.Instr.{Instr}
 use Rattle.rpl_core.specs.Programs.{IsCode}
 use Rattle.rosie_cli.specs.CodeFiles.{IsCodeLines}
 use Rattle.rosie_cli.specs.Compiling.{IsCompiled}
+use Rattle.rosie_cli.specs.Planned.{IsPlanned}
 use Rattle.rosie_cli.specs.Plans.{Plan, Planned, Reads, Writes}
 use Rattle.rosie_cli.specs.Promises.{IsPromised}
+use Rattle.rosie_cli.specs.Words.{Asked, Refuse, Do}
+
+-- over each tree of files the words come to one plan alone, with the same paths asked for on the way
+abbrev pub OnePlan : Type 0
+OnePlan = (a : Asked) (tree : Tree) (p q : Planned) → IsPlanned a tree p → IsPlanned a tree q → p ≡ q
+
+-- a code file is written or read
+abbrev pub asks_code : Command → What → Bool
+asks_code c (W.Match pattern inputs) = is_some c.code_file
+asks_code c (W.Compile pattern) = true
+asks_code c what = false
+
+abbrev pub is_of_code : Asked → Bool
+is_of_code (Refuse text) = false
+is_of_code (Do c) = asks_code c c.what
+
+-- and all others come to one
+abbrev pub SomePlan : Type 0
+SomePlan = (a : Asked) (tree : Tree) → is_of_code a ≡ false → (p : Planned) × IsPlanned a tree p
 
 -- the plan runs the code of what is wanted, over the tree where that was compiled
 abbrev pub RunsItsCode : Wanted → Tree → (asked : List (List ℕ)) → Settings → List (List ℕ) → Plan → Type 0

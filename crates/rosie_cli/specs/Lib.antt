@@ -4,8 +4,10 @@ pub mod Plans
 pub mod Classes
 pub mod Listing
 pub mod Expanding
+pub mod Testing
 pub mod Compiling
 pub mod CodeFiles
+pub mod Replaying
 pub mod Planned
 pub mod Report
 pub mod Promises

@@ -1,6 +1,6 @@
 -- What the words come to over the tree of files.
 use Rattle.std.specs.Prelude.{ℕ, ◌≡◌, Bool, true, false, nat_lt, if◌then◌else◌, map, List, [], ◌∷◌, length}
-use Rattle.std.specs.Prelude.{Ok, Err, Option, Some, None, codes, encode_utf8_all}
+use Rattle.std.specs.Prelude.{Ok, Err, Option, Some, None, chars, codes, encode_utf8_all}
 use Rattle.rosie_faults.specs.Lines.{compile_line}
 use Rattle.rosie_prepare.specs.Prepared.{Tree, Wanted, Ready, OrLine, IsPrepared, bodies}
 use Rattle.rosie_words.specs.declared.command.Command.{Command}
@@ -10,16 +10,20 @@ use Rattle.rpl_classes.specs.Classes.{set_named}
 use Rattle.rpl_core.specs.Instr.{Instr}
 use Rattle.rpl_forms.specs.Rows.{Row}
 use Rattle.rpl_core.specs.Programs.{IsCode}
+use Rattle.rpl_package.specs.declared.rooted.Root.TheVariants.{Given}
 use Rattle.rosie_jobs.specs.Lines.{Job}
 use Rattle.rosie_jobs.specs.Makers.{Matches, Traces}
 use Rattle.rosie_jobs.specs.declared.settings.Settings.{Settings}
+use Rattle.rosie_sample.specs.Counting.{sample_pattern, sample_rules}
 use Rattle.rosie_cli.specs.Classes.{class_plan}
 use Rattle.rosie_cli.specs.CodeFiles.{IsCodeLines}
 use Rattle.rosie_cli.specs.Compiling.{IsCompiled}
 use Rattle.rosie_cli.specs.Expanding.{IsExpanded}
 use Rattle.rosie_cli.specs.Listing.{IsListed}
 use Rattle.rosie_cli.specs.Options.{settings_of}
-use Rattle.rosie_cli.specs.Plans.{Plan, Reads, Planned, refusal}
+use Rattle.rosie_cli.specs.Plans.{Plan, Reads, Planned, refusal, Samples}
+use Rattle.rosie_cli.specs.Testing.{IsTesting}
+use Rattle.rosie_cli.specs.Replaying.{IsReplayed}
 use Rattle.rosie_cli.specs.Words.{Asked, Refuse, Do}
 
 -- the names of the inputs: without any it is the standard input
@@ -61,6 +65,10 @@ matching s inputs rules job = Reads (Matches s job) s.whole (input_names inputs)
 abbrev pub tracing : (limit : ℕ) → (whole : Bool) → (inputs : List (List ℕ)) → List Row → Job → Plan
 tracing limit whole inputs rules job = Reads (Traces limit (full_names rules) job) whole (input_names inputs)
 
+-- and on so many lines of the sample of a seed
+abbrev pub sampling : Settings → (seed lines : ℕ) → List Row → Job → Plan
+sampling s seed lines rules job = Samples (record { maker = Matches s job; seed = seed; lines = lines })
+
 -- what a command wants of its pattern, which it matches from the start of a line or looks for
 abbrev pub wanted : Command → List ℕ → (find : Bool) → Wanted
 wanted c pattern find = record {
@@ -69,6 +77,16 @@ wanted c pattern find = record {
   text = encode_utf8_all pattern;
   fixed = c.fixed;
   find = find;
+}
+
+-- a sample has rules and a pattern of its own
+abbrev pub sample_wanted : (folders : List (List ℕ)) → Wanted
+sample_wanted folders = record {
+  roots = Given (chars sample_rules) ∷ [];
+  folders = folders;
+  text = sample_pattern;
+  fixed = false;
+  find = false;
 }
 
 -- the plan of `match`: of its pattern, or of its code file
@@ -81,13 +99,16 @@ IsMatch c (Some path) pattern inputs tree p =
 abbrev pub IsPlannedAs : Command → What → Tree → Planned → Type 0
 IsPlannedAs c (W.Match pattern inputs) tree p = IsMatch c c.code_file pattern inputs tree p
 IsPlannedAs c (W.Grep pattern inputs) tree p = IsRunning (matching (settings_of c) inputs) (wanted c pattern true) tree p
+IsPlannedAs c (W.Test file) tree p = IsTesting c.folders file c.budget tree p
 IsPlannedAs c (W.Class name) tree p = p ≡ record { asked = []; plan = class_plan name (set_named name) }
 IsPlannedAs c W.List tree p = IsListed c.roots c.folders tree p
 IsPlannedAs c (W.Expand pattern) tree p = IsExpanded (wanted c pattern false) c.code tree p
 IsPlannedAs c (W.Compile pattern) tree p = IsCompiled (wanted c pattern false) tree p
 IsPlannedAs c (W.Trace pattern inputs) tree p =
     IsRunning (tracing c.limit c.whole inputs) (wanted c pattern false) tree p
-IsPlannedAs c _ tree p = p ≡ record { asked = []; plan = refusal (codes "rosie: not yet\n") }
+IsPlannedAs c (W.Sample seed lines) tree p =
+    IsRunning (sampling (settings_of c) seed lines) (sample_wanted c.folders) tree p
+IsPlannedAs c W.Repl tree p = IsReplayed c.folders tree p
 
 -- and of all words
 abbrev pub IsPlanned : Asked → Tree → Planned → Type 0

@@ -1,5 +1,5 @@
 -- A plan: what a command comes to before anything is written. Its pieces, and where reading may end its run.
-use Rattle.std.specs.Prelude.{ℕ, ◌≡◌, true, Bool, List, [], ◌∷◌, length}
+use Rattle.std.specs.Prelude.{ℕ, ◌≡◌, true, Bool, List, [], ◌∷◌, codes, length}
 use Rattle.rosie_run.specs.Inputs.{inputs_pieces, reads_standard}
 use Rattle.rosie_run.specs.Report.{Piece, stop_piece, text_piece}
 use Rattle.rosie_run.specs.Sources.{Moment, moment}
@@ -7,13 +7,23 @@ use Rattle.rosie_run.specs.Where.{InInputs, InRun, Nowhere}
 use Rattle.rosie_run.specs.declared.ended.Why.{Why}
 use Rattle.rosie_jobs.specs.Lines.{reading}
 use Rattle.rosie_jobs.specs.Makers.{Maker, makes_of}
+use Rattle.rosie_sample.specs.Counting.{sample_pieces}
+use Rattle.rosie_sample.specs.Runs.{Sampled}
+use Rattle.rosie_session.specs.Loading.{Loading}
+use Rattle.rosie_session.specs.Replay.{replay}
+use Rattle.rosie_session.specs.Where.{InSession}
+use Rattle.rosie_verdicts.specs.Trials.{Bench, Trial, suite_pieces}
 
--- pieces for which no input is read, the bytes of a code file that is the whole answer, or a piece for each line of the
--- inputs with these names
+-- pieces for which no input is read, the bytes of a code file that is the whole answer, the tests of a file, a piece for
+-- each line of the inputs with these names, what the lines of a sample come to, or a session over the standard input, by
+-- what its texts come to
 pub data Plan : Type 0 where
   Says : (pieces : List Piece) → Plan
   Writes : (bytes : List ℕ) → Plan
+  Tries : (bench : Bench) → (trials : List Trial) → Plan
   Reads : (maker : Maker) → (whole : Bool) → (names : List (List ℕ)) → Plan
+  Samples : (run : Sampled) → Plan
+  Replays : (loading : Loading) → Plan
 
 -- a refusal, and a text that is the whole answer
 abbrev pub refusal : List ℕ → Plan
@@ -31,13 +41,19 @@ pub record Planned : Type 0 where
 abbrev pub pieces : Plan → List (List ℕ × List ℕ) → List ℕ → List Piece
 pieces (Says ps) tree input = ps
 pieces (Writes bytes) tree input = text_piece bytes ∷ []
+pieces (Tries b trials) tree input = suite_pieces b trials
 pieces (Reads m whole names) tree input = inputs_pieces (makes_of m) (reading whole) tree input names
+pieces (Samples r) tree input = sample_pieces (makes_of r.maker) r.seed r.lines
+pieces (Replays w) tree input = replay w input
 
 -- the names of the inputs; the standard input is among them
 abbrev pub inputs_of : Plan → List (List ℕ)
 inputs_of (Says ps) = []
 inputs_of (Writes bytes) = []
+inputs_of (Tries b trials) = []
 inputs_of (Reads m whole names) = names
+inputs_of (Samples r) = []
+inputs_of (Replays w) = codes "-" ∷ []
 
 abbrev pub ReadsInput : Plan → Type 0
 ReadsInput plan = reads_standard (inputs_of plan) ≡ true
@@ -51,13 +67,18 @@ abbrev pub span : {S : Type 0} → (S → List ℕ) → (S → ℕ) → (S → �
 span rest taken faults opens a b =
     record { before = moment rest taken faults opens a; after = moment rest taken faults opens b }
 
--- where reading may end the run of a plan: among its inputs. `input` is the standard input
+-- where reading may end the run of a plan: among its inputs, or in a file that a line of a session asks for. `input` is
+-- the standard input
 abbrev pub among : Plan → List (List ℕ × List ℕ) → (input files : Span) → Why → List ℕ → ℕ → Type 0
 among (Says ps) tree input files = Nowhere
 among (Writes bytes) tree input files = Nowhere
+among (Tries b trials) tree input files = Nowhere
 among (Reads m whole names) tree input files =
     InInputs names (λ front. length (inputs_pieces (makes_of m) (reading whole) tree input.before.rest front))
     tree whole input.before input.after files.before files.after
+among (Samples r) tree input files = Nowhere
+among (Replays w) tree input files =
+    InSession w input.before.rest input.before input.after files.before files.after
 
 -- and on the way to it, where one of the paths is read
 abbrev pub stood : Planned → List (List ℕ × List ℕ) → (input files : Span) → Why → List ℕ → ℕ → Type 0

@@ -12,18 +12,25 @@ use Rattle.rpl_core.specs.Instr.{Instr}
 use Rattle.rpl_safe.specs.Safe.{IsSafe}
 use Rattle.rosie_jobs.specs.Limits.{Pays, IsAllowed}
 use Rattle.rosie_jobs.specs.Makers.{Maker}
-use Rattle.rosie_cli.specs.Plans.{Plan, Says, Writes, Reads}
+use Rattle.rosie_verdicts.specs.Limits as T
+use Rattle.rosie_cli.specs.Plans.{Plan, Says, Writes, Tries, Reads, Samples, Replays}
+use Rattle.rosie_sample.specs.Lines.{sample}
+use Rattle.rosie_session.specs.Limits as S
+use Rattle.rosie_session.specs.Replay.{replay}
 
 -- the bytes spell a safe code
 abbrev pub SpellsSafe : List ℕ → Type 0
 SpellsSafe bytes = (code : List Instr) × Spells code bytes × IsSafe code
 
--- what is promised of a plan: a line is said to pass its budget only where that is due, and a code that is written as a
--- file is safe
+-- what is promised of a plan: a line or a test is said to pass its budget only where that is due, and a code that is
+-- written as a file is safe
 abbrev pub IsPromised : Plan → Type 0
 IsPromised (Says ps) = Unit {0}
 IsPromised (Writes bytes) = SpellsSafe bytes
+IsPromised (Tries b trials) = T.Pays b trials
 IsPromised (Reads m whole names) = Pays m
+IsPromised (Samples r) = Pays r.maker
+IsPromised (Replays w) = S.Pays w
 
 -- the run came to the end of its report, or the machine made a step: so many were made before, and so many now
 abbrev pub HasRun : Status → (before now : ℕ) → Type 0
@@ -45,8 +52,11 @@ pub record SoundInputs (m : Maker) (whole : Bool) (names : List (List ℕ)) (tre
   pub files : (front back : List (List ℕ)) (name : List ℕ) → names ≡ front ++ name ∷ back
       → is_standard name ≡ false → SoundFile m whole (file_of name tree)
 
--- a plan that refuses nothing and has an answer for each of its pieces, over lines that every limit allows
+-- a plan that refuses nothing and has an answer for each of its pieces, over tests and lines that every limit allows
 abbrev pub IsSound : Plan → List (List ℕ × List ℕ) → List ℕ → Type 0
 IsSound (Says ps) tree input = (has is_stop ps ≡ false) × (has is_fault ps ≡ false)
 IsSound (Writes bytes) tree input = Unit {0}
+IsSound (Tries b trials) tree input = T.AreAllowed b trials
 IsSound (Reads m whole names) tree input = SoundInputs m whole names tree input
+IsSound (Samples r) tree input = All (IsAllowed r.maker) (sample r.seed r.lines)
+IsSound (Replays w) tree input = has is_fault (replay w input) ≡ false

@@ -2,14 +2,13 @@
 
 ghost use Rattle.std.specs.Prelude.{◌≡◌, ◌≢◌, ◌++◌, string_bytes, IfOk};
 ghost use Rattle.rosie_words.specs.declared.fault.UsageFault.TheVariants as E;
-ghost use Rattle.rosie_words.specs.NotYet.{first_unbuilt};
 ghost use Rattle.rosie_words.specs.Printed.{fault_line, usage};
 ghost use Rattle.rosie_words.specs.Reading.{words_of};
 ghost use Rattle.rosie_cli.specs.Words as W;
 ghost use Rattle.rosie_cli.specs.inside.Asking.{asked_of};
 
 use rosie_run::NoMemory;
-use rosie_words::{Command, UsageFault, fault_line, not_yet, read_words, usage};
+use rosie_words::{Command, UsageFault, fault_line, read_words, usage};
 use std::alloc::{AllocError, Global};
 
 /// What the words ask for.
@@ -32,22 +31,12 @@ fn usage_text(alloc: Global, fault: &UsageFault) -> Result<String, NoMemory>
     Ok(text)
 }
 
-/// The command, unless a word asks for what isn't built.
-fn built(alloc: Global, words: &[String], command: Command) -> Result<Asked, NoMemory>
-    ensures { IfOk result (λ asked. asked_of asked ≡ W.built command (first_unbuilt command (words_of words.now))) }
-{
-    match not_yet(words, &command) {
-        Some(word) => Ok(Asked::Refuse(format!(in alloc; "rosie: not yet: {word}\n")?)),
-        None => Ok(Asked::Do(command)),
-    }
-}
-
 /// What the words ask for.
 pub(crate) fn ask(alloc: Global, words: &[String]) -> Result<Asked, NoMemory>
     ensures { IfOk result (λ asked. asked_of asked ≡ W.asked (words_of words.now)) }
 {
     match read_words(alloc, words) {
-        Ok(command) => built(alloc, words, command),
+        Ok(command) => Ok(Asked::Do(command)),
         Err(fault) => Ok(Asked::Refuse(usage_text(alloc, &fault)?)),
     }
 }

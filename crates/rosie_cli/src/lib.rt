@@ -3,7 +3,8 @@
 //!
 //! `specs/Planned.antt` says what the words come to over the tree of files, and `specs/Plans.antt` what a plan writes;
 //! the contract of [`rosie`] says what each answer tells of that. Each command is a case of `IsPlanned`, an arm of
-//! `plan_command` and a module of its own. Only files are read for a plan, and nothing is written before it stands.
+//! `plan_command` and a module of its own; only files are read for a plan, and nothing is written before it stands. A
+//! session is an arm of `run_command`, since it reads its files as its lines come.
 #![tactic(auto)]
 
 mod asked;
@@ -17,9 +18,11 @@ mod match_plan;
 mod options;
 mod plan;
 mod planning;
+mod sample_plan;
+mod test_plan;
 mod top;
 mod trace_plan;
 
-pub use laws::compiled_is_run;
+pub use laws::{compiled_is_run, one_plan};
 pub use rosie_run::Status;
 pub use top::rosie;

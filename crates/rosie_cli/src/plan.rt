@@ -4,6 +4,8 @@ ghost use Rattle.std.specs.Prelude.{◌≡◌};
 
 use rosie_io::Bytes;
 use rosie_jobs::{CodeJob, MatchJob, TraceJob};
+use rosie_sample::SampleRun;
+use rosie_verdicts::Suite;
 use rosie_words::Paths;
 use rpl_text::Chars;
 use std::alloc::AllocError;
@@ -17,6 +19,8 @@ pub(crate) enum Plan {
     Answer(String),
     /// The bytes of a code file, which are the whole answer.
     Write(Bytes),
+    /// The tests of a file are tried.
+    Test(Suite),
     /// A goal runs on each line of the inputs with these names.
     Match {
         job: MatchJob,
@@ -35,6 +39,8 @@ pub(crate) enum Plan {
         whole: bool,
         names: Paths,
     },
+    /// The lines of a sample are matched, and it is told what they come to.
+    Sample(SampleRun),
 }
 
 /// Why there is no plan.

@@ -1,4 +1,5 @@
-//! The top call: the words are planned, the plan runs, and the run is ended.
+//! The top call: the words are read, their command is planned, the plan runs, and the run is ended. A session runs
+//! without a plan.
 
 ghost use Rattle.std.specs.Prelude.{◌≡◌, ◌<◌, ◌^◌, [], length};
 ghost use Rattle.rosie_io.specs.Counts.{Rose};
@@ -8,18 +9,21 @@ ghost use Rattle.rosie_run.specs.Outputs.{texts};
 ghost use Rattle.rosie_run.specs.Runs.{Runs, GoesOn};
 ghost use Rattle.rosie_run.specs.Sources.{moment, RoseIn};
 ghost use Rattle.rosie_words.specs.Reading.{words_of};
-ghost use Rattle.rosie_cli.specs.Planned.{IsPlanned};
+ghost use Rattle.rosie_cli.specs.Planned.{IsPlanned, IsPlannedAs};
 ghost use Rattle.rosie_cli.specs.Plans.{Planned, pieces, inputs_of, ReadsInput, span, among, stood};
 ghost use Rattle.rosie_cli.specs.Promises.{IsPromised, HasRun, IsSound};
-ghost use Rattle.rosie_cli.specs.Report.{report, KnowsFiles, KnowsInputs};
+ghost use Rattle.rosie_cli.specs.Report.{report, IsAnswer, KnowsFiles, KnowsInputs};
 ghost use Rattle.rosie_cli.specs.Words.{asked, IsRefused};
 ghost use Rattle.rosie_cli.specs.inside.Planning.{plan_of, IsSaid, HasStepped};
 
+use crate::asked::{Asked, ask};
 use crate::plan::{Plan, Unplanned};
-use crate::planning::plan;
+use crate::planning::plan_command;
 use rosie_io::{Files, Sink, Source};
 use rosie_jobs::MOST_BYTES;
 use rosie_run::{Ended, Mark, Reading, Status, Tally, Why, cut, finish, run_inputs, say};
+use rosie_session::run_session;
+use rosie_words::{Command, What};
 use rpl_machine::Steps;
 use rpl_print::text_of;
 use std::alloc::Global;
@@ -55,6 +59,7 @@ fn run_plan<F: Files, I: Source, O: Sink, E: Sink, L: Ledger>(
         Plan::Refuse(text) => say(out, err, &[], text.as_bytes(), Mark::Stop),
         Plan::Answer(text) => say(out, err, text.as_bytes(), &[], Mark::Hit),
         Plan::Write(bytes) => say(out, err, bytes.as_slice(), &[], Mark::Hit),
+        Plan::Test(suite) => suite.run(alloc, out, err, steps),
         Plan::Match { job, whole, names } => {
             let reading = Reading {
                 whole: *whole,
@@ -79,6 +84,48 @@ fn run_plan<F: Files, I: Source, O: Sink, E: Sink, L: Ledger>(
             let names = names.as_slice();
             run_inputs(alloc, job, reading, names, files, input, out, err, steps)
         }
+        Plan::Sample(run) => run.run(alloc, out, err, steps),
+    }
+}
+
+/// Does what a command says, but for its end. A session has no plan: it reads its files as its lines come.
+fn run_command<F: Files, I: Source, O: Sink, E: Sink, L: Ledger>(
+    alloc: Global,
+    command: Command,
+    files: &mut F,
+    input: &mut I,
+    out: &mut O,
+    err: &mut E,
+    steps: &mut Steps<L>,
+) -> Result<Tally, Ended>
+    ensures runs { F.tells → (p : Planned) → IsPlannedAs command command.what (F.tree files.old) p
+        → KnowsInputs p.plan F.tells I.tells
+        → Runs result (record { out = O.tells; err = E.tells; counts = O.counts })
+        (pieces p.plan (F.tree files.old) (I.rest input.old))
+        (stood p (F.tree files.old)
+        (span I.rest I.taken I.faults I.failed_opens input.old input.new)
+        (span F.rest F.taken F.faults F.failed_opens files.old files.new))
+        (texts O.written O.number E.written out.old err.old steps.old)
+        (texts O.written O.number E.written out.new err.new steps.new) }
+    ensures due { F.tells → (p : Planned) → IsPlannedAs command command.what (F.tree files.old) p
+        → HasStepped result steps.old steps.new → IsPromised p.plan }
+    ensures rest { F.tells → I.tells → (p : Planned) → IsPlannedAs command command.what (F.tree files.old) p
+        → GoesOn result (ReadsInput p.plan → I.rest input.new ≡ []) }
+    ensures cause { SourcesCause result (moment I.rest I.taken I.faults I.failed_opens input.old)
+        (moment I.rest I.taken I.faults I.failed_opens input.new)
+        (moment F.rest F.taken F.faults F.failed_opens files.old)
+        (moment F.rest F.taken F.faults F.failed_opens files.new) }
+    ensures sinks { WritesCause result (O.faults out.old) (O.faults out.new) (E.faults err.old) (E.faults err.new) }
+{
+    match command.what {
+        What::Repl => run_session(alloc, &command.folders, files, input, out, err, steps),
+        _ => match plan_command(alloc, command, files) {
+            Ok(mut plan) => run_plan(alloc, &mut plan, files, input, out, err, steps),
+            Err(unplanned) => match unplanned {
+                Unplanned::NoMemory => Err(Ended::NoMemory),
+                Unplanned::ReadFault(path) => Err(cut(alloc, Why::ReadFault, text_of(&path))),
+            },
+        },
     }
 }
 
@@ -113,12 +160,15 @@ fn run_words<F: Files, I: Source, O: Sink, E: Sink, L: Ledger>(
     ensures sinks { WritesCause result (O.faults out.old) (O.faults out.new) (E.faults err.old) (E.faults err.new) }
     ensures untouched { IsRefused (asked (words_of words.now)) → (files.new ≡ files.old) × (input.new ≡ input.old) }
 {
-    match plan(alloc, words, files) {
-        Ok(mut plan) => run_plan(alloc, &mut plan, files, input, out, err, steps),
-        Err(unplanned) => match unplanned {
-            Unplanned::NoMemory => Err(Ended::NoMemory),
-            Unplanned::ReadFault(path) => Err(cut(alloc, Why::ReadFault, text_of(&path))),
+    match ask(alloc, words) {
+        Ok(asked) => match asked {
+            Asked::Refuse(text) => {
+                let mut plan = Plan::Refuse(text);
+                run_plan(alloc, &mut plan, files, input, out, err, steps)
+            }
+            Asked::Do(command) => run_command(alloc, command, files, input, out, err, steps),
         },
+        Err(_) => Err(Ended::NoMemory),
     }
 }
 
@@ -151,11 +201,22 @@ pub fn rosie<F: Files, I: Source, O: Sink, E: Sink, L: Ledger>(
         → CameToEnd result → ReadsInput p.plan → I.rest input.new ≡ [] }
     ensures untouched { IsRefused (asked (words_of words.now)) → (files.new ≡ files.old) × (input.new ≡ input.old) }
 
-    // No line is said to pass its budget that the budget pays for, and a code that is written as a file is safe; and
-    // where nothing goes wrong, there is an answer.
+    // No line is said to pass its budget that the budget pays for, and a code that is written as a file is safe. Where no
+    // read and no write goes wrong, the answer is the report's; and where nothing goes wrong, that tells of a match.
     ensures promised { (p : Planned) → KnowsFiles (asked (words_of words.now)) F.tells
         → IsPlanned (asked (words_of words.now)) (F.tree files.old) p → HasRun result steps.old steps.new
         → IsPromised p.plan }
+    ensures answers { F.tells → I.tells → (p : Planned)
+        → IsPlanned (asked (words_of words.now)) (F.tree files.old) p
+        → ¬ RoseIn (moment I.rest I.taken I.faults I.failed_opens input.old)
+        (moment I.rest I.taken I.faults I.failed_opens input.new)
+        → ¬ RoseIn (moment F.rest F.taken F.faults F.failed_opens files.old)
+        (moment F.rest F.taken F.faults F.failed_opens files.new)
+        → ¬ Rose (O.faults out.old) (O.faults out.new)
+        → ¬ Rose (E.faults err.old) (E.faults err.new)
+        → length (I.rest input.old) < 2 ^ 32
+        → AreShort (inputs_of p.plan) (F.tree files.old)
+        → IsAnswer result (report p.plan (F.tree files.old) (I.rest input.old)) }
     ensures complete { F.tells → I.tells → (p : Planned)
         → IsPlanned (asked (words_of words.now)) (F.tree files.old) p
         → ¬ RoseIn (moment I.rest I.taken I.faults I.failed_opens input.old)

@@ -20,6 +20,7 @@ mod trace_job;
 pub use code_job::CodeJob;
 pub use job::Job;
 pub use laws::{code_runs_as_its_goal, trace_agrees};
+pub use line_run::budget_or;
 pub use match_job::MatchJob;
 pub use rosie_run::LineJob;
 pub use settings::{MOST_BYTES, Settings};

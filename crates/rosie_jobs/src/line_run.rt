@@ -49,7 +49,7 @@ fn characters(line: &str) -> u64
 }
 
 /// The steps that a line may take: those that are given, else a million, and a thousand for each of its characters.
-fn budget_or(given: Option<u64>, line: &str) -> u64
+pub fn budget_or(given: Option<u64>, line: &str) -> u64
     requires { length line.now ≤ 2 ^ 30 }
     ensures { result ≡ budget_or given (chars line.now) }
 {

@@ -5,8 +5,8 @@ use Rattle.std.specs.Prelude.{map, Option, Some, None, Result, Ok, Err, encode_u
 use Rattle.std.proofs.lemmas.Bool.{cases_lt}
 use Rattle.rosie_prepare.proofs.Passing.{first_same, goal_same}
 use Rattle.rosie_prepare.specs.Laws.{OnePreparation}
-use Rattle.rosie_prepare.specs.Prepared.{Comes, OrLine, Passes, Ready, TableFacts}
-use Rattle.rosie_prepare.specs.Prepared.{blocks, found, goal_in, loaded, ready, too_large, unsound}
+use Rattle.rosie_prepare.specs.Prepared.{Comes, OrLine, Passes, Ready, TableComes, TableFacts}
+use Rattle.rosie_prepare.specs.Prepared.{blocks, found, goal_in, loaded, ready, table_too_large, table_unsound, too_large, unsound}
 use Rattle.rpl_check.specs.Causes.{or_then}
 use Rattle.rpl_check.specs.Faults as C
 use Rattle.rpl_expand.specs.Faults as E
@@ -69,6 +69,12 @@ comes_one : (l : Or (Expr × Packages)) (r q : OrLine Ready) → Comes l r → C
 comes_one (Err f) r q h k = h ∙ sym k
 comes_one (Ok l) r q h k =
     passes_one l.1 (too_large l.1 l.0) (unsound l.1 l.0) (ready l.1 l.0) r q (unsound_one l.1 l.0) h k
+
+-- roots alone come to one thing
+pub one_table : (x : Or Packages) (r q : OrLine Packages) → TableComes x r → TableComes x q → r ≡ q
+one_table (Err f) r q h k = h ∙ sym k
+one_table (Ok p) r q h k =
+    passes_one p (table_too_large p) (table_unsound p) p r q (λ d e. first_same _ e d (blocks (table_of p))) h k
 
 -- ---- the law
 

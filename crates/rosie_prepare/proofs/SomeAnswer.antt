@@ -8,8 +8,9 @@ use Rattle.std.proofs.lemmas.List.{length-map}
 use Rattle.std.proofs.lemmas.Option.{slice_get-map}
 use Rattle.rosie_faults.specs.Lines.{expand_line, load_line}
 use Rattle.rosie_prepare.specs.Laws.{SomePreparation}
-use Rattle.rosie_prepare.specs.Prepared.{Comes, OrLine, Passes, Ready, TableFacts, Tree}
+use Rattle.rosie_prepare.specs.Prepared.{Comes, OrLine, Passes, Ready, TableComes, TableFacts, Tree}
 use Rattle.rosie_prepare.specs.Prepared.{blocks, bodies, found, loaded, ready, too_large, unsound}
+use Rattle.rosie_prepare.specs.Prepared.{table_too_large, table_unsound}
 use Rattle.rpl_check.proofs.Accepting.{calls_stay}
 use Rattle.rpl_check.proofs.Exists.{facts_of}
 use Rattle.rpl_check.specs.Faults as C
@@ -111,6 +112,19 @@ module _ (tree : Tree) (folders : List (List ℕ)) (roots : List Root) (parse : 
       → (r : OrLine Ready) × Comes (x >>= λ p. (load_pattern (world tree folders) p parse).answer) r
   comes_some (Err f) e = (Err (load_line f), refl)
   comes_some (Ok p) e = goal_some p (by_roots roots p e) (load_pattern (world tree folders) p parse).answer refl
+
+-- roots alone come to something
+table_some :
+    (tree : Tree) (folders : List (List ℕ)) (roots : List Root) (x : Or Packages)
+    → (load (world tree folders) roots).answer ≡ x → (r : OrLine Packages) × TableComes x r
+table_some tree folders roots (Err f) e = (Err (load_line f), refl)
+table_some tree folders roots (Ok p) e =
+    passes_some p (table_too_large p) (table_unsound p) p (table_facts tree folders p (by_roots roots p e))
+
+pub some_table :
+    (tree : Tree) (folders : List (List ℕ)) (roots : List Root)
+    → (r : OrLine Packages) × TableComes (load (world tree folders) roots).answer r
+some_table tree folders roots = table_some tree folders roots (load (world tree folders) roots).answer refl
 
 -- ---- the law
 

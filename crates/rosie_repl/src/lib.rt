@@ -8,8 +8,6 @@
 
 mod edit;
 mod state;
-#[cfg(test)]
-mod tests;
 mod undoing;
 
 pub use edit::{Edit, read_edit};

@@ -1,5 +1,6 @@
 -- The statuses and their numbers.
-use Rattle.rosie_run.specs.declared.status.Status.TheVariants.{Matched, NoMatch, Refused, LineFault, ReadFault, WriteFault, NoMemory, Spent}
+use Rattle.rosie_run.specs.declared.status.Status.TheVariants.{Matched, NoMatch, Refused, LineFault, ReadFault}
+use Rattle.rosie_run.specs.declared.status.Status.TheVariants.{WriteFault, NoMemory, Spent}
 use Rattle.rosie_run.specs.declared.status.Status.{Status}
 use Rattle.std.specs.Prelude.{Bool, false, true, ℕ}
 

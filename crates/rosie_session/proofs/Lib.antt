@@ -1,2 +1,9 @@
 pub mod Sessions
 pub mod OneLoad
+pub mod Compiling
+pub mod Onward
+pub mod Lines
+pub mod Ending
+pub mod Turns
+pub mod Pegs
+pub mod Paying

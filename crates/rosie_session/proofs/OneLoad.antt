@@ -7,7 +7,6 @@ use Rattle.rosie_prepare.proofs.OneAnswer.{one_answer}
 use Rattle.rosie_prepare.proofs.Passing.{first_same}
 use Rattle.rpl_check.specs.Faults as C
 use Rattle.rpl_core.proofs.Codes.{code_holds}
-use Rattle.rpl_core.specs.Instr.{Instr}
 use Rattle.rpl_expand.specs.Faults as E
 use Rattle.rpl_expand.specs.Sets.{table_of}
 use Rattle.rpl_package.specs.Loading.{world}

@@ -1,7 +1,7 @@
 -- The laws of sessions.
 use Rattle.std.proofs.Common.{◌≡◌, ◌≢◌, inl, inr, ℕ, ◌+◌, Bool, true, false, cond, List, [], ◌∷◌, length, refl, sym}
 use Rattle.std.proofs.Common.{ap, subst, arith, ◌∙◌, rules}
-use Rattle.std.specs.Prelude.{codes, nat_lt, chars, not, Option, Some, None, Result, Ok, Err}
+use Rattle.std.specs.Prelude.{codes, nat_lt, chars, not, Option, Some, None, Ok, Err}
 use Rattle.std.specs.Str.{is_utf8}
 use Rattle.std.proofs.lemmas.Str.{IsUtf8-from_ascii, is_utf8-from_IsUtf8}
 use Rattle.rosie_io.specs.Lines.{lines}
@@ -19,8 +19,8 @@ use Rattle.rpl_core.specs.Run.{run}
 use Rattle.rpl_encode.specs.Answer.{most_bytes}
 use Rattle.rpl_encode.specs.Print.{print}
 use Rattle.rosie_session.specs.Laws.{NoStopLaw, SameAnswer, TryLaw, UndoLaw, is_change}
-use Rattle.rosie_session.specs.Loading.{Load, Loading}
-use Rattle.rosie_session.specs.Replay.{Turn, accepted, change_turn, edit_turn, job_piece, judged_by, loaded, ok_piece, or_no}
+use Rattle.rosie_session.specs.Loading.{Loading}
+use Rattle.rosie_session.specs.Replay.{Turn, accepted, change_turn, edit_turn, judged_by, loaded, or_no}
 use Rattle.rosie_session.specs.Replay.{pieces_of, plain, refused, session_fault, tried, try_turn, turn, turns_from, undo_turn}
 
 -- a line that is too long, or no text, or is a command

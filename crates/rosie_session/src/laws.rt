@@ -1,5 +1,5 @@
 // What holds of all sessions.
-ghost use Rattle.rosie_session.specs.Laws.{NoStopLaw, OneLoading, TryLaw, UndoLaw};
+ghost use Rattle.rosie_session.specs.Laws.{BudgetLaw, NoStopLaw, OneLoading, TryLaw, UndoLaw};
 
 /// Over each tree of files and library path there is one loading.
 pub fn one_loading()
@@ -14,6 +14,11 @@ pub fn undo_law()
 /// What is answered to a line that is tried hangs on what is kept alone, and changes nothing.
 pub fn try_law()
     ensures { TryLaw }
+{}
+
+/// A line that is tried passes its budget only where that is due.
+pub fn budget_law()
+    ensures { BudgetLaw }
 {}
 
 /// A session is never refused.

@@ -1,5 +1,4 @@
 pub mod Arguments
-pub mod NotYet
 pub mod Options
 pub mod Printed
 pub mod Reading

@@ -1,8 +1,7 @@
 //! The words of the command line: each list of words is one command with its options, or has one first fault.
 //!
 //! [`read_words`] is the reading, for the top call. It promises the whole of it: which command, and of the
-//! faults the first, exactly where it is due. [`usage`] and [`fault_line`] are what a fault prints, and
-//! [`not_yet`] names the first word that asks for what is not built.
+//! faults the first, exactly where it is due. [`usage`] and [`fault_line`] are what a fault prints.
 #![tactic(auto)]
 
 mod command;
@@ -13,7 +12,6 @@ mod reading;
 mod role;
 mod settings;
 mod table;
-mod unbuilt;
 mod value;
 mod what;
 
@@ -23,7 +21,6 @@ pub use lists::Paths;
 pub use printed::{fault_line, usage};
 pub use reading::{no_reading_is_want_of_memory, read_words};
 pub use std::alloc::AllocError as NoMemory;
-pub use unbuilt::not_yet;
 
 #[cfg(test)]
 mod tests;

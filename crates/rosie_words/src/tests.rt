@@ -186,22 +186,3 @@ fn a_fault_is_a_line(rt: HostRuntime) -> Result<(), Fail> {
     assert_eq!(rt; usage().len(), 442);
     Ok(())
 }
-
-#[test]
-fn the_first_word_is_named_that_is_not_built(rt: HostRuntime) -> Result<(), Fail> {
-    for case in cases::NOT_YET {
-        let Some((line, wanted)) = case.split_once(" => ") else {
-            return Err("a case has its word".into());
-        };
-        let words = words_of(rt.alloc(), line)?;
-        let Ok(command) = read_words(rt.alloc(), &words) else {
-            return Err("the words have no fault".into());
-        };
-        assert_eq!(rt;
-            not_yet(&words, &command).unwrap_or(""),
-            wanted,
-            "of {line}"
-        );
-    }
-    Ok(())
-}

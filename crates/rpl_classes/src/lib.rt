@@ -16,8 +16,6 @@ mod laws;
 mod lists;
 mod set;
 mod symbols;
-#[cfg(test)]
-mod tests;
 
 pub use brackets::{Bracket, read_bracket};
 pub use fault::SetFault;

@@ -1,6 +1,4 @@
-pub mod Marking
 pub mod Parts
-pub mod Search
 pub mod Lengths
 pub mod Pieces
 pub mod Weights

@@ -1,7 +1,4 @@
 -- Of private functions.
-pub mod Calls
-pub mod Marked
-pub mod Searching
 pub mod Sizes
 pub mod Nodes
 pub mod Taken

@@ -4,7 +4,7 @@ ghost use Rattle.rpl_core.specs.Listed.{rules_of};
 ghost use Rattle.rpl_core.specs.Table.{bodies_of};
 ghost use Rattle.rpl_core.specs.View.{core_of};
 ghost use Rattle.rpl_codegen.specs.inside.Laid.{LaysOut, bodies_nodes, rule_len, rule_nodes};
-ghost use Rattle.rpl_core.specs.inside.Marks.{marked};
+ghost use Rattle.rpl_reach.specs.Marked.{marked};
 ghost use Rattle.rpl_codegen.specs.inside.Nodes.{nodes_in};
 
 use crate::NoMemory;

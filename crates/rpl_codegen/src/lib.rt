@@ -9,7 +9,6 @@
 mod compiling;
 mod head;
 mod layout;
-mod reach;
 mod size;
 mod whole;
 mod writing;

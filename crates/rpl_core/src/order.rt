@@ -98,10 +98,15 @@ fn body_calls_only(rules: &Rules, number: u32) -> bool
     }
 }
 
-/// An earlier rule is in the block of this one.
-fn has_mate(rules: &Rules, number: u32) -> bool
+/// An earlier rule is in the block of this one, where all blocks of earlier rules are below `next`: none is, where this
+/// one isn't.
+fn has_mate(rules: &Rules, number: u32, next: u64) -> bool
+    requires { S.AreBelow (blocks_in rules.now) number next }
     ensures { result ≡ S.has_mate (blocks_in rules.now) number number }
 {
+    if is_new(rules, number, next) {
+        return false;
+    }
     let mut other = number;
     while other > 0 {
         other -= 1;
@@ -112,35 +117,59 @@ fn has_mate(rules: &Rules, number: u32) -> bool
     false
 }
 
+/// The block of the rule, if it stands in one, isn't below `next`.
+fn is_new(rules: &Rules, number: u32, next: u64) -> bool
+    ensures { result ≡ S.is_new next (block_at (slice_get (blocks_in rules.now) number)) }
+{
+    match block_of(rules, number) {
+        Some(block) => u64::from(block) >= next,
+        None => true,
+    }
+}
+
 /// The rule is in the block of an earlier one, and not in that of the rule before it.
-fn is_split(rules: &Rules, number: u32) -> bool
-    requires { number < length (rules_of rules.now) }
+fn is_split(rules: &Rules, number: u32, next: u64) -> bool
+    requires inside { number < length (rules_of rules.now) }
+    requires below { S.AreBelow (blocks_in rules.now) number next }
     ensures { result ≡ S.is_split (blocks_in rules.now) number }
 {
     if number == 0 || is_outside(rules, number) {
         return false;
     }
-    !joins_next(rules, number - 1) && has_mate(rules, number)
+    !joins_next(rules, number - 1) && has_mate(rules, number, next)
 }
 
 /// The rule stands in order.
-fn stands(rules: &Rules, number: u32) -> bool
-    requires { number < length (rules_of rules.now) }
+fn stands(rules: &Rules, number: u32, next: u64) -> bool
+    requires inside { number < length (rules_of rules.now) }
+    requires below { S.AreBelow (blocks_in rules.now) number next }
     ensures { result ≡ S.stands (bodies_in rules.now) (blocks_in rules.now) number }
 {
-    body_calls_only(rules, number) && !is_split(rules, number)
+    body_calls_only(rules, number) && !is_split(rules, number, next)
+}
+
+/// A number above the block of the rule, too, where it was above those before.
+fn above(rules: &Rules, number: u32, next: u64) -> u64
+    ensures { result ≡ S.above next (block_at (slice_get (blocks_in rules.now) number)) }
+{
+    match block_of(rules, number) {
+        Some(block) => next.max(u64::from(block) + 1),
+        None => next,
+    }
 }
 
 /// The table stands in order: the rules of a block stand side by side, and each rule calls only earlier rules and
-/// those of its block. A caller that knows this of its table needn't ask; the first rule of each block is compared with
-/// all earlier rules.
+/// those of its block. A caller that knows this of its table needn't ask. Blocks are best numbered in order: one whose
+/// number isn't above those before has its first rule compared with all earlier rules.
 pub fn is_in_order(rules: &Rules) -> bool
     ensures { IsTrue result ↔ IsInOrder (bodies_in rules.now) (blocks_in rules.now) }
 {
+    let mut next = 0;
     for number in 0..rules.len() as u32 {
-        if !stands(rules, number) {
+        if !stands(rules, number, next) {
             return false;
         }
+        next = above(rules, number, next);
     }
     true
 }

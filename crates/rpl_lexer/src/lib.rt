@@ -18,8 +18,6 @@ mod laws;
 mod number;
 mod payload;
 mod punct;
-#[cfg(test)]
-mod tests;
 mod token;
 
 pub use bounds::Bounds;

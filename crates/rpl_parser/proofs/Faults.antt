@@ -5,6 +5,7 @@ use Rattle.regex_class.specs.Ranges.{Range}
 use Rattle.rpl_classes.specs.Brackets.{bracket_of}
 use Rattle.rpl_classes.specs.declared.fault.SetFault.{SetFault}
 use Rattle.std.specs.Prelude.{chars}
+use Rattle.std.specs.Option.{option_or}
 use Rattle.rpl_lexer.specs.Payloads.{span, bounds_of}
 use Rattle.rpl_lexer.specs.declared.bounds.Bounds.{Bounds}
 use Rattle.rpl_lexer.specs.declared.token.Token.{Token}
@@ -14,7 +15,7 @@ use Rattle.rpl_syntax.specs.Expression.{Expr}
 use Rattle.rpl_syntax.specs.Grammar.{Reads}
 use Rattle.rpl_parser.specs.Levels.{ground_level, too_deep}
 use Rattle.rpl_parser.specs.Patterns.{FaultBy, IsPatternFault}
-use Rattle.rpl_parser.specs.Tokens.{tokens_of, is_bad, bounds_fault, class_fault, fault_by, or_then, first_bad}
+use Rattle.rpl_parser.specs.Tokens.{tokens_of, is_bad, bounds_fault, class_fault, fault_by, first_bad}
 use Rattle.rpl_parser.specs.declared.fault.ParseFault.{ParseFault}
 use Rattle.rpl_parser.specs.declared.fault.ParseKind.{ParseKind}
 use Rattle.rpl_parser.specs.declared.fault.ParseKind.TheVariants.{NoMemory, TooDeep, Syntax, BadBounds, Class, Version}
@@ -50,7 +51,7 @@ kind_by K.Text s t = tt
 kind_by K.Number s t = tt
 kind_by K.Sign s t = tt
 
-either_kind : (o p : Option ParseFault) → OfPayloads o → OfPayloads p → OfPayloads (or_then o p)
+either_kind : (o p : Option ParseFault) → OfPayloads o → OfPayloads p → OfPayloads (option_or o p)
 either_kind (Some f) p h k = h
 either_kind None p h k = k
 

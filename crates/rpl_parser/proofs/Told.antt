@@ -3,6 +3,7 @@ use Rattle.std.proofs.Common.{◌≡◌, ℕ, ◌≤◌, List, [], ◌∷◌, Op
 use Rattle.std.specs.Prelude.{Bool, true, false, not, ◌||◌, nat_lt, Result, Ok, Err, if◌then◌else◌, chars, encode_utf8_all, IsUtf8}
 use Rattle.std.specs.Option.{unwrap_or}
 use Rattle.std.proofs.lemmas.Bool.Decides.{nat_tests}
+use Rattle.std.specs.Option.{option_or}
 use Rattle.regex_class.specs.Ranges.{Range}
 use Rattle.rpl_classes.specs.Brackets.{bracket_of}
 use Rattle.rpl_classes.specs.declared.fault.SetFault.{SetFault}
@@ -25,7 +26,7 @@ use Rattle.rpl_syntax.proofs.Back.{printed_reads_back}
 use Rattle.rpl_syntax.proofs.Held.{read_held}
 use Rattle.rpl_parser.specs.Levels.{ground_level, too_deep}
 use Rattle.rpl_parser.specs.Patterns.{IsPattern}
-use Rattle.rpl_parser.specs.Tokens.{capped, capped_most, is_bad, class_token, class_fault, token_by, tokens_of, fault_by, or_then, first_bad}
+use Rattle.rpl_parser.specs.Tokens.{capped, capped_most, is_bad, class_token, class_fault, token_by, tokens_of, fault_by, first_bad}
 use Rattle.rpl_parser.specs.declared.fault.ParseFault.{ParseFault}
 
 -- ---- bounds, by the lower number, whether there is a comma, and the number behind it
@@ -116,7 +117,7 @@ told K.Bounds s t u h =
 told K.Number s t u h = (h, refl)
 told K.Sign s t u h = (h, refl)
 
-or_none : (a b : Option ParseFault) → or_then a b ≡ None → (a ≡ None) × (b ≡ None)
+or_none : (a b : Option ParseFault) → option_or a b ≡ None → (a ≡ None) × (b ≡ None)
 or_none None b h = (refl, h)
 or_none (Some f) b h = absurd (cc)
 
@@ -131,7 +132,7 @@ all_told s [] us h = (h, refl)
 all_told s (t ∷ ts) us h =
     let p = told t.kind s t h.0 h.3 in
     let q = all_told s ts h.1 h.4 in
-    (h.2 ∙ (ap (λ x. x ∷ h.1) p.0 ∙ ap (λ x. token_by t.kind s t ∷ x) q.0), ap (λ o. or_then o (first_bad s ts)) p.1 ∙ q.1)
+    (h.2 ∙ (ap (λ x. x ∷ h.1) p.0 ∙ ap (λ x. token_by t.kind s t ∷ x) q.0), ap (λ o. option_or o (first_bad s ts)) p.1 ∙ q.1)
 
 pub pattern_read : (s : List ℕ) (ts : List Token) (x : Expr) → IsCut s ts → IsPattern s ts x → IsReadAs s x
 pattern_read s ts x c h = record { lexemes = ts; tokens = tokens_of s ts; cut = c; say = all_said s ts h.good; reads = h.reads }

@@ -3,7 +3,7 @@
 -- numbers are looked at; where none of them is bad, they are those that the text spells.
 use Rattle.std.specs.Prelude.{◌≡◌, ℕ, ◌+◌, ◌-◌, ◌^◌, Bool, false, ◌||◌, nat_lt, List, [], ◌∷◌, Option, Some, None}
 use Rattle.std.specs.Prelude.{Result, Ok, Err, if◌then◌else◌, chars, slice_get, min}
-use Rattle.std.specs.Option.{unwrap_or}
+use Rattle.std.specs.Option.{option_or, unwrap_or}
 use Rattle.regex_class.specs.Ranges.{Range}
 use Rattle.rpl_classes.specs.Brackets.{bracket_of}
 use Rattle.rpl_classes.specs.declared.fault.SetFault.{SetFault}
@@ -89,10 +89,6 @@ fault_by K.Bracket s t = class_fault t.start (bracket_of (chars (span s t)))
 fault_by K.Bounds s t = bounds_fault t.start (bounds_of s t)
 fault_by _ s t = None
 
-abbrev pub or_then : Option ParseFault → Option ParseFault → Option ParseFault
-or_then (Some f) later = Some f
-or_then None later = later
-
 -- the place of the first token, or 0 where there is none
 abbrev pub first_place : List Token → ℕ
 first_place [] = 0
@@ -101,4 +97,4 @@ first_place (t ∷ ts) = t.start
 -- the first bad bounds or bracket
 abbrev pub first_bad : List ℕ → List Token → Option ParseFault
 first_bad s [] = None
-first_bad s (t ∷ ts) = or_then (fault_by t.kind s t) (first_bad s ts)
+first_bad s (t ∷ ts) = option_or (fault_by t.kind s t) (first_bad s ts)

@@ -6,7 +6,7 @@ ghost use Rattle.rpl_lexer.specs.declared.token.TokenKind.TheVariants.{Name as N
 ghost use Rattle.rpl_parser.specs.Tokens.{AllStand, capped, capped_most, top_of, bounds_token, bounds_fault};
 ghost use Rattle.rpl_syntax.specs.Texts.{least_of, most_of};
 ghost use Rattle.rpl_parser.specs.Tokens.{class_token, class_fault, place_in, place_behind, token_by, tokens_of};
-ghost use Rattle.rpl_parser.specs.Tokens.{fault_by, or_then, first_bad};
+ghost use Rattle.rpl_parser.specs.Tokens.{fault_by, first_bad};
 
 use crate::fault::{ParseFault, ParseKind};
 use rpl_classes::{Set, SetFault, read_bracket};
@@ -172,16 +172,6 @@ fn convert(
     }
 }
 
-/// The first fault, or the other where there is none.
-fn earlier(first: Option<ParseFault>, other: Option<ParseFault>) -> Option<ParseFault>
-    ensures { result ≡ or_then first other }
-{
-    match first {
-        Some(fault) => Some(fault),
-        None => other,
-    }
-}
-
 /// Tokens as the grammar sees them, and the first bounds or bracket among them that is bad.
 #[derive(Drop)]
 pub struct Converted {
@@ -200,7 +190,7 @@ pub fn convert_all(alloc: Global, text: &str, lexemes: &[Lexeme]) -> Result<Conv
     for lexeme in lexemes {
         let (token, fault) = convert(alloc, text, *lexeme)?;
         tokens.push(token)?;
-        bad = earlier(bad, fault);
+        bad = bad.or(fault);
     }
     Ok(Converted { tokens, bad })
 }

@@ -14,16 +14,21 @@ pub capped_more : (v w : ℕ) (o : Outcome) → min v top ≡ min w top → capp
 capped_more v w Open e = refl
 capped_more v w (Fail x) e = let q : min (v + min x top) top ≡ min (w + x) top = omega arith in ap Fail q
 capped_more v w (At x j f) e = let q : min (v + min x top) top ≡ min (w + x) top = omega arith in ap (λ y. At y j f) q
-capped_more v w (HaltAt x j f) e = let q : min (v + min x top) top ≡ min (w + x) top = omega arith in ap (λ y. HaltAt y j f) q
+capped_more v w (HaltAt x j f) e =
+    let q : min (v + min x top) top ≡ min (w + x) top = omega arith in ap (λ y. HaltAt y j f) q
 
-pub capped_prefixed : (v w : ℕ) (g : Forest) (o : Outcome) → min v top ≡ min w top → capped (prefixed v g (capped o)) ≡ capped (prefixed w g o)
+pub capped_prefixed : (v w : ℕ) (g : Forest) (o : Outcome) → min v top ≡ min w top
+    → capped (prefixed v g (capped o)) ≡ capped (prefixed w g o)
 capped_prefixed v w g Open e = refl
 capped_prefixed v w g (Fail x) e = let q : min (v + min x top) top ≡ min (w + x) top = omega arith in ap Fail q
-capped_prefixed v w g (At x j f) e = let q : min (v + min x top) top ≡ min (w + x) top = omega arith in ap (λ y. At y j (joined g f)) q
-capped_prefixed v w g (HaltAt x j f) e = let q : min (v + min x top) top ≡ min (w + x) top = omega arith in ap (λ y. HaltAt y j (joined g f)) q
+capped_prefixed v w g (At x j f) e =
+    let q : min (v + min x top) top ≡ min (w + x) top = omega arith in ap (λ y. At y j (joined g f)) q
+capped_prefixed v w g (HaltAt x j f) e =
+    let q : min (v + min x top) top ≡ min (w + x) top = omega arith in ap (λ y. HaltAt y j (joined g f)) q
 
 -- a first part that fails, and the rest
-pub first_fails : (m : Outcome) (i : ℕ) (rest : ℕ → Outcome) (work : ℕ) → Fail work ≡ capped m → capped (more (min (1 + work) top) (capped (rest i))) ≡ capped (or_else m i rest)
+pub first_fails : (m : Outcome) (i : ℕ) (rest : ℕ → Outcome) (work : ℕ) → Fail work ≡ capped m
+    → capped (more (min (1 + work) top) (capped (rest i))) ≡ capped (or_else m i rest)
 first_fails Open i rest work e = absurd (cc)
 first_fails (Fail w) i rest work e =
     let same : work ≡ min w top = cc in
@@ -32,7 +37,8 @@ first_fails (At w k g) i rest work e = absurd (cc)
 first_fails (HaltAt w k g) i rest work e = absurd (cc)
 
 -- a first part that succeeds
-pub first_matches : (m : Outcome) (i : ℕ) (rest : ℕ → Outcome) (work j : ℕ) (f : Forest) → At work j f ≡ capped m → At (min (1 + work) top) j f ≡ capped (or_else m i rest)
+pub first_matches : (m : Outcome) (i : ℕ) (rest : ℕ → Outcome) (work j : ℕ) (f : Forest) → At work j f ≡ capped m
+    → At (min (1 + work) top) j f ≡ capped (or_else m i rest)
 first_matches Open i rest work j f e = absurd (cc)
 first_matches (Fail w) i rest work j f e = absurd (cc)
 first_matches (At w k g) i rest work j f e =
@@ -44,7 +50,8 @@ first_matches (At w k g) i rest work j f e =
 first_matches (HaltAt w k g) i rest work j f e = absurd (cc)
 
 -- a first part that halts
-pub first_halts : (m : Outcome) (i : ℕ) (rest : ℕ → Outcome) (work j : ℕ) (f : Forest) → HaltAt work j f ≡ capped m → HaltAt (min (1 + work) top) j f ≡ capped (or_else m i rest)
+pub first_halts : (m : Outcome) (i : ℕ) (rest : ℕ → Outcome) (work j : ℕ) (f : Forest) → HaltAt work j f ≡ capped m
+    → HaltAt (min (1 + work) top) j f ≡ capped (or_else m i rest)
 first_halts Open i rest work j f e = absurd (cc)
 first_halts (Fail w) i rest work j f e = absurd (cc)
 first_halts (At w k g) i rest work j f e = absurd (cc)
@@ -56,14 +63,17 @@ first_halts (HaltAt w k g) i rest work j f e =
     cc
 
 -- a turn that succeeds, and the other turns
-pub turn_matches : (m : Outcome) (i : ℕ) (again : ℕ → Outcome) (work j : ℕ) (f : Forest) → At work j f ≡ capped m → capped (prefixed (min (1 + work) top) f (capped (again j))) ≡ capped (turns m i again)
+pub turn_matches : (m : Outcome) (i : ℕ) (again : ℕ → Outcome) (work j : ℕ) (f : Forest) → At work j f ≡ capped m
+    → capped (prefixed (min (1 + work) top) f (capped (again j))) ≡ capped (turns m i again)
 turn_matches Open i again work j f e = absurd (cc)
 turn_matches (Fail w) i again work j f e = absurd (cc)
 turn_matches (At w k g) i again work j f e =
     let same : work ≡ min w top = cc in
     let place : j ≡ k = cc in
     let trees : f ≡ g = cc in
-    ap (λ x. capped (prefixed (min (1 + work) top) f (capped (again x)))) place ∙ ap (λ x. capped (prefixed (min (1 + work) top) x (capped (again k)))) trees ∙ capped_prefixed (min (1 + work) top) (1 + w) g (again k) (omega arith)
+    ap (λ x. capped (prefixed (min (1 + work) top) f (capped (again x)))) place
+    ∙ ap (λ x. capped (prefixed (min (1 + work) top) x (capped (again k)))) trees
+    ∙ capped_prefixed (min (1 + work) top) (1 + w) g (again k) (omega arith)
 turn_matches (HaltAt w k g) i again work j f e = absurd (cc)
 
 -- one length, and the others
@@ -71,4 +81,10 @@ pub one_length : (m o : Outcome) (i : ℕ) → capped (ends_here (capped m) i (c
 one_length Open o i = refl
 one_length (Fail w) o i = capped_more (1 + min w top) (1 + w) o (omega arith)
 one_length (HaltAt w j f) o i = capped_more (1 + min w top) (1 + w) o (omega arith)
-one_length (At w j f) o i = elim (nat_eq j i) as (λ b. capped (if b then At (1 + min w top) i NoTree else more (1 + min w top) (capped o)) ≡ capped (if b then At (1 + w) i NoTree else more (1 + w) o)) [ true ↦ let q : min (1 + min w top) top ≡ min (1 + w) top = omega arith in ap (λ y. At y i NoTree) q | false ↦ capped_more (1 + min w top) (1 + w) o (omega arith) ]
+one_length (At w j f) o i =
+    elim (nat_eq j i) as (λ b. capped (if b then At (1 + min w top) i NoTree else more (1 + min w top) (capped o))
+    ≡ capped (if b then At (1 + w) i NoTree else more (1 + w) o)) [
+      | true ↦ let q : min (1 + min w top) top ≡ min (1 + w) top = omega arith in
+          ap (λ y. At y i NoTree) q
+      | false ↦ capped_more (1 + min w top) (1 + w) o (omega arith)
+    ]

@@ -7,14 +7,21 @@ use Rattle.rpl_core.specs.Meaning.{Outcome, or_else, level, level_first}
 use Rattle.rpl_core.specs.declared.peg.Peg.{Peg}
 
 -- the part at the index, and the others
-pub part_here : (ps : List Peg) (k : ℕ) (p : Peg) → k < length ps → p ≡ get_or ps k p → cores (drop k ps) ≡ Then (core_of p) (cores (drop (k + 1) ps))
+pub part_here : (ps : List Peg) (k : ℕ) (p : Peg) → k < length ps → p ≡ get_or ps k p
+    → cores (drop k ps) ≡ Then (core_of p) (cores (drop (k + 1) ps))
 part_here ps k p lt e =
     ap cores (drop_more ps k p lt) ∙ ap (λ q. Then (core_of q) (cores (drop (k + 1) ps))) (sym e)
 
 -- a choice that has more parts behind the one at the index
-pub first_here : (below : Core → ℕ → Outcome) (R : List Core) (t : List ℕ) (ps : List Peg) (k : ℕ) (p : Peg) (i : ℕ) → k + 1 < length ps → p ≡ get_or ps k p → level_first below R t (cores (drop k ps)) i ≡ or_else (level below R t (core_of p) i) i (level_first below R t (cores (drop (k + 1) ps)))
+pub first_here : (below : Core → ℕ → Outcome) (R : List Core) (t : List ℕ) (ps : List Peg) (k : ℕ) (p : Peg) (i : ℕ)
+    → k + 1 < length ps → p ≡ get_or ps k p
+    → level_first below R t (cores (drop k ps)) i
+    ≡ or_else (level below R t (core_of p) i) i (level_first below R t (cores (drop (k + 1) ps)))
 first_here below R t ps k p i lt e =
     let q = get_or ps (k + 1) p in
-    let more : cores (drop (k + 1) ps) ≡ Then (core_of q) (cores (drop (k + 1 + 1) ps)) = ap cores (drop_more ps (k + 1) p lt) in
-    let two : cores (drop k ps) ≡ Then (core_of p) (Then (core_of q) (cores (drop (k + 1 + 1) ps))) = part_here ps k p (omega arith) e ∙ ap (Then (core_of p)) more in
-    ap (λ x. level_first below R t x i) two ∙ ap (λ x. or_else (level below R t (core_of p) i) i (level_first below R t x)) (sym more)
+    let more : cores (drop (k + 1) ps) ≡ Then (core_of q) (cores (drop (k + 1 + 1) ps)) =
+    ap cores (drop_more ps (k + 1) p lt) in
+    let two : cores (drop k ps) ≡ Then (core_of p) (Then (core_of q) (cores (drop (k + 1 + 1) ps))) =
+    part_here ps k p (omega arith) e ∙ ap (Then (core_of p)) more in
+    ap (λ x. level_first below R t x i) two
+    ∙ ap (λ x. or_else (level below R t (core_of p) i) i (level_first below R t x)) (sym more)

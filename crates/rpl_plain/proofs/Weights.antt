@@ -2,7 +2,8 @@
 use Rattle.std.proofs.Common.{◌≡◌, ℕ, zero, suc, ◌+◌, ◌-◌, ◌*◌, ◌<◌, ◌≤◌, List, [], ◌∷◌, Some, sym, ap, subst, arith}
 use Rattle.std.proofs.Math.Nat.{suc-mul}
 use Rattle.std.specs.Prelude.{slice_get}
-use Rattle.rpl_core.specs.Core.{Core, Set, Seq, Choice, Many, Not, And, Behind, Call, Capture, Note, Start, End, Halt, Cores, NoMore, Then}
+use Rattle.rpl_core.specs.Core.{Core, Set, Seq, Choice, Many, Not, And, Behind, Call, Capture, Note, Start, End, Halt}
+use Rattle.rpl_core.specs.Core.{Cores, NoMore, Then}
 
 -- how many evaluations a core has in it, and how many lengths they try
 abbrev mutual
@@ -41,7 +42,8 @@ abbrev pub reach : List Core → ℕ → ℕ → ℕ
 reach R depth w = w + depth * (total R + 1)
 
 -- one level deeper, any rule is less
-pub deeper_less : (R : List Core) (depth w v : ℕ) → 0 < depth → w ≤ total R → 0 < v → reach R (depth - 1) w < reach R depth v
+pub deeper_less : (R : List Core) (depth w v : ℕ) → 0 < depth → w ≤ total R → 0 < v
+    → reach R (depth - 1) w < reach R depth v
 deeper_less R zero w v lt le pos = absurd (omega arith)
 deeper_less R (suc d) w v lt le pos =
     let x = suc-mul d (total R + 1) in

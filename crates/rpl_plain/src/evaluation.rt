@@ -5,7 +5,7 @@ ghost use Rattle.rpl_core.specs.Meaning as M;
 ghost use Rattle.rpl_core.specs.View.{core_of, cores};
 ghost use Rattle.rpl_core.specs.Listed.{bodies_in};
 ghost use Rattle.rpl_plain.specs.Outcomes.{IsOutcome, outcome_of};
-ghost use Rattle.rpl_plain.specs.Below.{core_at, all_at, first_at};
+ghost use Rattle.rpl_plain.specs.inside.Below.{core_at, all_at, first_at};
 
 use crate::forest::{Forest, noted};
 use crate::outcome::{

@@ -7,8 +7,10 @@ ghost use Rattle.rpl_core.specs.Machine as M;
 ghost use Rattle.rpl_core.specs.Run as Run;
 ghost use Rattle.rpl_core.specs.Numbers.{instr_of};
 ghost use Rattle.rpl_core.specs.Program.{instructions, sets_of, labels_of};
-ghost use Rattle.rpl_plain.specs.Shown.{state_of, stack_of, captures_of, caught_of, entry_of};
-ghost use Rattle.rpl_plain.specs.Answers.{IsAnswer, answer_of, ended_as};
+ghost use Rattle.rpl_plain.specs.inside.States.{state_of, stack_of, captures_of, entry_of};
+ghost use Rattle.rpl_plain.specs.Answers.{caught_of};
+ghost use Rattle.rpl_plain.specs.Answers.{IsAnswer, answer_of};
+ghost use Rattle.rpl_plain.specs.inside.States.{ended_as};
 
 use rpl_core::{Instr, Program};
 use rpl_text::Chars;

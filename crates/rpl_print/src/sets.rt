@@ -21,7 +21,8 @@ pub fn push_set(out: &mut String, set: &Set) -> Result<(), NoMemory>
 
 /// Adds ranges, with a space before each.
 fn push_more(out: &mut String, ranges: &[(u32, u32)]) -> Result<(), NoMemory>
-    ensures { OnOk result (string_bytes out.new ≡ string_bytes out.old ++ flat_map (λ r. 32 ∷ range_text r) ranges.now) }
+    ensures { OnOk result (string_bytes out.new ≡ string_bytes out.old
+        ++ flat_map (λ r. 32 ∷ range_text r) ranges.now) }
 {
     for range in ranges {
         out.push(' ')?;

@@ -1,3 +1,3 @@
 mod Marking
 mod Parts
-mod Search
+pub mod Search

@@ -1,5 +1,6 @@
 -- What the imports of a text bring into its module.
-use Rattle.std.specs.Prelude.{ℕ, ◌+◌, Bool, false, ◌&&◌, ◌||◌, nat_eq, if◌then◌else◌, List, [], ◌∷◌, ◌++◌, length, Option, Some, None, Ok}
+use Rattle.std.specs.Prelude.{ℕ, ◌+◌, Bool, false, ◌&&◌, ◌||◌, nat_eq, if◌then◌else◌, List, [], ◌∷◌, ◌++◌, length}
+use Rattle.std.specs.Prelude.{Option, Some, None, Ok}
 use Rattle.rpl_syntax.specs.declared.module.Import.{Import}
 use Rattle.rpl_syntax.specs.declared.module.ImportAs.{ImportAs}
 use Rattle.rpl_syntax.specs.declared.module.ImportAs.TheVariants.{Last, Named, Plain}
@@ -19,7 +20,15 @@ last_part acc (c ∷ p) = if nat_eq c 47 then last_part [] p else last_part (acc
 -- ---- a prefix
 
 abbrev pub with_prefix : Module → List ℕ → Prefix → Module
-with_prefix m n p = record { path = m.path; label = m.label; texts = m.texts; rules = m.rules; prefixes = m.prefixes ++ (n, p) ∷ []; names = m.names }
+with_prefix m n p =
+    record {
+      path = m.path;
+      label = m.label;
+      texts = m.texts;
+      rules = m.rules;
+      prefixes = m.prefixes ++ (n, p) ∷ [];
+      names = m.names;
+    }
 
 abbrev pub add_prefix_at : Option Prefix → List ℕ → ℕ → List ℕ → ℕ → Module → Or Module
 add_prefix_at None f at p i m = Ok (with_prefix m p (record { since = length m.rules; number = i }))
@@ -32,7 +41,15 @@ add_prefix f at p i m = add_prefix_at (first_of p m.prefixes) f at p i m
 -- ---- plain names
 
 abbrev pub with_name : Module → List ℕ → Entry → Module
-with_name m n e = record { path = m.path; label = m.label; texts = m.texts; rules = m.rules; prefixes = m.prefixes; names = m.names ++ (n, e) ∷ [] }
+with_name m n e =
+    record {
+      path = m.path;
+      label = m.label;
+      texts = m.texts;
+      rules = m.rules;
+      prefixes = m.prefixes;
+      names = m.names ++ (n, e) ∷ [];
+    }
 
 -- the same rule of the same module
 abbrev pub is_same : Referent → (i k : ℕ) → Bool
@@ -41,12 +58,14 @@ is_same (Of m j) i k = nat_eq m i && nat_eq j k
 is_same BuiltIn i k = false
 
 abbrev pub add_name_at : Option Entry → List ℕ → ℕ → (i k : ℕ) → List ℕ → Module → Or Module
-add_name_at None f at i k n m = Ok (with_name m n (record { since = length m.rules; local = false; hidden = false; referent = Of i k }))
+add_name_at None f at i k n m =
+    Ok (with_name m n (record { since = length m.rules; local = false; hidden = false; referent = Of i k }))
 add_name_at (Some e) f at i k n m = if is_same e.referent i k then Ok m else fault f at (Duplicate n)
 
 -- the name of a rule of the module with the number i, where others see it
 abbrev pub add_name : List ℕ → ℕ → ℕ → ℕ × Rule → Module → Or Module
-add_name f at i r m = if r.1.local || r.1.hidden then Ok m else add_name_at (first_of r.1.name m.names) f at i r.0 r.1.name m
+add_name f at i r m =
+    if r.1.local || r.1.hidden then Ok m else add_name_at (first_of r.1.name m.names) f at i r.0 r.1.name m
 
 abbrev pub numbered : ℕ → List Rule → List (ℕ × Rule)
 numbered k [] = []

@@ -1,5 +1,6 @@
 -- The package set: plain lists, searched from the front, and what a name stands for in it.
-use Rattle.std.specs.Prelude.{ℕ, zero, suc, ◌+◌, Bool, ◌&&◌, ◌||◌, nat_lt, if◌then◌else◌, List, [], ◌∷◌, ◌++◌, length, Option, Some, None, codes}
+use Rattle.std.specs.Prelude.{ℕ, zero, suc, ◌+◌, Bool, ◌&&◌, ◌||◌, nat_lt, if◌then◌else◌, List, [], ◌∷◌, ◌++◌, length}
+use Rattle.std.specs.Prelude.{Option, Some, None, codes}
 use Rattle.std.specs.Str.{bytes_eq}
 use Rattle.rpl_syntax.specs.Expression.{Expr}
 use Rattle.rpl_syntax.specs.declared.name.QName.{QName}
@@ -58,7 +59,8 @@ nth (x ∷ xs) (suc i) = nth xs i
 
 -- an entry at a start
 abbrev pub meant : ℕ → Entry → Found
-meant start e = if nat_lt start e.since then Unknown else if e.hidden && nat_lt e.since start then Hidden else To e.referent
+meant start e =
+    if nat_lt start e.since then Unknown else if e.hidden && nat_lt e.since start then Hidden else To e.referent
 
 -- where nothing else has the name `halt`, it is the built-in one
 abbrev pub halt_or : List ℕ → Found → Found

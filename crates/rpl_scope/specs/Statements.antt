@@ -16,7 +16,15 @@ abbrev pub entry_for : Rule → ℕ → Entry
 entry_for r k = record { since = r.since; local = r.local; hidden = r.hidden; referent = Own k }
 
 abbrev pub with_rule : Module → Rule → Module
-with_rule m r = record { path = m.path; label = m.label; texts = m.texts; rules = m.rules ++ r ∷ []; prefixes = m.prefixes; names = m.names ++ (r.name, entry_for r (length m.rules)) ∷ [] }
+with_rule m r =
+    record {
+      path = m.path;
+      label = m.label;
+      texts = m.texts;
+      rules = m.rules ++ r ∷ [];
+      prefixes = m.prefixes;
+      names = m.names ++ (r.name, entry_for r (length m.rules)) ∷ [];
+    }
 
 abbrev pub enter_at : Option Entry → List ℕ → Rule → Module → Or Module
 enter_at None f r m = Ok (with_rule m r)
@@ -33,7 +41,18 @@ enter_all f rs m = in_turn (enter f) rs m
 
 -- the rules of a statement of the text k that starts where a module has n rules
 abbrev pub rule_of : (k start since : ℕ) → (hidden : Bool) → S.Rule → Rule
-rule_of k start since hidden b = record { name = b.name; text = k; at = b.at; start = start; since = since; local = b.local; alias = b.alias; hidden = hidden; body = b.body }
+rule_of k start since hidden b =
+    record {
+      name = b.name;
+      text = k;
+      at = b.at;
+      start = start;
+      since = since;
+      local = b.local;
+      alias = b.alias;
+      hidden = hidden;
+      body = b.body;
+    }
 
 abbrev pub block_rules : (k start : ℕ) → (hidden : Bool) → List S.Rule → List Rule
 block_rules k start hidden [] = []

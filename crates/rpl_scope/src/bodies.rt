@@ -40,7 +40,8 @@ pub fn push_names<'a>(e: &'a Expr, all: &mut Vec<&'a QName>) -> Result<(), NoMem
 
 #[cycle(names)]
 fn push_all_names<'a>(es: &'a [Expr], all: &mut Vec<&'a QName>) -> Result<(), NoMemory>
-    ensures { OnOk result (map (λ q. q.now) all.new.items ≡ map (λ q. q.now) all.old.items ++ names_all (exprs_all es.now)) }
+    ensures { OnOk result (map (λ q. q.now) all.new.items ≡ map (λ q. q.now) all.old.items
+        ++ names_all (exprs_all es.now)) }
 {
     for e in es {
         push_names(e, all)?;

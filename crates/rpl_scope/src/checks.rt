@@ -68,7 +68,8 @@ pub fn check_names(
     start: u32,
     names: &[&QName],
 ) -> Result<(), Stop>
-    ensures { Checks result (names_fault file.now (modules_seen modules.now) (module_seen own.now) start (map (λ q. q.now) names.now)) }
+    ensures { Checks result (names_fault file.now (modules_seen modules.now) (module_seen own.now) start
+        (map (λ q. q.now) names.now)) }
 {
     for name in names {
         if let Err(stop) = check_name(alloc, file, modules, own, start, name) {

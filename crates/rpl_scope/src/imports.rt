@@ -1,7 +1,8 @@
 // What the imports of a text bring into its module.
 ghost use Rattle.std.specs.Prelude.{◌≡◌, ◌≤◌, ◌++◌, length, IfOk, OnErr, OnOk, IfErr, None, [], chars};
 ghost use Rattle.rpl_scope.specs.Faults.{Gives, in_turn};
-ghost use Rattle.rpl_scope.specs.Imports.{last_part, add_prefix, with_prefix, add_name, numbered, rules_at, take_in, is_same};
+ghost use Rattle.rpl_scope.specs.Imports.{last_part, add_prefix, with_prefix, add_name, numbered, rules_at, take_in};
+ghost use Rattle.rpl_scope.specs.Imports.{is_same};
 ghost use Rattle.rpl_scope.specs.Packages.{nth, first_of};
 ghost use Rattle.rpl_scope.specs.declared.fault.Stop.TheVariants.{Memory as OutOfMemory};
 ghost use Rattle.rpl_scope.specs.Seen.{module_seen, modules_seen, rule_seen, rules_seen};
@@ -31,7 +32,9 @@ pub fn last_part(alloc: Global, path: &Chars) -> Result<Chars, NoMemory>
 /// One prefix more, for the module with this number.
 pub fn put_prefix(alloc: Global, own: &mut Module, prefix: &Chars, number: u32) -> Result<(), Stop>
     requires { first_of prefix.now own.old.prefixes ≡ None }
-    ensures ok { OnOk result (module_seen own.new ≡ with_prefix (module_seen own.old) prefix.now (record { since = length (module_seen own.old).rules; number = number })) }
+    ensures ok { OnOk result (module_seen own.new
+        ≡ with_prefix (module_seen own.old) prefix.now
+        (record { since = length (module_seen own.old).rules; number = number })) }
     ensures err { IfErr result (λ s. s ≡ OutOfMemory) }
 {
     let count = own.rules.len();
@@ -53,7 +56,8 @@ pub fn add_prefix(
     prefix: &Chars,
     number: u32,
 ) -> Result<(), Stop>
-    ensures gives { Gives (λ _. module_seen own.new) result (add_prefix file.now at prefix.now number (module_seen own.old)) }
+    ensures gives { Gives (λ _. module_seen own.new) result
+        (add_prefix file.now at prefix.now number (module_seen own.old)) }
     ensures kept { OnErr result (module_seen own.new ≡ module_seen own.old) }
 {
     match own.prefixes.get(prefix) {
@@ -103,7 +107,8 @@ fn add_name(
     place: u32,
     rule: &Rule,
 ) -> Result<(), Stop>
-    ensures { Gives (λ _. module_seen own.new) result (add_name file.now at number (place, rule_seen rule.now) (module_seen own.old)) }
+    ensures { Gives (λ _. module_seen own.new) result
+        (add_name file.now at number (place, rule_seen rule.now) (module_seen own.old)) }
 {
     if rule.local || rule.hidden {
         return Ok(());
@@ -148,7 +153,8 @@ fn add_names(
     number: u32,
     rules: &[Rule],
 ) -> Result<(), Stop>
-    ensures { Gives (λ _. module_seen own.new) result (in_turn (add_name file.now at number) (numbered 0 (rules_seen rules.now)) (module_seen own.old)) }
+    ensures { Gives (λ _. module_seen own.new) result
+        (in_turn (add_name file.now at number) (numbered 0 (rules_seen rules.now)) (module_seen own.old)) }
 {
     let mut place = 0;
     for rule in rules {
@@ -172,7 +178,8 @@ pub fn take_in(
     import: &Import,
     number: u32,
 ) -> Result<(), Stop>
-    ensures { Gives (λ _. module_seen own.new) result (take_in file.now import.now number (modules_seen modules.now) (module_seen own.old)) }
+    ensures { Gives (λ _. module_seen own.new) result
+        (take_in file.now import.now number (modules_seen modules.now) (module_seen own.old)) }
 {
     match &import.name {
         ImportAs::Last => {

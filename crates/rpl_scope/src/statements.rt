@@ -4,7 +4,8 @@ ghost use Rattle.rpl_syntax.specs.Modules as S;
 ghost use Rattle.rpl_scope.specs.Bodies.{names_fault, macros_fault};
 ghost use Rattle.rpl_scope.specs.Faults.{Gives, Checks, ◌orelse◌};
 ghost use Rattle.rpl_scope.specs.Seen.{module_seen, modules_seen, rule_seen, use_seen};
-ghost use Rattle.rpl_scope.specs.Statements.{rule_of, rules_of, block_rules, enter_all, enter, names_of, uses_of, bindings_of, bodies_fault, statement, statements};
+ghost use Rattle.rpl_scope.specs.Statements.{rule_of, rules_of, block_rules, enter_all, enter, names_of, uses_of};
+ghost use Rattle.rpl_scope.specs.Statements.{bindings_of, bodies_fault, statement, statements};
 
 use crate::NoMemory;
 use crate::bodies::{Use, push_names, push_uses};
@@ -50,7 +51,8 @@ fn enter_half(
     hidden: bool,
     bindings: &[Binding],
 ) -> Result<(), Stop>
-    ensures { Gives (λ _. module_seen own.new) result (enter_all file.now (block_rules text start hidden (S.rules_of bindings.now)) (module_seen own.old)) }
+    ensures { Gives (λ _. module_seen own.new) result
+        (enter_all file.now (block_rules text start hidden (S.rules_of bindings.now)) (module_seen own.old)) }
 {
     for binding in bindings {
         let rule = rule_of(alloc, binding, text, start, start, hidden)?;
@@ -63,7 +65,8 @@ fn enter_half(
 
 /// Puts the names of bindings at the end, from left to right.
 fn gather_names<'a>(bindings: &'a [Binding], all: &mut Vec<&'a QName>) -> Result<(), NoMemory>
-    ensures { OnOk result (map (λ q. q.now) all.new.items ≡ map (λ q. q.now) all.old.items ++ names_of (S.rules_of bindings.now)) }
+    ensures { OnOk result (map (λ q. q.now) all.new.items ≡ map (λ q. q.now) all.old.items
+        ++ names_of (S.rules_of bindings.now)) }
 {
     for binding in bindings {
         push_names(&binding.body, all)?;
@@ -73,7 +76,8 @@ fn gather_names<'a>(bindings: &'a [Binding], all: &mut Vec<&'a QName>) -> Result
 
 /// Puts the uses of macros in bindings at the end, from left to right.
 fn gather_uses<'a>(bindings: &'a [Binding], all: &mut Vec<Use<'a>>) -> Result<(), NoMemory>
-    ensures { OnOk result (map use_seen all.new.items ≡ map use_seen all.old.items ++ uses_of (S.rules_of bindings.now)) }
+    ensures { OnOk result (map use_seen all.new.items ≡ map use_seen all.old.items
+        ++ uses_of (S.rules_of bindings.now)) }
 {
     for binding in bindings {
         push_uses(&binding.body, all)?;
@@ -91,7 +95,8 @@ fn check_bodies(
     hidden: &[Binding],
     visible: &[Binding],
 ) -> Result<(), Stop>
-    ensures { Checks result (bodies_fault file.now (modules_seen modules.now) start (S.rules_of hidden.now ++ S.rules_of visible.now) (module_seen own.now)) }
+    ensures { Checks result (bodies_fault file.now (modules_seen modules.now) start
+        (S.rules_of hidden.now ++ S.rules_of visible.now) (module_seen own.now)) }
 {
     let mut names = Vec::new(alloc);
     gather_names(hidden, &mut names)?;
@@ -115,7 +120,8 @@ fn enter_rules(
     item: &Item,
 ) -> Result<(), Stop>
     requires { start < 4294967295 }
-    ensures { Gives (λ _. module_seen own.new) result (enter_all file.now (rules_of text start (S.entry_of item.now)) (module_seen own.old)) }
+    ensures { Gives (λ _. module_seen own.new) result
+        (enter_all file.now (rules_of text start (S.entry_of item.now)) (module_seen own.old)) }
 {
     match item {
         Item::Binding(binding) => {
@@ -151,7 +157,8 @@ fn check_item(
     start: u32,
     item: &Item,
 ) -> Result<(), Stop>
-    ensures { Checks result (bodies_fault file.now (modules_seen modules.now) start (bindings_of (S.entry_of item.now)) (module_seen own.now)) }
+    ensures { Checks result (bodies_fault file.now (modules_seen modules.now) start (bindings_of (S.entry_of item.now))
+        (module_seen own.now)) }
 {
     match item {
         Item::Binding(binding) => {
@@ -174,7 +181,8 @@ fn enter_item(
     text: u32,
     item: &Item,
 ) -> Result<(), Stop>
-    ensures { Gives (λ _. module_seen own.new) result (statement file.now text (modules_seen modules.now) (S.entry_of item.now) (module_seen own.old)) }
+    ensures { Gives (λ _. module_seen own.new) result
+        (statement file.now text (modules_seen modules.now) (S.entry_of item.now) (module_seen own.old)) }
 {
     let count = own.rules.len();
     if count >= 4_294_967_295 {
@@ -199,7 +207,8 @@ pub fn enter_items(
     text: u32,
     items: &[Item],
 ) -> Result<(), Stop>
-    ensures { Gives (λ _. module_seen own.new) result (statements file.now text (modules_seen modules.now) (S.entries_of items.now) (module_seen own.old)) }
+    ensures { Gives (λ _. module_seen own.new) result
+        (statements file.now text (modules_seen modules.now) (S.entries_of items.now) (module_seen own.old)) }
 {
     for item in items {
         if let Err(stop) = enter_item(alloc, modules, own, file, text, item) {

@@ -1,2 +1,4 @@
 mod Escapes
 mod Peeling
+mod Texts
+mod Bounds

@@ -15,11 +15,11 @@ use Rattle.rpl_lexer.specs.Written.{is_inner, InBracket, nothing_in, inner_in, e
 use Rattle.rpl_lexer.proofs.Longest.{longest}
 use Rattle.rpl_lexer.proofs.Quotes.{Shape, shape}
 use Rattle.rpl_lexer.proofs.Spans.{left, right}
-use Rattle.rpl_written.proofs.Escapes.{Front, front, none_escaped}
+use Rattle.rpl_written.proofs.Escapes.{front, none_escaped}
 use Rattle.rpl_written.specs.Laws.{IsBracket}
 
 -- what `opens` is asked about, which has no name outside its crate
-abbrev Asked : {A B : Type 0} → (A → B) → Type 0
+abbrev pub Asked : {A B : Type 0} → (A → B) → Type 0
 Asked {A} {B} f = A
 
 record AreBrackets (e : Asked opens) : Type 0 where
@@ -45,14 +45,14 @@ record Peeled (e : Asked opens) (d : ℕ) (w : List ℕ) : Type 0 where
 
 -- ---- one byte
 
-one_less : (o : Option ℕ) (n : ℕ) → plus 1 o ≡ Some (suc n) → o ≡ Some n
+pub one_less : (o : Option ℕ) (n : ℕ) → plus 1 o ≡ Some (suc n) → o ≡ Some n
 one_less None n e = absurd (cc)
 one_less (Some m) n e =
     let f : 1 + m ≡ suc n = cc in
     let g : m ≡ n = omega (arith, f) in
     ap (λ x. Some x) g
 
-none_less : (o : Option ℕ) → plus 1 o ≡ None → o ≡ None
+pub none_less : (o : Option ℕ) → plus 1 o ≡ None → o ≡ None
 none_less None e = refl
 none_less (Some m) e = absurd (cc)
 
@@ -60,24 +60,24 @@ and_none : (b : Bool) → (b && false) ≡ false
 and_none true = refl
 and_none false = refl
 
-empty : (w : List ℕ) → length w ≡ 0 → w ≡ []
+pub empty : (w : List ℕ) → length w ≡ 0 → w ≡ []
 empty [] e = refl
 empty (b ∷ w) e = absurd (omega (arith, e))
 
 fine : (b : ℕ) (w : List ℕ) → is_inner b ≡ true → bad false (b ∷ w) ≡ plus 1 (bad false w)
 fine b w h = let s : nat_eq b 92 ≡ false = grind (arith, nat_tests) in rw s refl
 
-is_escape : (w : List ℕ) → bad false (92 ∷ w) ≡ None → is_some (escape w) ≡ true
+pub is_escape : (w : List ℕ) → bad false (92 ∷ w) ≡ None → is_some (escape w) ≡ true
 is_escape w h = elim (cases_Bool (is_some (escape w))) [
   | inl t ↦ t
   | inr f ↦ let e : ◌≡◌ {A = Option ℕ} (Some 0) None = rw f at h in absurd (cc)
 ]
 
-hidden_fine : (l : ℕ) (w : List ℕ) → is_some (escape (l ∷ w)) ≡ true
+pub hidden_fine : (l : ℕ) (w : List ℕ) → is_some (escape (l ∷ w)) ≡ true
     → bad false (92 ∷ l ∷ w) ≡ plus 1 (plus 1 (bad false w))
 hidden_fine l w h = rw h refl
 
-is_byte : (b c : ℕ) → nat_eq b c ≡ true → b ≡ c
+pub is_byte : (b c : ℕ) → nat_eq b c ≡ true → b ≡ c
 is_byte b c h = grind (arith, nat_tests)
 
 is_other : (b : ℕ) → nat_eq b 10 ≡ false → nat_eq b 92 ≡ false → nat_eq b 91 ≡ false → nat_eq b 93 ≡ false

@@ -15,7 +15,8 @@ use Rattle.rosie_run.specs.declared.mark.Mark.{Mark}
 use Rattle.rosie_run.specs.declared.mark.Mark.TheVariants.{Fault}
 use Rattle.rosie_run.specs.declared.tally.Tally.{Tally}
 use Rattle.rosie_run.specs.declared.trouble.Trouble.{Trouble}
-use Rattle.std.specs.Prelude.{◌++◌, ◌+◌, ◌^◌, ◌∷◌, ◌≡◌, ◌≤◌, Bool, Err, List, None, Ok, Option, Result, Some, [], false, length, string_bytes, true, ℕ}
+use Rattle.std.specs.Prelude.{◌++◌, ◌+◌, ◌^◌, ◌∷◌, ◌≡◌, ◌≤◌, Bool, Err, List, None, Ok, Option, Result, Some, [], false}
+use Rattle.std.specs.Prelude.{length, string_bytes, true, ℕ}
 
 -- the texts and the mark that were made of a line: by the job, or of what is wrong with the line
 abbrev pub made_out : Made → List ℕ → List ℕ

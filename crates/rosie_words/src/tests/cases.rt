@@ -209,21 +209,3 @@ pub(super) const FIRST: &[&str] = &[
     "sample|x => missing argument",
     "sample|x|1|2 => too many arguments",
 ];
-
-/// Command lines without fault, and the first word that asks for what is not built, or nothing.
-pub(super) const NOT_YET: &[&str] = &[
-    "match|p => ",
-    "--|match|-w => ",
-    "match|p|a|- => ",
-    "match|-o|line|p => ",
-    "-w|grep|-F|p => ",
-    "match|p|--rpl|x|-f|a|--libpath|b => ",
-    "class|Greek => ",
-    "--libpath|.|list => ",
-    "expand|--code|p => ",
-    "test|f => test",
-    "-F|trace|--limit|5|p => ",
-    "sample|1|2 => sample",
-    "match|a|--code-file|c => ",
-    "compile|-F|p => ",
-];

@@ -1,6 +1,6 @@
 -- Whether each rule of a table stands in order, and whether a pattern calls rules of the table alone.
-use Rattle.std.specs.Prelude.{ℕ, zero, suc, ◌-◌, Bool, true, false, ◌||◌, ◌&&◌, not, nat_lt, List, Option, Some}
-use Rattle.std.specs.Prelude.{None, slice_get}
+use Rattle.std.specs.Prelude.{◌≡◌, ℕ, zero, suc, ◌+◌, ◌-◌, ◌<◌, Bool, true, false, ◌||◌, ◌&&◌, not, nat_le, nat_lt, max, List}
+use Rattle.std.specs.Prelude.{Option, Some, None, slice_get}
 use Rattle.rpl_core.specs.Core.{Core, Set, Seq, Choice, Many, Not, And, Behind, Call, Capture, Note, Start, End, Halt}
 use Rattle.rpl_core.specs.Core.{Cores, NoMore, Then}
 use Rattle.rpl_core.specs.Order.{block_at, same_block, joins_next}
@@ -40,6 +40,20 @@ abbrev pub has_mate : List (Option ℕ) → ℕ → ℕ → Bool
 has_mate blocks k zero = false
 has_mate blocks k (suc n) =
     same_block (block_at (slice_get blocks k)) (block_at (slice_get blocks n)) || has_mate blocks k n
+
+-- the blocks of the first n rules are below the number `next`
+abbrev pub AreBelow : List (Option ℕ) → (n next : ℕ) → Type 0
+AreBelow blocks n next = (r b : ℕ) → r < n → block_at (slice_get blocks r) ≡ Some b → b < next
+
+-- a block isn't below that number, or there is none
+abbrev pub is_new : ℕ → Option ℕ → Bool
+is_new next None = true
+is_new next (Some block) = nat_le next block
+
+-- a number that is above a block, too, if there is one
+abbrev pub above : ℕ → Option ℕ → ℕ
+above next None = next
+above next (Some block) = max next (block + 1)
 
 -- the rule k is in the block of an earlier rule, and not in that of the rule before it
 abbrev pub is_split : List (Option ℕ) → ℕ → Bool

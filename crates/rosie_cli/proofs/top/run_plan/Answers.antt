@@ -4,7 +4,8 @@ use Rattle.rosie_run.specs.Inputs.{names_of}
 use Rattle.rosie_jobs.specs.Jobs.{matcher_of, runner_of, tracer_of}
 use Rattle.rosie_cli.specs.Report.{KnowsInputs}
 use Rattle.rosie_cli.specs.inside.Planning.{plan_of, IsSaid}
-use Rattle.rosie_cli.proofs.Whole.{said-goes, match-runs}
+use Rattle.rosie_verdicts.specs.Seen.{bench_of, trials_of}
+use Rattle.rosie_cli.proofs.Whole.{said-goes, match-runs, test-runs}
 use Rattle.rosie_cli.proofs.top.run_plan.Goals as goal
 
 pub returns-in-Answer-clause-rest : goal.returns-in-Answer-clause-rest
@@ -16,6 +17,20 @@ pub returns-in-Write-clause-rest : goal.returns-in-Write-clause-rest
 returns-in-Write-clause-rest g c = λ t u.
     said-goes c.say-in-Write.result (plan_of c.args.plan.now) _
     (subst (λ x. IsSaid (plan_of x)) (sym c.in-Write.is) tt)
+
+pub returns-in-Test-clause-runs : goal.returns-in-Test-clause-runs
+returns-in-Test-clause-runs g c = λ knows.
+    test-runs c.run.result _ (bench_of c.in-Test.suite) (trials_of c.in-Test.suite) (plan_of c.args.plan.now)
+    (g.F.Source.tree c.args.files.now) _ _ _ _ (ap plan_of c.in-Test.is) c.run.ensures.runs
+
+pub returns-in-Test-clause-rest : goal.returns-in-Test-clause-rest
+returns-in-Test-clause-rest g c = λ t u.
+    said-goes c.run.result (plan_of c.args.plan.now) _ (subst (λ x. IsSaid (plan_of x)) (sym c.in-Test.is) tt)
+
+pub returns-in-Sample-clause-rest : goal.returns-in-Sample-clause-rest
+returns-in-Sample-clause-rest g c = λ t u.
+    said-goes c.run-in-Sample.result (plan_of c.args.plan.now) _
+    (subst (λ x. IsSaid (plan_of x)) (sym c.in-Sample.is) tt)
 
 pub returns-in-Match-clause-runs : goal.returns-in-Match-clause-runs
 returns-in-Match-clause-runs g c = λ knows.

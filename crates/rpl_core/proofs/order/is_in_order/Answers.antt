@@ -21,4 +21,4 @@ returns c =
     let rules = rules_of c.args.rules.now in
     let blocks_long = length-map rules (λ (r : Rule). r.block) in
     let bodies_long = length-map rules (λ (r : Rule). core_of r.body) in
-    (λ t. order_of (blocks_of rules) (bodies_of rules) (λ k lt. c.loop-number.invariant k (omega (arith, c.len-number-end.ensures.count, c.loop-number-test.false))) (bodies_long ∙ sym blocks_long), λ o. refl)
+    (λ t. order_of (blocks_of rules) (bodies_of rules) (λ k lt. c.loop-number.invariant.0 k (omega (arith, c.len-number-end.ensures.count, c.loop-number-test.false))) (bodies_long ∙ sym blocks_long), λ o. refl)

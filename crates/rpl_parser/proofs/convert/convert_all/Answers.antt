@@ -1,8 +1,9 @@
 use Rattle.std.proofs.Common.{◌+◌, ◌++◌, ◌∷◌, [], take, drop, get_or, sym, ap, ◌∙◌}
 use Rattle.std.proofs.lemmas.List.{take_more}
+use Rattle.std.specs.Option.{option_or}
 use Rattle.rpl_lexer.specs.declared.token.Token.{Token}
 use Rattle.rpl_lexer.specs.declared.token.TokenKind.TheVariants as K
-use Rattle.rpl_parser.specs.Tokens.{tokens_of, or_then, first_bad}
+use Rattle.rpl_parser.specs.Tokens.{tokens_of, first_bad}
 use Rattle.rpl_parser.proofs.Converted.{tokens_more, bad_more, bad_all}
 use Rattle.rpl_parser.proofs.Deep.{stands_at}
 use Rattle.rpl_parser.proofs.convert.convert_all.Goals as goal
@@ -26,7 +27,7 @@ loop-lexeme-preserved c =
           ∙ (ap (λ y. tokens_of s (take i ts) ++ y ∷ []) c.in_ok-token.ensures.token
           ∙ (sym (tokens_more s (take i ts) t) ∙ ap (tokens_of s) (sym (take_more ts i none c.loop-lexeme-test.true)))));
       bad =
-          ap (λ b. or_then b (first_bad s (drop (i + 1) ts))) c.earlier-bad.ensures
+          ap (λ b. option_or b (first_bad s (drop (i + 1) ts))) c.or-bad.ensures
           ∙ (bad_more s ts i none c.loop-lexeme.bad c.in_ok-token.fault c.loop-lexeme-test.true c.in_ok-token.ensures.bad ∙ c.loop-lexeme.invariant.bad);
     }
 

@@ -8,4 +8,5 @@ use Rattle.rpl_plain.proofs.machine.holds.Goals as goal
 pub returns-in-None : goal.returns-in-None
 unfolding in_ranges
 returns-in-None c =
-    sym (ap (λ s. in_ranges s c.args.c) (read_none (sets_of c.args.program.now) c.args.set [] (sym c.set.ensures ∙ ap option_copied c.in-None.is)))
+    sym (ap (λ s. in_ranges s c.args.c)
+    (read_none (sets_of c.args.program.now) c.args.set [] (sym c.set.ensures ∙ ap option_copied c.in-None.is)))

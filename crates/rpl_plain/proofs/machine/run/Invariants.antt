@@ -1,7 +1,7 @@
 use Rattle.std.proofs.Common.{◌≡◌, ◌-◌, ◌≤◌}
 use Rattle.rpl_core.specs.Run as R
 use Rattle.rpl_core.specs.Program.{instructions}
-use Rattle.rpl_plain.specs.Shown.{state_of, later}
+use Rattle.rpl_plain.specs.inside.States.{state_of, later}
 use Rattle.rpl_plain.proofs.machine.run.Given as goal
 
 abbrev pub decreases-steps : goal.decreases-steps
@@ -10,4 +10,5 @@ decreases-steps l = l.budget - l.steps
 abbrev pub invariant-steps : goal.invariant-steps
 invariant-steps l =
     (l.steps ≤ l.budget)
-    × (R.run (instructions l.program) l.text l.budget ≡ later l.steps (R.run_from (instructions l.program) l.text (l.budget - l.steps) (state_of l.machine)))
+    × (R.run (instructions l.program) l.text l.budget
+    ≡ later l.steps (R.run_from (instructions l.program) l.text (l.budget - l.steps) (state_of l.machine)))

@@ -8,5 +8,7 @@ use Rattle.rpl_plain.proofs.machine.text_of.Goals as goal
 
 pub returns-in-None : goal.returns-in-None
 returns-in-None c =
-    let none = read_none (labels_of c.args.program.now) c.args.id [] (sym c.label.ensures ∙ ap (λ o. option_map chars (option_copied o)) c.in-None.is) in
+    let none =
+    read_none (labels_of c.args.program.now) c.args.id [] (sym c.label.ensures
+    ∙ ap (λ o. option_map chars (option_copied o)) c.in-None.is) in
     rw (none, ← chars-nil) c.from_str-in-None.ensures

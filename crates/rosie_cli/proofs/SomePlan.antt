@@ -1,0 +1,121 @@
+-- The words come to something over each tree of files.
+use Rattle.std.proofs.Common.{ℕ, Bool, true, false, List, [], ◌++◌, refl}
+use Rattle.std.specs.Prelude.{◌≡◌, Ok, Err, Option, Some, None, codes, is_some, map, encode_utf8_all}
+use Rattle.std.specs.Cmp.Lexicographic.{slice_cmp}
+use Rattle.std.specs.List.{concat}
+use Rattle.std.specs.Ordering.{is_lt, nat_cmp}
+use Rattle.std.proofs.lemmas.Cmp.{nat_list_cmp_total}
+use Rattle.std.proofs.lemmas.List.Sorted.{ranks_by}
+use Rattle.rosie_jobs.specs.Lines.{Job}
+use Rattle.rosie_prepare.specs.Prepared.{Tree, Wanted, Ready, OrLine, bodies}
+use Rattle.rosie_prepare.proofs.SomeAnswer.{some_answer, some_table}
+use Rattle.rosie_show.specs.Expansions as E
+use Rattle.rosie_show.specs.Expansions.{IsExpansion}
+use Rattle.rosie_show.specs.Names.{name_line, IsNamesText}
+use Rattle.rosie_verdicts.proofs.Some.{some_suite}
+use Rattle.rosie_words.specs.declared.command.Command.{Command}
+use Rattle.rosie_words.specs.declared.command.What.{What}
+use Rattle.rosie_words.specs.declared.command.What.TheVariants as W
+use Rattle.rpl_classes.specs.Classes.{set_named}
+use Rattle.rpl_package.specs.Loading.{world}
+use Rattle.rpl_package.specs.Names.{all_listed}
+use Rattle.rpl_package.specs.Roots.{Packages, load}
+use Rattle.rpl_package.specs.declared.names.Listed.{Listed}
+use Rattle.rpl_package.specs.declared.rooted.Root.{Root}
+use Rattle.rpl_forms.specs.Rows.{Row}
+use Rattle.rosie_cli.specs.Classes.{class_plan}
+use Rattle.rosie_cli.specs.Expanding.{Expands, IsExpanded, with_code}
+use Rattle.rosie_cli.specs.Laws.{SomePlan, asks_code}
+use Rattle.rosie_cli.specs.Listing.{IsListed, Lists}
+use Rattle.rosie_cli.specs.Options.{settings_of}
+use Rattle.rosie_cli.specs.Planned.{job_with, matching, sample_wanted, sampling, tracing, wanted, within_limit}
+use Rattle.rosie_cli.specs.Planned.{IsMatch, IsPlannedAs, IsRun, IsRunning}
+use Rattle.rosie_cli.specs.Plans.{Plan, Planned, refusal, whole_answer}
+use Rattle.rosie_cli.specs.Testing.{IsTesting, tried}
+use Rattle.rosie_cli.specs.Words.{Refuse, Do}
+use Rattle.rosie_cli.proofs.Replayed.{some_replayed}
+use Rattle.rosie_cli.proofs.SomeMarks.{some_code, some_marks}
+use Rattle.rosie_cli.proofs.SomeOrder.{some_order}
+
+-- what a pattern comes to has a plan
+some_run : (run : List Row → Job → Plan) (r : OrLine Ready) → (p : Plan) × IsRun run r p
+some_run run (Err line) = (refusal line, refl)
+some_run run (Ok r) =
+    let c = some_code (bodies r.rules) r.goal in
+    (within_limit (run r.rules (job_with r c.0)) c.0, (c.0, c.1, refl))
+
+some_expansion : (r : Ready) → (text : List ℕ) × IsExpansion r.rules r.expr r.goal text
+some_expansion r =
+    let m = some_marks (E.bodies_of r.rules) r.goal in (
+      E.pattern_lines (E.names_of r.rules) r.expr r.goal ++ E.rule_lines (E.names_of r.rules) m.0 0 r.rules,
+      record { marks = m.0; exact = m.1; same = refl },
+    )
+
+some_shown : (wants_code : Bool) (r : OrLine Ready) → (p : Plan) × Expands wants_code r p
+some_shown wants_code (Err line) = (refusal line, refl)
+some_shown false (Ok r) = let t = some_expansion r in (whole_answer t.0, (t.0, t.1, refl))
+some_shown true (Ok r) =
+    let t = some_expansion r in
+    let c = some_code (bodies r.rules) r.goal in (with_code t.0 c.0, (t.0, t.1, (c.0, c.1, refl)))
+
+-- and so do packages
+some_text : (names : List Listed) → (text : List ℕ) × IsNamesText names text
+some_text names =
+    let s = some_order (λ x y. is_lt (slice_cmp nat_cmp x y)) (ranks_by nat_list_cmp_total (λ (x : List ℕ). x))
+    (map name_line names) in
+    (concat s.0, record { lines = s.0; members = s.1; order = s.2; same = refl })
+
+some_names : (o : OrLine Packages) → (p : Plan) × Lists o p
+some_names (Err line) = (refusal line, refl)
+some_names (Ok packages) = let t = some_text (all_listed packages) in (whole_answer t.0, (t.0, t.1, refl))
+
+-- the plans
+running_some : (run : List Row → Job → Plan) (w : Wanted) (tree : Tree) → (p : Planned) × IsRunning run w tree p
+running_some run w tree =
+    let r = some_answer tree w in
+    let p = some_run run r.1 in
+    (record { asked = r.0; plan = p.0 }, record { ready = r.1; prepares = r.2; runs = p.1 })
+
+expanded_some : (w : Wanted) (wants_code : Bool) (tree : Tree) → (p : Planned) × IsExpanded w wants_code tree p
+expanded_some w wants_code tree =
+    let r = some_answer tree w in
+    let p = some_shown wants_code r.1 in
+    (record { asked = r.0; plan = p.0 }, record { ready = r.1; prepares = r.2; expands = p.1 })
+
+listed_some : (roots : List Root) (folders : List (List ℕ)) (tree : Tree) → (p : Planned) × IsListed roots folders tree p
+listed_some roots folders tree =
+    let t = some_table tree folders roots in
+    let p = some_names t.0 in (
+      record { asked = map encode_utf8_all (load (world tree folders) roots).asked; plan = p.0 },
+      record { packages = t.0; asked = refl; comes = t.1; lists = p.1 },
+    )
+
+tested_some : (folders : List (List ℕ)) (file : List ℕ) (budget : Option ℕ) (tree : Tree)
+    → (p : Planned) × IsTesting folders file budget tree p
+tested_some folders file budget tree =
+    let s = some_suite some_code tree folders file budget in
+    (record { asked = s.0; plan = tried s.1 }, record { suite = s.1; comes = s.2; tries = refl })
+
+match_some : (c : Command) (file : Option (List ℕ)) (pattern : List ℕ) (inputs : List (List ℕ)) (tree : Tree)
+    → is_some file ≡ false → (p : Planned) × IsMatch c file pattern inputs tree p
+match_some c None pattern inputs tree e = running_some (matching (settings_of c) inputs) (wanted c pattern false) tree
+match_some c (Some path) pattern inputs tree e = absurd (cc)
+
+what_some : (c : Command) (what : What) (tree : Tree) → asks_code c what ≡ false
+    → (p : Planned) × IsPlannedAs c what tree p
+what_some c (W.Match pattern inputs) tree e = match_some c c.code_file pattern inputs tree e
+what_some c (W.Compile pattern) tree e = absurd (cc)
+what_some c (W.Grep pattern inputs) tree e = running_some (matching (settings_of c) inputs) (wanted c pattern true) tree
+what_some c (W.Test file) tree e = tested_some c.folders file c.budget tree
+what_some c (W.Class name) tree e = (record { asked = []; plan = class_plan name (set_named name) }, refl)
+what_some c W.List tree e = listed_some c.roots c.folders tree
+what_some c (W.Expand pattern) tree e = expanded_some (wanted c pattern false) c.code tree
+what_some c (W.Trace pattern inputs) tree e =
+    running_some (tracing c.limit c.whole inputs) (wanted c pattern false) tree
+what_some c (W.Sample seed lines) tree e =
+    running_some (sampling (settings_of c) seed lines) (sample_wanted c.folders) tree
+what_some c W.Repl tree e = some_replayed c.folders tree
+
+pub some_plan : SomePlan
+some_plan (Refuse text) tree e = (record { asked = []; plan = refusal text }, refl)
+some_plan (Do c) tree e = what_some c c.what tree e

@@ -1,0 +1,5 @@
+pub mod Short
+pub mod One
+pub mod Limits
+pub mod Onward
+pub mod Counting

@@ -1,0 +1,4 @@
+pub mod Lines
+pub mod Counting
+pub mod Runs
+pub mod inside

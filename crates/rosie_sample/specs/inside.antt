@@ -1,0 +1,2 @@
+-- Of private functions.
+pub mod Passing

@@ -1,0 +1,74 @@
+// The line of a number.
+ghost use Rattle.std.specs.Prelude.{◌≡◌, ◌++◌, ◌<◌, [], OnOk, nat_lt, if◌then◌else◌, codes, string_bytes};
+ghost use Rattle.std.specs.Fmt.{decimal};
+ghost use Rattle.rosie_sample.specs.Lines.{two_digits, level, date, dated, undated, line_of};
+
+use crate::NoMemory;
+use rpl_print::push_decimal;
+
+/// What stands before a number, so that it has two digits.
+fn zero_before(number: u32) -> &'static str
+    ensures { result.now ≡ (if nat_lt number 10 then codes "0" else []) }
+{
+    if number < 10 { "0" } else { "" }
+}
+
+/// Adds a number in two digits.
+fn push_two_digits(out: &mut String, number: u32) -> Result<(), NoMemory>
+    ensures { OnOk result (string_bytes out.new ≡ string_bytes out.old ++ two_digits number) }
+{
+    out.push_str(zero_before(number))?;
+    push_decimal(out, number as u64)
+}
+
+/// The name of a level.
+fn level(number: u32) -> &'static str
+    ensures { result.now ≡ level number }
+{
+    match number {
+        0 => "INFO",
+        1 => "WARN",
+        _ => "ERROR",
+    }
+}
+
+/// Adds a date, by the number of its line.
+fn push_date(out: &mut String, number: u32) -> Result<(), NoMemory>
+    ensures { OnOk result (string_bytes out.new ≡ string_bytes out.old ++ date number) }
+{
+    out.push_str("2024-")?;
+    push_two_digits(out, 1 + number % 12)?;
+    out.push_str("-")?;
+    push_two_digits(out, 1 + number % 28)
+}
+
+/// Adds a line with a date and a level.
+fn push_dated(out: &mut String, number: u32) -> Result<(), NoMemory>
+    ensures { OnOk result (string_bytes out.new ≡ string_bytes out.old ++ dated number) }
+{
+    push_date(out, number)?;
+    out.push_str(" ")?;
+    out.push_str(level(number % 4))?;
+    out.push_str(" ")?;
+    push_decimal(out, number as u64)
+}
+
+/// Adds a line without them.
+fn push_undated(out: &mut String, number: u32) -> Result<(), NoMemory>
+    ensures { OnOk result (string_bytes out.new ≡ string_bytes out.old ++ undated number) }
+{
+    out.push_str("no date ")?;
+    push_decimal(out, number as u64)
+}
+
+/// Adds the line of a number.
+#[tactic(auto, unfolding(crate::specs::Lines::line_of))]
+pub(crate) fn push_line(out: &mut String, number: u32) -> Result<(), NoMemory>
+    ensures { OnOk result (string_bytes out.new ≡ string_bytes out.old ++ line_of number) }
+{
+    if number % 4 == 3 {
+        push_undated(out, number)
+    } else {
+        push_dated(out, number)
+    }
+}

@@ -1,0 +1,162 @@
+// The run of a sample: its lines are matched, and what comes of them is counted.
+ghost use Rattle.std.specs.Prelude.{◌≡◌, ◌<◌, ◌≤◌, ◌^◌, ◌∷◌, [], length, codes, IfErr, IfOk};
+ghost use Rattle.rosie_jobs.specs.Jobs.{matcher_of};
+ghost use Rattle.rosie_jobs.specs.Makers.{makes_of};
+ghost use Rattle.rosie_run.specs.Causes.{WritesCause};
+ghost use Rattle.rosie_run.specs.Outputs.{texts};
+ghost use Rattle.rosie_run.specs.Report.{tally_of};
+ghost use Rattle.rosie_run.specs.Runs.{Runs, IsNoCut};
+ghost use Rattle.rosie_run.specs.Where.{Nowhere};
+ghost use Rattle.rosie_sample.specs.Counting.{hits, line_pieces, sample_pieces};
+ghost use Rattle.rosie_sample.specs.inside.Passing.{tallied, with_line};
+
+use crate::Sample;
+use crate::text::counts_text;
+use rosie_io::{CountSink, Sink};
+use rosie_jobs::MatchJob;
+use rosie_run::{Ended, LineJob, Mark, Tally, say};
+use rpl_machine::Steps;
+use std::alloc::Global;
+use std::sync::ledger::Ledger;
+
+/// A job, and so many lines of a sample that it runs on.
+#[derive(Drop)]
+pub struct SampleRun {
+    job: MatchJob,
+    sample: Sample,
+    lines: u32,
+}
+
+/// What lines come to, and how many of them match.
+#[derive(Clone, Copy)]
+struct Counts {
+    tally: Tally,
+    matched: u64,
+}
+
+impl Counts {
+    /// No line yet.
+    fn new() -> Counts
+        ensures { result ≡ record { tally = tally_of []; matched = 0 } }
+    {
+        Counts {
+            tally: Tally::new(),
+            matched: 0,
+        }
+    }
+
+    /// The same with one line more, which comes to this.
+    fn with(self, line: Tally) -> Counts
+        requires { self.matched < 2 ^ 63 }
+        ensures { result ≡ with_line self line }
+    {
+        Counts {
+            tally: self.tally.and(line),
+            matched: self.matched + line.hit as u64,
+        }
+    }
+}
+
+/// Matches a line, and writes its piece.
+fn run_line<J: LineJob, O: Sink, E: Sink, L: Ledger>(
+    job: &mut J,
+    number: u64,
+    line: &str,
+    out: &mut O,
+    err: &mut E,
+    steps: &mut Steps<L>,
+) -> Result<Tally, Ended>
+    requires { length line.now ≤ 64 }
+    ensures same { J.makes job.new ≡ J.makes job.old }
+    ensures runs { Runs result (record { out = O.tells; err = E.tells; counts = O.counts })
+        (J.makes job.old (codes "-") number line.now ∷ []) Nowhere
+        (texts O.written O.number E.written out.old err.old steps.old)
+        (texts O.written O.number E.written out.new err.new steps.new) }
+    ensures no_cut { IfErr result IsNoCut }
+    ensures sinks { WritesCause result (O.faults out.old) (O.faults out.new) (E.faults err.old) (E.faults err.new) }
+{
+    match job.answer("-", number, line, steps) {
+        Ok(mark) => say(out, err, job.out(), job.err(), mark),
+        Err(_) => Err(Ended::NoMemory),
+    }
+}
+
+/// Matches so many lines of a sample, and writes their pieces.
+fn run_lines<O: Sink, E: Sink, L: Ledger>(
+    job: &mut MatchJob,
+    sample: &mut Sample,
+    lines: u32,
+    out: &mut O,
+    err: &mut E,
+    steps: &mut Steps<L>,
+) -> Result<Counts, Ended>
+    ensures runs { Runs (tallied result) (record { out = O.tells; err = E.tells; counts = O.counts })
+        (line_pieces (makes_of (matcher_of job.old)) sample.old.number lines) Nowhere
+        (texts O.written O.number E.written out.old err.old steps.old)
+        (texts O.written O.number E.written out.new err.new steps.new) }
+    ensures matched { IfOk result (λ counts. counts.matched
+        ≡ hits (line_pieces (makes_of (matcher_of job.old)) sample.old.number lines)) }
+    ensures no_cut { IfErr result IsNoCut }
+    ensures sinks { WritesCause (tallied result) (O.faults out.old) (O.faults out.new)
+        (E.faults err.old) (E.faults err.new) }
+{
+    let mut counts = Counts::new();
+    'lines: for before in 0..lines {
+        let Ok(()) = sample.advance() else {
+            return Err(Ended::NoMemory);
+        };
+        match run_line(job, before as u64 + 1, sample.line(), out, err, steps) {
+            Ok(line) => counts = counts.with(line),
+            Err(ended) => return Err(ended),
+        }
+    }
+    Ok(counts)
+}
+
+impl SampleRun {
+    ghost use Rattle.rosie_sample.specs.Runs.{sampled_of};
+
+    /// The run of a job on so many lines of the sample of a seed.
+    pub fn new(alloc: Global, job: MatchJob, seed: u32, lines: u32) -> SampleRun
+        ensures { sampled_of result ≡ record { maker = matcher_of job; seed = seed; lines = lines } }
+    {
+        SampleRun {
+            job,
+            sample: Sample::new(alloc, seed),
+            lines,
+        }
+    }
+
+    /// Matches the lines, and says what they come to.
+    pub fn run<O: Sink, E: Sink, L: Ledger>(
+        &mut self,
+        alloc: Global,
+        out: &mut O,
+        err: &mut E,
+        steps: &mut Steps<L>,
+    ) -> Result<Tally, Ended>
+        ensures runs { Runs result (record { out = O.tells; err = E.tells; counts = O.counts })
+            (sample_pieces (makes_of (matcher_of self.old.job)) self.old.sample.number self.old.lines) Nowhere
+            (texts O.written O.number E.written out.old err.old steps.old)
+            (texts O.written O.number E.written out.new err.new steps.new) }
+        ensures no_cut { IfErr result IsNoCut }
+        ensures sinks { WritesCause result (O.faults out.old) (O.faults out.new)
+            (E.faults err.old) (E.faults err.new) }
+    {
+        let lines = self.lines;
+        let job = &mut self.job;
+        let sample = &mut self.sample;
+        let mut counted = CountSink::new();
+        let counts = match run_lines(job, sample, lines, &mut counted, err, steps) {
+            Ok(counts) => counts,
+            Err(ended) => return Err(ended),
+        };
+        let Ok(text) = counts_text(alloc, lines, counts.matched, counted.number()) else {
+            return Err(Ended::NoMemory);
+        };
+        match say(out, err, text.as_bytes(), &[], Mark::Miss) {
+            Ok(last) => Ok(counts.tally.and(last)),
+            Err(ended) => Err(ended),
+        }
+    }
+}

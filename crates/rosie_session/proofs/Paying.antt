@@ -1,0 +1,160 @@
+-- A line that is tried passes its budget only where that is due: what is loaded has a meaning on each text.
+use Rattle.std.proofs.Common.{ℕ, ◌≡◌, ◌<◌, true, false, List, [], ◌∷◌, length, refl, sym, ◌∙◌, ap, subst, arith}
+use Rattle.std.specs.Prelude.{Bool, Option, Some, None, Ok, Err, cond, nat_lt}
+use Rattle.std.proofs.lemmas.Grind.{merely}
+use Rattle.std.proofs.lemmas.List.{length-map}
+use Rattle.rosie_faults.specs.Lines.{compile_line}
+use Rattle.rosie_jobs.proofs.Allowed.{job-due}
+use Rattle.rosie_jobs.specs.Limits.{PaysFor}
+use Rattle.rosie_jobs.specs.Lines.{Job}
+use Rattle.rosie_jobs.specs.declared.settings.Settings.{Settings}
+use Rattle.rosie_prepare.proofs.Passing.{blocks-rows_of, bodies-rows_of, first_same}
+use Rattle.rosie_prepare.specs.Prepared.{Comes, IsPrepared, OrLine, Passes, Ready, TableFacts, Tree, Wanted, blocks, bodies}
+use Rattle.rosie_prepare.specs.Prepared.{found, goal_in, loaded, ready, table_too_large, table_unsound, too_large, unsound}
+use Rattle.rpl_check.proofs.Accepting.{accepted, whole_of}
+use Rattle.rpl_check.proofs.Firsts.{or_none}
+use Rattle.rpl_check.specs.Checked.{IsWhole}
+use Rattle.rpl_check.specs.Facts.{Facts}
+use Rattle.rpl_check.specs.Faults as F
+use Rattle.rpl_check.specs.inside.Rounds.{Reach}
+use Rattle.rpl_core.specs.Core.{Core}
+use Rattle.rpl_core.specs.Order.{IsInOrder}
+use Rattle.rpl_core.specs.Programs.{IsCode, calls}
+use Rattle.rpl_core.specs.Table.{blocks_of, bodies_of}
+use Rattle.rpl_core.specs.View.{core_of}
+use Rattle.rpl_core.specs.declared.rules.Rule.{Rule}
+use Rattle.rpl_expand.proofs.Rooting.{goal_only}
+use Rattle.rpl_expand.specs.Faults as E
+use Rattle.rpl_expand.specs.Sets.{captures_of, scope_of, table_of}
+use Rattle.rpl_expand.specs.Table.{IsOver}
+use Rattle.rpl_forms.specs.Inlining.{Inners}
+use Rattle.rpl_forms.specs.Rows.{Row, inners_from, inners_of, rows_of}
+use Rattle.rpl_order.proofs.Loaded.{scopes_are_over, tables_are_in_order}
+use Rattle.rpl_order.specs.Laws.{IsLoaded, by_pattern, by_roots}
+use Rattle.rpl_package.specs.Loading.{world}
+use Rattle.rpl_package.specs.Patterns.{load_pattern}
+use Rattle.rpl_package.specs.Roots.{Packages, load}
+use Rattle.rpl_package.specs.declared.rooted.Root.{Root}
+use Rattle.rpl_scope.specs.Faults.{Or, ◌>>=◌}
+use Rattle.rpl_simulation.proofs.Answering.{answer_holds}
+use Rattle.rpl_syntax.specs.Expression.{Expr}
+use Rattle.rosie_session.specs.Laws.{BudgetLaw}
+use Rattle.rosie_session.specs.Loading.{Compiles, IsGoalLoad, IsLoading, Load, Loading, wanted, within_limit}
+use Rattle.rosie_session.specs.Replay.{plain}
+use Rattle.rosie_session.proofs.Pegs.{rules_for}
+
+-- ---- what is loaded and has no fault
+
+module _ (tree : Tree) (folders : List (List ℕ)) (p : Packages) (is : IsLoaded tree folders p) (e : Expr)
+    (d : TableFacts p) (small : table_too_large p ≡ None) (none : unsound p e d ≡ None) where
+  rules : List Rule
+  rules = (rules_for (table_of p) 0 small).0
+
+  same : rows_of rules ≡ table_of p
+  unfolding rules
+  same = (rules_for (table_of p) 0 small).1
+
+  same_bodies : bodies_of rules ≡ bodies (table_of p)
+  same_bodies = sym (bodies-rows_of rules) ∙ ap bodies same
+
+  same_blocks : blocks_of rules ≡ blocks (table_of p)
+  same_blocks = sym (blocks-rows_of rules) ∙ ap blocks same
+
+  in_order : IsInOrder (bodies (table_of p)) (blocks (table_of p))
+  in_order =
+      subst (λ (R : List Core). IsInOrder R (blocks (table_of p))) same_bodies
+      (subst (λ (bs : List (Option ℕ)). IsInOrder (bodies_of rules) bs) same_blocks
+      (tables_are_in_order tree folders p is rules same))
+
+  calls_rules : (r : ℕ) → calls (goal_in p e) r ≡ true → r < length (bodies (table_of p))
+  calls_rules r h =
+      let inners : inners_of rules ≡ inners_from [] (table_of p) = ap (inners_from []) same in
+      let over = subst (λ (I : Inners). IsOver (bodies_of rules) (scope_of p None I)) inners
+      (scopes_are_over tree folders p is rules None same) in
+      let below = goal_only rules (captures_of p) (scope_of p None (inners_from [] (table_of p))) e (sym inners) over r h in
+      let long : length (bodies_of rules) ≡ length rules = length-map rules (λ x. core_of x.body) in
+      let all : length (bodies_of rules) ≡ length (bodies (table_of p)) = ap (λ (R : List Core). length R) same_bodies in
+      omega arith
+
+  is_whole : IsWhole (bodies (table_of p)) (goal_in p e)
+  is_whole =
+      let R = bodies (table_of p) in
+      let bs = blocks (table_of p) in
+      let long : length bs ≡ length R =
+      length-map (table_of p) (λ r. r.block) ∙ sym (length-map (table_of p) (λ r. r.body)) in
+      let parts = or_none (table_unsound p d) (F.goal_fault d.empties d.halting (goal_in p e)) none in
+      whole_of R d.empties d.halting
+      (accepted R bs d.empties d.halting long in_order d.empties_least d.halting_least (λ reach all.
+      let f : Facts R = record {
+        empties = d.empties;
+        halting = d.halting;
+        reach = reach;
+        empties_least = d.empties_least;
+        halting_least = d.halting_least;
+        reach_least = all;
+      } in
+      first_same R d f bs ∙ parts.0))
+      (goal_in p e) calls_rules parts.1
+
+-- ---- what is prepared
+
+abbrev Whole : Ready → Type 0
+Whole r = IsWhole (bodies r.rules) r.goal
+
+module _ (tree : Tree) (folders : List (List ℕ)) (roots : List Root) (parse : Or Expr) (r : Ready) where
+  whole_found :
+      (p : Packages) (e : Expr) (o : Option F.Fault) (d : TableFacts p) → table_too_large p ≡ None → IsLoaded tree folders p
+      → unsound p e d ≡ o
+      → Ok r ≡ found p (ready p e) o → Whole r
+  whole_found p e None d small is none h =
+      let same : ready p e ≡ r = cc in subst Whole same (is_whole tree folders p is e d small none)
+  whole_found p e (Some f) d small is some h = absurd (cc)
+
+  whole_passes :
+      (p : Packages) (e : Expr) (t : Option E.Fault) → too_large p e ≡ t → IsLoaded tree folders p
+      → Passes p t (unsound p e) (ready p e) (Ok r) → Whole r
+  whole_passes p e None small is h =
+      let parts = or_none (table_too_large p) (E.size_fault None (goal_in p e)) small in
+      whole_found p e (unsound p e h.0) h.0 parts.0 is refl h.1
+  whole_passes p e (Some f) large is h = absurd (cc)
+
+  whole_goal :
+      (p : Packages) → IsLoaded tree folders p → (l : Or (Expr × Packages))
+      → (load_pattern (world tree folders) p parse).answer ≡ l → Comes l (Ok r) → Whole r
+  whole_goal p is (Err f) e h = absurd (cc)
+  whole_goal p is (Ok l) e h =
+      whole_passes l.1 l.0 (too_large l.1 l.0) refl (by_pattern p l.1 parse l.0 is e) h
+
+  whole_comes :
+      (x : Or Packages) → (load (world tree folders) roots).answer ≡ x
+      → Comes (x >>= λ p. (load_pattern (world tree folders) p parse).answer) (Ok r) → Whole r
+  whole_comes (Err f) e h = absurd (cc)
+  whole_comes (Ok p) e h = whole_goal p (by_roots roots p e) (load_pattern (world tree folders) p parse).answer refl h
+
+whole_prepared : (tree : Tree) (v : Wanted) (asked : List (List ℕ)) (r : Ready) → IsPrepared tree v asked (Ok r) → Whole r
+whole_prepared tree v asked r h =
+    whole_comes tree v.folders v.roots h.parse r (load (world tree v.folders) v.roots).answer refl h.comes
+
+-- ---- its job
+
+job_within : (b : Bool) (job made : Job) → cond b (Err compile_line) (Ok made) ≡ Ok job → made ≡ job
+job_within true job made e = absurd (cc)
+job_within false job made e = cc
+
+pays_job : (s : Settings) (r : Ready) (job : Job) → Whole r → (answer : OrLine Job) → Compiles (Ok r) answer
+    → answer ≡ Ok job → PaysFor s job
+pays_job s r job whole answer h e =
+    let made : Job = record { rules = bodies r.rules; goal = r.goal; code = h.0 } in
+    let same : made ≡ job = job_within (nat_lt 1048576 (length h.0)) job made (sym h.2 ∙ e) in
+    subst (λ (x : Job). PaysFor s x) same
+    (job-due s made (merely (λ t chars b. answer_holds whole.stays.0 _ _ _ whole.stays.1 h.1 t chars (whole.shut t) b)))
+
+pays_load : (tree : Tree) (v : Wanted) (l : Load Job) (s : Settings) (job : Job) (o : OrLine Ready)
+    → IsPrepared tree v l.asked o → Compiles o l.answer → l.answer ≡ Ok job → PaysFor s job
+pays_load tree v l s job (Err line) h c e = absurd (cc)
+pays_load tree v l s job (Ok r) h c e = pays_job s r job (whole_prepared tree v l.asked r h) l.answer c e
+
+pub pays_holds : BudgetLaw
+pays_holds tree folders w is texts pattern job e =
+    let h = is.goals texts pattern in
+    pays_load tree (wanted folders texts pattern) (w.goal texts pattern) plain job h.ready h.prepares h.compiles e

@@ -1,0 +1,458 @@
+-- What loading says of a line, and what is said then.
+use Rattle.std.proofs.Common.{ℕ, ◌≡◌, ◌≢◌, ◌+◌, ◌-◌, ◌^◌, ◌<◌, ◌≤◌, Bool, true, false, cond, List, [], ◌∷◌, length}
+use Rattle.std.proofs.Common.{◌++◌, get_or, length-drop, take, refl, sym, ◌∙◌, ap, subst, inl, inr, arith}
+use Rattle.std.specs.Prelude.{Option, Some, None, Result, Ok, Err, IfErr, IfOk, IsErrAnd, chars, codes, encode_utf8_all, map}
+use Rattle.std.specs.Borrow.{Bor}
+use Rattle.std.specs.List.{Contains, after_first, before_first, list_any, position_or_len, slice_get}
+use Rattle.std.specs.Option.{option_copied, option_map}
+use Rattle.std.specs.Str.{IsUtf8, bytes_eq}
+use Rattle.std.proofs.lemmas.Bool.{false≢true}
+use Rattle.std.proofs.lemmas.List.{map-append, take_more}
+use Rattle.std.proofs.lemmas.Option.{get_or_from_slice_get, slice_get-get_or, slice_get_within}
+use Rattle.rosie_io.specs.Counts.{Rose}
+use Rattle.rosie_io.specs.Reader.{Reader}
+use Rattle.rosie_jobs.specs.Lines.{Job, match_makes}
+use Rattle.rosie_jobs.specs.Makers.{Maker, Matches, makes_of}
+use Rattle.rosie_jobs.proofs.OneLine.{spelled}
+use Rattle.rosie_prepare.specs.Answers.{HasCause, IsAsked, IsDue}
+use Rattle.rosie_prepare.specs.Prepared.{IsPrepared, OrLine, Ready, TableComes, Tree, Wanted}
+use Rattle.rosie_prepare.specs.declared.unready.Unready.{Unready}
+use Rattle.rosie_prepare.specs.declared.unready.Unready.TheVariants as U
+use Rattle.rosie_repl.specs.Edits.{Edit, Add, Replace, Remove, Pattern, Try, Undo, by_sign, edit_of, in_chars, is_space}
+use Rattle.rosie_repl.specs.Edits.{removal, replacement, replaces}
+use Rattle.rosie_repl.specs.Outcomes.{GoesOn}
+use Rattle.rosie_repl.specs.Seen.{edit_seen}
+use Rattle.rosie_repl.specs.Session.{Kept, Session, changed, kept_by, onward, undone}
+use Rattle.rosie_repl.specs.declared.edit.Edit.{Edit as Command}
+use Rattle.rosie_repl.specs.declared.edit.Edit.TheVariants as C
+use Rattle.rosie_run.specs.Made.{IsMade}
+use Rattle.rosie_run.specs.Outputs.{Telling, Texts}
+use Rattle.rosie_run.specs.Report.{Piece, fault_piece}
+use Rattle.rosie_run.specs.Sources.{Moment, NoFewer, RoseIn, Still}
+use Rattle.rosie_run.specs.declared.mark.Mark.{Mark}
+use Rattle.rosie_run.specs.declared.mark.Mark.TheVariants.{Hit, Miss, Fault, Stop}
+use Rattle.rosie_run.specs.declared.tally.Tally.{Tally}
+use Rattle.rosie_run.specs.declared.trouble.Trouble.TheVariants as T
+use Rattle.rosie_run.proofs.Passing.{fronts-same}
+use Rattle.rosie_run.specs.inside.Causes.{SourceEnds}
+use Rattle.rosie_run.specs.inside.Passing.{StopsAt}
+use Rattle.rpl_package.specs.Loading.{world}
+use Rattle.rpl_package.specs.Roots.{Packages, load}
+use Rattle.rpl_package.specs.declared.rooted.Root.{Root}
+use Rattle.rpl_package.specs.declared.rooted.Root.TheVariants.{Given}
+use Rattle.rpl_text.specs.Numbers.{number_of}
+use Rattle.rosie_session.specs.Loading.{Compiles, IsGoalLoad, IsLoad, Load, Loading, given, wanted}
+use Rattle.rosie_session.specs.Replay.{Turn, change_turn, job_piece, judged, judged_by, loaded, ok_piece, session_fault}
+use Rattle.rosie_session.specs.Replay.{edit_turn, or_no, pieces_of, plain, tried, try_turn, turns, undo_turn}
+use Rattle.rosie_session.specs.declared.halt.Halt.{Halt}
+use Rattle.rosie_session.specs.declared.halt.Halt.TheVariants as H
+use Rattle.rosie_session.specs.declared.said.Said.{Said}
+use Rattle.rosie_session.specs.inside.Passing.{Halts, InputEnds, IsOfReading, RunsLines, SpentBy, StopsBy}
+use Rattle.rosie_session.specs.inside.Turning.{FilesBy, HaltFiles, IsInner, IsOwn, IsSaid, JudgesEnd, Says, StepsBy}
+
+-- ---- the texts as roots
+
+pub roots_more :
+    (texts : List (List ℕ)) (k : ℕ) (roots : List Root) (text : List ℕ) → roots ≡ given (take k texts)
+    → slice_get texts k ≡ Some text → roots ++ Given text ∷ [] ≡ given (take (k + 1) texts)
+roots_more texts k roots text e at =
+    let here = get_or_from_slice_get texts k text text at in
+    ap (λ (rs : List Root). rs ++ Given text ∷ []) e
+    ∙ ap (λ (t : List ℕ). given (take k texts) ++ Given t ∷ []) (sym here)
+    ∙ sym (map-append Given (take k texts) (get_or texts k text ∷ []))
+    ∙ ap given (sym (take_more texts k text (slice_get_within texts k text at)))
+
+-- each number below their number is one of a text
+pub has_text :
+    (o : Option (Bor (List ℕ))) (texts : List (List ℕ)) (k : ℕ) → k < length texts
+    → option_map chars (option_copied o) ≡ slice_get texts k → ((text : Bor (List ℕ)) → o ≢ Some text) → ⊥
+has_text None texts k h e other = let there = slice_get-get_or texts k [] h in absurd (cc)
+has_text (Some text) texts k h e other = other text refl
+
+-- ---- the texts alone
+
+pub texts_given :
+    (tree : Tree) (folders texts : List (List ℕ)) (l : Load Packages) (roots : List Root) → roots ≡ given texts
+    → IsLoad tree folders texts l → TableComes (load (world tree folders) roots).answer l.answer
+texts_given tree folders texts l roots e is =
+    subst (λ (rs : List Root). TableComes (load (world tree folders) rs).answer l.answer) (sym e) is.comes
+
+pub texts_asked :
+    (tree : Tree) (folders texts : List (List ℕ)) (l : Load Packages) (roots : List Root) → roots ≡ given texts
+    → IsLoad tree folders texts l → map encode_utf8_all (load (world tree folders) roots).asked ≡ l.asked
+texts_asked tree folders texts l roots e is =
+    ap (λ (rs : List Root). map encode_utf8_all (load (world tree folders) rs).asked) e ∙ sym is.asked
+
+-- what was loaded has no fault, and so the change stands
+pub judged_ok :
+    {A : Type 0} (before after : Session) (l : Load A) (a : A) → l.answer ≡ Ok a
+    → ((judged before after l).piece ≡ ok_piece after) × ((judged before after l).session ≡ after)
+judged_ok before after l a e = (
+  ap (λ o. (judged_by before after l.asked o).piece) e,
+  ap (λ o. (judged_by before after l.asked o).session) e,
+)
+
+judged_asked : {A : Type 0} (before after : Session) (asked : List (List ℕ)) (o : OrLine A)
+    → (judged_by before after asked o).asked ≡ asked
+judged_asked before after asked (Ok a) = refl
+judged_asked before after asked (Err line) = refl
+
+-- or it has one
+pub judges_end :
+    {A : Type 0} (before after : Session) (l : Load A) (u : Unready) → IsDue u l.answer → IsAsked u l.asked
+    → JudgesEnd u (judged before after l) before
+judges_end before after l U.NoMemory due asks = tt
+judges_end before after l (U.Refused line) due asks = (
+  ap (λ o. (judged_by before after l.asked o).piece) due,
+  ap (λ o. (judged_by before after l.asked o).session) due,
+)
+judges_end before after l (U.ReadFault path) due asks =
+    subst (λ (paths : List (List ℕ)). Contains paths (encode_utf8_all path))
+    (sym (judged_asked before after l.asked l.answer)) asks
+
+-- but for a pattern the texts alone are loaded
+pub loaded_texts :
+    (w : Loading) (e : Command) (before after : Session) → ((text : _) → e ≢ C.Pattern text)
+    → loaded w (in_chars (edit_seen e)) before after ≡ judged before after (w.texts after.now.texts)
+loaded_texts w (C.Add text) before after h = refl
+loaded_texts w (C.Replace k text) before after h = refl
+loaded_texts w (C.Remove k) before after h = refl
+loaded_texts w (C.Pattern text) before after h = absurd (h text refl)
+loaded_texts w (C.Try line) before after h = refl
+loaded_texts w C.Undo before after h = refl
+
+-- ---- the texts with a pattern
+
+abbrev pub wanted_with : List (List ℕ) → List Root → List ℕ → Wanted
+wanted_with folders roots text = record { roots = roots; folders = folders; text = text; fixed = false; find = false }
+
+pub wanted_is :
+    (folders texts : List (List ℕ)) (roots : List Root) (text : List ℕ) → roots ≡ given texts → IsUtf8 text
+    → wanted_with folders roots text ≡ wanted folders texts (chars text)
+wanted_is folders texts roots text e u =
+    ap (λ (rs : List Root). wanted_with folders rs text) e
+    ∙ ap (λ (t : List ℕ). wanted_with folders (given texts) t) (sym (spelled text u))
+
+pub goal_prepared :
+    (tree : Tree) (folders texts : List (List ℕ)) (roots : List Root) (text : List ℕ) (l : Load Job)
+    → roots ≡ given texts → IsUtf8 text → (h : IsGoalLoad tree (wanted folders texts (chars text)) l)
+    → IsPrepared tree (wanted_with folders roots text) l.asked h.ready
+goal_prepared tree folders texts roots text l e u h =
+    subst (λ (v : Wanted). IsPrepared tree v l.asked h.ready) (sym (wanted_is folders texts roots text e u)) h.prepares
+
+pub due_compiles :
+    (u : Unready) (ready : OrLine Ready) (answer : OrLine Job) → IsDue u ready → Compiles ready answer → IsDue u answer
+due_compiles U.NoMemory ready answer due c = tt
+due_compiles (U.Refused line) ready answer due c = subst (λ (r : OrLine Ready). Compiles r answer) due c
+due_compiles (U.ReadFault path) ready answer due c = tt
+
+pub own_asked : {A : Type 0} (r : Result A Unready) (paths : List (List ℕ)) → IfErr r IsOwn → IfErr r (λ u. IsAsked u paths)
+own_asked (Ok a) paths own = tt
+own_asked (Err U.NoMemory) paths own = tt
+own_asked (Err (U.Refused line)) paths own = tt
+own_asked (Err (U.ReadFault path)) paths own = absurd own
+
+pub still_fewer : (f0 f1 : Moment) → Still f0 f1 → NoFewer f0 f1
+still_fewer f0 f1 h = let a = h.faults in let b = h.opens in record { faults = omega arith; opens = omega arith }
+
+pub own_cause : {A : Type 0} (r : Result A Unready) (f0 f1 : Moment) → IfErr r IsOwn → Still f0 f1 → HasCause r f0 f1
+own_cause (Ok a) f0 f1 own h = h
+own_cause (Err U.NoMemory) f0 f1 own h = still_fewer f0 f1 h
+own_cause (Err (U.Refused line)) f0 f1 own h = h
+own_cause (Err (U.ReadFault path)) f0 f1 own h = absurd own
+
+-- ---- changes
+
+-- the number was no text's
+pub change_none :
+    (w : Loading) (n : ℕ) (s now : Session) (e : Edit) (o : Option Session) (done : Bool) (said : Said)
+    → GoesOn s now o done → done ≡ false → IsSaid said (fault_piece (session_fault n (codes "bad command")))
+    → Says said (change_turn w n s e o) now
+change_none w n s now e None done said g off is = (is, g.1)
+change_none w n s now e (Some after) done said g off is = absurd (false≢true (sym off ∙ g.0))
+
+pub change_some :
+    (w : Loading) (n : ℕ) (s now : Session) (e : Edit) (o : Option Session) (done : Bool) → GoesOn s now o done
+    → done ≡ true → change_turn w n s e o ≡ loaded w e s now
+change_some w n s now e None done g on = absurd (false≢true (sym g.0 ∙ on))
+change_some w n s now e (Some after) done g on = ap (loaded w e s) (sym g.1)
+
+pub made_some :
+    (s now : Session) (o : Option Session) (done : Bool) → GoesOn s now o done → done ≡ true → o ≡ Some now
+made_some s now None done g on = absurd (false≢true (sym g.0 ∙ on))
+made_some s now (Some after) done g on = ap (λ (x : Session). Some x) (sym g.1)
+
+abbrev onto : Session → Kept → Session
+onto s k = record { now = k; past = s.now ∷ s.past }
+
+back_by :
+    (s mid final : Session) (o : Option Kept) (back : Bool) → onward s o ≡ Some mid → GoesOn mid final (undone mid) back
+    → final ≡ s
+back_by s mid final None back e h = absurd (cc)
+back_by s mid final (Some k) back e h =
+    let made : Some (onto s k) ≡ Some mid = e in
+    let m : mid ≡ onto s k = cc in
+    (subst (λ (x : Session). GoesOn x final (undone x) back) m h).1
+
+-- undoing a change that was made brings back what was kept before
+pub back_made :
+    (s mid final : Session) (e : Edit) (back : Bool) → changed e s ≡ Some mid → GoesOn mid final (undone mid) back
+    → final ≡ s
+back_made s mid final e back made h = back_by s mid final (kept_by e s.now) back made h
+
+-- ---- undoing
+
+pub undo_none :
+    {E : Type 0} (n : ℕ) (s now : Session) (o : Option Session) (done : Bool) (r : Result Said E) → GoesOn s now o done
+    → done ≡ false → IfOk r (λ said. IsSaid said (fault_piece (session_fault n (codes "nothing to undo"))))
+    → IfOk r (λ said. Says said (undo_turn n s o) now)
+undo_none n s now None done (Ok said) g off is = (is, g.1)
+undo_none n s now (Some before) done (Ok said) g off is = absurd (false≢true (sym off ∙ g.0))
+undo_none n s now o done (Err e) g off is = tt
+
+pub undo_some :
+    {E : Type 0} (n : ℕ) (s now : Session) (o : Option Session) (done : Bool) (r : Result Said E) → GoesOn s now o done
+    → done ≡ true → IfOk r (λ said. IsSaid said (ok_piece now)) → IfOk r (λ said. Says said (undo_turn n s o) now)
+undo_some n s now None done (Ok said) g on is = absurd (false≢true (sym g.0 ∙ on))
+undo_some n s now (Some before) done (Ok said) g on is =
+    (subst (λ (x : Session). IsSaid said (ok_piece x)) g.1 is, g.1)
+undo_some n s now o done (Err e) g on is = tt
+
+-- ---- trying
+
+module _ (w : Loading) (n : ℕ) (s : Session) (line : List ℕ) (o : Option (List ℕ)) where
+  pub try_none :
+      (said : Said) → o ≡ None → IsSaid said (fault_piece (session_fault n (codes "no pattern")))
+      → Says said (try_turn w n s o line) s
+  try_none said e is = (
+    subst (λ (x : Option (List ℕ)). IsSaid said (try_turn w n s x line).piece) (sym e) is,
+    ap (λ (x : Option (List ℕ)). (try_turn w n s x line).session) (sym e),
+  )
+
+  module _ (pattern : List ℕ) (is : o ≡ Some pattern) where
+    as_tried : (answer : OrLine Job) → (w.goal s.now.texts pattern).answer ≡ answer
+        → (try_turn w n s o line).piece ≡ tried n line answer
+    as_tried answer e = ap (λ (x : Option (List ℕ)). (try_turn w n s x line).piece) is ∙ ap (tried n line) e
+
+    stays : s ≡ (try_turn w n s o line).session
+    stays = ap (λ (x : Option (List ℕ)). (try_turn w n s x line).session) (sym is)
+
+    pub try_made :
+        (said : Said) (ran : Job) → (w.goal s.now.texts pattern).answer ≡ Ok ran → IsSaid said (job_piece ran n line)
+        → Says said (try_turn w n s o line) s
+    try_made said ran e made = (subst (IsSaid said) (sym (as_tried (Ok ran) e)) made, stays)
+
+    pub try_cost :
+        (ran : Job) (before now : ℕ) → (w.goal s.now.texts pattern).answer ≡ Ok ran
+        → now ≡ before + (job_piece ran n line).cost → now ≡ before + (try_turn w n s o line).piece.cost
+    try_cost ran before now e cost = cost ∙ ap (λ (p : Piece). before + p.cost) (sym (as_tried (Ok ran) e))
+
+    pub try_refused :
+        (said : Said) (text : List ℕ) → (w.goal s.now.texts pattern).answer ≡ Err text → IsSaid said (fault_piece text)
+        → Says said (try_turn w n s o line) s
+    try_refused said text e made = (subst (IsSaid said) (sym (as_tried (Err text) e)) made, stays)
+
+    pub refused_cost :
+        (before : ℕ) (text : List ℕ) → (w.goal s.now.texts pattern).answer ≡ Err text
+        → before ≡ before + (try_turn w n s o line).piece.cost
+    refused_cost before text e = let z = ap (λ (p : Piece). p.cost) (as_tried (Err text) e) in omega arith
+
+  pub none_cost : (before : ℕ) → o ≡ None → before ≡ before + (try_turn w n s o line).piece.cost
+  none_cost before e = let z = ap (λ (x : Option (List ℕ)). (try_turn w n s x line).piece.cost) e in omega arith
+
+-- ---- what costs no step
+
+judged_cost : {A : Type 0} (before after : Session) (asked : List (List ℕ)) (o : OrLine A)
+    → (judged_by before after asked o).piece.cost ≡ 0
+judged_cost before after asked (Ok a) = refl
+judged_cost before after asked (Err line) = refl
+
+loaded_cost : (w : Loading) (e : Edit) (s now : Session) → (loaded w e s now).piece.cost ≡ 0
+loaded_cost w (Pattern text) s now = judged_cost s now (w.goal now.now.texts text).asked (w.goal now.now.texts text).answer
+loaded_cost w (Add text) s now = judged_cost s now (w.texts now.now.texts).asked (w.texts now.now.texts).answer
+loaded_cost w (Replace k text) s now = judged_cost s now (w.texts now.now.texts).asked (w.texts now.now.texts).answer
+loaded_cost w (Remove k) s now = judged_cost s now (w.texts now.now.texts).asked (w.texts now.now.texts).answer
+loaded_cost w (Try line) s now = judged_cost s now (w.texts now.now.texts).asked (w.texts now.now.texts).answer
+loaded_cost w Undo s now = judged_cost s now (w.texts now.now.texts).asked (w.texts now.now.texts).answer
+
+pub change_cost : (w : Loading) (n : ℕ) (s : Session) (e : Edit) (o : Option Session)
+    → (change_turn w n s e o).piece.cost ≡ 0
+change_cost w n s e None = refl
+change_cost w n s e (Some after) = loaded_cost w e s after
+
+pub undo_cost : (n : ℕ) (s : Session) (o : Option Session) → (undo_turn n s o).piece.cost ≡ 0
+undo_cost n s None = refl
+undo_cost n s (Some before) = refl
+
+pub steps_none : (r : Result Said Halt) (t : Turn) (before : ℕ) → t.piece.cost ≡ 0 → StepsBy r t before before
+steps_none (Ok said) t before z = omega arith
+steps_none (Err (H.Run trouble)) t before z = tt
+steps_none (Err (H.Unread path)) t before z = refl
+
+-- ---- what is told of a line that was tried
+
+pub or_no_out : (mark : Mark) (p : Piece) → mark ≢ Miss → (or_no mark p).out ≡ p.out
+or_no_out Miss p h = absurd (h refl)
+or_no_out Hit p h = refl
+or_no_out Fault p h = refl
+or_no_out Stop p h = refl
+
+or_no_mark : (mark : Mark) (p : Piece) → (or_no mark p).mark ≡ p.mark
+or_no_mark Miss p = refl
+or_no_mark Hit p = refl
+or_no_mark Fault p = refl
+or_no_mark Stop p = refl
+
+or_no_err : (mark : Mark) (p : Piece) → (or_no mark p).err ≡ p.err
+or_no_err Miss p = refl
+or_no_err Hit p = refl
+or_no_err Fault p = refl
+or_no_err Stop p = refl
+
+or_no_cost : (mark : Mark) (p : Piece) → (or_no mark p).cost ≡ p.cost
+or_no_cost Miss p = refl
+or_no_cost Hit p = refl
+or_no_cost Fault p = refl
+or_no_cost Stop p = refl
+
+-- the job's texts, the one for `out` told
+pub job_said :
+    (mark : Mark) (out0 err0 text fault told copied : List ℕ) (m : Maker) (job : Job) (n : ℕ) (line : List ℕ)
+    → m ≡ Matches plain job → IsMade mark out0 err0 (makes_of m (codes "(session)") n line) → text ≡ out0 → fault ≡ err0
+    → ((p : Piece) → p.out ≡ text → told ≡ (or_no mark p).out) → copied ≡ fault
+    → IsMade mark told copied (job_piece job n line)
+job_said mark out0 err0 text fault told copied m job n line is made e f says g =
+    let p = match_makes plain job (codes "(session)") n line in
+    let k = subst (λ (x : Maker). IsMade mark out0 err0 (makes_of x (codes "(session)") n line)) is made in record {
+      marks = k.marks ∙ sym (or_no_mark p.mark p);
+      writes = says p (sym k.writes ∙ sym e) ∙ ap (λ (x : Mark). (or_no x p).out) k.marks;
+      tells = g ∙ f ∙ k.tells ∙ sym (or_no_err p.mark p);
+    }
+
+pub job_cost :
+    (m : Maker) (job : Job) (n : ℕ) (line : List ℕ) (before now : ℕ) → m ≡ Matches plain job
+    → now ≡ before + (makes_of m (codes "(session)") n line).cost → now ≡ before + (job_piece job n line).cost
+job_cost m job n line before now is e =
+    let p = match_makes plain job (codes "(session)") n line in
+    let k = subst (λ (x : Maker). now ≡ before + (makes_of x (codes "(session)") n line).cost) is e in
+    k ∙ ap (λ (c : ℕ). before + c) (sym (or_no_cost p.mark p))
+
+-- ---- commands
+
+no_removal : (o : Option ℕ) (t : List ℕ) → removal o ≢ Some (Try t)
+no_removal None t e = absurd (cc)
+no_removal (Some k) t e = absurd (cc)
+
+no_replacement : (o : Option ℕ) (text t : List ℕ) → replacement o text ≢ Some (Try t)
+no_replacement None text t e = absurd (cc)
+no_replacement (Some k) text t e = absurd (cc)
+
+no_replaces : (b : Bool) (o : Option ℕ) (text t : List ℕ) → cond b (replacement o text) None ≢ Some (Try t)
+no_replaces true o text t e = no_replacement o text t e
+no_replaces false o text t e = absurd (cc)
+
+tried_by :
+    (a b c d e : Bool) (rest t : List ℕ) (r m : Option Edit) → r ≢ Some (Try t) → m ≢ Some (Try t)
+    → cond a (Some (Add rest)) (cond b r (cond c m (cond d (Some (Pattern rest)) (cond e (Some (Try rest)) None))))
+    ≡ Some (Try t) → t ≡ rest
+tried_by true b c d e rest t r m nr nm h = absurd (cc)
+tried_by false true c d e rest t r m nr nm h = absurd (nr h)
+tried_by false false true d e rest t r m nr nm h = absurd (nm h)
+tried_by false false false true e rest t r m nr nm h = absurd (cc)
+tried_by false false false false true rest t r m nr nm h = cc
+tried_by false false false false false rest t r m nr nm h = absurd (cc)
+
+tried_sign : (sign rest t : List ℕ) → by_sign sign rest ≡ Some (Try t) → t ≡ rest
+tried_sign sign rest t h =
+    tried_by (bytes_eq sign (codes "+")) (bytes_eq sign (codes "=")) (bytes_eq sign (codes "-"))
+    (bytes_eq sign (codes "?")) (bytes_eq sign (codes ">")) rest t (replaces rest) (removal (number_of rest))
+    (no_replaces (list_any is_space rest) (number_of (before_first is_space rest)) (after_first is_space rest) t)
+    (no_removal (number_of rest) t) h
+
+short_by :
+    (a b : Bool) (line t : List ℕ)
+    → cond a (by_sign (before_first is_space line) (after_first is_space line)) (cond b (Some Undo) None) ≡ Some (Try t)
+    → length t ≤ length line
+short_by true b line t h =
+    let e = ap length (tried_sign (before_first is_space line) (after_first is_space line) t h) in
+    omega (arith, length-drop (position_or_len is_space line + 1) line)
+short_by false true line t h = absurd (cc)
+short_by false false line t h = absurd (cc)
+
+-- a line that is tried is no longer than the line of its command
+pub tried_short : (line t : List ℕ) → edit_of line ≡ Some (Try t) → length t ≤ length line
+tried_short line t h = short_by (list_any is_space line) (bytes_eq line (codes "u")) line t h
+
+pub edit_change :
+    (w : Loading) (n : ℕ) (s : Session) (e : Command) → ((line : _) → e ≢ C.Try line) → e ≢ C.Undo
+    → edit_turn w n s (Some (edit_seen e))
+    ≡ change_turn w n s (in_chars (edit_seen e)) (changed (in_chars (edit_seen e)) s)
+edit_change w n s (C.Add text) t u = refl
+edit_change w n s (C.Replace k text) t u = refl
+edit_change w n s (C.Remove k) t u = refl
+edit_change w n s (C.Pattern text) t u = refl
+edit_change w n s (C.Try line) t u = absurd (t line refl)
+edit_change w n s C.Undo t u = absurd (u refl)
+
+-- ---- what ends a session inside a line
+
+pub inner_input : (halt : Halt) (before now : ℕ) → IsInner halt → now ≡ before → InputEnds halt before now
+inner_input (H.Run trouble) before now is e = subst (λ x. SourceEnds x before now) (sym is) e
+inner_input (H.Unread path) before now is e = e
+
+pub inner_stops :
+    (halt : Halt) (tells : Type 0) (old now : Reader) (rest0 rest1 : List ℕ) → IsInner halt
+    → StopsBy halt tells old now rest0 rest1
+inner_stops (H.Run trouble) tells old now rest0 rest1 is = subst (λ x. StopsAt x tells old now rest0 rest1) (sym is) tt
+inner_stops (H.Unread path) tells old now rest0 rest1 is = tt
+
+pub inner_reading : (halt : Halt) → IsInner halt → IsOfReading halt
+inner_reading (H.Run trouble) is = subst (λ x. IsOfReading (H.Run x)) (sym is) tt
+inner_reading (H.Unread path) is = tt
+
+-- ---- want of memory
+
+pub memory_files :
+    {A : Type 0} (r : Result A Halt) (f0 f1 : Moment) → IsErrAnd r (λ h. h ≡ H.Run T.NoMemory) → Still f0 f1
+    → FilesBy r f0 f1
+memory_files (Ok a) f0 f1 is h = absurd is
+memory_files (Err halt) f0 f1 is h = subst (λ x. HaltFiles x f0 f1) (sym is) (still_fewer f0 f1 h)
+
+pub memory_runs :
+    (r : Result Tally Halt) (W : Telling) (w : Loading) (rest0 rest1 : List ℕ) (a b : Texts)
+    → IsErrAnd r (λ h. h ≡ H.Run T.NoMemory) → b.out ≡ a.out → b.err ≡ a.err → RunsLines r W w rest0 rest1 a b
+memory_runs (Ok tally) W w rest0 rest1 a b is o e = absurd is
+memory_runs (Err halt) W w rest0 rest1 a b is o e =
+    subst (λ x. Halts x W w rest0 rest1 a b) (sym is) (fronts-same W (pieces_of (turns w rest0)) a b o e)
+
+-- ---- on from earlier lines
+
+pub spent-halt :
+    (halt : Halt) (tells : Type 0) (old now : Reader) (rest0 rest1 : List ℕ) (taken0 taken1 : ℕ)
+    → StopsBy halt tells old now rest0 rest1 → (taken1 < 2 ^ 64 - 1 → now.held.reads + taken0 ≤ taken1)
+    → SpentBy halt taken0 taken1
+spent-halt (H.Run T.NoMemory) tells old now rest0 rest1 taken0 taken1 s h = tt
+spent-halt (H.Run T.WriteFault) tells old now rest0 rest1 taken0 taken1 s h = tt
+spent-halt (H.Run T.ReadFault) tells old now rest0 rest1 taken0 taken1 s h = tt
+spent-halt (H.Run T.Spent) tells old now rest0 rest1 taken0 taken1 s h = λ few.
+    let r = s.2 in let t = h few in omega arith
+spent-halt (H.Unread path) tells old now rest0 rest1 taken0 taken1 s h = tt
+
+still_on : (f0 f1 f2 : Moment) → Still f0 f1 → Still f1 f2 → Still f0 f2
+still_on f0 f1 f2 a b = record { faults = b.faults ∙ a.faults; opens = b.opens ∙ a.opens }
+
+fewer_on : (f0 f1 f2 : Moment) → Still f0 f1 → NoFewer f1 f2 → NoFewer f0 f2
+fewer_on f0 f1 f2 a b =
+    let e = a.faults in let f = a.opens in let x = b.faults in let y = b.opens in
+    record { faults = omega arith; opens = omega arith }
+
+rose_on : (f0 f1 f2 : Moment) → Still f0 f1 → RoseIn f1 f2 → RoseIn f0 f2
+rose_on f0 f1 f2 a (inl r) = inl (subst (λ x. Rose x f2.faults) a.faults r)
+rose_on f0 f1 f2 a (inr r) = inr (subst (λ x. Rose x f2.opens) a.opens r)
+
+pub files-halt : (halt : Halt) (f0 f1 f2 : Moment) → Still f0 f1 → HaltFiles halt f1 f2 → HaltFiles halt f0 f2
+files-halt (H.Run T.NoMemory) f0 f1 f2 a b = fewer_on f0 f1 f2 a b
+files-halt (H.Run T.WriteFault) f0 f1 f2 a b = still_on f0 f1 f2 a b
+files-halt (H.Run T.ReadFault) f0 f1 f2 a b = still_on f0 f1 f2 a b
+files-halt (H.Run T.Spent) f0 f1 f2 a b = still_on f0 f1 f2 a b
+files-halt (H.Unread path) f0 f1 f2 a b = (fewer_on f0 f1 f2 a b.0, rose_on f0 f1 f2 a b.1)

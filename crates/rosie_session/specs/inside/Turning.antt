@@ -1,0 +1,84 @@
+-- What comes of one line of a session.
+use Rattle.std.specs.Prelude.{◌≡◌, ◌+◌, ℕ, Result, Ok, Err, encode_utf8_all, string_bytes}
+use Rattle.std.specs.List.{Contains}
+use Rattle.rosie_jobs.specs.Jobs.{matcher_of}
+use Rattle.rosie_jobs.specs.Lines.{Job}
+use Rattle.rosie_jobs.specs.Makers.{Matches}
+use Rattle.rosie_jobs.specs.declared.match_job.MatchJob.{MatchJob}
+use Rattle.rosie_prepare.specs.Answers.{IsDue}
+use Rattle.rosie_prepare.specs.Prepared.{OrLine}
+use Rattle.rosie_prepare.specs.declared.unready.Unready.{Unready}
+use Rattle.rosie_prepare.specs.declared.unready.Unready.TheVariants as U
+use Rattle.rosie_repl.specs.Session.{Session}
+use Rattle.rosie_run.specs.Made.{IsMade}
+use Rattle.rosie_run.specs.Report.{Piece, fault_piece}
+use Rattle.rosie_run.specs.Sources.{Moment, NoFewer, RoseIn, Still}
+use Rattle.rosie_run.specs.declared.trouble.Trouble.TheVariants as T
+use Rattle.rosie_session.specs.Replay.{Turn, ok_piece, plain}
+use Rattle.rosie_session.specs.declared.halt.Halt.{Halt}
+use Rattle.rosie_session.specs.declared.halt.Halt.TheVariants as H
+use Rattle.rosie_session.specs.declared.said.Said.{Said}
+
+-- the texts and the mark are those of the piece
+abbrev pub IsSaid : Said → Piece → Type 0
+IsSaid s p = IsMade s.mark s.out.items s.err.items p
+
+-- the job is the one that is due, or a line is
+abbrev pub GivesJob : Result MatchJob Unready → OrLine Job → Type 0
+GivesJob (Ok j) answer = (job : Job) × (answer ≡ Ok job) × (matcher_of j ≡ Matches plain job)
+GivesJob (Err u) answer = IsDue u answer
+
+-- no file is why
+abbrev pub IsOwn : Unready → Type 0
+IsOwn U.NoMemory = Unit {0}
+IsOwn (U.Refused line) = Unit {0}
+IsOwn (U.ReadFault path) = ⊥
+
+-- what loading says of a change: it stands, or the session stays as it was before
+abbrev pub JudgesEnd : Unready → Turn → Session → Type 0
+JudgesEnd U.NoMemory t before = Unit {0}
+JudgesEnd (U.Refused line) t before = (t.piece ≡ fault_piece (string_bytes line)) × (t.session ≡ before)
+JudgesEnd (U.ReadFault path) t before = Contains t.asked (encode_utf8_all path)
+
+abbrev pub Judges : {A : Type 0} → Result A Unready → Turn → Session → Session → Type 0
+Judges (Ok a) t before after = (t.piece ≡ ok_piece after) × (t.session ≡ after)
+Judges (Err u) t before after = JudgesEnd u t before
+
+-- where nothing is said: the path that wasn't read is one that was asked for
+abbrev pub IsHalted : Halt → Turn → Type 0
+IsHalted (H.Run trouble) t = trouble ≡ T.NoMemory
+IsHalted (H.Unread path) t = Contains t.asked (encode_utf8_all path)
+
+-- nothing but want of memory, or a file that wasn't read
+abbrev pub IsInner : Halt → Type 0
+IsInner (H.Run trouble) = trouble ≡ T.NoMemory
+IsInner (H.Unread path) = Unit {0}
+
+-- what is said, and the session behind it
+abbrev pub Says : Said → Turn → Session → Type 0
+Says said t now = IsSaid said t.piece × (now ≡ t.session)
+
+abbrev pub Turns : Result Said Halt → Turn → Session → Type 0
+Turns (Ok said) t now = Says said t now
+Turns (Err halt) t now = IsHalted halt t
+
+-- the steps that were made
+abbrev pub HaltSteps : Halt → ℕ → ℕ → Type 0
+HaltSteps (H.Run trouble) before now = Unit {0}
+HaltSteps (H.Unread path) before now = now ≡ before
+
+abbrev pub StepsBy : Result Said Halt → Turn → ℕ → ℕ → Type 0
+StepsBy (Ok said) t before now = now ≡ before + t.piece.cost
+StepsBy (Err halt) t before now = HaltSteps halt before now
+
+-- the counts of the files: a read failed only where one of them rose
+abbrev pub HaltFiles : Halt → Moment → Moment → Type 0
+HaltFiles (H.Run T.NoMemory) f0 f1 = NoFewer f0 f1
+HaltFiles (H.Run T.WriteFault) f0 f1 = Still f0 f1
+HaltFiles (H.Run T.ReadFault) f0 f1 = Still f0 f1
+HaltFiles (H.Run T.Spent) f0 f1 = Still f0 f1
+HaltFiles (H.Unread path) f0 f1 = NoFewer f0 f1 × RoseIn f0 f1
+
+abbrev pub FilesBy : {A : Type 0} → Result A Halt → Moment → Moment → Type 0
+FilesBy (Ok a) f0 f1 = Still f0 f1
+FilesBy (Err halt) f0 f1 = HaltFiles halt f0 f1

@@ -1,0 +1,124 @@
+// What the kept texts come to: alone, and with a pattern.
+ghost use Rattle.std.specs.Prelude.{◌≡◌, IfErr, IfOk, Ok, chars};
+ghost use Rattle.rosie_io.specs.Loading.{NotFewer};
+ghost use Rattle.rosie_jobs.specs.Lines.{Job as Ran};
+ghost use Rattle.rosie_prepare.specs.Answers.{HasCause, IsAsked};
+ghost use Rattle.rosie_prepare.specs.Prepared.{OrLine};
+ghost use Rattle.rosie_prepare.specs.Views.{ready_seen};
+ghost use Rattle.rosie_repl.specs.Session.{Session};
+ghost use Rattle.rosie_repl.specs.States.{session_of};
+ghost use Rattle.rosie_run.specs.Sources.{moment};
+ghost use Rattle.rosie_session.specs.Loading.{Compiles, IsLoading, Loading, given};
+ghost use Rattle.rosie_session.specs.Replay.{judged};
+ghost use Rattle.rosie_session.specs.inside.Turning.{GivesJob, IsOwn, Judges};
+ghost use Rattle.rpl_check.specs.Checked.{IsWhole};
+ghost use Rattle.rpl_check.specs.Goal.{peg_of};
+ghost use Rattle.rpl_core.specs.Table.{bodies_of};
+ghost use Rattle.rpl_core.specs.View.{core_of};
+
+use rosie_faults::compile_line;
+use rosie_io::Files;
+use rosie_jobs::{Job, MatchJob, Settings};
+use rosie_prepare::{Prepared, Unready, Wanted, prepare, prepare_rules};
+use rosie_repl::State;
+use rosie_run::NoMemory;
+use rpl_codegen::CompileFault;
+use rpl_encode::Style;
+use rpl_package::{LibPath, Root, Roots};
+use rpl_text::Chars;
+use std::alloc::Global;
+
+/// How a line that is tried is told: its match as JSON, within the budget of a line.
+const PLAIN: Settings = Settings {
+    style: Style::Json,
+    whole: false,
+    all: false,
+    steps: false,
+    budget: None,
+};
+
+/// The kept texts, each as a root.
+fn roots_of(alloc: Global, state: &State) -> Result<Roots, NoMemory>
+    ensures { IfOk result (λ roots. roots ≡ given (session_of state.now).now.texts) }
+{
+    let mut roots = Roots::new(alloc);
+    for index in 0..state.len() {
+        if let Some(text) = state.text(index) {
+            roots.push(Root::Given(Chars::from_str(alloc, text)?))?;
+        }
+    }
+    Ok(roots)
+}
+
+/// Loads the kept texts alone: they have no fault, or a line says the first.
+pub(crate) fn load_texts<F: Files>(
+    alloc: Global,
+    folders: &LibPath,
+    state: &State,
+    files: &mut F,
+) -> Result<(), Unready>
+    ensures judges { F.tells → (w : Loading) → IsLoading (F.tree files.old) folders.now w → (before after : Session)
+        → Judges result (judged before after (w.texts (session_of state.now).now.texts)) before after }
+    ensures cause { HasCause result (moment F.rest F.taken F.faults F.failed_opens files.old)
+        (moment F.rest F.taken F.faults F.failed_opens files.new) }
+    ensures taken { NotFewer (F.taken files.old) (F.taken files.new) }
+    ensures tree { F.tree files.new ≡ F.tree files.old }
+{
+    let roots = roots_of(alloc, state)?;
+    match prepare_rules(alloc, files, folders, &roots) {
+        Ok(_) => Ok(()),
+        Err(unready) => Err(unready),
+    }
+}
+
+/// The job of a goal that is ready, unless its code is too long.
+fn make_job(alloc: Global, ready: Prepared) -> Result<MatchJob, Unready>
+    requires { IsWhole (bodies_of ready.rules) (core_of (peg_of ready.goal)) }
+    ensures gives { (answer : OrLine Ran) → Compiles (Ok (ready_seen ready)) answer → GivesJob result answer }
+    ensures own { IfErr result IsOwn }
+{
+    match Job::new(alloc, ready.rules, ready.goal) {
+        Ok(job) => {
+            let made = MatchJob::new(alloc, PLAIN, job)?;
+            Ok(made)
+        }
+        Err(fault) => match fault {
+            CompileFault::CodeTooLong => {
+                let line = compile_line(alloc)?;
+                Err(Unready::Refused(line))
+            }
+            CompileFault::NoMemory => Err(Unready::NoMemory),
+        },
+    }
+}
+
+/// The job of a pattern over the kept texts, or the line of the first fault.
+pub(crate) fn load_goal<F: Files>(
+    alloc: Global,
+    folders: &LibPath,
+    state: &State,
+    pattern: &str,
+    files: &mut F,
+) -> Result<MatchJob, Unready>
+    ensures gives { F.tells → (w : Loading) → IsLoading (F.tree files.old) folders.now w
+        → GivesJob result (w.goal (session_of state.now).now.texts (chars pattern.now)).answer }
+    ensures asked { F.tells → (w : Loading) → IsLoading (F.tree files.old) folders.now w
+        → IfErr result (λ u. IsAsked u (w.goal (session_of state.now).now.texts (chars pattern.now)).asked) }
+    ensures cause { HasCause result (moment F.rest F.taken F.faults F.failed_opens files.old)
+        (moment F.rest F.taken F.faults F.failed_opens files.new) }
+    ensures taken { NotFewer (F.taken files.old) (F.taken files.new) }
+    ensures tree { F.tree files.new ≡ F.tree files.old }
+{
+    let roots = roots_of(alloc, state)?;
+    let wanted = Wanted {
+        roots: &roots,
+        folders,
+        text: pattern,
+        fixed: false,
+        find: false,
+    };
+    match prepare(alloc, files, &wanted) {
+        Ok(ready) => make_job(alloc, ready),
+        Err(unready) => Err(unready),
+    }
+}

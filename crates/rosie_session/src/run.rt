@@ -1,0 +1,253 @@
+// The run of a session, from line to line.
+ghost use Rattle.std.specs.Prelude.{◌≡◌, ◌+◌, ◌-◌, ◌^◌, ◌<◌, ◌≤◌, List, [], true, false, length, IfErr, IfOk, OnOk};
+ghost use Rattle.rosie_io.specs.Answering.{Keeps};
+ghost use Rattle.rosie_io.specs.Appending.{Appends, HasCause};
+ghost use Rattle.rosie_io.specs.Counts.{capped};
+ghost use Rattle.rosie_io.specs.Gathering.{Reads, left};
+ghost use Rattle.rosie_io.specs.Loading.{NotFewer};
+ghost use Rattle.rosie_repl.specs.States.{session_of};
+ghost use Rattle.rosie_run.specs.Causes.{SourcesCause, WritesCause};
+ghost use Rattle.rosie_run.specs.Outputs.{texts};
+ghost use Rattle.rosie_run.specs.Runs.{GoesOn, Runs};
+ghost use Rattle.rosie_run.specs.Sources.{moment};
+ghost use Rattle.rosie_run.specs.inside.Causes.{BothCause};
+ghost use Rattle.rosie_session.specs.Loading.{IsLoading, Loading};
+ghost use Rattle.rosie_session.specs.Replay.{replay};
+ghost use Rattle.rosie_session.specs.Where.{InSession};
+ghost use Rattle.rosie_session.specs.inside.Passing.{Counts, InputCause, IsOfReading, Makes, Passes};
+ghost use Rattle.rosie_session.specs.inside.Passing.{RunsLines, SinksCause, SpentCause, Stops};
+ghost use Rattle.rosie_session.specs.inside.Turning.{FilesBy};
+
+use crate::halt::{Halt, ended_by};
+use crate::said::{Said, wrong};
+use crate::turn::answer;
+use rosie_io::{
+    Files, FlushAnswer, Line, LineFault, LineReader, Sink, Source, WriteFault, write_all,
+};
+use rosie_repl::State;
+use rosie_run::{Ended, Mark, Tally, Trouble};
+use rpl_machine::Steps;
+use rpl_package::LibPath;
+use std::alloc::Global;
+use std::sync::ledger::Ledger;
+
+/// The longest line of a session, in bytes.
+const MOST_BYTES: usize = 1_048_576;
+
+/// Goes on to the next line and makes what is said to it. `None` where there is no further line.
+fn next_turn<F: Files, I: Source, L: Ledger>(
+    alloc: Global,
+    folders: &LibPath,
+    state: &mut State,
+    reader: &mut LineReader,
+    files: &mut F,
+    input: &mut I,
+    steps: &mut Steps<L>,
+) -> Result<Option<Said>, Halt>
+    requires open { reader.old.done ≡ false }
+    requires lines { reader.old.whole ≡ false }
+    requires most { reader.old.most ≡ 1048576 }
+    ensures makes { F.tells → I.tells → (w : Loading) → IsLoading (F.tree files.old) folders.now w
+        → Makes result w reader.old.number (session_of state.old) (session_of state.new) reader.new.held.ended
+        (left reader.old.held (I.rest input.old)) (left reader.new.held (I.rest input.new)) steps.old steps.new }
+    ensures numbers { Counts result reader.old reader.new }
+    ensures fits { reader.new.number ≤ 2 ^ 48 }
+    ensures keeps { Keeps reader.old reader.new }
+    ensures stops { Stops result I.tells reader.old reader.new (I.rest input.old) (I.rest input.new) }
+    ensures of_reading { IfErr result IsOfReading }
+    ensures cause { InputCause result (I.faults input.old) (I.faults input.new) }
+    ensures files { FilesBy result (moment F.rest F.taken F.faults F.failed_opens files.old)
+        (moment F.rest F.taken F.faults F.failed_opens files.new) }
+    ensures reads { Reads I.tells reader.old.held reader.new.held (I.rest input.old) (I.rest input.new)
+        (I.taken input.old) (I.taken input.new) }
+    ensures at_end { I.tells → reader.old.held.ended ≡ false → reader.new.held.ended ≡ true → I.rest input.new ≡ [] }
+    ensures ended { reader.old.held.ended ≡ true → input.new ≡ input.old }
+    ensures opens { I.failed_opens input.new ≡ I.failed_opens input.old }
+    ensures tree { F.tree files.new ≡ F.tree files.old }
+{
+    match reader.next(input) {
+        Ok(line) => match line {
+            Line::Text => {
+                let number = reader.number();
+                match answer(alloc, folders, state, number, reader.line(), files, steps) {
+                    Ok(said) => Ok(Some(said)),
+                    Err(halt) => Err(halt),
+                }
+            }
+            Line::End => Ok(None),
+        },
+        Err(fault) => match fault {
+            LineFault::TooLong { line } => Ok(Some(wrong(alloc, line, "line too long")?)),
+            LineFault::NotText { line } => Ok(Some(wrong(alloc, line, "not UTF-8")?)),
+            LineFault::NoMemory => Err(Halt::Run(Trouble::NoMemory)),
+            LineFault::ReadFault => Err(Halt::Run(Trouble::ReadFault)),
+            LineFault::Spent => Err(Halt::Run(Trouble::Spent)),
+        },
+    }
+}
+
+/// Writes what is said.
+fn write_said<O: Sink, E: Sink>(said: &Said, out: &mut O, err: &mut E) -> Result<(), WriteFault>
+    ensures out { O.tells → Appends result (O.written out.old) (O.written out.new) said.now.out.items }
+    ensures err { E.tells → Appends result (E.written err.old) (E.written err.new) said.now.err.items }
+    ensures number { O.counts → OnOk result (O.number out.new ≡ capped (O.number out.old + length said.now.out.items)) }
+    ensures cause { BothCause result (O.faults out.old) (O.faults out.new) (E.faults err.old) (E.faults err.new) }
+{
+    match write_all(out, said.out.as_slice()) {
+        Ok(()) => write_all(err, said.err.as_slice()),
+        Err(fault) => Err(fault),
+    }
+}
+
+/// Goes on to the next line, and writes what is said to it. `None` where there is no further line.
+fn pass_line<F: Files, I: Source, O: Sink, E: Sink, L: Ledger>(
+    alloc: Global,
+    folders: &LibPath,
+    state: &mut State,
+    reader: &mut LineReader,
+    files: &mut F,
+    input: &mut I,
+    out: &mut O,
+    err: &mut E,
+    steps: &mut Steps<L>,
+) -> Result<Option<Mark>, Halt>
+    requires open { reader.old.done ≡ false }
+    requires lines { reader.old.whole ≡ false }
+    requires most { reader.old.most ≡ 1048576 }
+    ensures passes { F.tells → I.tells → (w : Loading) → IsLoading (F.tree files.old) folders.now w
+        → Passes result (record { out = O.tells; err = E.tells; counts = O.counts })
+        w reader.old.number (session_of state.old) (session_of state.new) reader.new.held.ended
+        (left reader.old.held (I.rest input.old)) (left reader.new.held (I.rest input.new))
+        (texts O.written O.number E.written out.old err.old steps.old)
+        (texts O.written O.number E.written out.new err.new steps.new) }
+    ensures numbers { Counts result reader.old reader.new }
+    ensures fits { reader.new.number ≤ 2 ^ 48 }
+    ensures keeps { Keeps reader.old reader.new }
+    ensures stops { Stops result I.tells reader.old reader.new (I.rest input.old) (I.rest input.new) }
+    ensures cause { InputCause result (I.faults input.old) (I.faults input.new) }
+    ensures files { FilesBy result (moment F.rest F.taken F.faults F.failed_opens files.old)
+        (moment F.rest F.taken F.faults F.failed_opens files.new) }
+    ensures sinks { SinksCause result (O.faults out.old) (O.faults out.new) (E.faults err.old) (E.faults err.new) }
+    ensures reads { Reads I.tells reader.old.held reader.new.held (I.rest input.old) (I.rest input.new)
+        (I.taken input.old) (I.taken input.new) }
+    ensures at_end { I.tells → reader.old.held.ended ≡ false → reader.new.held.ended ≡ true → I.rest input.new ≡ [] }
+    ensures ended { reader.old.held.ended ≡ true → input.new ≡ input.old }
+    ensures opens { I.failed_opens input.new ≡ I.failed_opens input.old }
+    ensures tree { F.tree files.new ≡ F.tree files.old }
+{
+    match next_turn(alloc, folders, state, reader, files, input, steps) {
+        Ok(found) => match found {
+            Some(said) => match write_said(&said, out, err) {
+                Ok(()) => Ok(Some(said.mark)),
+                Err(_) => Err(Halt::Run(Trouble::WriteFault)),
+            },
+            None => Ok(None),
+        },
+        Err(halt) => Err(halt),
+    }
+}
+
+/// Flushes what was said, unless the next line is held already.
+fn flush_said<O: Sink>(ready: bool, out: &mut O) -> Result<(), WriteFault>
+    ensures bytes { O.tells → O.written out.new ≡ O.written out.old }
+    ensures number { O.counts → O.number out.new ≡ O.number out.old }
+    ensures cause { HasCause result (O.faults out.old) (O.faults out.new) }
+{
+    if ready {
+        return Ok(());
+    }
+    match out.flush() {
+        FlushAnswer::Done => Ok(()),
+        FlushAnswer::Failed => Err(WriteFault),
+    }
+}
+
+/// Answers each line of the input in turn.
+fn run_lines<F: Files, I: Source, O: Sink, E: Sink, L: Ledger>(
+    alloc: Global,
+    folders: &LibPath,
+    files: &mut F,
+    input: &mut I,
+    out: &mut O,
+    err: &mut E,
+    steps: &mut Steps<L>,
+) -> Result<Tally, Halt>
+    ensures runs { F.tells → I.tells → (w : Loading) → IsLoading (F.tree files.old) folders.now w
+        → RunsLines result (record { out = O.tells; err = E.tells; counts = O.counts }) w
+        (I.rest input.old) (I.rest input.new)
+        (texts O.written O.number E.written out.old err.old steps.old)
+        (texts O.written O.number E.written out.new err.new steps.new) }
+    ensures cause { InputCause result (I.faults input.old) (I.faults input.new) }
+    ensures spent { SpentCause result (I.taken input.old) (I.taken input.new) }
+    ensures files { FilesBy result (moment F.rest F.taken F.faults F.failed_opens files.old)
+        (moment F.rest F.taken F.faults F.failed_opens files.new) }
+    ensures rest { I.tells → IfOk result (λ _. I.rest input.new ≡ []) }
+    ensures sinks { SinksCause result (O.faults out.old) (O.faults out.new) (E.faults err.old) (E.faults err.new) }
+    ensures opens { I.failed_opens input.new ≡ I.failed_opens input.old }
+    ensures tree { F.tree files.new ≡ F.tree files.old }
+{
+    let mut reader = LineReader::new(alloc, false, MOST_BYTES)?;
+    let mut state = State::new(alloc);
+    let mut tally = Tally::new();
+    'lines: loop {
+        match flush_said(reader.is_ready(), out) {
+            Ok(()) => {}
+            Err(_) => return Err(Halt::Run(Trouble::WriteFault)),
+        }
+        match pass_line(
+            alloc,
+            folders,
+            &mut state,
+            &mut reader,
+            files,
+            input,
+            out,
+            err,
+            steps,
+        ) {
+            Ok(passed) => match passed {
+                Some(mark) => tally = tally.with(mark),
+                None => return Ok(tally),
+            },
+            Err(halt) => return Err(halt),
+        }
+    }
+}
+
+/// Runs a session: each line of the input is a command, and is answered before the next is waited for. Imports are
+/// looked for in the folders.
+///
+/// What is written is what `specs/Replay.antt` says, over the loading of the files; where reading or writing ends the
+/// session, or memory is wanting, it is a front of that.
+pub fn run_session<F: Files, I: Source, O: Sink, E: Sink, L: Ledger>(
+    alloc: Global,
+    folders: &LibPath,
+    files: &mut F,
+    input: &mut I,
+    out: &mut O,
+    err: &mut E,
+    steps: &mut Steps<L>,
+) -> Result<Tally, Ended>
+    ensures runs { F.tells → I.tells → (w : Loading) → IsLoading (F.tree files.old) folders.now w
+        → Runs result (record { out = O.tells; err = E.tells; counts = O.counts })
+        (replay w (I.rest input.old))
+        (InSession w (I.rest input.old)
+        (moment I.rest I.taken I.faults I.failed_opens input.old)
+        (moment I.rest I.taken I.faults I.failed_opens input.new)
+        (moment F.rest F.taken F.faults F.failed_opens files.old)
+        (moment F.rest F.taken F.faults F.failed_opens files.new))
+        (texts O.written O.number E.written out.old err.old steps.old)
+        (texts O.written O.number E.written out.new err.new steps.new) }
+    ensures rest { F.tells → I.tells → GoesOn result (I.rest input.new ≡ []) }
+    ensures cause { SourcesCause result (moment I.rest I.taken I.faults I.failed_opens input.old)
+        (moment I.rest I.taken I.faults I.failed_opens input.new)
+        (moment F.rest F.taken F.faults F.failed_opens files.old)
+        (moment F.rest F.taken F.faults F.failed_opens files.new) }
+    ensures sinks { WritesCause result (O.faults out.old) (O.faults out.new) (E.faults err.old) (E.faults err.new) }
+    ensures tree { F.tree files.new ≡ F.tree files.old }
+{
+    match run_lines(alloc, folders, files, input, out, err, steps) {
+        Ok(tally) => Ok(tally),
+        Err(halt) => Err(ended_by(alloc, halt)),
+    }
+}

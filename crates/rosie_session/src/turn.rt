@@ -1,0 +1,287 @@
+// What is said to a line of text.
+ghost use Rattle.std.specs.Prelude.{◌≡◌, ◌+◌, ◌≤◌, ◌^◌, ℕ, List, Some, IfErr, IfOk, OnOk, chars, length};
+ghost use Rattle.rosie_io.specs.Loading.{NotFewer};
+ghost use Rattle.rosie_jobs.specs.Jobs.{matcher_of};
+ghost use Rattle.rosie_jobs.specs.Lines.{Job};
+ghost use Rattle.rosie_jobs.specs.Makers.{Matches};
+ghost use Rattle.rosie_prepare.specs.Answers.{HasCause};
+ghost use Rattle.rosie_repl.specs.Edits.{Try, edit_of, in_chars};
+ghost use Rattle.rosie_repl.specs.Seen.{edit_seen};
+ghost use Rattle.rosie_repl.specs.Session as S;
+ghost use Rattle.rosie_repl.specs.Session.{Session};
+ghost use Rattle.rosie_repl.specs.States.{session_of};
+ghost use Rattle.rosie_run.specs.Report.{Piece};
+ghost use Rattle.rosie_run.specs.Sources.{moment};
+ghost use Rattle.rosie_session.specs.Loading.{IsLoading, Loading};
+ghost use Rattle.rosie_session.specs.Replay.{change_turn, edit_turn, job_piece, loaded, or_no, plain, try_turn, undo_turn};
+ghost use Rattle.rosie_session.specs.inside.Turning.{FilesBy, IsInner, IsSaid, Judges, Says, StepsBy, Turns};
+
+use crate::halt::Halt;
+use crate::loading::{load_goal, load_texts};
+use crate::said::{NAME, Said, accepted, refused, wrong};
+use rosie_io::Files;
+use rosie_jobs::{LineJob, MatchJob};
+use rosie_prepare::Unready;
+use rosie_repl::{Edit, State, read_edit};
+use rosie_run::{Mark, NoMemory, Trouble};
+use rpl_machine::Steps;
+use rpl_package::LibPath;
+use std::alloc::Global;
+use std::sync::ledger::Ledger;
+
+/// Loads what is kept after a change: a new pattern with the texts, else the texts alone.
+fn load_change<F: Files>(
+    alloc: Global,
+    folders: &LibPath,
+    state: &State,
+    edit: &Edit<'_>,
+    files: &mut F,
+) -> Result<(), Unready>
+    ensures judges { F.tells → (w : Loading) → IsLoading (F.tree files.old) folders.now w → (before : Session)
+        → Judges result (loaded w (in_chars (edit_seen edit.now)) before (session_of state.now)) before
+        (session_of state.now) }
+    ensures cause { HasCause result (moment F.rest F.taken F.faults F.failed_opens files.old)
+        (moment F.rest F.taken F.faults F.failed_opens files.new) }
+    ensures taken { NotFewer (F.taken files.old) (F.taken files.new) }
+    ensures tree { F.tree files.new ≡ F.tree files.old }
+{
+    match *edit {
+        Edit::Pattern(pattern) => match load_goal(alloc, folders, state, pattern, files) {
+            Ok(_) => Ok(()),
+            Err(unready) => Err(unready),
+        },
+        _ => load_texts(alloc, folders, state, files),
+    }
+}
+
+/// Judges a change that was made: it stands where loading has no fault, and else is taken back.
+fn judge<F: Files>(
+    alloc: Global,
+    folders: &LibPath,
+    state: &mut State,
+    edit: &Edit<'_>,
+    files: &mut F,
+) -> Result<Said, Halt>
+    ensures turns { F.tells → (w : Loading) → IsLoading (F.tree files.old) folders.now w → (before : Session)
+        → S.changed (in_chars (edit_seen edit.now)) before ≡ Some (session_of state.old)
+        → Turns result (loaded w (in_chars (edit_seen edit.now)) before (session_of state.old)) (session_of state.new) }
+    ensures inner { IfErr result IsInner }
+    ensures cause { FilesBy result (moment F.rest F.taken F.faults F.failed_opens files.old)
+        (moment F.rest F.taken F.faults F.failed_opens files.new) }
+    ensures taken { NotFewer (F.taken files.old) (F.taken files.new) }
+    ensures tree { F.tree files.new ≡ F.tree files.old }
+{
+    match load_change(alloc, folders, state, edit, files) {
+        Ok(()) => Ok(accepted(alloc, state)?),
+        Err(unready) => match unready {
+            Unready::NoMemory => Err(Halt::Run(Trouble::NoMemory)),
+            Unready::Refused(line) => {
+                state.undo();
+                Ok(refused(alloc, line))
+            }
+            Unready::ReadFault(path) => Err(Halt::Unread(path)),
+        },
+    }
+}
+
+/// Makes a change, which stands where loading has no fault.
+fn change<F: Files>(
+    alloc: Global,
+    folders: &LibPath,
+    state: &mut State,
+    number: u64,
+    edit: &Edit<'_>,
+    files: &mut F,
+) -> Result<Said, Halt>
+    ensures turns { F.tells → (w : Loading) → IsLoading (F.tree files.old) folders.now w
+        → Turns result (change_turn w number (session_of state.old) (in_chars (edit_seen edit.now))
+        (S.changed (in_chars (edit_seen edit.now)) (session_of state.old))) (session_of state.new) }
+    ensures inner { IfErr result IsInner }
+    ensures cause { FilesBy result (moment F.rest F.taken F.faults F.failed_opens files.old)
+        (moment F.rest F.taken F.faults F.failed_opens files.new) }
+    ensures taken { NotFewer (F.taken files.old) (F.taken files.new) }
+    ensures tree { F.tree files.new ≡ F.tree files.old }
+{
+    if state.change(edit)? {
+        return judge(alloc, folders, state, edit, files);
+    }
+    Ok(wrong(alloc, number, "bad command")?)
+}
+
+/// Goes back to what was kept before the last change.
+fn undo(alloc: Global, state: &mut State, number: u64) -> Result<Said, NoMemory>
+    ensures { IfOk result (λ said. Says said (undo_turn number (session_of state.old)
+        (S.undone (session_of state.old))) (session_of state.new)) }
+{
+    if state.undo() {
+        return accepted(alloc, state);
+    }
+    wrong(alloc, number, "nothing to undo")
+}
+
+/// A copy of the bytes.
+fn copy_of(alloc: Global, bytes: &[u8]) -> Result<Vec<u8>, NoMemory>
+    ensures { IfOk result (λ copy. copy.items ≡ bytes.now) }
+{
+    let mut copy = Vec::new(alloc);
+    copy.extend_from_slice(bytes)?;
+    Ok(copy)
+}
+
+/// The text for `out` of a line that was tried: that it doesn't match is told.
+fn told(alloc: Global, mark: Mark, text: &[u8]) -> Result<Vec<u8>, NoMemory>
+    ensures { IfOk result (λ told. (p : Piece) → p.out ≡ text.now → told.items ≡ (or_no mark p).out) }
+{
+    match mark {
+        Mark::Miss => {
+            let no = copy_of(alloc, b"no\n")?;
+            Ok(no)
+        }
+        _ => {
+            let same = copy_of(alloc, text)?;
+            Ok(same)
+        }
+    }
+}
+
+/// What a job makes of a line; that it doesn't match is told.
+fn try_job<L: Ledger>(
+    alloc: Global,
+    job: &mut MatchJob,
+    number: u64,
+    line: &str,
+    steps: &mut Steps<L>,
+) -> Result<Said, NoMemory>
+    requires { length line.now ≤ 2 ^ 30 }
+    ensures said { (ran : Job) → matcher_of job.old ≡ Matches plain ran
+        → IfOk result (λ said. IsSaid said (job_piece ran number line.now)) }
+    ensures cost { (ran : Job) → matcher_of job.old ≡ Matches plain ran
+        → OnOk result (steps.new ≡ steps.old + (job_piece ran number line.now).cost) }
+{
+    let mark = job.answer(NAME, number, line, steps)?;
+    let text = job.out();
+    let fault = job.err();
+    Ok(Said {
+        out: told(alloc, mark, text)?,
+        err: copy_of(alloc, fault)?,
+        mark,
+    })
+}
+
+/// Matches a line with a pattern over the kept texts.
+fn try_with<F: Files, L: Ledger>(
+    alloc: Global,
+    folders: &LibPath,
+    state: &State,
+    pattern: &str,
+    number: u64,
+    line: &str,
+    files: &mut F,
+    steps: &mut Steps<L>,
+) -> Result<Said, Halt>
+    requires { length line.now ≤ 2 ^ 30 }
+    ensures turns { F.tells → (w : Loading) → IsLoading (F.tree files.old) folders.now w
+        → Turns result (try_turn w number (session_of state.now) (Some (chars pattern.now)) line.now)
+        (session_of state.now) }
+    ensures steps { F.tells → (w : Loading) → IsLoading (F.tree files.old) folders.now w
+        → StepsBy result (try_turn w number (session_of state.now) (Some (chars pattern.now)) line.now)
+        steps.old steps.new }
+    ensures inner { IfErr result IsInner }
+    ensures cause { FilesBy result (moment F.rest F.taken F.faults F.failed_opens files.old)
+        (moment F.rest F.taken F.faults F.failed_opens files.new) }
+    ensures taken { NotFewer (F.taken files.old) (F.taken files.new) }
+    ensures tree { F.tree files.new ≡ F.tree files.old }
+{
+    match load_goal(alloc, folders, state, pattern, files) {
+        Ok(mut job) => Ok(try_job(alloc, &mut job, number, line, steps)?),
+        Err(unready) => match unready {
+            Unready::NoMemory => Err(Halt::Run(Trouble::NoMemory)),
+            Unready::Refused(text) => Ok(refused(alloc, text)),
+            Unready::ReadFault(path) => Err(Halt::Unread(path)),
+        },
+    }
+}
+
+/// Matches a line with the kept pattern.
+fn try_line<F: Files, L: Ledger>(
+    alloc: Global,
+    folders: &LibPath,
+    state: &State,
+    number: u64,
+    line: &str,
+    files: &mut F,
+    steps: &mut Steps<L>,
+) -> Result<Said, Halt>
+    requires { length line.now ≤ 2 ^ 30 }
+    ensures turns { F.tells → (w : Loading) → IsLoading (F.tree files.old) folders.now w
+        → Turns result (try_turn w number (session_of state.now) (session_of state.now).now.pattern line.now)
+        (session_of state.now) }
+    ensures steps { F.tells → (w : Loading) → IsLoading (F.tree files.old) folders.now w
+        → StepsBy result (try_turn w number (session_of state.now) (session_of state.now).now.pattern line.now)
+        steps.old steps.new }
+    ensures inner { IfErr result IsInner }
+    ensures cause { FilesBy result (moment F.rest F.taken F.faults F.failed_opens files.old)
+        (moment F.rest F.taken F.faults F.failed_opens files.new) }
+    ensures taken { NotFewer (F.taken files.old) (F.taken files.new) }
+    ensures tree { F.tree files.new ≡ F.tree files.old }
+{
+    match state.pattern() {
+        None => Ok(wrong(alloc, number, "no pattern")?),
+        Some(pattern) => try_with(alloc, folders, state, pattern, number, line, files, steps),
+    }
+}
+
+/// Does what a command says.
+fn obey<F: Files, L: Ledger>(
+    alloc: Global,
+    folders: &LibPath,
+    state: &mut State,
+    number: u64,
+    edit: &Edit<'_>,
+    files: &mut F,
+    steps: &mut Steps<L>,
+) -> Result<Said, Halt>
+    requires { (line : List ℕ) → edit_seen edit.now ≡ Try line → length line ≤ 2 ^ 30 }
+    ensures turns { F.tells → (w : Loading) → IsLoading (F.tree files.old) folders.now w
+        → Turns result (edit_turn w number (session_of state.old) (Some (edit_seen edit.now))) (session_of state.new) }
+    ensures steps { F.tells → (w : Loading) → IsLoading (F.tree files.old) folders.now w
+        → StepsBy result (edit_turn w number (session_of state.old) (Some (edit_seen edit.now))) steps.old steps.new }
+    ensures inner { IfErr result IsInner }
+    ensures cause { FilesBy result (moment F.rest F.taken F.faults F.failed_opens files.old)
+        (moment F.rest F.taken F.faults F.failed_opens files.new) }
+    ensures taken { NotFewer (F.taken files.old) (F.taken files.new) }
+    ensures tree { F.tree files.new ≡ F.tree files.old }
+{
+    match *edit {
+        Edit::Try(line) => try_line(alloc, folders, state, number, line, files, steps),
+        Edit::Undo => Ok(undo(alloc, state, number)?),
+        _ => change(alloc, folders, state, number, edit, files),
+    }
+}
+
+/// What is said to a line of text.
+pub(crate) fn answer<F: Files, L: Ledger>(
+    alloc: Global,
+    folders: &LibPath,
+    state: &mut State,
+    number: u64,
+    line: &str,
+    files: &mut F,
+    steps: &mut Steps<L>,
+) -> Result<Said, Halt>
+    requires { length line.now ≤ 2 ^ 30 }
+    ensures turns { F.tells → (w : Loading) → IsLoading (F.tree files.old) folders.now w
+        → Turns result (edit_turn w number (session_of state.old) (edit_of line.now)) (session_of state.new) }
+    ensures steps { F.tells → (w : Loading) → IsLoading (F.tree files.old) folders.now w
+        → StepsBy result (edit_turn w number (session_of state.old) (edit_of line.now)) steps.old steps.new }
+    ensures inner { IfErr result IsInner }
+    ensures cause { FilesBy result (moment F.rest F.taken F.faults F.failed_opens files.old)
+        (moment F.rest F.taken F.faults F.failed_opens files.new) }
+    ensures taken { NotFewer (F.taken files.old) (F.taken files.new) }
+    ensures tree { F.tree files.new ≡ F.tree files.old }
+{
+    match read_edit(line) {
+        None => Ok(wrong(alloc, number, "bad command")?),
+        Some(edit) => obey(alloc, folders, state, number, &edit, files, steps),
+    }
+}

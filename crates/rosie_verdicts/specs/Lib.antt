@@ -1,0 +1,7 @@
+pub mod Trials
+pub mod Suites
+pub mod Limits
+pub mod Tried
+pub mod Seen
+pub mod Laws
+pub mod inside

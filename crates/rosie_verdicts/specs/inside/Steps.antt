@@ -1,0 +1,23 @@
+-- What the steps from a file to its tests leave.
+use Rattle.std.specs.Prelude.{◌≡◌, ◌≤◌, ℕ, List, length, Option, Some, Result, Ok, Err, string_bytes}
+use Rattle.rosie_prepare.specs.Answers.{IsDue}
+use Rattle.rosie_prepare.specs.declared.unready.Unready.{Unready}
+use Rattle.rosie_prepare.specs.declared.unready.Unready.TheVariants.{NoMemory, Refused, ReadFault}
+use Rattle.rosie_verdicts.specs.Suites.{read_again}
+
+-- no read failed
+abbrev pub IsOwn : Unready → Type 0
+IsOwn NoMemory = Unit {0}
+IsOwn (Refused line) = Unit {0}
+IsOwn (ReadFault path) = ⊥
+
+-- a refusal has this line, if there is memory for it; no read failed
+abbrev pub IsRefusal : Unready → List ℕ → Type 0
+IsRefusal NoMemory line = Unit {0}
+IsRefusal (Refused text) line = string_bytes text ≡ line
+IsRefusal (ReadFault path) line = ⊥
+
+-- the bytes of a file, if there is one, were read as this text, or the file is refused as a whole
+abbrev pub Rereads : {X : Type 0} → (X → List ℕ) → Result X Unready → (file : List ℕ) → Option (List ℕ) → Type 0
+Rereads view (Ok text) file o = (o ≡ Some (view text)) × (length (view text) ≤ 1048576)
+Rereads view (Err u) file o = IsDue u (read_again file o)

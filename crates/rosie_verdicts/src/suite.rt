@@ -1,0 +1,24 @@
+// The tests of a file, each with what it is tried with.
+ghost use Rattle.std.specs.Prelude.{map};
+ghost use Rattle.rpl_core.specs.Table.{bodies_of};
+ghost use Rattle.rosie_verdicts.specs.Tried.{trial_of};
+ghost use Rattle.rosie_verdicts.specs.inside.Ready.{AreReady};
+
+use crate::trial::Trial;
+use rpl_check::Checked;
+use rpl_text::Chars;
+
+/// The tests of a file, each with what it is tried with.
+#[derive(Drop)]
+pub struct Suite {
+    /// The file's name, as it is given.
+    pub(crate) file: Chars,
+    /// The name of its package, empty where it has none.
+    pub(crate) prefix: Chars,
+    /// The machine's steps that a test may take, where they are given.
+    pub(crate) budget: Option<u64>,
+    /// The rules of all that is loaded.
+    pub(crate) rules: Checked,
+    pub(crate) trials: Vec<Trial>,
+    ghost ready: { ∥ AreReady (map (trial_of (bodies_of rules)) trials.items) ∥₁ },
+}

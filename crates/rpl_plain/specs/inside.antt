@@ -1,0 +1,3 @@
+-- Words of private functions alone. No public contract cites them.
+pub mod Below
+pub mod States
