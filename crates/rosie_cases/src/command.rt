@@ -32,11 +32,13 @@ pub(crate) struct Outcome {
     pub(crate) err: Vec<u8>,
 }
 
-/// What there is outside: the files and their bytes, the standard input, and what each device does.
+/// What there is outside: the files and the standard input, as texts, and what each device does. In a text of bytes a `¶`
+/// stands for a line feed, and any other character for the byte of its number; between two `×` stands a character, and how
+/// often it is repeated. A file is its path, a space and its bytes, and `@` stands before each file but the first.
 #[derive(Clone, Copy)]
 pub(crate) struct Outside<'a> {
-    pub(crate) tree: &'a [(&'a str, &'a [u8])],
-    pub(crate) bytes: &'a [u8],
+    pub(crate) tree: &'a str,
+    pub(crate) bytes: &'a str,
     pub(crate) files: Device<'a>,
     pub(crate) input: Device<'a>,
     pub(crate) out: Device<'a>,
@@ -45,7 +47,7 @@ pub(crate) struct Outside<'a> {
 
 impl<'a> Outside<'a> {
     /// Files and an input whose devices never fail.
-    pub(crate) fn new(tree: &'a [(&'a str, &'a [u8])], bytes: &'a [u8]) -> Outside<'a> {
+    pub(crate) fn new(tree: &'a str, bytes: &'a str) -> Outside<'a> {
         Outside {
             tree,
             bytes,
@@ -57,12 +59,48 @@ impl<'a> Outside<'a> {
     }
 }
 
-fn tree_of(alloc: Global, files: &[(&str, &[u8])]) -> Result<Tree, NoMemory> {
+/// The character that is repeated, and how often.
+pub(crate) fn repeat_of(piece: &str) -> Option<(char, usize)> {
+    let c = piece.chars().next()?;
+    let count = piece.strip_prefix(c)?;
+    Some((c, count.parse::<usize>().ok()?))
+}
+
+/// The byte of a character.
+fn byte_of(c: char) -> u8 {
+    if c == '¶' {
+        b'\n'
+    } else {
+        u8::try_from(c as u32).unwrap_or(b'?')
+    }
+}
+
+/// The bytes that a text stands for.
+fn bytes_of(alloc: Global, text: &str) -> Result<Bytes, NoMemory> {
+    let mut bytes = Vec::new(alloc);
+    for (index, piece) in text.split('×').enumerate() {
+        if index % 2 == 0 {
+            for c in piece.chars() {
+                bytes.push(byte_of(c))?;
+            }
+        } else if let Some((c, count)) = repeat_of(piece) {
+            bytes.resize(bytes.len().saturating_add(count), byte_of(c))?;
+        }
+    }
+    Ok(Bytes::from_vec(bytes))
+}
+
+/// The files of a text.
+fn tree_of(alloc: Global, files: &str) -> Result<Tree, NoMemory> {
     let mut tree = Tree::new(alloc);
-    for (path, bytes) in files {
+    if files.is_empty() {
+        return Ok(tree);
+    }
+    for file in files.split("\n@") {
+        let (path, bytes) = file.split_once(' ').unwrap_or((file, ""));
         tree.push(TreeFile {
             path: Bytes::from_slice(alloc, path.as_bytes())?,
-            bytes: Bytes::from_slice(alloc, bytes)?,
+            bytes: bytes_of(alloc, bytes)?,
         })?;
     }
     Ok(tree)
@@ -71,14 +109,10 @@ fn tree_of(alloc: Global, files: &[(&str, &[u8])]) -> Result<Tree, NoMemory> {
 /// Runs the command with these words.
 pub(crate) fn run_on(
     alloc: Global,
-    words: &[&str],
+    words: &[String],
     outside: Outside<'_>,
 ) -> Result<Outcome, NoMemory> {
-    let mut owned = Vec::new(alloc);
-    for word in words {
-        owned.push(String::from_str(alloc, word)?)?;
-    }
-    run_counted::<Brand>(alloc, &owned, outside, Blank::new(1))
+    run_counted::<Brand>(alloc, words, outside, Blank::new(1))
 }
 
 fn run_counted<L: Ledger>(
@@ -97,7 +131,7 @@ fn run_counted<L: Ledger>(
         Calls::from_slice(alloc, outside.files.fails)?,
     );
     let mut source = MemorySource::new(
-        Bytes::from_slice(alloc, outside.bytes)?,
+        bytes_of(alloc, outside.bytes)?,
         outside.input.most.max(1),
         Calls::from_slice(alloc, outside.input.fails)?,
     );

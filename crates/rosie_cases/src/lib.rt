@@ -6,4 +6,6 @@
 #[cfg(test)]
 mod command;
 #[cfg(test)]
+mod rows;
+#[cfg(test)]
 mod tests;

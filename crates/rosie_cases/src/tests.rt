@@ -1,439 +1,99 @@
-use crate::command::{Device, Outcome, Outside, SURE, run_on};
+use crate::command::{Device, Outcome, Outside, repeat_of, run_on};
+use crate::rows;
 use rosie_cli::Status;
 use std::alloc::{AllocError, Global};
 use std::test::Fail;
 
-/// Words, files, input, and what is wanted of them.
-#[derive(Clone, Copy)]
-struct Case {
-    shows: &'static str,
-    words: &'static [&'static str],
-    tree: &'static [(&'static str, &'static [u8])],
-    input: &'static [u8],
-    out: &'static str,
-    err: &'static str,
-    status: Status,
-}
-
-const LITERAL: &[&str] = &["match", "\"ab\""];
-
 const AB_LINE: &str = "{\"type\":\"*\",\"s\":1,\"e\":3,\"data\":\"ab\"}\n";
 
-const A: &[&str] = &["match", "\"a\""];
-
-const A_LINE: &str = "{\"type\":\"*\",\"s\":1,\"e\":2,\"data\":\"a\"}\n";
-
-const MISSING_ARGUMENT: &str = "\
-rosie: usage: missing argument
-usage: rosie [options] match PATTERN [FILE ...]
-       rosie [options] grep PATTERN [FILE ...]
-       rosie [options] test FILE
-       rosie [options] list
-       rosie [options] expand PATTERN
-       rosie [options] trace PATTERN [FILE ...]
-       rosie [options] sample SEED LINES
-       rosie [options] repl
-       rosie [options] compile PATTERN
-       rosie [options] match --code-file FILE [INPUT ...]
-       rosie [options] class NAME
-";
-
-const LOG: &[u8] =
-    b"alias d = [:digit:]\ndate = {d{4} \"-\" d{2} \"-\" d{2}}\nlevel = [:upper:]+\n";
-
-const NUM: &[u8] = b"package num\nlocal alias d = [:digit:]\nint = d+\n";
-
-const TESTED: &[u8] = b"q = \"a\"\np = {{q \"x\"} / \"ab\"}\n\
-    -- test p accepts \"ab\"\n-- test p includes q \"ab\"\n";
-
-const LONG_CODE: &str =
-    "{\"x\" <{\"a\"{0,255} / \"a\"{0,255} / \"a\"{0,255} / \"a\"{0,255} / \"a\"{0,255} / \"a\"{0,255}}}";
-
-static CASES: [Case; 20] = [
-    Case {
-        shows: "one literal",
-        words: LITERAL,
-        tree: &[],
-        input: b"abc\n",
-        out: AB_LINE,
-        err: "",
-        status: Status::Matched,
-    },
-    Case {
-        shows: "an empty input",
-        words: LITERAL,
-        tree: &[],
-        input: b"",
-        out: "",
-        err: "",
-        status: Status::NoMatch,
-    },
-    Case {
-        shows: "a line that doesn't match, and a last one without a line feed that does",
-        words: A,
-        tree: &[],
-        input: b"ba\na",
-        out: A_LINE,
-        err: "",
-        status: Status::Matched,
-    },
-    Case {
-        shows: "places count bytes, and what stands for JSON is escaped",
-        words: &["match", " \"\u{e9}\t\" "],
-        tree: &[],
-        input: b"\xc3\xa9\tx\n",
-        out: "{\"type\":\"*\",\"s\":1,\"e\":4,\"data\":\"\u{e9}\\t\"}\n",
-        err: "",
-        status: Status::Matched,
-    },
-    Case {
-        shows: "a line that is no text is reported, and the run goes on",
-        words: LITERAL,
-        tree: &[],
-        input: b"ab\n\xff\nab\n",
-        out: TWO_ANSWERS,
-        err: "rosie: -:2: not UTF-8\n",
-        status: Status::LineFault,
-    },
-    Case {
-        shows: "the ranges of a class",
-        words: &["class", "digit"],
-        tree: &[],
-        input: b"",
-        out: "30-39\n",
-        err: "",
-        status: Status::Matched,
-    },
-    Case {
-        shows: "a name that stands for no class",
-        words: &["class", "nosuchclass"],
-        tree: &[],
-        input: b"",
-        out: "",
-        err: "rosie: unknown class: nosuchclass\n",
-        status: Status::Refused,
-    },
-    Case {
-        shows: "a session over a file",
-        words: &["repl"],
-        tree: &[("./m.rpl", b"package m x = \"a\"")],
-        input: b"? m.x\n> ab\n+ y = x\nu\n> ab\n",
-        out: "ok 0\n{\"type\":\"m.x\",\"s\":1,\"e\":2,\"data\":\"a\"}\nok 0\n",
-        err: "rosie: (rpl 1):4: unknown name: x\nrosie: (session):5: no pattern\n",
-        status: Status::LineFault,
-    },
-    Case {
-        shows: "a code file that isn't there",
-        words: &["match", "--code-file", "a"],
-        tree: &[],
-        input: b"a\n",
-        out: "",
-        err: "rosie: a: no such file\n",
-        status: Status::Refused,
-    },
-    Case {
-        shows: "the names that a pattern may use",
-        words: &["list", "--rpl", "alias d = [:digit:] n = d+"],
-        tree: &[],
-        input: b"",
-        out: "d alias -\nn capture n\n",
-        err: "",
-        status: Status::Matched,
-    },
-    Case {
-        shows: "what a pattern stands for, with its program",
-        words: &["expand", "--code", "--rpl", "x = \"a\"", "x"],
-        tree: &[],
-        input: b"",
-        out: "pattern x\n* = (call x)\nx = (capture x (set 61))\n\
-              0 call 2\n1 finish\n2 open x\n3 set 61\n4 close\n5 return\n",
-        err: "",
-        status: Status::Matched,
-    },
-    Case {
-        shows: "the tests of a file, one of which isn't met",
-        words: &["test", "t.rpl"],
-        tree: &[("t.rpl", TESTED)],
-        input: b"",
-        out: "t.rpl:4: p includes q \"ab\"\nt.rpl: 2 tests, 1 failed\n",
-        err: "",
-        status: Status::NoMatch,
-    },
-    Case {
-        shows: "rules of a file, with their names in the answer",
-        words: &["match", "-f", "log.rpl", "date level"],
-        tree: &[("log.rpl", LOG)],
-        input: b"2024-05-01 ERROR disk full\n",
-        out: "{\"type\":\"*\",\"s\":1,\"e\":17,\"data\":\"2024-05-01 ERROR\",\"subs\":\
-              [{\"type\":\"date\",\"s\":1,\"e\":11,\"data\":\"2024-05-01\"},\
-              {\"type\":\"level\",\"s\":12,\"e\":17,\"data\":\"ERROR\"}]}\n",
-        err: "",
-        status: Status::Matched,
-    },
-    Case {
-        shows: "a package that the pattern imports, found in the library path",
-        words: &["match", "--libpath", "no:lib", "num.int"],
-        tree: &[("lib/num.rpl", NUM)],
-        input: b"42 x\n",
-        out: "{\"type\":\"num.int\",\"s\":1,\"e\":3,\"data\":\"42\"}\n",
-        err: "",
-        status: Status::Matched,
-    },
-    Case {
-        shows: "a name that the package hides",
-        words: &["match", "num.d"],
-        tree: &[("./num.rpl", NUM)],
-        input: b"42 x\n",
-        out: "",
-        err: "rosie: (pattern):0: hidden name: num.d\n",
-        status: Status::Refused,
-    },
-    Case {
-        shows: "the fault of a file comes before that of the pattern",
-        words: &["match", "--rpl", "grammar x = {x \"a\"} / \"a\" end", "x"],
-        tree: &[],
-        input: b"a\n",
-        out: "",
-        err: "rosie: (rpl 1):8: left recursion in x\n",
-        status: Status::Refused,
-    },
-    Case {
-        shows: "each hit of a line",
-        words: &["grep", "-o", "json", "\"a\""],
-        tree: &[],
-        input: b"xaya\n",
-        out: "{\"type\":\"*\",\"s\":1,\"e\":5,\"data\":\"xaya\",\"subs\":\
-              [{\"type\":\"find.*\",\"s\":2,\"e\":3,\"data\":\"a\"},\
-              {\"type\":\"find.*\",\"s\":4,\"e\":5,\"data\":\"a\"}]}\n",
-        err: "",
-        status: Status::Matched,
-    },
-    Case {
-        shows: "a search prints the lines, and with -a tells the others",
-        words: &["grep", "-a", "\"x\""],
-        tree: &[],
-        input: b"ax\nb\n",
-        out: "ax\n",
-        err: "b\n",
-        status: Status::Matched,
-    },
-    Case {
-        shows: "the pattern is the text itself",
-        words: &["grep", "-F", "a.b"],
-        tree: &[],
-        input: b"xa.by\naXb\n",
-        out: "xa.by\n",
-        err: "",
-        status: Status::Matched,
-    },
-    Case {
-        shows: "a fault of the check",
-        words: &["grep", "\"x\"*"],
-        tree: &[],
-        input: b"x\n",
-        out: "",
-        err: "rosie: (pattern):0: empty loop in *\n",
-        status: Status::Refused,
-    },
-];
-
-/// The rest of the table: one constant of all rows is more than the check of one function takes.
-static MORE_CASES: [Case; 20] = [
-    Case {
-        shows: "a pattern that is too large",
-        words: &["match", "{\"ab\"{255}}{255}"],
-        tree: &[],
-        input: b"ab\n",
-        out: "",
-        err: "rosie: (pattern):0: too large: *\n",
-        status: Status::Refused,
-    },
-    Case {
-        shows: "a code that is too long",
-        words: &["match", LONG_CODE],
-        tree: &[],
-        input: b"x\n",
-        out: "",
-        err: "rosie: (pattern):0: code too long\n",
-        status: Status::Refused,
-    },
-    Case {
-        shows: "a file of rules that is missing",
-        words: &["match", "-f", "no.rpl", "x"],
-        tree: &[],
-        input: b"a\n",
-        out: "",
-        err: "rosie: no.rpl: no such file\n",
-        status: Status::Refused,
-    },
-    Case {
-        shows: "a usage fault has its line and the usage text",
-        words: &["match"],
-        tree: &[],
-        input: b"a\n",
-        out: "",
-        err: MISSING_ARGUMENT,
-        status: Status::Refused,
-    },
-    Case {
-        shows: "a line may take as many steps as are given",
-        words: &["match", "--budget", "5", "\"ab\""],
-        tree: &[],
-        input: b"ab\n",
-        out: AB_LINE,
-        err: "",
-        status: Status::Matched,
-    },
-    Case {
-        shows: "and no more",
-        words: &["match", "--budget", "4", "\"ab\""],
-        tree: &[],
-        input: b"ab\n",
-        out: "",
-        err: "rosie: -:1: budget spent\n",
-        status: Status::LineFault,
-    },
-    Case {
-        shows: "the steps of a line are told",
-        words: &["match", "--steps", "\"ab\""],
-        tree: &[],
-        input: b"ab\n",
-        out: AB_LINE,
-        err: "steps 5\n",
-        status: Status::Matched,
-    },
-    Case {
-        shows: "a line that doesn't match is told, and then its steps",
-        words: &["match", "-a", "--steps", "\"ab\""],
-        tree: &[],
-        input: b"xy\n",
-        out: "",
-        err: "xy\nsteps 2\n",
-        status: Status::NoMatch,
-    },
-    Case {
-        shows: "whether a line matches",
-        words: &["match", "-o", "bool", "\"a\""],
-        tree: &[],
-        input: b"a\nb\n",
-        out: "true\nfalse\n",
-        err: "",
-        status: Status::Matched,
-    },
-    Case {
-        shows: "the whole line",
-        words: &["match", "-o", "line", "\"a\""],
-        tree: &[],
-        input: b"ab\nb\n",
-        out: "ab\n",
-        err: "",
-        status: Status::Matched,
-    },
-    Case {
-        shows: "the text of a match that has no hits",
-        words: &["match", "-o", "matches", "\"a\""],
-        tree: &[],
-        input: b"ab\n",
-        out: "a\n",
-        err: "",
-        status: Status::Matched,
-    },
-    Case {
-        shows: "the text of a match",
-        words: &["match", "-o", "data", "\"a\""],
-        tree: &[],
-        input: b"ab\n",
-        out: "a\n",
-        err: "",
-        status: Status::Matched,
-    },
-    Case {
-        shows: "nothing is under the root",
-        words: &["match", "-o", "subs", "\"a\""],
-        tree: &[],
-        input: b"ab\n",
-        out: "",
-        err: "",
-        status: Status::Matched,
-    },
-    Case {
-        shows: "an input is one line",
-        words: &["match", "-w", "-o", "line", "\"ab\""],
-        tree: &[],
-        input: b"ab\nc\n",
-        out: "ab\nc\n\n",
-        err: "",
-        status: Status::Matched,
-    },
-    Case {
-        shows: "an empty input has no line",
-        words: &["match", "-w", "\"ab\""],
-        tree: &[],
-        input: b"",
-        out: "",
-        err: "",
-        status: Status::NoMatch,
-    },
-    Case {
-        shows: "a missing file ends the run, and what was written stays",
-        words: &["match", "\"a\"", "f1", "f2", "f1"],
-        tree: &[("f1", b"a\n")],
-        input: b"",
-        out: A_LINE,
-        err: "rosie: f2: no such file\n",
-        status: Status::Refused,
-    },
-    Case {
-        shows: "inputs come in turn, and a second - has no lines",
-        words: &["match", "-o", "line", "\"a\"", "f", "-", "g", "-", "f"],
-        tree: &[("f", b"a1"), ("g", b"b\na3\n")],
-        input: b"a2",
-        out: "a1\na2\na3\na1\n",
-        err: "",
-        status: Status::Matched,
-    },
-    Case {
-        shows: "lines are counted in each input",
-        words: &["match", "-o", "bool", "\"a\"", "f", "-"],
-        tree: &[("f", b"a\n\xff\n")],
-        input: b"a\n\xff",
-        out: "true\ntrue\n",
-        err: "rosie: f:2: not UTF-8\nrosie: -:2: not UTF-8\n",
-        status: Status::LineFault,
-    },
-    Case {
-        shows: "of two files with one path the first counts",
-        words: &["match", "-o", "line", "\"a\"", "f"],
-        tree: &[("f", b"a1"), ("f", b"a2")],
-        input: b"",
-        out: "a1\n",
-        err: "",
-        status: Status::Matched,
-    },
-    Case {
-        shows: "what the lines of a sample come to",
-        words: &["sample", "1", "4"],
-        tree: &[],
-        input: b"ab\n",
-        out: "lines 4\nmatched 3\nbytes 466\n",
-        err: "",
-        status: Status::Matched,
-    },
-];
-
-/// Checks how a run ended.
-fn expect(got: &Outcome, status: Status, out: &str, err: &str) -> bool {
-    got.status == status
-        && got.out.as_slice() == out.as_bytes()
-        && got.err.as_slice() == err.as_bytes()
+/// The text with the one character for the other.
+fn replaced(alloc: Global, text: &str, from: char, to: char) -> Result<String, AllocError> {
+    let mut replaced = String::new(alloc);
+    for c in text.chars() {
+        replaced.push(if c == from { to } else { c })?;
+    }
+    Ok(replaced)
 }
 
-/// What the first case shows whose answer is another, or nothing where all are as they are wanted.
-fn first_wrong(alloc: Global, cases: &[Case]) -> Result<&'static str, AllocError> {
-    for case in cases {
-        let got = run_on(alloc, case.words, Outside::new(case.tree, case.input))?;
-        if !expect(&got, case.status, case.out, case.err) {
-            return Ok(case.shows);
+/// The text with its repeats: between two `×` stands a character, and how often it is repeated.
+fn expanded(alloc: Global, text: &str) -> Result<String, AllocError> {
+    let mut expanded = String::new(alloc);
+    for (index, piece) in text.split('×').enumerate() {
+        if index % 2 == 0 {
+            expanded.push_str(piece)?;
+        } else if let Some((c, count)) = repeat_of(piece) {
+            for _ in 0..count {
+                expanded.push(c)?;
+            }
+        }
+    }
+    Ok(expanded)
+}
+
+/// The words of a line.
+fn words_of(alloc: Global, line: &str) -> Result<Vec<String>, AllocError> {
+    let mut words = Vec::new(alloc);
+    for word in line.split(' ') {
+        let word = expanded(alloc, word)?;
+        words.push(replaced(alloc, &word, '·', ' ')?)?;
+    }
+    Ok(words)
+}
+
+/// What was written, as the tables have it.
+fn folded(alloc: Global, written: &[u8]) -> Result<String, AllocError> {
+    let text = String::from_utf8_lossy(alloc, written)?;
+    let text = replaced(alloc, text.as_str(), '\n', '¶')?;
+    match text.as_str().strip_suffix(rows::USAGE) {
+        Some(front) => format!(in alloc; "{front}§"),
+        None => Ok(text),
+    }
+}
+
+/// A case that was taken apart: what it shows, its words, the files, the input, and what is wanted.
+#[derive(Clone, Copy)]
+struct Case<'a> {
+    head: &'a str,
+    words: &'a str,
+    tree: &'a str,
+    input: &'a str,
+    want: &'a str,
+}
+
+fn case_of(text: &str) -> Result<Case<'_>, Fail> {
+    let (head, rest) = text.split_once("\n$").ok_or("words")?;
+    let (words, rest) = rest.split_once("\n<").ok_or("an input")?;
+    let (input, want) = rest.split_once('\n').ok_or("an answer")?;
+    let (words, tree) = words.split_once("\n@").unwrap_or((words, ""));
+    Ok(Case {
+        head,
+        words,
+        tree,
+        input,
+        want,
+    })
+}
+
+/// How a run ended, as the tables have it.
+fn described(alloc: Global, got: &Outcome) -> Result<String, AllocError> {
+    let out = folded(alloc, got.out.as_slice())?;
+    let err = folded(alloc, got.err.as_slice())?;
+    format!(in alloc; ">{out}\n!{err}\n={:?}", got.status)
+}
+
+/// Is a case answered so?
+fn is_answered_so(alloc: Global, text: &str) -> Result<bool, Fail> {
+    let case = case_of(text)?;
+    let words = words_of(alloc, case.words)?;
+    let got = run_on(alloc, &words, Outside::new(case.tree, case.input))?;
+    Ok(described(alloc, &got)?.as_str() == case.want)
+}
+
+/// The first case that is answered otherwise, or nothing.
+fn first_wrong(alloc: Global, cases: &'static str) -> Result<&'static str, Fail> {
+    for case in cases.split("\n\n") {
+        if !is_answered_so(alloc, case)? {
+            return Ok(case);
         }
     }
     Ok("")
@@ -441,73 +101,51 @@ fn first_wrong(alloc: Global, cases: &[Case]) -> Result<&'static str, AllocError
 
 #[test]
 fn answers(rt: HostRuntime) -> Result<(), Fail> {
-    assert_eq!(rt; first_wrong(rt.alloc(), &CASES)?, "");
+    for cases in [rows::ANSWERS, rows::BYTES, rows::LONG_LINES] {
+        assert_eq!(rt; first_wrong(rt.alloc(), cases)?, "");
+    }
     Ok(())
 }
 
 #[test]
 fn answers_of_options_and_inputs(rt: HostRuntime) -> Result<(), Fail> {
-    assert_eq!(rt; first_wrong(rt.alloc(), &MORE_CASES)?, "");
+    assert_eq!(rt; first_wrong(rt.alloc(), rows::STYLES_AND_INPUTS)?, "");
     Ok(())
 }
 
 #[test]
-fn a_line_over_the_limit_is_reported(rt: HostRuntime) -> Result<(), Fail> {
-    let mut input = Vec::new(rt.alloc());
-    input.resize(16_777_217, b'a')?;
-    input.extend_from_slice(b"\na\n")?;
-    let got = run_on(rt.alloc(), A, Outside::new(&[], &input))?;
+fn answers_of_patterns_and_rules(rt: HostRuntime) -> Result<(), Fail> {
+    for cases in [rows::PATTERNS, rows::RULES, rows::CODE_FILES] {
+        assert_eq!(rt; first_wrong(rt.alloc(), cases)?, "");
+    }
+    Ok(())
+}
+
+#[test]
+fn what_is_refused(rt: HostRuntime) -> Result<(), Fail> {
+    for cases in [rows::REFUSED_PATTERNS, rows::REFUSED_RULES, rows::CUT_FILES] {
+        assert_eq!(rt; first_wrong(rt.alloc(), cases)?, "");
+    }
+    Ok(())
+}
+
+#[test]
+fn texts_at_the_limits(rt: HostRuntime) -> Result<(), Fail> {
+    assert_eq!(rt; first_wrong(rt.alloc(), rows::REPEATED)?, "");
+    Ok(())
+}
+
+/// A hundred thousand lines: what is told of them begins with their number.
+#[test]
+fn a_sample_of_many_lines(rt: HostRuntime) -> Result<(), Fail> {
+    let words = words_of(rt.alloc(), "sample 1 100000")?;
+    let got = run_on(rt.alloc(), &words, Outside::new("", ""))?;
     assert!(rt;
-        expect(
-            &got,
-            Status::LineFault,
-            A_LINE,
-            "rosie: -:1: line too long\n"
-        )
+        got.status == Status::Matched
+            && got.out.as_slice().starts_with(b"lines 100000\n".as_slice())
     );
     Ok(())
 }
-
-/// The first call of a device.
-const FIRST: &[u64] = &[1];
-
-#[test]
-fn a_file_of_rules_that_is_not_opened_ends_the_run(rt: HostRuntime) -> Result<(), Fail> {
-    let sure = Outside::new(&[("log.rpl", LOG)], b"a\n");
-    let outside = Outside {
-        files: Device {
-            most: 10,
-            fails: FIRST,
-        },
-        ..sure
-    };
-    let got = run_on(rt.alloc(), &["match", "-f", "log.rpl", "date"], outside)?;
-    assert!(rt; expect(&got, Status::ReadFault, "", "rosie: log.rpl: read failed\n"));
-    Ok(())
-}
-
-/// Two files, and the standard input between them, with a rule of an imported package.
-const IN_TURN: &[&str] = &[
-    "match",
-    "-a",
-    "--rpl",
-    "import p",
-    "--libpath",
-    "lib",
-    "p.ab",
-    "f",
-    "-",
-    "g",
-];
-
-const TREE: &[(&str, &[u8])] = &[
-    ("f", b"ab\nx\n"),
-    ("g", b"\xff\nab"),
-    ("lib/p.rpl", b"package p ab = \"ab\""),
-];
-
-/// A line that matches, one that is no text, and one that matches.
-const THREE_LINES: &[u8] = b"ab\n\xff\nab\n";
 
 /// Which device fails.
 #[derive(Clone, Copy, Debug, PartialEq, Eq)]
@@ -518,15 +156,26 @@ enum Failing {
     Err,
 }
 
-/// The run of `IN_TURN` where one call of one device fails.
-fn run_failing(alloc: Global, failing: Failing, number: u64) -> Result<Outcome, AllocError> {
-    let fails = [number];
-    let device = Device {
-        most: 3,
-        fails: &fails,
-    };
-    let sure = Outside::new(TREE, THREE_LINES);
-    let outside = match failing {
+/// The device of a word.
+fn failing_of(word: &str) -> Result<Failing, Fail> {
+    match word {
+        "files" => Ok(Failing::Files),
+        "input" => Ok(Failing::Input),
+        "out" => Ok(Failing::Out),
+        "err" => Ok(Failing::Err),
+        _ => Err("a device")?,
+    }
+}
+
+/// These files and this input, where one of the devices is this one.
+fn outside_with<'a>(
+    tree: &'a str,
+    input: &'a str,
+    failing: Failing,
+    device: Device<'a>,
+) -> Outside<'a> {
+    let sure = Outside::new(tree, input);
+    match failing {
         Failing::Files => Outside {
             files: device,
             ..sure
@@ -543,8 +192,93 @@ fn run_failing(alloc: Global, failing: Failing, number: u64) -> Result<Outcome, 
             err: device,
             ..sure
         },
+    }
+}
+
+/// The run of a case where one call of one device fails, which moves so many bytes at the most.
+fn run_failing(
+    alloc: Global,
+    case: Case<'_>,
+    failing: Failing,
+    most: usize,
+    call: u64,
+) -> Result<Outcome, Fail> {
+    let words = words_of(alloc, case.words)?;
+    let fails = [call];
+    let device = Device {
+        most,
+        fails: &fails,
     };
-    run_on(alloc, IN_TURN, outside)
+    let outside = outside_with(case.tree, case.input, failing, device);
+    Ok(run_on(alloc, &words, outside)?)
+}
+
+/// Is a case with a device that fails answered so?
+fn is_failing_so(alloc: Global, text: &str) -> Result<bool, Fail> {
+    let case = case_of(text)?;
+    let (device, rest) = case.head.split_once(' ').ok_or("a device")?;
+    let (most, call) = rest.split_once(' ').ok_or("a call")?;
+    let failing = failing_of(device)?;
+    let got = run_failing(
+        alloc,
+        case,
+        failing,
+        most.parse::<usize>()?,
+        call.parse::<u64>()?,
+    )?;
+    Ok(described(alloc, &got)?.as_str() == case.want)
+}
+
+#[test]
+fn a_call_that_fails_ends_the_run(rt: HostRuntime) -> Result<(), Fail> {
+    for case in rows::FAULTS.split("\n\n") {
+        assert!(rt; is_failing_so(rt.alloc(), case)?, "{case}");
+    }
+    Ok(())
+}
+
+/// Two files, and the standard input between them, with a rule of an imported package. The input has a line that matches,
+/// one that is no text, and one that matches.
+const IN_TURN: &str = "\
+two files in turn
+$match -a --rpl import·p --libpath lib p.ab f - g
+@f ab¶x¶
+@g \u{ff}¶ab
+@lib/p.rpl package p ab = \"ab\"
+<ab¶\u{ff}¶ab¶
+";
+
+/// Has the run written a front of what the whole one wrote, and ended so?
+fn is_front(whole: &Outcome, got: &Outcome, status: Status) -> bool {
+    got.status == status
+        && whole.out.as_slice().starts_with(got.out.as_slice())
+        && (whole.err.as_slice().starts_with(got.err.as_slice())
+            || got.err.as_slice().ends_with(b": read failed\n".as_slice()))
+}
+
+/// The number of the first call of a device, before this one, that fails and ends otherwise; 0 where there is none.
+fn first_bad_call(
+    alloc: Global,
+    whole: &Outcome,
+    failing: Failing,
+    behind: u64,
+    status: Status,
+) -> Result<u64, Fail> {
+    let case = case_of(IN_TURN)?;
+    for call in 1..behind {
+        let got = run_failing(alloc, case, failing, 3, call)?;
+        if !is_front(whole, &got, status) {
+            return Ok(call);
+        }
+    }
+    Ok(0)
+}
+
+/// The run of `IN_TURN` where no call fails.
+fn run_in_turn(alloc: Global) -> Result<Outcome, Fail> {
+    let case = case_of(IN_TURN)?;
+    let words = words_of(alloc, case.words)?;
+    Ok(run_on(alloc, &words, Outside::new(case.tree, case.input))?)
 }
 
 /// How often a device is called in that run, by hand, in threes of bytes: the package is opened, and its 19 bytes and
@@ -552,65 +286,47 @@ fn run_failing(alloc: Global, failing: Failing, number: u64) -> Result<Outcome, 
 /// four lines of 40 bytes and some flushes; `err` has `x` with a line feed, and two faults of 22 bytes.
 #[test]
 fn each_call_of_each_device_fails_in_turn(rt: HostRuntime) -> Result<(), Fail> {
-    let whole = run_on(rt.alloc(), IN_TURN, Outside::new(TREE, THREE_LINES))?;
-    assert_eq!(rt; whole.status, Status::LineFault);
-    assert_eq!(rt;
-        whole.err.as_slice(),
-        b"x\nrosie: -:2: not UTF-8\nrosie: g:1: not UTF-8\n".as_slice()
-    );
-    for (device, behind, status) in [
-        (Failing::Files, 18u64, Status::ReadFault),
-        (Failing::Input, 5, Status::ReadFault),
-        (Failing::Out, 57, Status::WriteFault),
-        (Failing::Err, 18, Status::WriteFault),
-    ] {
-        for number in 1..behind {
-            let got = run_failing(rt.alloc(), device, number)?;
-            assert_eq!(rt; got.status, status, "{device:?}, call {number}");
-            assert!(rt;
-                whole.out.as_slice().starts_with(got.out.as_slice()),
-                "out, {device:?}, call {number}"
-            );
-            assert!(rt;
-                whole.err.as_slice().starts_with(got.err.as_slice())
-                    || got.err.as_slice().ends_with(b": read failed\n".as_slice()),
-                "err, {device:?}, call {number}"
-            );
-        }
-    }
+    let alloc = rt.alloc();
+    let whole = run_in_turn(alloc)?;
+    let faults = b"x\nrosie: -:2: not UTF-8\nrosie: g:1: not UTF-8\n";
+    assert!(rt; whole.status == Status::LineFault && whole.err.as_slice() == faults.as_slice());
+    let files = first_bad_call(alloc, &whole, Failing::Files, 18, Status::ReadFault)?;
+    assert_eq!(rt; files, 0);
+    let input = first_bad_call(alloc, &whole, Failing::Input, 5, Status::ReadFault)?;
+    assert_eq!(rt; input, 0);
+    let out = first_bad_call(alloc, &whole, Failing::Out, 57, Status::WriteFault)?;
+    assert_eq!(rt; out, 0);
+    let err = first_bad_call(alloc, &whole, Failing::Err, 18, Status::WriteFault)?;
+    assert_eq!(rt; err, 0);
     Ok(())
 }
 
-const TWO_ANSWERS: &str =
-    "{\"type\":\"*\",\"s\":1,\"e\":3,\"data\":\"ab\"}\n{\"type\":\"*\",\"s\":1,\"e\":3,\"data\":\"ab\"}\n";
+const NO_TEXT: &str = "rosie: -:2: not UTF-8\n";
+
+/// Is what was written a front of both outputs, and all of both where memory wasn't wanting?
+fn is_front_of(got: &Outcome, out: &str, err: &str) -> bool {
+    if got.status == Status::NoMemory {
+        out.as_bytes().starts_with(got.out.as_slice())
+            && err.as_bytes().starts_with(got.err.as_slice())
+    } else {
+        got.status == Status::LineFault
+            && got.out.as_slice() == out.as_bytes()
+            && got.err.as_slice() == err.as_bytes()
+    }
+}
 
 /// Where an allocation fails (`rt try --test --fail-alloc N`), what was written is a front.
 #[test]
 fn want_of_memory_leaves_a_front(rt: HostRuntime) -> Result<(), Fail> {
-    let got = match run_on(rt.alloc(), LITERAL, Outside::new(&[], THREE_LINES)) {
-        Ok(got) => got,
-        Err(_) => return Ok(()),
-    };
-    if got.status == Status::NoMemory {
-        assert!(rt;
-            TWO_ANSWERS.as_bytes().starts_with(got.out.as_slice()),
-            "out"
-        );
-        assert!(rt;
-            b"rosie: -:2: not UTF-8\n"
-                .as_slice()
-                .starts_with(got.err.as_slice()),
-            "err"
-        );
+    let Ok(words) = words_of(rt.alloc(), "match \"ab\"") else {
         return Ok(());
-    }
-    assert!(rt;
-        expect(
-            &got,
-            Status::LineFault,
-            TWO_ANSWERS,
-            "rosie: -:2: not UTF-8\n"
-        )
-    );
+    };
+    let Ok(got) = run_on(rt.alloc(), &words, Outside::new("", "ab¶\u{ff}¶ab¶")) else {
+        return Ok(());
+    };
+    let Ok(two) = format!(in rt.alloc(); "{AB_LINE}{AB_LINE}") else {
+        return Ok(());
+    };
+    assert!(rt; is_front_of(&got, &two, NO_TEXT));
     Ok(())
 }

@@ -1,5 +1,6 @@
 pub mod Asking
 pub mod Limits
+pub mod Made
 pub mod Expanded
 pub mod Compiled
 pub mod Coded

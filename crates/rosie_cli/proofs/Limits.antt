@@ -48,10 +48,10 @@ module _ (run : List Row → Job → Plan) (r : Ready) (R : List Core) (same : b
       ∙ ap (λ b. cond b (refusal compile_line) (run r.rules (record { rules = R; goal = r.goal; code = long.0 }))) test
 
 -- the same job for the same lines
-pub reads-same : (m m' : Maker) (whole : Bool) (names names' : List (List ℕ)) (p : Plan) → m' ≡ m → names' ≡ names
-    → p ≡ Reads m whole names → p ≡ Reads m' whole names'
-reads-same m m' whole names names' p e n h =
-    h ∙ ap (λ x. Reads x whole names) (sym e) ∙ ap (λ x. Reads m' whole x) (sym n)
+pub reads-same : (m m' : Maker) (whole : Bool) (names names' : List (List ℕ)) → m' ≡ m → names' ≡ names
+    → Reads m whole names ≡ Reads m' whole names'
+reads-same m m' whole names names' e n =
+    ap (λ x. Reads x whole names) (sym e) ∙ ap (λ x. Reads m' whole x) (sym n)
 
 pub names-rows_of : (rs : List Rule) → full_names (rows_of rs) ≡ names_of rs
 names-rows_of [] = refl

@@ -1,5 +1,5 @@
 -- From a plan to its run, and to what is told of it.
-use Rattle.std.proofs.Common.{ℕ, ◌≡◌, ◌≢◌, inl, inr, ◌-◌, ◌^◌, ◌<◌, ◌≤◌, Bool, true, false, List, [], ◌++◌}
+use Rattle.std.proofs.Common.{ℕ, ◌≡◌, ◌≢◌, inl, inr, ◌-◌, ◌^◌, ◌<◌, ◌≤◌, Bool, true, false, List, [], ◌∷◌, ◌++◌}
 use Rattle.std.proofs.Common.{length, refl, sym, ◌∙◌, ap, subst, arith}
 use Rattle.std.specs.Prelude.{Result, Ok, Err, IfOk}
 use Rattle.std.specs.List.{Contains}
@@ -9,12 +9,13 @@ use Rattle.rosie_run.specs.Causes.{ReadsCause, OutputCause}
 use Rattle.rosie_run.specs.Headline.{CameToEnd, AreShort, Headline, IsComplete}
 use Rattle.rosie_run.specs.Inputs.{inputs_pieces, reads_standard}
 use Rattle.rosie_run.specs.Outputs.{Telling, Texts}
-use Rattle.rosie_run.specs.Report.{Piece, has, is_stop, is_fault}
+use Rattle.rosie_run.specs.Report.{Piece, has, is_stop, is_fault, stop_piece}
 use Rattle.rosie_run.specs.Runs.{Breaks, Runs, IsCutOf, GoesOn}
 use Rattle.rosie_run.specs.Sources.{Moment, RoseIn}
 use Rattle.rosie_run.specs.Where.{Nowhere, not_opened, opened, InInputs, in_file, in_standard, in_loading, in_inputs}
 use Rattle.rosie_run.specs.Statuses.{flags_status}
 use Rattle.rosie_run.specs.Closing.{Closes, why_status}
+use Rattle.rosie_run.specs.declared.lines.Reading.{Reading}
 use Rattle.rosie_run.specs.declared.ended.Ended.{Ended}
 use Rattle.rosie_run.specs.declared.ended.Ended.TheVariants as E
 use Rattle.rosie_run.specs.declared.ended.Why.{Why}
@@ -92,13 +93,15 @@ planned-runs s W p plan tree tree' i f0 f f1 a b is t faults opens taken h =
     (stood p tree i (record { before = f0; after = f1 })) a b
     (λ why file k x. in_inputs (among_later p.plan tree i f0 f f1 why file k faults opens taken x)) same
 
--- where no file was read for the plan
-pub refused-runs : (s : Result Tally Ended) (W : Telling) (p : Planned) (plan : Plan) (tree : List (List ℕ × List ℕ))
-    (i : Span) (f0 f1 : Moment) (a b : Texts) → p.plan ≡ plan
-    → Runs s W (pieces plan tree i.before.rest) (among plan tree i (record { before = f0; after = f1 })) a b
-    → Runs s W (pieces p.plan tree i.before.rest) (stood p tree i (record { before = f0; after = f1 })) a b
-refused-runs s W p plan tree i f0 f1 a b is h =
-    planned-runs s W p plan tree tree i f0 f0 f1 a b is refl refl refl (λ _. omega arith) h
+-- words that are refused, whatever files were read before
+pub refused-runs : (s : Result Tally Ended) (W : Telling) (p : Planned) (line : List ℕ)
+    (tree : List (List ℕ × List ℕ)) (i f : Span) (a b : Texts) → p.plan ≡ refusal line
+    → Runs s W (stop_piece line ∷ []) Nowhere a b
+    → Runs s W (pieces p.plan tree i.before.rest) (stood p tree i f) a b
+refused-runs s W p line tree i f a b is h =
+    let same = subst (λ x. Runs s W (pieces x tree i.before.rest) (among x tree i f) a b) (sym is) h in
+    runs-weaken W s (pieces p.plan tree i.before.rest) (among p.plan tree i f) (stood p tree i f) a b
+    (λ why file k x. in_inputs x) same
 
 -- a plan that only says something reads no input
 no_input : reads_standard [] ≡ true → ⊥
@@ -116,14 +119,18 @@ said-goes (Err e) plan P is = tt
 
 -- the run over the same plan, and over the same names
 pub match-runs : (s : Result Tally Ended) (W : Telling) (m : Maker) (whole : Bool) (names names' : List (List ℕ))
-    (plan : Plan) (tree : List (List ℕ × List ℕ)) (i f : Span) (a b : Texts) → plan ≡ Reads m whole names
-    → names' ≡ names → Runs s W (inputs_pieces (makes_of m) (reading whole) tree i.before.rest names')
-    (InInputs names' (λ front. length (inputs_pieces (makes_of m) (reading whole) tree i.before.rest front)) tree whole
+    (r : Reading) (plan : Plan) (tree : List (List ℕ × List ℕ)) (i f : Span) (a b : Texts)
+    → plan ≡ Reads m whole names → names' ≡ names → r ≡ reading whole
+    → Runs s W (inputs_pieces (makes_of m) r tree i.before.rest names')
+    (InInputs names' (λ front. length (inputs_pieces (makes_of m) r tree i.before.rest front)) tree r.whole
     i.before i.after f.before f.after) a b
     → Runs s W (pieces plan tree i.before.rest) (among plan tree i f) a b
-match-runs s W m whole names names' plan tree i f a b is n h =
+match-runs s W m whole names names' r plan tree i f a b is n e h =
+    let read = subst (λ x. Runs s W (inputs_pieces (makes_of m) x tree i.before.rest names')
+    (InInputs names' (λ front. length (inputs_pieces (makes_of m) x tree i.before.rest front)) tree x.whole
+    i.before i.after f.before f.after) a b) e h in
     subst (λ x. Runs s W (pieces x tree i.before.rest) (among x tree i f) a b) (sym is)
-    (subst (λ x. Runs s W (pieces (Reads m whole x) tree i.before.rest) (among (Reads m whole x) tree i f) a b) n h)
+    (subst (λ x. Runs s W (pieces (Reads m whole x) tree i.before.rest) (among (Reads m whole x) tree i f) a b) n read)
 
 -- and over the same tests
 pub test-runs : (s : Result Tally Ended) (W : Telling) (bench : Bench) (trials : List Trial) (plan : Plan)

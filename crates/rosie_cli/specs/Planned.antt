@@ -98,7 +98,8 @@ IsMatch c (Some path) pattern inputs tree p =
 -- the plan of each command
 abbrev pub IsPlannedAs : Command → What → Tree → Planned → Type 0
 IsPlannedAs c (W.Match pattern inputs) tree p = IsMatch c c.code_file pattern inputs tree p
-IsPlannedAs c (W.Grep pattern inputs) tree p = IsRunning (matching (settings_of c) inputs) (wanted c pattern true) tree p
+IsPlannedAs c (W.Grep pattern inputs) tree p =
+    IsRunning (matching (settings_of c) inputs) (wanted c pattern true) tree p
 IsPlannedAs c (W.Test file) tree p = IsTesting c.folders file c.budget tree p
 IsPlannedAs c (W.Class name) tree p = p ≡ record { asked = []; plan = class_plan name (set_named name) }
 IsPlannedAs c W.List tree p = IsListed c.roots c.folders tree p

@@ -1,21 +1,25 @@
 //! The plan of the class with a name.
 
-ghost use Rattle.std.specs.Prelude.{◌≡◌, IfOk};
+ghost use Rattle.std.specs.Prelude.{IfErr, IfOk};
+ghost use Rattle.rosie_prepare.specs.inside.Steps.{IsOwn};
 ghost use Rattle.rpl_classes.specs.Classes.{set_named};
 ghost use Rattle.rosie_cli.specs.Classes.{class_plan};
-ghost use Rattle.rosie_cli.specs.inside.Planning.{plan_of};
+ghost use Rattle.rosie_cli.specs.Promises.{IsPromised};
+ghost use Rattle.rosie_cli.specs.inside.Planning.{plan_of, IsMade};
 
 use crate::plan::Plan;
-use rosie_run::NoMemory;
+use rosie_prepare::Unready;
 use rpl_classes::{Set, SetFault};
 use rpl_listing::push_class;
 use rpl_print::text_of;
 use rpl_text::Chars;
-use std::alloc::{AllocError, Global};
+use std::alloc::Global;
 
 /// The ranges of the set with a name, a line for each; a name that stands for nothing is refused.
-pub(crate) fn plan_class(alloc: Global, name: &Chars) -> Result<Plan, NoMemory>
-    ensures { IfOk result (λ plan. plan_of plan ≡ class_plan name.now (set_named name.now)) }
+pub(crate) fn plan_class(alloc: Global, name: &Chars) -> Result<Plan, Unready>
+    ensures makes { IsMade result (class_plan name.now (set_named name.now)) }
+    ensures due { IfOk result (λ plan. IsPromised (plan_of plan)) }
+    ensures own { IfErr result IsOwn }
 {
     match Set::named(alloc, name.as_str()) {
         Ok(set) => {
@@ -26,9 +30,10 @@ pub(crate) fn plan_class(alloc: Global, name: &Chars) -> Result<Plan, NoMemory>
         Err(fault) => match fault {
             SetFault::UnknownClass { .. } => {
                 let name = text_of(name);
-                Ok(Plan::Refuse(format!(in alloc; "rosie: unknown class: {name}\n")?))
+                let line = format!(in alloc; "rosie: unknown class: {name}\n")?;
+                Err(Unready::Refused(line))
             }
-            _ => Err(AllocError),
+            _ => Err(Unready::NoMemory),
         },
     }
 }

@@ -1,18 +1,17 @@
 //! The plan of a code file that runs on each line.
 
-ghost use Rattle.std.specs.Prelude.{◌≡◌, ◌<◌, ◌≤◌, ◌^◌, ◌-◌, encode_utf8_all, IfOk};
-ghost use Rattle.rosie_run.specs.Sources.{moment};
+ghost use Rattle.std.specs.Prelude.{encode_utf8_all};
 ghost use Rattle.rosie_cli.specs.CodeFiles.{IsCodeLines};
 ghost use Rattle.rosie_cli.specs.Planned.{input_names};
 ghost use Rattle.rosie_cli.specs.Plans.{Planned};
-ghost use Rattle.rosie_cli.specs.Promises.{IsPromised};
-ghost use Rattle.rosie_cli.specs.inside.Planning.{HasCause, Plans, plan_of};
+ghost use Rattle.rosie_cli.specs.inside.Planning.{Leaves, Plans};
 
-use crate::match_plan::input_names;
-use crate::plan::{Plan, Unplanned};
+use crate::goal_plan::input_names;
+use crate::plan::Plan;
 use rosie_code::{Unloaded, load_code};
 use rosie_io::Files;
 use rosie_jobs::{CodeJob, Settings};
+use rosie_prepare::Unready;
 use rosie_words::Paths;
 use rpl_print::text_of;
 use rpl_text::Chars;
@@ -25,14 +24,10 @@ pub(crate) fn plan_code<F: Files>(
     settings: Settings,
     inputs: Paths,
     files: &mut F,
-) -> Result<Plan, Unplanned>
+) -> Result<Plan, Unready>
     ensures plans { F.tells → (p : Planned)
         → IsCodeLines settings (encode_utf8_all path) (input_names inputs) (F.tree files.old) p → Plans result p }
-    ensures due { IfOk result (λ plan. IsPromised (plan_of plan)) }
-    ensures cause { HasCause result (moment F.rest F.taken F.faults F.failed_opens files.old)
-        (moment F.rest F.taken F.faults F.failed_opens files.new) }
-    ensures taken { F.taken files.new < 2 ^ 64 - 1 → F.taken files.old ≤ F.taken files.new }
-    ensures tree { F.tree files.new ≡ F.tree files.old }
+    ensures leaves { Leaves F.Source result files.old files.new }
 {
     let names = input_names(alloc, inputs)?;
     let whole = settings.whole;
@@ -42,9 +37,9 @@ pub(crate) fn plan_code<F: Files>(
             Ok(Plan::Run { job, whole, names })
         }
         Err(unloaded) => match unloaded {
-            Unloaded::NoMemory => Err(Unplanned::NoMemory),
-            Unloaded::Refused(line) => Ok(Plan::Refuse(line)),
-            Unloaded::ReadFault => Err(Unplanned::ReadFault(path)),
+            Unloaded::NoMemory => Err(Unready::NoMemory),
+            Unloaded::Refused(line) => Err(Unready::Refused(line)),
+            Unloaded::ReadFault => Err(Unready::ReadFault(path)),
         },
     }
 }

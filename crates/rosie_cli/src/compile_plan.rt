@@ -1,8 +1,8 @@
 //! The plan of `compile`.
 
-ghost use Rattle.std.specs.Prelude.{◌≡◌, ◌<◌, ◌≤◌, ◌^◌, ◌-◌, ℕ, List, Ok, IfOk};
+ghost use Rattle.std.specs.Prelude.{ℕ, List, Ok, IfErr, IfOk};
 ghost use Rattle.rosie_prepare.specs.Views.{ready_seen, wanted_seen};
-ghost use Rattle.rosie_run.specs.Sources.{moment};
+ghost use Rattle.rosie_prepare.specs.inside.Steps.{IsOwn};
 ghost use Rattle.rpl_check.specs.Checked.{IsWhole};
 ghost use Rattle.rpl_check.specs.Goal.{peg_of};
 ghost use Rattle.rpl_core.specs.Table.{bodies_of};
@@ -11,30 +11,26 @@ ghost use Rattle.rpl_simulation.specs.Laws.{IsCapture};
 ghost use Rattle.rosie_cli.specs.Compiling.{Compiles, IsCompiled};
 ghost use Rattle.rosie_cli.specs.Plans.{Planned};
 ghost use Rattle.rosie_cli.specs.Promises.{IsPromised};
-ghost use Rattle.rosie_cli.specs.inside.Planning.{plan_of, Plans, HasCause, PlansRun};
+ghost use Rattle.rosie_cli.specs.inside.Planning.{plan_of, Leaves, Makes, Plans};
 
-use crate::plan::{Plan, Unplanned};
-use rosie_faults::compile_line;
+use crate::plan::{Plan, uncompiled};
 use rosie_io::Files;
 use rosie_prepare::{Prepared, Unready, Wanted, prepare};
-use rosie_run::NoMemory;
 use rpl_codefile::write_code;
-use rpl_codegen::{CompileFault, compile};
-use std::alloc::{AllocError, Global};
+use rpl_codegen::compile;
+use std::alloc::Global;
 
 /// The plan of a pattern that is ready: the code file of its program.
-fn plan_file(alloc: Global, ready: &Prepared) -> Result<Plan, NoMemory>
+fn plan_file(alloc: Global, ready: &Prepared) -> Result<Plan, Unready>
     requires whole { IsWhole (bodies_of ready.now.rules) (core_of (peg_of ready.now.goal)) }
     requires root { (label : List ℕ) × IsCapture (bodies_of ready.now.rules) label (core_of (peg_of ready.now.goal)) }
-    ensures plans { IfOk result (λ plan. PlansRun plan (Compiles (Ok (ready_seen ready.now)))) }
+    ensures makes { Makes result (Compiles (Ok (ready_seen ready.now))) }
     ensures due { IfOk result (λ plan. IsPromised (plan_of plan)) }
+    ensures own { IfErr result IsOwn }
 {
     match compile(alloc, &ready.rules, &ready.goal) {
         Ok(program) => Ok(Plan::Write(write_code(alloc, &program)?)),
-        Err(fault) => match fault {
-            CompileFault::CodeTooLong => Ok(Plan::Refuse(compile_line(alloc)?)),
-            CompileFault::NoMemory => Err(AllocError),
-        },
+        Err(fault) => Err(uncompiled(alloc, fault)),
     }
 }
 
@@ -43,21 +39,11 @@ pub(crate) fn plan_compiled<F: Files>(
     alloc: Global,
     wanted: &Wanted<'_>,
     files: &mut F,
-) -> Result<Plan, Unplanned>
+) -> Result<Plan, Unready>
     ensures plans { F.tells → (p : Planned) → IsCompiled (wanted_seen wanted.now) (F.tree files.old) p
         → Plans result p }
-    ensures due { IfOk result (λ plan. IsPromised (plan_of plan)) }
-    ensures cause { HasCause result (moment F.rest F.taken F.faults F.failed_opens files.old)
-        (moment F.rest F.taken F.faults F.failed_opens files.new) }
-    ensures taken { F.taken files.new < 2 ^ 64 - 1 → F.taken files.old ≤ F.taken files.new }
-    ensures tree { F.tree files.new ≡ F.tree files.old }
+    ensures leaves { Leaves F.Source result files.old files.new }
 {
-    match prepare(alloc, files, wanted) {
-        Ok(ready) => Ok(plan_file(alloc, &ready)?),
-        Err(unready) => match unready {
-            Unready::NoMemory => Err(Unplanned::NoMemory),
-            Unready::Refused(line) => Ok(Plan::Refuse(line)),
-            Unready::ReadFault(path) => Err(Unplanned::ReadFault(path)),
-        },
-    }
+    let ready = prepare(alloc, files, wanted)?;
+    plan_file(alloc, &ready)
 }

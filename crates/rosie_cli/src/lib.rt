@@ -2,9 +2,10 @@
 //! `main` calls it with the real streams and files, and tests with those in memory.
 //!
 //! `specs/Planned.antt` says what the words come to over the tree of files, and `specs/Plans.antt` what a plan writes;
-//! the contract of [`rosie`] says what each answer tells of that. Each command is a case of `IsPlanned`, an arm of
-//! `plan_command` and a module of its own; only files are read for a plan, and nothing is written before it stands. A
-//! session is an arm of `run_command`, since it reads its files as its lines come.
+//! the contract of [`rosie`] says what each answer tells of that. Each command is a case of `IsPlanned` and an arm of
+//! `plan_command`, which calls a module of the command's own; those that run a pattern on lines share `goal_plan`. Only
+//! files are read for a plan, and nothing is written before it stands. A session is an arm of `run_command`, since it
+//! reads its files as its lines come.
 #![tactic(auto)]
 
 mod asked;
@@ -12,16 +13,15 @@ mod class_plan;
 mod code_plan;
 mod compile_plan;
 mod expand_plan;
+mod goal_plan;
 mod laws;
 mod list_plan;
-mod match_plan;
 mod options;
 mod plan;
 mod planning;
 mod sample_plan;
 mod test_plan;
 mod top;
-mod trace_plan;
 
 pub use laws::{compiled_is_run, one_plan};
 pub use rosie_run::Status;

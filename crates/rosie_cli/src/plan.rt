@@ -1,20 +1,21 @@
 //! What a command comes to before anything is written.
 
-ghost use Rattle.std.specs.Prelude.{◌≡◌};
+ghost use Rattle.rosie_prepare.specs.inside.Steps.{Tells};
+ghost use Rattle.rosie_cli.specs.inside.Planning.{due_of};
 
+use rosie_faults::compile_line;
 use rosie_io::Bytes;
 use rosie_jobs::{CodeJob, MatchJob, TraceJob};
+use rosie_prepare::Unready;
 use rosie_sample::SampleRun;
 use rosie_verdicts::Suite;
 use rosie_words::Paths;
-use rpl_text::Chars;
-use std::alloc::AllocError;
+use rpl_codegen::CompileFault;
+use std::alloc::Global;
 
-/// What a command comes to. Only files were read for it, and nothing is written.
+/// What a command comes to that isn't refused. Only files were read for it, and nothing is written.
 #[derive(Drop)]
 pub(crate) enum Plan {
-    /// A refusal, with this text.
-    Refuse(String),
     /// A text that is the whole answer.
     Answer(String),
     /// The bytes of a code file, which are the whole answer.
@@ -43,20 +44,15 @@ pub(crate) enum Plan {
     Sample(SampleRun),
 }
 
-/// Why there is no plan.
-#[derive(Drop)]
-pub(crate) enum Unplanned {
-    NoMemory,
-    /// A read failed of the file of this path.
-    ReadFault(Chars),
-}
-
-impl From<AllocError> for Unplanned {
-    ghost use Rattle.rosie_cli.specs.declared.plan.Unplanned.TheVariants.{NoMemory};
-
-    ghost from_gives = { λ _ unplanned. unplanned ≡ NoMemory };
-
-    fn from(_error: AllocError) -> Unplanned {
-        Unplanned::NoMemory
+/// The refusal of a pattern that has no program: its code is too long.
+pub(crate) fn uncompiled(alloc: Global, fault: CompileFault) -> Unready
+    ensures { Tells (due_of fault) result }
+{
+    match fault {
+        CompileFault::CodeTooLong => match compile_line(alloc) {
+            Ok(line) => Unready::Refused(line),
+            Err(_) => Unready::NoMemory,
+        },
+        CompileFault::NoMemory => Unready::NoMemory,
     }
 }

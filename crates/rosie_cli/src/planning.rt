@@ -1,43 +1,68 @@
 //! From a command to its plan.
 
-ghost use Rattle.std.specs.Prelude.{◌≡◌, ◌≢◌, ◌<◌, ◌≤◌, ◌^◌, ◌-◌, IfOk};
-ghost use Rattle.rosie_run.specs.Sources.{moment};
+ghost use Rattle.std.specs.Prelude.{◌≡◌, ◌≢◌, encode_utf8_all};
+ghost use Rattle.rosie_prepare.specs.Views.{wanted_seen};
 ghost use Rattle.rosie_words.specs.declared.command.What.TheVariants as W;
 ghost use Rattle.rosie_cli.specs.Planned.{IsPlannedAs};
 ghost use Rattle.rosie_cli.specs.Plans.{Planned};
-ghost use Rattle.rosie_cli.specs.Promises.{IsPromised};
-ghost use Rattle.rosie_cli.specs.inside.Planning.{plan_of, Plans, HasCause};
+ghost use Rattle.rosie_cli.specs.inside.Planning.{Leaves, Plans};
 
 use crate::class_plan::plan_class;
 use crate::code_plan::plan_code;
 use crate::compile_plan::plan_compiled;
 use crate::expand_plan::plan_expansion;
+use crate::goal_plan::{Purpose, plan_goal};
 use crate::list_plan::plan_list;
-use crate::match_plan::plan_lines;
 use crate::options::settings_of;
-use crate::plan::{Plan, Unplanned};
-use crate::sample_plan::{Lines, plan_sample};
+use crate::plan::Plan;
+use crate::sample_plan::plan_sample;
 use crate::test_plan::plan_tests;
-use crate::trace_plan::{Bounds, plan_traces};
 use rosie_io::Files;
-use rosie_prepare::Wanted;
+use rosie_prepare::{Unready, Wanted};
 use rosie_words::{Command, What};
+use rpl_package::{LibPath, Roots};
 use rpl_print::text_of;
+use rpl_text::Chars;
 use std::alloc::Global;
+
+/// What a pattern is read over, as the options say.
+#[derive(Clone, Copy)]
+struct Base<'a> {
+    roots: &'a Roots,
+    folders: &'a LibPath,
+    fixed: bool,
+}
+
+impl<'a> Base<'a> {
+    /// What a command wants of its pattern, which is matched from the start of a line or looked for.
+    fn wants(&self, pattern: &'a Chars, find: bool) -> Wanted<'a>
+        ensures { wanted_seen result ≡ record {
+          roots = self.now.roots.now;
+          folders = self.now.folders.now;
+          text = encode_utf8_all pattern.now;
+          fixed = self.now.fixed;
+          find = find;
+        } }
+    {
+        Wanted {
+            roots: self.roots,
+            folders: self.folders,
+            text: text_of(pattern),
+            fixed: self.fixed,
+            find,
+        }
+    }
+}
 
 /// The plan of a command. A session has none: it reads its files as its lines come.
 pub(crate) fn plan_command<F: Files>(
     alloc: Global,
     command: Command,
     files: &mut F,
-) -> Result<Plan, Unplanned>
+) -> Result<Plan, Unready>
     requires { command.what ≢ W.Repl }
     ensures plans { F.tells → (p : Planned) → IsPlannedAs command command.what (F.tree files.old) p → Plans result p }
-    ensures due { IfOk result (λ plan. IsPromised (plan_of plan)) }
-    ensures cause { HasCause result (moment F.rest F.taken F.faults F.failed_opens files.old)
-        (moment F.rest F.taken F.faults F.failed_opens files.new) }
-    ensures taken { F.taken files.new < 2 ^ 64 - 1 → F.taken files.old ≤ F.taken files.new }
-    ensures tree { F.tree files.new ≡ F.tree files.old }
+    ensures leaves { Leaves F.Source result files.old files.new }
 {
     let settings = settings_of(&command);
     let Command {
@@ -52,61 +77,46 @@ pub(crate) fn plan_command<F: Files>(
         whole,
         ..
     } = command;
-    let wanted = Wanted {
+    let base = Base {
         roots: &roots,
         folders: &folders,
-        text: "",
         fixed,
-        find: false,
     };
     match what {
         What::Match { pattern, inputs } => match code_file {
-            None => {
-                let wanted = Wanted {
-                    text: text_of(&pattern),
-                    ..wanted
-                };
-                plan_lines(alloc, &wanted, settings, inputs, files)
-            }
             Some(path) => plan_code(alloc, path, settings, inputs, files),
+            None => {
+                let purpose = Purpose::Match { settings, inputs };
+                plan_goal(alloc, &base.wants(&pattern, false), purpose, files)
+            }
         },
         What::Grep { pattern, inputs } => {
-            let wanted = Wanted {
-                text: text_of(&pattern),
-                find: true,
-                ..wanted
-            };
-            plan_lines(alloc, &wanted, settings, inputs, files)
-        }
-        What::Test { file } => plan_tests(alloc, file, &folders, budget, files),
-        What::Class { name } => Ok(plan_class(alloc, &name)?),
-        What::List => plan_list(alloc, &roots, &folders, files),
-        What::Expand { pattern } => {
-            let wanted = Wanted {
-                text: text_of(&pattern),
-                ..wanted
-            };
-            plan_expansion(alloc, &wanted, code, files)
-        }
-        What::Compile { pattern } => {
-            let wanted = Wanted {
-                text: text_of(&pattern),
-                ..wanted
-            };
-            plan_compiled(alloc, &wanted, files)
+            let purpose = Purpose::Match { settings, inputs };
+            plan_goal(alloc, &base.wants(&pattern, true), purpose, files)
         }
         What::Trace { pattern, inputs } => {
-            let wanted = Wanted {
-                text: text_of(&pattern),
-                ..wanted
+            let purpose = Purpose::Trace {
+                limit,
+                whole,
+                inputs,
             };
-            let bounds = Bounds { limit, whole };
-            plan_traces(alloc, &wanted, bounds, inputs, files)
+            plan_goal(alloc, &base.wants(&pattern, false), purpose, files)
         }
         What::Sample { seed, lines } => {
-            let lines = Lines { seed, count: lines };
-            plan_sample(alloc, &folders, settings, lines, files)
+            let purpose = Purpose::Sample {
+                settings,
+                seed,
+                lines,
+            };
+            plan_sample(alloc, &folders, purpose, files)
         }
+        What::Expand { pattern } => {
+            plan_expansion(alloc, &base.wants(&pattern, false), code, files)
+        }
+        What::Compile { pattern } => plan_compiled(alloc, &base.wants(&pattern, false), files),
+        What::Test { file } => plan_tests(alloc, file, &folders, budget, files),
+        What::List => plan_list(alloc, &roots, &folders, files),
+        What::Class { name } => plan_class(alloc, &name),
         What::Repl => unreachable!(),
     }
 }

@@ -1,13 +1,16 @@
 //! The top call: the words are read, their command is planned, the plan runs, and the run is ended. A session runs
 //! without a plan.
 
-ghost use Rattle.std.specs.Prelude.{◌≡◌, ◌<◌, ◌^◌, [], length};
+ghost use Rattle.std.specs.Prelude.{◌≡◌, ◌<◌, ◌^◌, ◌∷◌, [], ℕ, length, string_bytes, IfErr};
 ghost use Rattle.rosie_io.specs.Counts.{Rose};
+ghost use Rattle.rosie_jobs.specs.Lines.{reading};
 ghost use Rattle.rosie_run.specs.Causes.{SourcesCause, WritesCause, OutputCause, ReadsCause, IsFlushed};
 ghost use Rattle.rosie_run.specs.Headline.{Headline, CameToEnd, IsComplete, AreShort};
 ghost use Rattle.rosie_run.specs.Outputs.{texts};
-ghost use Rattle.rosie_run.specs.Runs.{Runs, GoesOn};
+ghost use Rattle.rosie_run.specs.Report.{stop_piece};
+ghost use Rattle.rosie_run.specs.Runs.{Runs, GoesOn, IsNoCut};
 ghost use Rattle.rosie_run.specs.Sources.{moment, RoseIn};
+ghost use Rattle.rosie_run.specs.Where.{Nowhere};
 ghost use Rattle.rosie_words.specs.Reading.{words_of};
 ghost use Rattle.rosie_cli.specs.Planned.{IsPlanned, IsPlannedAs};
 ghost use Rattle.rosie_cli.specs.Plans.{Planned, pieces, inputs_of, ReadsInput, span, among, stood};
@@ -17,10 +20,11 @@ ghost use Rattle.rosie_cli.specs.Words.{asked, IsRefused};
 ghost use Rattle.rosie_cli.specs.inside.Planning.{plan_of, IsSaid, HasStepped};
 
 use crate::asked::{Asked, ask};
-use crate::plan::{Plan, Unplanned};
+use crate::plan::Plan;
 use crate::planning::plan_command;
 use rosie_io::{Files, Sink, Source};
 use rosie_jobs::MOST_BYTES;
+use rosie_prepare::Unready;
 use rosie_run::{Ended, Mark, Reading, Status, Tally, Why, cut, finish, run_inputs, say};
 use rosie_session::run_session;
 use rosie_words::{Command, What};
@@ -28,6 +32,28 @@ use rpl_machine::Steps;
 use rpl_print::text_of;
 use std::alloc::Global;
 use std::sync::ledger::Ledger;
+
+/// How the lines of an input are read.
+fn reading(whole: bool) -> Reading
+    ensures { result ≡ reading whole }
+{
+    Reading {
+        whole,
+        most: MOST_BYTES,
+    }
+}
+
+/// Refuses the words, with this line.
+fn refuse<O: Sink, E: Sink>(line: String, out: &mut O, err: &mut E) -> Result<Tally, Ended>
+    ensures runs { (n : ℕ) → Runs result (record { out = O.tells; err = E.tells; counts = O.counts })
+        (stop_piece (string_bytes line) ∷ []) Nowhere
+        (texts O.written O.number E.written out.old err.old n)
+        (texts O.written O.number E.written out.new err.new n) }
+    ensures no_cut { IfErr result IsNoCut }
+    ensures sinks { WritesCause result (O.faults out.old) (O.faults out.new) (E.faults err.old) (E.faults err.new) }
+{
+    say(out, err, &[], line.as_bytes(), Mark::Stop)
+}
 
 /// Runs a plan, but for its end. One that only says something reads nothing.
 fn run_plan<F: Files, I: Source, O: Sink, E: Sink, L: Ledger>(
@@ -56,31 +82,21 @@ fn run_plan<F: Files, I: Source, O: Sink, E: Sink, L: Ledger>(
     ensures untouched { IsSaid (plan_of plan.old) → (files.new ≡ files.old) × (input.new ≡ input.old) }
 {
     match plan {
-        Plan::Refuse(text) => say(out, err, &[], text.as_bytes(), Mark::Stop),
         Plan::Answer(text) => say(out, err, text.as_bytes(), &[], Mark::Hit),
         Plan::Write(bytes) => say(out, err, bytes.as_slice(), &[], Mark::Hit),
         Plan::Test(suite) => suite.run(alloc, out, err, steps),
         Plan::Match { job, whole, names } => {
-            let reading = Reading {
-                whole: *whole,
-                most: MOST_BYTES,
-            };
+            let reading = reading(*whole);
             let names = names.as_slice();
             run_inputs(alloc, job, reading, names, files, input, out, err, steps)
         }
         Plan::Trace { job, whole, names } => {
-            let reading = Reading {
-                whole: *whole,
-                most: MOST_BYTES,
-            };
+            let reading = reading(*whole);
             let names = names.as_slice();
             run_inputs(alloc, job, reading, names, files, input, out, err, steps)
         }
         Plan::Run { job, whole, names } => {
-            let reading = Reading {
-                whole: *whole,
-                most: MOST_BYTES,
-            };
+            let reading = reading(*whole);
             let names = names.as_slice();
             run_inputs(alloc, job, reading, names, files, input, out, err, steps)
         }
@@ -121,9 +137,10 @@ fn run_command<F: Files, I: Source, O: Sink, E: Sink, L: Ledger>(
         What::Repl => run_session(alloc, &command.folders, files, input, out, err, steps),
         _ => match plan_command(alloc, command, files) {
             Ok(mut plan) => run_plan(alloc, &mut plan, files, input, out, err, steps),
-            Err(unplanned) => match unplanned {
-                Unplanned::NoMemory => Err(Ended::NoMemory),
-                Unplanned::ReadFault(path) => Err(cut(alloc, Why::ReadFault, text_of(&path))),
+            Err(unready) => match unready {
+                Unready::NoMemory => Err(Ended::NoMemory),
+                Unready::Refused(line) => refuse(line, out, err),
+                Unready::ReadFault(path) => Err(cut(alloc, Why::ReadFault, text_of(&path))),
             },
         },
     }
@@ -162,10 +179,7 @@ fn run_words<F: Files, I: Source, O: Sink, E: Sink, L: Ledger>(
 {
     match ask(alloc, words) {
         Ok(asked) => match asked {
-            Asked::Refuse(text) => {
-                let mut plan = Plan::Refuse(text);
-                run_plan(alloc, &mut plan, files, input, out, err, steps)
-            }
+            Asked::Refuse(text) => refuse(text, out, err),
             Asked::Do(command) => run_command(alloc, command, files, input, out, err, steps),
         },
         Err(_) => Err(Ended::NoMemory),

@@ -38,7 +38,8 @@ IsLoaded path (Some bytes) r =
 
 -- a file comes to one of them
 abbrev pub OneLoading : Type 0
-OneLoading = (path : List ℕ) (file : Option (List ℕ)) (r s : OrLine) → IsLoaded path file r → IsLoaded path file s → r ≡ s
+OneLoading =
+    (path : List ℕ) (file : Option (List ℕ)) (r s : OrLine) → IsLoaded path file r → IsLoaded path file s → r ≡ s
 
 -- what an answer says of the file: want of memory and a failed read say nothing
 abbrev pub Loads : List ℕ → Option (List ℕ) → Result Program Unloaded → Type 0

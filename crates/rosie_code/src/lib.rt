@@ -7,8 +7,6 @@
 
 mod laws;
 mod loading;
-#[cfg(test)]
-mod tests;
 mod unloaded;
 
 pub use laws::{one_loading, written_law};

@@ -7,8 +7,6 @@
 
 mod load;
 mod rules;
-#[cfg(test)]
-mod tests;
 mod texts;
 
 pub use load::load_line;

@@ -14,8 +14,8 @@ use rpl_codegen::{CompileFault, compile};
 use rpl_core::Program;
 use std::alloc::Global;
 
-/// A goal, the rules that it may call, and their code, which does what the goal means. The goal means something on every
-/// text.
+/// A goal, the rules that it may call, and their code, which does what the goal means. The goal means something on
+/// every text.
 #[derive(Drop)]
 pub struct Job {
     rules: Checked,

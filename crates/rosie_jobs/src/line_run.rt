@@ -103,7 +103,8 @@ impl LineRun {
         requires { length line.now ≤ 2 ^ 30 }
         ensures same { self.new.settings ≡ self.old.settings }
         ensures made { (o : Outcome)
-            → IsShown (R.run (instructions program.now) (chars line.now) (budget_of self.old.settings (chars line.now))) o
+            → IsShown
+            (R.run (instructions program.now) (chars line.now) (budget_of self.old.settings (chars line.now))) o
             → IfOk result (λ mark. IsMade mark self.new.texts.answer (string_bytes self.new.texts.told)
             (ran_piece self.old.settings file.now number line.now o
             (R.run (instructions program.now) (chars line.now) (budget_of self.old.settings (chars line.now))))) }

@@ -3,11 +3,11 @@ use Rattle.std.proofs.Common.{◌≡◌, ℕ, Bool, true, false, List, length, s
 use Rattle.std.proofs.Common.{inr}
 use Rattle.std.specs.Prelude.{map, Option, Some, None, Result, Ok, Err, encode_utf8_all}
 use Rattle.std.proofs.lemmas.Bool.{cases_lt}
+use Rattle.std.specs.Option.{option_or}
 use Rattle.rosie_prepare.proofs.Passing.{first_same, goal_same}
 use Rattle.rosie_prepare.specs.Laws.{OnePreparation}
 use Rattle.rosie_prepare.specs.Prepared.{Comes, OrLine, Passes, Ready, TableComes, TableFacts}
 use Rattle.rosie_prepare.specs.Prepared.{blocks, found, goal_in, loaded, ready, table_too_large, table_unsound, too_large, unsound}
-use Rattle.rpl_check.specs.Causes.{or_then}
 use Rattle.rpl_check.specs.Faults as C
 use Rattle.rpl_expand.specs.Faults as E
 use Rattle.rpl_expand.specs.Sets.{table_of}
@@ -62,8 +62,8 @@ passes_one p None fault a r q same h k = h.1 ∙ ap (found p a) (same h.0 k.0) �
 
 unsound_one : (p : Packages) (e : Expr) (c d : TableFacts p) → unsound p e c ≡ unsound p e d
 unsound_one p e c d =
-    ap (λ f. or_then f (C.goal_fault c.empties c.halting (goal_in p e))) (first_same _ d c (blocks (table_of p)))
-    ∙ ap (or_then _) (goal_same _ d c (goal_in p e))
+    ap (λ f. option_or f (C.goal_fault c.empties c.halting (goal_in p e))) (first_same _ d c (blocks (table_of p)))
+    ∙ ap (option_or _) (goal_same _ d c (goal_in p e))
 
 comes_one : (l : Or (Expr × Packages)) (r q : OrLine Ready) → Comes l r → Comes l q → r ≡ q
 comes_one (Err f) r q h k = h ∙ sym k

@@ -2,6 +2,7 @@
 use Rattle.std.proofs.Common.{◌≡◌, ℕ, List, [], ◌∷◌, refl, sym, ◌∙◌, ap, subst}
 use Rattle.std.specs.Prelude.{IfErr, IsErrAnd, Option, Some, None, Result, Ok, Err, string_bytes}
 use Rattle.std.specs.Option.{option_map}
+use Rattle.std.specs.Option.{option_or}
 use Rattle.rosie_faults.specs.Lines.{Line, check_line, expand_line}
 use Rattle.rosie_prepare.specs.Answers.{IsDue, Prepares}
 use Rattle.rosie_prepare.specs.Prepared.{OrLine, Passes, Ready, TableFacts, bodies, blocks, found, goal_in, ready}
@@ -11,7 +12,6 @@ use Rattle.rosie_prepare.specs.inside.Steps.{IsOwn, Tells}
 use Rattle.rpl_check.proofs.Exists.{facts_same}
 use Rattle.rpl_check.specs.Answers as CA
 use Rattle.rpl_check.specs.Blocks.{first_fault, table_fault}
-use Rattle.rpl_check.specs.Causes.{or_then}
 use Rattle.rpl_check.specs.Facts.{Facts}
 use Rattle.rpl_check.specs.Faults as C
 use Rattle.rpl_core.specs.Core.{Core}
@@ -73,19 +73,19 @@ pub none_mapped : {F : Type 0} (line : F → Line) (o : Option F) → option_map
 none_mapped line None h = refl
 none_mapped line (Some f) h = cc
 
-pub none_then : {F : Type 0} (a b : Option F) → a ≡ None → b ≡ None → or_then a b ≡ None
-none_then a b h k = ap (λ x. or_then x b) h ∙ k
+pub none_then : {F : Type 0} (a b : Option F) → a ≡ None → b ≡ None → option_or a b ≡ None
+none_then a b h k = ap (λ x. option_or x b) h ∙ k
 
 tells_line :
     {F : Type 0} (line : F → Line) (a b : Option F) (text : Line) → option_map line a ≡ Some text
-    → option_map line (or_then a b) ≡ Some text
+    → option_map line (option_or a b) ≡ Some text
 tells_line line None b text h = cc
 tells_line line (Some f) b text h = h
 
 -- what the first tells is told of both
 pub tells_first :
     {F : Type 0} (line : F → Line) (a b : Option F) (u : Unready) → Tells (option_map line a) u
-    → Tells (option_map line (or_then a b)) u
+    → Tells (option_map line (option_or a b)) u
 tells_first line a b NoMemory h = tt
 tells_first line a b (Refused text) h = tells_line line a b (string_bytes text) h
 tells_first line a b (ReadFault path) h = h
@@ -93,8 +93,8 @@ tells_first line a b (ReadFault path) h = h
 -- and what the second tells, where the first finds nothing
 pub tells_second :
     {F : Type 0} (line : F → Line) (a b : Option F) (u : Unready) → a ≡ None → Tells (option_map line b) u
-    → Tells (option_map line (or_then a b)) u
-tells_second line a b u e h = subst (λ x. Tells (option_map line (or_then x b)) u) (sym e) h
+    → Tells (option_map line (option_or a b)) u
+tells_second line a b u e h = subst (λ x. Tells (option_map line (option_or x b)) u) (sym e) h
 
 -- ---- static facts are the same
 

@@ -1,9 +1,9 @@
 -- From roots and a pattern to what is run, or to the line of the first fault, in three passes: everything is loaded,
 -- then expanded, then checked.
 use Rattle.std.specs.Prelude.{◌≡◌, ℕ, Bool, List, [], map, Option, Some, None, Result, Ok, Err, encode_utf8_all}
+use Rattle.std.specs.Option.{option_or}
 use Rattle.rosie_faults.specs.Lines.{Line, check_line, expand_line, load_line}
 use Rattle.rpl_check.specs.Blocks.{first_fault}
-use Rattle.rpl_check.specs.Causes.{or_then}
 use Rattle.rpl_check.specs.Facts.{Facts}
 use Rattle.rpl_check.specs.Faults as C
 use Rattle.rpl_core.specs.Core.{Core}
@@ -96,10 +96,10 @@ abbrev pub goal_in : Packages → Expr → Core
 goal_in p e = goal_of p (inners_from [] (table_of p)) e
 
 abbrev pub too_large : Packages → Expr → Option E.Fault
-too_large p e = or_then (table_too_large p) (E.size_fault None (goal_in p e))
+too_large p e = option_or (table_too_large p) (E.size_fault None (goal_in p e))
 
 abbrev pub unsound : (p : Packages) → Expr → TableFacts p → Option C.Fault
-unsound p e d = or_then (table_unsound p d) (C.goal_fault d.empties d.halting (goal_in p e))
+unsound p e d = option_or (table_unsound p d) (C.goal_fault d.empties d.halting (goal_in p e))
 
 abbrev pub ready : Packages → Expr → Ready
 ready p e = record { packages = p; expr = e; rules = table_of p; goal = goal_in p e }

@@ -11,8 +11,6 @@ mod laws;
 mod order;
 mod prepared;
 mod steps;
-#[cfg(test)]
-mod tests;
 mod unready;
 mod wanted;
 

@@ -129,8 +129,8 @@ impl State {
         Ok(true)
     }
 
-    /// Makes a change, and tells whether it is one: `false`, with nothing changed, exactly where the number is no text's, or
-    /// the command is `Try` or `Undo`. After want of memory nothing is changed either.
+    /// Makes a change, and tells whether it is one: `false`, with nothing changed, exactly where the number is no
+    /// text's, or the command is `Try` or `Undo`. After want of memory nothing is changed either.
     pub fn change(&mut self, edit: &Edit<'_>) -> Result<bool, NoMemory>
         ensures { Changes (session_of self.old) (session_of self.new)
             (S.changed (in_chars (edit_seen edit.now)) (session_of self.old)) result }
@@ -145,8 +145,8 @@ impl State {
         }
     }
 
-    /// Goes back to what was kept before the last change; `false`, with nothing changed, exactly where there was none. It
-    /// takes no memory.
+    /// Goes back to what was kept before the last change; `false`, with nothing changed, exactly where there was none.
+    /// It takes no memory.
     pub fn undo(&mut self) -> bool
         ensures { GoesOn (session_of self.old) (session_of self.new) (S.undone (session_of self.old)) result }
     {

@@ -1,5 +1,6 @@
 // The run over the lines of one input.
-ghost use Rattle.std.specs.Prelude.{◌≡◌, ◌+◌, ◌-◌, ◌^◌, ◌<◌, ◌≤◌, ℕ, List, [], Err, true, false, length, IfOk, IfErr, OnOk};
+ghost use Rattle.std.specs.Prelude.{◌≡◌, ◌+◌, ◌-◌, ◌^◌, ◌<◌, ◌≤◌, ℕ, List, [], Err, true, false, length, IfOk, IfErr};
+ghost use Rattle.std.specs.Prelude.{OnOk};
 ghost use Rattle.rosie_io.specs.Answering.{Keeps};
 ghost use Rattle.rosie_io.specs.Appending.{Appends};
 ghost use Rattle.rosie_io.specs.Counts.{capped};
@@ -7,7 +8,8 @@ ghost use Rattle.rosie_io.specs.Gathering.{left, Reads};
 ghost use Rattle.rosie_run.specs.Lines.{input_pieces};
 ghost use Rattle.rosie_run.specs.Outputs.{texts};
 ghost use Rattle.rosie_run.specs.inside.Causes.{BothCause, SinksCause, SourceCause, SpentCause, IsOfReading};
-ghost use Rattle.rosie_run.specs.inside.Passing.{MakesLine, CountsLine, StopsLine, PassesLine, RunsInput, made_out, made_err, made_mark};
+ghost use Rattle.rosie_run.specs.inside.Passing.{MakesLine, CountsLine, StopsLine, PassesLine, RunsInput, made_out};
+ghost use Rattle.rosie_run.specs.inside.Passing.{made_err, made_mark};
 
 use crate::line_job::LineJob;
 use crate::write::{flush_before_wait, line_fault, write_both};

@@ -2,6 +2,7 @@
 use Rattle.std.proofs.Common.{ℕ, ◌≡◌, ◌+◌, ◌≤◌, Bool, true, false, ◌||◌, cond, List, [], ◌∷◌, length, refl, ◌∙◌, ap}
 use Rattle.std.proofs.Common.{arith, Box, Global, Vec}
 use Rattle.std.specs.Prelude.{Option, Some, None, nat_lt}
+use Rattle.std.specs.Option.{option_or}
 use mathlib.Core.Former.{this, list_count, none_left}
 use denote.RawPtr.{null_ptr}
 use Rattle.rpl_core.specs.Core as C
@@ -10,7 +11,7 @@ use Rattle.rpl_core.specs.View.{core_of, cores_of}
 use Rattle.rpl_core.specs.declared.peg.Peg.{Peg, Set, Seq', Choice', Many', Not', And', Behind', Call, Capture'}
 use Rattle.rpl_core.specs.declared.peg.Peg.{Note, Start, End, Halt, Row_of-Peg, end_of-Peg, more_of-Peg}
 use Rattle.rpl_core.specs.declared.rules.Rule.{Rule}
-use Rattle.rpl_expand.specs.Faults.{Fault, or_then, size_fault, table_fault}
+use Rattle.rpl_expand.specs.Faults.{Fault, size_fault, table_fault}
 use Rattle.rpl_forms.specs.Rows.{Row, row_at, rows_of}
 use Rattle.rpl_forms.specs.Sizes.{nodes, all_nodes}
 
@@ -88,7 +89,7 @@ mutual
 
 -- ---- rows of rules
 
-neither : {A : Type 0} (a b : Option A) → or_then a b ≡ None → (a ≡ None) × (b ≡ None)
+neither : {A : Type 0} (a b : Option A) → option_or a b ≡ None → (a ≡ None) × (b ≡ None)
 neither (Some a) b e = absurd (cc)
 neither None b e = (refl, e)
 

@@ -10,6 +10,8 @@ use Rattle.std.proofs.lemmas.Bool.{false≢true}
 use Rattle.std.proofs.lemmas.List.{map-append, take_more}
 use Rattle.std.proofs.lemmas.Option.{get_or_from_slice_get, slice_get-get_or, slice_get_within}
 use Rattle.rosie_io.specs.Counts.{Rose}
+use Rattle.rosie_io.specs.Loading.{NotFewer}
+use Rattle.rosie_io.specs.declared.outside.Source.{Ghosts}
 use Rattle.rosie_io.specs.Reader.{Reader}
 use Rattle.rosie_jobs.specs.Lines.{Job, match_makes}
 use Rattle.rosie_jobs.specs.Makers.{Maker, Matches, makes_of}
@@ -48,7 +50,7 @@ use Rattle.rosie_session.specs.declared.halt.Halt.{Halt}
 use Rattle.rosie_session.specs.declared.halt.Halt.TheVariants as H
 use Rattle.rosie_session.specs.declared.said.Said.{Said}
 use Rattle.rosie_session.specs.inside.Passing.{Halts, InputEnds, IsOfReading, RunsLines, SpentBy, StopsBy}
-use Rattle.rosie_session.specs.inside.Turning.{FilesBy, HaltFiles, IsInner, IsOwn, IsSaid, JudgesEnd, Says, StepsBy}
+use Rattle.rosie_session.specs.inside.Turning.{HaltFiles, IsInner, IsOwn, IsSaid, JudgesEnd, Leaves, Says, StepsBy, moment_of}
 
 -- ---- the texts as roots
 
@@ -412,11 +414,19 @@ inner_reading (H.Unread path) is = tt
 
 -- ---- want of memory
 
-pub memory_files :
-    {A : Type 0} (r : Result A Halt) (f0 f1 : Moment) → IsErrAnd r (λ h. h ≡ H.Run T.NoMemory) → Still f0 f1
-    → FilesBy r f0 f1
-memory_files (Ok a) f0 f1 is h = absurd is
-memory_files (Err halt) f0 f1 is h = subst (λ x. HaltFiles x f0 f1) (sym is) (still_fewer f0 f1 h)
+pub memory_leaves :
+    {F : Type 0} (S : Ghosts F) (r : Result Said Halt) (old new : F) → NotFewer (S.taken old) (S.taken new)
+    → S.tree new ≡ S.tree old → Still (moment_of S old) (moment_of S new) → IsErrAnd r (λ h. h ≡ H.Run T.NoMemory)
+    → Leaves S r old new
+memory_leaves S (Ok said) old new taken tree still is = absurd is
+memory_leaves S (Err halt) old new taken tree still is = record {
+  inner = subst IsInner (sym is) refl;
+  cause =
+      subst (λ x. HaltFiles x (moment_of S old) (moment_of S new)) (sym is)
+      (still_fewer (moment_of S old) (moment_of S new) still);
+  taken = taken;
+  tree = tree;
+}
 
 pub memory_runs :
     (r : Result Tally Halt) (W : Telling) (w : Loading) (rest0 rest1 : List ℕ) (a b : Texts)

@@ -11,8 +11,6 @@ mod laws;
 mod loading;
 mod run;
 mod said;
-#[cfg(test)]
-mod tests;
 mod turn;
 
 pub use laws::{budget_law, no_stop_law, one_loading, try_law, undo_law};

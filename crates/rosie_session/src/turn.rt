@@ -13,8 +13,9 @@ ghost use Rattle.rosie_repl.specs.States.{session_of};
 ghost use Rattle.rosie_run.specs.Report.{Piece};
 ghost use Rattle.rosie_run.specs.Sources.{moment};
 ghost use Rattle.rosie_session.specs.Loading.{IsLoading, Loading};
-ghost use Rattle.rosie_session.specs.Replay.{change_turn, edit_turn, job_piece, loaded, or_no, plain, try_turn, undo_turn};
-ghost use Rattle.rosie_session.specs.inside.Turning.{FilesBy, IsInner, IsSaid, Judges, Says, StepsBy, Turns};
+ghost use Rattle.rosie_session.specs.Replay.{change_turn, edit_turn, job_piece, loaded, or_no, plain, try_turn};
+ghost use Rattle.rosie_session.specs.Replay.{undo_turn};
+ghost use Rattle.rosie_session.specs.inside.Turning.{IsSaid, Judges, Leaves, Says, StepsBy, Turns};
 
 use crate::halt::Halt;
 use crate::loading::{load_goal, load_texts};
@@ -65,11 +66,7 @@ fn judge<F: Files>(
     ensures turns { F.tells → (w : Loading) → IsLoading (F.tree files.old) folders.now w → (before : Session)
         → S.changed (in_chars (edit_seen edit.now)) before ≡ Some (session_of state.old)
         → Turns result (loaded w (in_chars (edit_seen edit.now)) before (session_of state.old)) (session_of state.new) }
-    ensures inner { IfErr result IsInner }
-    ensures cause { FilesBy result (moment F.rest F.taken F.faults F.failed_opens files.old)
-        (moment F.rest F.taken F.faults F.failed_opens files.new) }
-    ensures taken { NotFewer (F.taken files.old) (F.taken files.new) }
-    ensures tree { F.tree files.new ≡ F.tree files.old }
+    ensures leaves { Leaves F.Source result files.old files.new }
 {
     match load_change(alloc, folders, state, edit, files) {
         Ok(()) => Ok(accepted(alloc, state)?),
@@ -96,11 +93,7 @@ fn change<F: Files>(
     ensures turns { F.tells → (w : Loading) → IsLoading (F.tree files.old) folders.now w
         → Turns result (change_turn w number (session_of state.old) (in_chars (edit_seen edit.now))
         (S.changed (in_chars (edit_seen edit.now)) (session_of state.old))) (session_of state.new) }
-    ensures inner { IfErr result IsInner }
-    ensures cause { FilesBy result (moment F.rest F.taken F.faults F.failed_opens files.old)
-        (moment F.rest F.taken F.faults F.failed_opens files.new) }
-    ensures taken { NotFewer (F.taken files.old) (F.taken files.new) }
-    ensures tree { F.tree files.new ≡ F.tree files.old }
+    ensures leaves { Leaves F.Source result files.old files.new }
 {
     if state.change(edit)? {
         return judge(alloc, folders, state, edit, files);
@@ -186,11 +179,7 @@ fn try_with<F: Files, L: Ledger>(
     ensures steps { F.tells → (w : Loading) → IsLoading (F.tree files.old) folders.now w
         → StepsBy result (try_turn w number (session_of state.now) (Some (chars pattern.now)) line.now)
         steps.old steps.new }
-    ensures inner { IfErr result IsInner }
-    ensures cause { FilesBy result (moment F.rest F.taken F.faults F.failed_opens files.old)
-        (moment F.rest F.taken F.faults F.failed_opens files.new) }
-    ensures taken { NotFewer (F.taken files.old) (F.taken files.new) }
-    ensures tree { F.tree files.new ≡ F.tree files.old }
+    ensures leaves { Leaves F.Source result files.old files.new }
 {
     match load_goal(alloc, folders, state, pattern, files) {
         Ok(mut job) => Ok(try_job(alloc, &mut job, number, line, steps)?),
@@ -219,11 +208,7 @@ fn try_line<F: Files, L: Ledger>(
     ensures steps { F.tells → (w : Loading) → IsLoading (F.tree files.old) folders.now w
         → StepsBy result (try_turn w number (session_of state.now) (session_of state.now).now.pattern line.now)
         steps.old steps.new }
-    ensures inner { IfErr result IsInner }
-    ensures cause { FilesBy result (moment F.rest F.taken F.faults F.failed_opens files.old)
-        (moment F.rest F.taken F.faults F.failed_opens files.new) }
-    ensures taken { NotFewer (F.taken files.old) (F.taken files.new) }
-    ensures tree { F.tree files.new ≡ F.tree files.old }
+    ensures leaves { Leaves F.Source result files.old files.new }
 {
     match state.pattern() {
         None => Ok(wrong(alloc, number, "no pattern")?),
@@ -246,11 +231,7 @@ fn obey<F: Files, L: Ledger>(
         → Turns result (edit_turn w number (session_of state.old) (Some (edit_seen edit.now))) (session_of state.new) }
     ensures steps { F.tells → (w : Loading) → IsLoading (F.tree files.old) folders.now w
         → StepsBy result (edit_turn w number (session_of state.old) (Some (edit_seen edit.now))) steps.old steps.new }
-    ensures inner { IfErr result IsInner }
-    ensures cause { FilesBy result (moment F.rest F.taken F.faults F.failed_opens files.old)
-        (moment F.rest F.taken F.faults F.failed_opens files.new) }
-    ensures taken { NotFewer (F.taken files.old) (F.taken files.new) }
-    ensures tree { F.tree files.new ≡ F.tree files.old }
+    ensures leaves { Leaves F.Source result files.old files.new }
 {
     match *edit {
         Edit::Try(line) => try_line(alloc, folders, state, number, line, files, steps),
@@ -274,11 +255,7 @@ pub(crate) fn answer<F: Files, L: Ledger>(
         → Turns result (edit_turn w number (session_of state.old) (edit_of line.now)) (session_of state.new) }
     ensures steps { F.tells → (w : Loading) → IsLoading (F.tree files.old) folders.now w
         → StepsBy result (edit_turn w number (session_of state.old) (edit_of line.now)) steps.old steps.new }
-    ensures inner { IfErr result IsInner }
-    ensures cause { FilesBy result (moment F.rest F.taken F.faults F.failed_opens files.old)
-        (moment F.rest F.taken F.faults F.failed_opens files.new) }
-    ensures taken { NotFewer (F.taken files.old) (F.taken files.new) }
-    ensures tree { F.tree files.new ≡ F.tree files.old }
+    ensures leaves { Leaves F.Source result files.old files.new }
 {
     match read_edit(line) {
         None => Ok(wrong(alloc, number, "bad command")?),

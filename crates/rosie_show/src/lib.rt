@@ -7,8 +7,6 @@
 mod expansion;
 mod laws;
 mod names;
-#[cfg(test)]
-mod tests;
 
 pub use expansion::expansion_text;
 pub use laws::{one_expansion, one_names_text};

@@ -98,6 +98,23 @@ module _ (b : Bench) (t : Test) (job : Job) where
   at-ran code s k n p labels cs ec es ek e =
       ran-by code s k (Matched n (index s p) (captures_of s labels cs)) ec es ek e ∙ ap (λ x. Matched n (index x p) (captures_of x labels cs)) es
 
+  -- and so is that over the text's spelling
+  pub ran-on : (code : List Instr) (bytes s : List ℕ) (k : ℕ) (a : Answer) → IsText t.text
+      → bytes ≡ encode_utf8_all t.text → s ≡ chars bytes → k ≡ budget_or b.budget (chars bytes) → code ≡ job.code
+      → run code s k ≡ a → ran b t job ≡ a
+  ran-on code bytes s k a text spelled es ek ec e =
+      let same = text-spelled t.text bytes text spelled in
+      ran-by code s k a ec (es ∙ same) (ek ∙ ap (budget_or b.budget) same) e
+
+  pub at-on : (code : List Instr) (bytes s : List ℕ) (k n p : ℕ) (labels : List (List ℕ)) (cs : List Caught)
+      → IsText t.text → bytes ≡ encode_utf8_all t.text → s ≡ chars bytes → k ≡ budget_or b.budget (chars bytes)
+      → code ≡ job.code → run code s k ≡ Matched n (index s p) (captures_of s labels cs) → CapturesIn s cs
+      → (ran b t job ≡ Matched n (index t.text p) (captures_of t.text labels cs)) × CapturesIn t.text cs
+  at-on code bytes s k n p labels cs text spelled es ek ec e inside =
+      let same = text-spelled t.text bytes text spelled in
+      let is = es ∙ same in
+      (at-ran code s k n p labels cs ec is (ek ∙ ap (budget_or b.budget) same) e, subst (λ x. CapturesIn x cs) is inside)
+
   by_answer : (a : Answer) → is_over (ran b t job) ≡ is_over a → is_over a ≡ false → by_outcome b t (outcome job.rules job.goal t.text) ≡ verdict_of b t (Runs job)
   by_answer a e h = sym (ap (λ x. cond x Spent (by_outcome b t (outcome job.rules job.goal t.text))) (e ∙ h))
 

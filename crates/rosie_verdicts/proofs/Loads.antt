@@ -1,6 +1,6 @@
 -- From the steps of the loading to what comes of a file.
 use Rattle.std.proofs.Common.{ℕ, ◌≡◌, ◌<◌, ◌≤◌, Bool, true, false, cond, List, [], ◌∷◌, length, refl, sym, ◌∙◌, ap, subst, arith}
-use Rattle.std.specs.Prelude.{Option, Some, None, Ok, Err, nat_lt, codes, encode_utf8_all}
+use Rattle.std.specs.Prelude.{Option, Some, None, Ok, Err, nat_lt, codes, encode_utf8_all, map}
 use Rattle.std.specs.Str.{IsUtf8, is_utf8}
 use Rattle.std.proofs.lemmas.Str.{is_utf8-from_IsUtf8}
 use Rattle.rosie_faults.specs.Lines.{load_line}
@@ -8,10 +8,13 @@ use Rattle.std.specs.List.{Contains}
 use Rattle.std.proofs.lemmas.List.Elements.{Contains-append_left, Contains-append_right}
 use Rattle.rosie_io.specs.Opening.{file_of}
 use Rattle.rosie_prepare.specs.Answers.{IsAsked, IsDue}
-use Rattle.rosie_prepare.specs.Prepared.{OrLine, Tree}
+use Rattle.rosie_prepare.specs.Prepared.{OrLine, TableComes, Tree}
 use Rattle.rosie_prepare.specs.declared.unready.Unready.{Unready}
 use Rattle.rosie_prepare.specs.declared.unready.Unready.TheVariants.{NoMemory, Refused, ReadFault}
-use Rattle.rpl_package.specs.Roots.{Packages}
+use Rattle.rpl_package.specs.Loading.{world}
+use Rattle.rpl_package.specs.Roots.{Packages, load}
+use Rattle.rpl_package.specs.declared.rooted.Root.{Root}
+use Rattle.rpl_package.specs.declared.rooted.Root.TheVariants.{File}
 use Rattle.rosie_prepare.specs.Prepared.{bodies}
 use Rattle.rosie_run.specs.Lines.{line_fault}
 use Rattle.rpl_expand.specs.Sets.{table_of}
@@ -19,7 +22,7 @@ use Rattle.rpl_package.specs.Owned.{own, package_name, root_module}
 use Rattle.rpl_unittest.specs.Comments.{HasBad, HasTests}
 use Rattle.rpl_unittest.specs.declared.test.Test.{Test}
 use Rattle.rpl_unittest.proofs.Reading.{one_answer_holds}
-use Rattle.rosie_verdicts.specs.Suites.{AreTrials, Comes, ComesAgain, Suite, Tells, read_again, tests, bad}
+use Rattle.rosie_verdicts.specs.Suites.{AreTrials, Comes, ComesAgain, IsSuite, Suite, Tells, loading, read_again, tests, bad}
 use Rattle.rosie_verdicts.specs.Trials.{Bench, Trial}
 use Rattle.rpl_scope.specs.Faults.{fault_at}
 use Rattle.rpl_scope.specs.declared.fault.LoadKind.TheVariants.{FileTooLong, NotText, RootMissing}
@@ -101,7 +104,7 @@ module _ (tree : Tree) (file : List ℕ) (budget : Option ℕ) (paths asked : Li
   load-asked (ReadFault path) l h c = load_paths l (encode_utf8_all path) h c
 
   -- all that is loaded passes
-  pub loaded : (p : Packages) (l : OrLine Packages) → l ≡ Ok p → Comes tree file budget paths asked l r → Comes tree file budget paths asked (Ok p) r
+  loaded : (p : Packages) (l : OrLine Packages) → l ≡ Ok p → Comes tree file budget paths asked l r → Comes tree file budget paths asked (Ok p) r
   loaded p l e c = subst (λ x. Comes tree file budget paths asked x r) e c
 
   -- the second reading failed
@@ -113,3 +116,14 @@ module _ (tree : Tree) (file : List ℕ) (budget : Option ℕ) (paths asked : Li
   -- the text is read
   pub text-read : (text : List ℕ) (p : Packages) → IsUtf8 text → file_of (encode_utf8_all file) tree ≡ Some text → length text ≤ 1048576 → Comes tree file budget paths asked (Ok p) r → ComesAgain p file budget (Ok text) r
   text-read text p u is short c = subst (λ x. ComesAgain p file budget x r) (again-ok file text (file_of (encode_utf8_all file) tree) u is short) c.1
+
+-- where the root is the file, and all that is loaded passes
+pub comes-loaded :
+    (tree : Tree) (folders : List (List ℕ)) (file : List ℕ) (budget : Option ℕ) (asked : List (List ℕ)) (r : OrLine Suite)
+    (roots : List Root) (p : Packages) → IsSuite tree folders file budget asked r → roots ≡ File file ∷ []
+    → ((l : OrLine Packages) → TableComes (load (world tree folders) roots).answer l → l ≡ Ok p)
+    → Comes tree file budget (map encode_utf8_all (loading tree folders file).asked) asked (Ok p) r
+comes-loaded tree folders file budget asked r roots p is e passes =
+    let loads = subst (λ x. TableComes (load (world tree folders) x).answer is.packages) (sym e) is.loads in
+    loaded tree file budget (map encode_utf8_all (loading tree folders file).asked) asked r p is.packages
+    (passes is.packages loads) is.comes

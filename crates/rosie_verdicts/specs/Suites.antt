@@ -67,7 +67,8 @@ read_again file (Some bytes) =
 
 -- the tests of the text, or the line of its first bad test comment
 pub data Tells (p : Packages) (m : ℕ) (b : Bench) (text : List ℕ) (r : OrLine Suite) : Type 0 where
-  tests : (ts : List Test) (trials : List Trial) → HasTests text ts → AreTrials (bodies (table_of p)) (own p m) ts trials
+  tests : (ts : List Test) (trials : List Trial) → HasTests text ts
+      → AreTrials (bodies (table_of p)) (own p m) ts trials
       → r ≡ Ok (record { bench = b; trials = trials }) → Tells p m b text r
   bad : (line : ℕ) → HasBad text line → r ≡ Err (line_fault b.file line (codes "bad test")) → Tells p m b text r
 

@@ -39,7 +39,8 @@ pub(crate) fn read_again<F: Files>(
     files: &mut F,
     file: &Chars,
 ) -> Result<String, Unready>
-    ensures reads { F.tells → Rereads string_bytes result file.now (file_of (encode_utf8_all file.now) (F.tree files.old)) }
+    ensures reads { F.tells → Rereads string_bytes result file.now
+        (file_of (encode_utf8_all file.now) (F.tree files.old)) }
     ensures asked { IfErr result (λ u. IsAsked u (encode_utf8_all file.now ∷ [])) }
     ensures cause { HasCause result (moment F.rest F.taken F.faults F.failed_opens files.old)
         (moment F.rest F.taken F.faults F.failed_opens files.new) }

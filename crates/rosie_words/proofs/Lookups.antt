@@ -8,8 +8,8 @@ use Rattle.rosie_words.specs.declared.table.OptionName.{OptionName}
 use Rattle.rosie_words.specs.declared.table.OptionName.TheVariants as O
 use Rattle.rosie_words.specs.Table.{Word, same_option}
 use Rattle.rosie_words.specs.Roles.{Given, given}
-use Rattle.rosie_words.specs.Options.{is_given, last, root, roots}
-use Rattle.rosie_words.specs.Settings.{settings_of, put}
+use Rattle.rosie_words.specs.Options.{is_given, last, root, roots, settings_of}
+use Rattle.rosie_words.specs.Settings.{put}
 use Rattle.rosie_words.specs.Taken.{put_all}
 
 roots_more : (gs : List Given) (g : Given) → roots (gs ++ g ∷ []) ≡ roots gs ++ root g.option g.value

@@ -14,9 +14,9 @@ use Rattle.rosie_words.specs.declared.table.OptionName.TheVariants as O
 use Rattle.rosie_words.specs.Table.{Word, same_option, command_named}
 use Rattle.rosie_words.specs.Roles.{Free, Given, role, next, fault, option_in, argument_in}
 use Rattle.rosie_words.specs.Reading.{words_of, first_fault, options, arguments, with_options, by_stray, by_name, chosen, unless, reading}
-use Rattle.rosie_words.specs.Options.{is_given, last, is_for, stray}
+use Rattle.rosie_words.specs.Options.{is_given, last, is_for, settings_of, stray}
 use Rattle.rosie_words.specs.Arguments.{what}
-use Rattle.rosie_words.specs.Settings.{settings_of, put}
+use Rattle.rosie_words.specs.Settings.{put}
 use Rattle.rosie_words.specs.Seen.{front_of, text}
 use Rattle.rosie_words.specs.Taken.{Named, seen, name_of, word_of, stray_word, from_what, from_stray, from_name, chosen_from, finished, put_all, Starts, Takes}
 use Rattle.rosie_words.proofs.Lookups.{put_all_is}

@@ -1,5 +1,6 @@
 -- What the options of a command line say: of a repeated option the last counts, but each root is added.
-use Rattle.std.specs.Prelude.{ℕ, Bool, ◌&&◌, not, List, [], ◌∷◌, ◌++◌, Option, Some, None, unwrap_or, option_and_then, codes, chars, find, if◌then◌else◌}
+use Rattle.std.specs.Prelude.{ℕ, Bool, ◌&&◌, not, List, [], ◌∷◌, ◌++◌, Option, Some, None, unwrap_or}
+use Rattle.std.specs.Prelude.{option_and_then, codes, chars, find, if◌then◌else◌}
 use Rattle.std.specs.List.{list_any}
 use Rattle.std.specs.Option.{option_or, option_map}
 use Rattle.rosie_words.specs.declared.table.CommandName.{CommandName}
@@ -9,9 +10,10 @@ use Rattle.rosie_words.specs.declared.table.OptionName.TheVariants as O
 use Rattle.rosie_words.specs.declared.command.Command.{Command}
 use Rattle.rpl_package.specs.declared.rooted.Root.{Root}
 use Rattle.rpl_package.specs.declared.rooted.Root.TheVariants as R
-use Rattle.rosie_words.specs.declared.command.Style.{Style}
-use Rattle.rosie_words.specs.declared.command.Style.TheVariants as S
+use Rattle.rpl_encode.specs.declared.style.Style.{Style}
+use Rattle.rpl_encode.specs.declared.style.Style.TheVariants as S
 use Rattle.rosie_words.specs.declared.command.What.{What}
+use Rattle.rosie_words.specs.declared.settings.Settings.{Settings}
 use Rattle.rosie_words.specs.Table.{Word, row, takes, same_command, same_option}
 use Rattle.rosie_words.specs.Values.{path_of, style_named, number_of}
 use Rattle.rosie_words.specs.Roles.{Given}
@@ -49,13 +51,12 @@ abbrev pub usual_style : CommandName → Style
 usual_style C.Grep = S.Line
 usual_style c = S.Json
 
--- the command c with what the options say, and the defaults
-abbrev pub command : CommandName → What → List Given → Command
-command c what gs = record {
-  what = what;
+-- what the options say, where it is told whether a style is given
+abbrev pub settings_of : List Given → Settings
+settings_of gs = record {
   roots = roots gs;
   folders = folders gs;
-  style = unwrap_or (option_and_then style_named (last O.Output gs)) (usual_style c);
+  style = option_and_then style_named (last O.Output gs);
   whole = is_given O.WholeFile gs;
   all = is_given O.All gs;
   fixed = is_given O.FixedStrings gs;
@@ -65,6 +66,27 @@ command c what gs = record {
   limit = unwrap_or (number O.Limit gs) 10000;
   code_file = option_map chars (last O.CodeFile gs);
 }
+
+-- the command c with these settings
+abbrev pub command_from : Settings → CommandName → What → Command
+command_from s c what = record {
+  what = what;
+  roots = s.roots;
+  folders = s.folders;
+  style = unwrap_or s.style (usual_style c);
+  whole = s.whole;
+  all = s.all;
+  fixed = s.fixed;
+  budget = s.budget;
+  steps = s.steps;
+  code = s.code;
+  limit = s.limit;
+  code_file = s.code_file;
+}
+
+-- and with what the options say
+abbrev pub command : CommandName → What → List Given → Command
+command c what gs = command_from (settings_of gs) c what
 
 -- an option that a code file takes the place of
 abbrev pub makes_code : OptionName → Bool

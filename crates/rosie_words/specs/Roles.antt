@@ -1,10 +1,12 @@
 -- The role of each word, given by the words before it.
-use Rattle.std.specs.Prelude.{ℕ, Bool, true, false, ◌==◌, ◌&&◌, List, [], ◌∷◌, Option, Some, None, codes, chars, if◌then◌else◌}
+use Rattle.std.specs.Prelude.{ℕ, Bool, true, false, ◌==◌, ◌&&◌, List, [], ◌∷◌, Option, Some, None, codes}
+use Rattle.std.specs.Prelude.{chars, if◌then◌else◌}
 use Rattle.std.specs.List.{list_any, before_first, after_first}
 use Rattle.std.specs.Str.{bytes_eq}
 use Rattle.rosie_words.specs.declared.table.OptionName.{OptionName}
 use Rattle.rosie_words.specs.declared.fault.UsageFault.{UsageFault}
-use Rattle.rosie_words.specs.declared.fault.UsageFault.TheVariants.{UnknownOption, UnexpectedValue, MissingValue, BadValue}
+use Rattle.rosie_words.specs.declared.fault.UsageFault.TheVariants.{UnknownOption, UnexpectedValue, MissingValue}
+use Rattle.rosie_words.specs.declared.fault.UsageFault.TheVariants.{BadValue}
 use Rattle.rosie_words.specs.Table.{Word, has_value, row, option_named}
 use Rattle.rosie_words.specs.Values.{accepts}
 
@@ -63,7 +65,9 @@ option_role (Some o) v = role_by o (has_value (row o).value) v
 
 -- the role of a word
 abbrev pub role : Front → Word → Role
-role Free w = if bytes_eq w (codes "--") then EndOfOptions else (if is_option w then option_role (option_named (name_of w)) (value_of w) else Argument)
+role Free w =
+    if bytes_eq w (codes "--") then EndOfOptions
+    else (if is_option w then option_role (option_named (name_of w)) (value_of w) else Argument)
 role (Owed o n) w = Value o n
 role Ended w = Argument
 

@@ -59,17 +59,23 @@ two short long v cs = record { spellings = short ∷ long ∷ []; value = v; com
 
 -- the options
 abbrev pub options : List OptionName
-options = O.File ∷ O.Rpl ∷ O.LibPath ∷ O.Output ∷ O.WholeFile ∷ O.All ∷ O.FixedStrings ∷ O.Budget ∷ O.Steps ∷ O.Code ∷ O.Limit ∷ O.CodeFile ∷ []
+options =
+    O.File ∷ O.Rpl ∷ O.LibPath ∷ O.Output ∷ O.WholeFile ∷ O.All ∷ O.FixedStrings ∷ O.Budget ∷ O.Steps
+    ∷ O.Code ∷ O.Limit ∷ O.CodeFile ∷ []
 
 -- what is to be known of each
 abbrev pub row : OptionName → Row
-row O.File = two (codes "-f") (codes "--file") Anything (C.Match ∷ C.Grep ∷ C.List ∷ C.Expand ∷ C.Trace ∷ C.Compile ∷ [])
+row O.File =
+    two (codes "-f") (codes "--file") Anything (C.Match ∷ C.Grep ∷ C.List ∷ C.Expand ∷ C.Trace ∷ C.Compile ∷ [])
 row O.Rpl = one (codes "--rpl") Anything (C.Match ∷ C.Grep ∷ C.List ∷ C.Expand ∷ C.Trace ∷ C.Compile ∷ [])
-row O.LibPath = one (codes "--libpath") Folders (C.Match ∷ C.Grep ∷ C.Test ∷ C.List ∷ C.Expand ∷ C.Trace ∷ C.Repl ∷ C.Compile ∷ [])
+row O.LibPath =
+    one (codes "--libpath") Folders
+    (C.Match ∷ C.Grep ∷ C.Test ∷ C.List ∷ C.Expand ∷ C.Trace ∷ C.Repl ∷ C.Compile ∷ [])
 row O.Output = two (codes "-o") (codes "--output") OneStyle (C.Match ∷ C.Grep ∷ [])
 row O.WholeFile = two (codes "-w") (codes "--wholefile") Nothing (C.Match ∷ C.Grep ∷ C.Trace ∷ [])
 row O.All = two (codes "-a") (codes "--all") Nothing (C.Match ∷ C.Grep ∷ [])
-row O.FixedStrings = two (codes "-F") (codes "--fixed-strings") Nothing (C.Match ∷ C.Grep ∷ C.Expand ∷ C.Trace ∷ C.Compile ∷ [])
+row O.FixedStrings =
+    two (codes "-F") (codes "--fixed-strings") Nothing (C.Match ∷ C.Grep ∷ C.Expand ∷ C.Trace ∷ C.Compile ∷ [])
 row O.Budget = one (codes "--budget") (Number 1 1000000000000) (C.Match ∷ C.Grep ∷ C.Test ∷ C.Sample ∷ [])
 row O.Steps = one (codes "--steps") Nothing (C.Match ∷ C.Grep ∷ [])
 row O.Code = one (codes "--code") Nothing (C.Expand ∷ [])

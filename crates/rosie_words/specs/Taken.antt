@@ -1,5 +1,6 @@
 -- What the code's reader has taken in: for the contracts of private functions.
-use Rattle.std.specs.Prelude.{◌≡◌, List, [], ◌∷◌, ◌++◌, map, Option, Some, None, Bool, not, find, is_some, chars, Result, Ok, Err}
+use Rattle.std.specs.Prelude.{◌≡◌, List, [], ◌∷◌, ◌++◌, map, Option, Some, None, Bool, not, find, is_some, chars}
+use Rattle.std.specs.Prelude.{Result, Ok, Err}
 use Rattle.rosie_words.specs.declared.command.Command.{Command}
 use Rattle.rosie_words.specs.declared.command.What.{What}
 use Rattle.rosie_words.specs.declared.fault.UsageFault.{UsageFault}
@@ -12,9 +13,9 @@ use Rattle.rosie_words.specs.declared.table.OptionName.{OptionName}
 use Rattle.rosie_words.specs.Table.{Word, command_named}
 use Rattle.rosie_words.specs.Roles.{Free, Given, role, next, fault, end_fault, option_in, argument_in}
 use Rattle.rosie_words.specs.Reading.{unless}
-use Rattle.rosie_words.specs.Options.{is_for}
+use Rattle.rosie_words.specs.Options.{command_from, is_for, settings_of}
 use Rattle.rosie_words.specs.Arguments.{what}
-use Rattle.rosie_words.specs.Settings.{settings_of, put, command_from}
+use Rattle.rosie_words.specs.Settings.{put}
 use Rattle.rosie_words.specs.Seen.{front_of, text}
 
 -- an option and the word in which it was given
@@ -61,7 +62,8 @@ chosen_from s ns (w ∷ ws) = from_name s ns w ws (command_named w)
 
 -- the command of what was taken in
 abbrev pub finished : Reader → Result Command UsageFault
-finished r = unless (end_fault (front_of r.front)) (chosen_from r.settings (map seen r.options.items) (map text r.arguments.items))
+finished r =
+    unless (end_fault (front_of r.front)) (chosen_from r.settings (map seen r.options.items) (map text r.arguments.items))
 
 -- the record with some more options
 abbrev pub put_all : List Given → Settings → Settings
@@ -87,5 +89,7 @@ pub record Takes (old new : Reader) (w : Word) : Type 0 where
   pub sound : fault (role (front_of old.front) w) w ≡ None
   pub front : front_of new.front ≡ next (front_of old.front) (role (front_of old.front) w) w
   pub settings : new.settings ≡ put_all (option_in (role (front_of old.front) w) w) old.settings
-  pub options : map seen new.options.items ≡ map seen old.options.items ++ map name_of (option_in (role (front_of old.front) w) w)
-  pub arguments : map text new.arguments.items ≡ map text old.arguments.items ++ argument_in (role (front_of old.front) w) w
+  pub options : map seen new.options.items
+      ≡ map seen old.options.items ++ map name_of (option_in (role (front_of old.front) w) w)
+  pub arguments : map text new.arguments.items
+      ≡ map text old.arguments.items ++ argument_in (role (front_of old.front) w) w

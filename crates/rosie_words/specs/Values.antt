@@ -1,10 +1,11 @@
 -- The forms of values.
-use Rattle.std.specs.Prelude.{ℕ, ◌+◌, ◌-◌, ◌*◌, ◌==◌, Bool, true, false, ◌&&◌, not, nat_le, List, [], ◌∷◌, Option, Some, None, is_some, chars, codes, find, map, if◌then◌else◌}
+use Rattle.std.specs.Prelude.{ℕ, ◌+◌, ◌-◌, ◌*◌, ◌==◌, Bool, true, false, ◌&&◌, not, nat_le, List, [], ◌∷◌}
+use Rattle.std.specs.Prelude.{Option, Some, None, is_some, chars, codes, find, map, if◌then◌else◌}
 use Rattle.std.specs.Str.{bytes_eq}
 use Rattle.std.specs.List.{list_all, slice_split}
 use Rattle.std.specs.Char.{is_ascii_digit}
-use Rattle.rosie_words.specs.declared.command.Style.{Style}
-use Rattle.rosie_words.specs.declared.command.Style.TheVariants as S
+use Rattle.rpl_encode.specs.declared.style.Style.{Style}
+use Rattle.rpl_encode.specs.declared.style.Style.TheVariants as S
 use Rattle.rosie_words.specs.Table.{Word, Form, Nothing, Anything, Folders, OneStyle, Number}
 
 -- a style and its name
@@ -46,7 +47,8 @@ is_number (b ∷ bs) = list_all is_ascii_digit (b ∷ bs)
 
 -- the number that a word spells, where it is in the range
 abbrev pub number_in : ℕ → ℕ → Word → Option ℕ
-number_in least most w = if is_number w && nat_le least (value_from 0 w) && nat_le (value_from 0 w) most then Some (value_from 0 w) else None
+number_in least most w =
+    if is_number w && nat_le least (value_from 0 w) && nat_le (value_from 0 w) most then Some (value_from 0 w) else None
 
 -- no byte
 abbrev pub is_empty : Word → Bool

@@ -1,25 +1,9 @@
 //! What the words ask for.
 
 use crate::lists::Paths;
+use rpl_encode::Style;
 use rpl_package::{LibPath, Roots};
 use rpl_text::Chars;
-
-/// How a match is printed.
-#[derive(Clone, Copy, Debug, PartialEq, Eq)]
-pub enum Style {
-    /// The tree of the match, as one object.
-    Json,
-    /// The whole line.
-    Line,
-    /// The text of each hit.
-    Matches,
-    /// The text of each node directly under the root.
-    Subs,
-    /// The text of the match.
-    Plain,
-    /// `true` or `false`.
-    Bool,
-}
 
 /// A command, with its arguments.
 #[derive(Debug, Drop)]

@@ -15,12 +15,9 @@ mod table;
 mod value;
 mod what;
 
-pub use command::{Command, Style, What};
+pub use command::{Command, What};
 pub use fault::UsageFault;
 pub use lists::Paths;
 pub use printed::{fault_line, usage};
 pub use reading::{no_reading_is_want_of_memory, read_words};
 pub use std::alloc::AllocError as NoMemory;
-
-#[cfg(test)]
-mod tests;

@@ -45,7 +45,8 @@ fn choose(
     arguments: &[&str],
 ) -> Result<Command, UsageFault>
     ensures ok { IfOk result (λ c. chosen_from settings (map seen options.now) (map text arguments.now) ≡ Ok c) }
-    ensures fault { IfErr result (λ e. e ≢ E.NoMemory → chosen_from settings (map seen options.now) (map text arguments.now) ≡ Err e) }
+    ensures fault { IfErr result (λ e. e ≢ E.NoMemory →
+        chosen_from settings (map seen options.now) (map text arguments.now) ≡ Err e) }
 {
     let [name, arguments @ ..] = arguments else {
         return Err(UsageFault::NoCommand);
@@ -104,7 +105,8 @@ impl<'a> Reader<'a> {
     fn apply(&mut self, alloc: Global, role: Role<'a>, word: &'a str) -> Result<(), UsageFault>
         requires { IsFair role }
         ensures sound { OnOk result (fault (role_of role.entry) word.now ≡ None) }
-        ensures ok { OnOk result (Adds self.old self.new (option_in (role_of role.entry) word.now) (argument_in (role_of role.entry) word.now)) }
+        ensures ok { OnOk result (Adds self.old self.new (option_in (role_of role.entry) word.now)
+            (argument_in (role_of role.entry) word.now)) }
         ensures fault { IfErr result (λ e. e ≢ E.NoMemory → fault (role_of role.entry) word.now ≡ Some e) }
     {
         match role {
@@ -124,7 +126,8 @@ impl<'a> Reader<'a> {
     /// One more word.
     fn take(&mut self, alloc: Global, word: &'a str) -> Result<(), UsageFault>
         ensures ok { OnOk result (Takes self.old self.new word.now) }
-        ensures fault { IfErr result (λ e. e ≢ E.NoMemory → fault (role (front_of self.old.front) word.now) word.now ≡ Some e) }
+        ensures fault { IfErr result (λ e. e ≢ E.NoMemory →
+            fault (role (front_of self.old.front) word.now) word.now ≡ Some e) }
     {
         let role = self.front.role(word);
         self.apply(alloc, role, word)?;

@@ -4,14 +4,16 @@ ghost use Rattle.std.specs.Prelude.{◌≡◌, ◌≢◌, [], true, OnOk, IfOk, 
 ghost use Rattle.rosie_words.specs.Table.{row};
 ghost use Rattle.rosie_words.specs.Values.{path_of};
 ghost use Rattle.rosie_words.specs.Roles.{value_fault};
-ghost use Rattle.rosie_words.specs.Settings.{settings_of, put, command_from};
+ghost use Rattle.rosie_words.specs.Options.{settings_of, command_from};
+ghost use Rattle.rosie_words.specs.Settings.{put};
 ghost use Rattle.rosie_words.specs.declared.fault.UsageFault.TheVariants as E;
 
 use crate::NoMemory;
-use crate::command::{Command, Style, What};
+use crate::command::{Command, What};
 use crate::fault::UsageFault;
 use crate::table::{CommandName, OptionName};
 use crate::value::{bad_value, number_in, style_named};
+use rpl_encode::Style;
 use rpl_package::{LibPath, Root, Roots};
 use rpl_text::Chars;
 use std::alloc::Global;

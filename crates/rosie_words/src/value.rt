@@ -5,8 +5,8 @@ ghost use Rattle.std.specs.Prelude.{◌≢◌, chars};
 ghost use Rattle.rosie_words.specs.declared.fault.UsageFault.TheVariants as E;
 ghost use Rattle.rosie_words.specs.Values.{style_named, number_in};
 
-use crate::command::Style;
 use crate::fault::UsageFault;
+use rpl_encode::Style;
 use rpl_text::Chars;
 use std::alloc::Global;
 

@@ -80,7 +80,8 @@ fn search_of(alloc: Global, arguments: &[&str]) -> Result<Search, UsageFault>
 /// The number that an argument spells, up to `most`.
 fn number_argument(alloc: Global, word: &str, most: u32) -> Result<u32, UsageFault>
     ensures ok { IfOk result (λ n. number_in 0 most word.now ≡ Some n) }
-    ensures fault { IfErr result (λ e. e ≢ E.NoMemory → (number_in 0 most word.now ≡ None) × (e ≡ E.BadValue (chars word.now))) }
+    ensures fault { IfErr result (λ e. e ≢ E.NoMemory →
+        (number_in 0 most word.now ≡ None) × (e ≡ E.BadValue (chars word.now))) }
 {
     match number_in(word, 0, u64::from(most)) {
         Some(number) => Ok(number as u32),

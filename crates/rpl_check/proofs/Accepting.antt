@@ -3,6 +3,7 @@ use Rattle.std.proofs.Common.{◌≡◌, ℕ, zero, suc, ◌+◌, ◌-◌, ◌<�
 use Rattle.std.proofs.lemmas.List.{length-map}
 use Rattle.std.proofs.lemmas.Option.{slice_get_within}
 use Rattle.std.specs.Prelude.{Bool, true, false, ◌&&◌, nat_lt, if◌then◌else◌, slice_get}
+use Rattle.std.specs.Option.{option_or}
 use Rattle.rpl_core.specs.Core.{Core, Set, Seq, Choice, Many, Not, And, Behind, Call, Capture, Note, Start, End, Halt, Cores, NoMore, Then}
 use Rattle.rpl_core.specs.Programs.{calls, calls_any}
 use Rattle.rpl_core.specs.Table.{blocks_of, bodies_of}
@@ -15,8 +16,8 @@ use Rattle.rpl_simulation.proofs.Termination.{ends_holds}
 use Rattle.rpl_check.specs.inside.Accepted.{IsAccepted}
 use Rattle.rpl_check.specs.Checked.{IsWhole}
 use Rattle.rpl_check.specs.Facts.{IsLeast, Solves, Facts, passes, calls_here, front_calls_here, any_calls_here}
-use Rattle.rpl_core.specs.Lengths.{has_call, any_has_call, has_repetition, any_has_repetition, greatest}
-use Rattle.rpl_check.specs.Causes.{Cause, Recursive, Repetition, TooLong, cause_of, first_cause, first_cause_in, body_cause, or_then}
+use Rattle.rpl_core.specs.Lengths.{has_call, has_repetition, greatest}
+use Rattle.rpl_check.specs.Causes.{Cause, Recursive, Repetition, TooLong, cause_of, first_cause, first_cause_in, body_cause}
 use Rattle.rpl_check.specs.Faults.{Fault, EmptyLoop, HaltInside, behind_fault, fault_if, has_halt_inside, behind_at, loop_at, halt_at, first_from, goal_fault}
 use Rattle.rpl_check.specs.Loops.{has_empty_loop, any_has_empty_loop}
 use Rattle.rpl_check.specs.Blocks.{selves, recursion_of, group_fault, table_fault}
@@ -188,7 +189,7 @@ module _ (R : List Core) (m h : ℕ → Bool) (a : IsAccepted R m h) where
   -- a goal without faults
   pub whole_of : (g : Core) → ((r : ℕ) → calls g r ≡ true → r < length R) → goal_fault m h g ≡ None → IsWhole R g
   whole_of g cg none =
-      let x = or_none (behind_fault None (first_cause g)) (or_then (fault_if (has_empty_loop m g) (EmptyLoop None)) (fault_if (has_halt_inside h g) (HaltInside None))) none in
+      let x = or_none (behind_fault None (first_cause g)) (option_or (fault_if (has_empty_loop m g) (EmptyLoop None)) (fault_if (has_halt_inside h g) (HaltInside None))) none in
       let y = or_none (fault_if (has_empty_loop m g) (EmptyLoop None)) (fault_if (has_halt_inside h g) (HaltInside None)) x.1 in
       let d = facts_with R a.calls m h a.empties a.halting in
       record {

@@ -2,12 +2,12 @@
 use Rattle.std.proofs.Common.{◌≡◌, ℕ, zero, suc, ◌+◌, ◌-◌, ◌<◌, ◌≤◌, List, [], ◌∷◌, length, Option, Some, None, refl, sym, ap, ◌∙◌, subst, ⊎_elim, inl, inr, arith}
 use Rattle.std.proofs.lemmas.Bool.{cases_lt}
 use Rattle.std.specs.Prelude.{Bool, true, false, if◌then◌else◌, slice_get, ◌⊎◌}
+use Rattle.std.specs.Option.{option_or}
 use Rattle.rpl_core.specs.Core.{Core}
 use Rattle.rpl_check.specs.Answers.{IsDue}
 use Rattle.rpl_check.specs.Facts.{calls_at, calls_here}
 use Rattle.rpl_core.specs.Order.{joins_next}
 use Rattle.rpl_check.specs.Faults.{Fault, LeftRecursion, first_from}
-use Rattle.rpl_check.specs.Causes.{or_then}
 use Rattle.rpl_check.specs.Blocks.{selves, recursion_of, fault_from}
 use Rattle.rpl_core.specs.Order.{IsInOrder, block_at}
 use Rattle.rpl_check.specs.inside.Rounds.{CallsBefore, Reach}
@@ -18,27 +18,27 @@ use Rattle.rpl_check.proofs.Selves.{minus_step}
 use Rattle.rpl_core.proofs.Bools.{clash}
 use Rattle.rpl_check.proofs.Tests.{passing}
 
-pub or_none : {A : Type 0} (a b : Option A) → or_then a b ≡ None → (a ≡ None) × (b ≡ None)
+pub or_none : {A : Type 0} (a b : Option A) → option_or a b ≡ None → (a ≡ None) × (b ≡ None)
 or_none (Some x) b e = absurd (cc)
 or_none None b e = (refl, e)
 
 -- the next number
-pub first_step : (f : ℕ → Option Fault) (k e : ℕ) → k < e → first_from f k (e - k) ≡ or_then (f k) (first_from f (k + 1) (e - (k + 1)))
+pub first_step : (f : ℕ → Option Fault) (k e : ℕ) → k < e → first_from f k (e - k) ≡ option_or (f k) (first_from f (k + 1) (e - (k + 1)))
 first_step f k e lt = ap (first_from f k) (minus_step k e lt)
 
 pub first_miss : (f : ℕ → Option Fault) (k e : ℕ) → k < e → f k ≡ None → first_from f k (e - k) ≡ first_from f (k + 1) (e - (k + 1))
-first_miss f k e lt none = first_step f k e lt ∙ ap (λ o. or_then o (first_from f (k + 1) (e - (k + 1)))) none
+first_miss f k e lt none = first_step f k e lt ∙ ap (λ o. option_or o (first_from f (k + 1) (e - (k + 1)))) none
 
 pub first_over : (f : ℕ → Option Fault) (k e : ℕ) → e ≤ k → first_from f k (e - k) ≡ None
 first_over f k e le = let z : e - k ≡ 0 = omega arith in ap (first_from f k) z
 
 -- what is due first is due
-pub due_first : (whole a b x : Option Fault) → whole ≡ or_then a b → IsDue a x → IsDue whole x
+pub due_first : (whole a b x : Option Fault) → whole ≡ option_or a b → IsDue a x → IsDue whole x
 due_first whole a b None e h = tt
-due_first whole a b (Some f) e h = e ∙ ap (λ o. or_then o b) h
+due_first whole a b (Some f) e h = e ∙ ap (λ o. option_or o b) h
 
-pub none_first : (whole a b : Option Fault) → whole ≡ or_then a b → a ≡ None → whole ≡ b
-none_first whole a b e h = e ∙ ap (λ o. or_then o b) h
+pub none_first : (whole a b : Option Fault) → whole ≡ option_or a b → a ≡ None → whole ≡ b
+none_first whole a b e h = e ∙ ap (λ o. option_or o b) h
 
 -- the other way: where there is none, each number is free of it
 pub first_none : (f : ℕ → Option Fault) (k n : ℕ) → first_from f k n ≡ None → (r : ℕ) → k ≤ r → r < k + n → f r ≡ None
@@ -83,11 +83,11 @@ no_recursion (r ∷ l) e = absurd (omega arith)
 -- blocks, and rules outside them
 pub group_joins : (f : ℕ → ℕ → Option Fault) (bs : List (Option ℕ)) (a k e : ℕ) → k < e → joins_next bs k ≡ true → fault_from f bs a k (e - k) ≡ fault_from f bs a (k + 1) (e - (k + 1))
 group_joins f bs a k e lt j =
-    ap (fault_from f bs a k) (minus_step k e lt) ∙ ap (λ b. if b then fault_from f bs a (k + 1) (e - (k + 1)) else or_then (f a (k + 1)) (fault_from f bs (k + 1) (k + 1) (e - (k + 1)))) j
+    ap (fault_from f bs a k) (minus_step k e lt) ∙ ap (λ b. if b then fault_from f bs a (k + 1) (e - (k + 1)) else option_or (f a (k + 1)) (fault_from f bs (k + 1) (k + 1) (e - (k + 1)))) j
 
-pub group_ends : (f : ℕ → ℕ → Option Fault) (bs : List (Option ℕ)) (a k e : ℕ) → k < e → joins_next bs k ≡ false → fault_from f bs a k (e - k) ≡ or_then (f a (k + 1)) (fault_from f bs (k + 1) (k + 1) (e - (k + 1)))
+pub group_ends : (f : ℕ → ℕ → Option Fault) (bs : List (Option ℕ)) (a k e : ℕ) → k < e → joins_next bs k ≡ false → fault_from f bs a k (e - k) ≡ option_or (f a (k + 1)) (fault_from f bs (k + 1) (k + 1) (e - (k + 1)))
 group_ends f bs a k e lt j =
-    ap (fault_from f bs a k) (minus_step k e lt) ∙ ap (λ b. if b then fault_from f bs a (k + 1) (e - (k + 1)) else or_then (f a (k + 1)) (fault_from f bs (k + 1) (k + 1) (e - (k + 1)))) j
+    ap (fault_from f bs a k) (minus_step k e lt) ∙ ap (λ b. if b then fault_from f bs a (k + 1) (e - (k + 1)) else option_or (f a (k + 1)) (fault_from f bs (k + 1) (k + 1) (e - (k + 1)))) j
 
 pub groups_done : (f : ℕ → ℕ → Option Fault) (bs : List (Option ℕ)) (a k e : ℕ) → e ≤ k → fault_from f bs a k (e - k) ≡ None
 groups_done f bs a k e le = let z : e - k ≡ 0 = omega arith in ap (fault_from f bs a k) z
@@ -97,7 +97,7 @@ pub group_of : (f : ℕ → ℕ → Option Fault) (bs : List (Option ℕ)) (a k 
 group_of f bs a k zero e le some h r ra rk = absurd (⊎_elim (λ z. omega arith) (λ z. omega arith) some)
 group_of f bs a k (suc n) e le some h r ra rk = go (joins_next bs k) refl h (λ s x. group_of f bs a (k + 1) n (omega arith) (omega arith) s x r ra (omega arith)) (λ x l. group_of f bs (k + 1) (k + 1) n (omega arith) (omega arith) (inl refl) x r l (omega arith))
   where
-    go : (b : Bool) → joins_next bs k ≡ b → (if b then fault_from f bs a (k + 1) n else or_then (f a (k + 1)) (fault_from f bs (k + 1) (k + 1) n)) ≡ None → ((a ≡ k + 1) ⊎ (0 < n) → fault_from f bs a (k + 1) n ≡ None → (x : ℕ) × (y : ℕ) × (x ≤ r) × (r < y) × (f x y ≡ None)) → (fault_from f bs (k + 1) (k + 1) n ≡ None → k + 1 ≤ r → (x : ℕ) × (y : ℕ) × (x ≤ r) × (r < y) × (f x y ≡ None)) → (x : ℕ) × (y : ℕ) × (x ≤ r) × (r < y) × (f x y ≡ None)
+    go : (b : Bool) → joins_next bs k ≡ b → (if b then fault_from f bs a (k + 1) n else option_or (f a (k + 1)) (fault_from f bs (k + 1) (k + 1) n)) ≡ None → ((a ≡ k + 1) ⊎ (0 < n) → fault_from f bs a (k + 1) n ≡ None → (x : ℕ) × (y : ℕ) × (x ≤ r) × (r < y) × (f x y ≡ None)) → (fault_from f bs (k + 1) (k + 1) n ≡ None → k + 1 ≤ r → (x : ℕ) × (y : ℕ) × (x ≤ r) × (r < y) × (f x y ≡ None)) → (x : ℕ) × (y : ℕ) × (x ≤ r) × (r < y) × (f x y ≡ None)
     go true j h on off = on (inr (more n refl)) h
       where
         more : (n0 : ℕ) → n ≡ n0 → 0 < n

@@ -1,18 +1,18 @@
 -- Rules of a ring: what a rule reaches, and what reaches it.
-use Rattle.std.proofs.Common.{◌≡◌, ℕ, zero, suc, ◌+◌, ◌-◌, ◌<◌, ◌≤◌, List, [], ◌∷◌, ◌++◌, length, get_or, Option, Some, None, refl, sym, ap, ◌∙◌, subst, replicate, ⊎_elim, inl, inr, arith}
+use Rattle.std.proofs.Common.{◌≡◌, ℕ, zero, suc, ◌+◌, ◌-◌, ◌<◌, ◌≤◌, List, [], ◌∷◌, ◌++◌, length, get_or, sym, ap, ◌∙◌, subst, replicate, ⊎_elim, inl, inr, arith}
 use Rattle.std.proofs.lemmas.Bool.{cases_eq, cases_lt}
 use Rattle.std.proofs.lemmas.Bool.Decides.{nat_tests}
 use Rattle.std.proofs.lemmas.List.{get_or_past, get_or-set_other, length-replicate, length-set}
-use Rattle.std.specs.Prelude.{Bool, true, false, ◌||◌, ◌&&◌, ◌⊎◌, not, nat_eq, nat_lt, nat_le, slice_set}
+use Rattle.std.specs.Prelude.{Bool, true, false, ◌&&◌, ◌⊎◌, nat_eq, nat_lt, nat_le, slice_set}
 use Rattle.rpl_core.specs.Core.{Core}
 use Rattle.rpl_core.specs.inside.Marks.{marked, waits}
 use Rattle.rpl_core.proofs.Bools.{both, clash, either, eq_of, eq_self, left, neither, right}
 use Rattle.rpl_core.proofs.Marking.{waits_more}
-use Rattle.rpl_check.specs.Facts.{Follows, IsLeast, calls_at}
-use Rattle.rpl_check.specs.inside.Rounds.{CallsBefore, OverReach, Reach}
+use Rattle.rpl_check.specs.Facts.{calls_at}
+use Rattle.rpl_check.specs.inside.Rounds.{CallsBefore, OverReach}
 use Rattle.rpl_check.specs.inside.Search.{AreLeft, AreReached, Finds, ReachRule, found, marked_from}
 use Rattle.rpl_check.specs.declared.recursion.Search.{Search}
-use Rattle.rpl_check.proofs.Following.{called_before, follow_ends, reach_from, reach_on, Followed}
+use Rattle.rpl_check.proofs.Following.{called_before, follow_ends, reach_from, Followed}
 
 -- a mark that is set, whatever it is
 set_either : (xs : List Bool) (k i : ℕ) (v : Bool) → (i ≡ k) ⊎ (marked (slice_set xs k v) i ≡ marked xs i)

@@ -1,5 +1,5 @@
 -- A body that may not halt has no predicate that may.
-use Rattle.std.proofs.Common.{◌≡◌, ℕ, refl, ap}
+use Rattle.std.proofs.Common.{◌≡◌, ℕ, refl}
 use Rattle.std.specs.Prelude.{Bool, true, false, not, ◌&&◌}
 use Rattle.rpl_core.specs.Core.{Core}
 use Rattle.rpl_simulation.specs.Static.{may_halt, predicates_stay}

@@ -1,8 +1,8 @@
 -- The first fault of a table of rules, block by block.
 use Rattle.std.specs.Prelude.{ℕ, zero, suc, ◌+◌, ◌-◌, Bool, if◌then◌else◌, List, [], ◌∷◌, Option, Some, None, length}
+use Rattle.std.specs.Option.{option_or}
 use Rattle.rpl_core.specs.Core.{Core}
 use Rattle.rpl_core.specs.Order.{joins_next}
-use Rattle.rpl_check.specs.Causes.{or_then}
 use Rattle.rpl_check.specs.Facts.{Facts}
 use Rattle.rpl_check.specs.Faults.{Fault, LeftRecursion, behind_at, loop_at, halt_at, first_from}
 
@@ -21,11 +21,11 @@ recursion_of (r ∷ rs) = Some (LeftRecursion (r ∷ rs))
 -- of m may be empty, those of h may halt, and each reaches those of `reach` before a character.
 abbrev pub group_fault : (ℕ → Bool) → (ℕ → Bool) → (ℕ → ℕ → Bool) → List Core → ℕ → ℕ → Option Fault
 group_fault m h reach R a b =
-    or_then
+    option_or
     (first_from (behind_at R) a (b - a))
-    (or_then
+    (option_or
     (recursion_of (selves reach a (b - a)))
-    (or_then (first_from (loop_at m R) a (b - a)) (first_from (halt_at h R) a (b - a))))
+    (option_or (first_from (loop_at m R) a (b - a)) (first_from (halt_at h R) a (b - a))))
 
 -- the first that f finds at a block, or at a rule outside blocks, where the present one begins at a, and n rules are
 -- left from k on
@@ -33,7 +33,7 @@ abbrev pub fault_from : (ℕ → ℕ → Option Fault) → List (Option ℕ) →
 fault_from f blocks a k zero = None
 fault_from f blocks a k (suc n) =
     if joins_next blocks k then fault_from f blocks a (k + 1) n
-    else or_then (f a (k + 1)) (fault_from f blocks (k + 1) (k + 1) n)
+    else option_or (f a (k + 1)) (fault_from f blocks (k + 1) (k + 1) n)
 
 -- the first fault of a table
 abbrev pub table_fault :

@@ -1,5 +1,6 @@
 -- What is wrong with the look-behinds of a core.
 use Rattle.std.specs.Prelude.{nat_lt, if◌then◌else◌, Option, Some, None}
+use Rattle.std.specs.Option.{option_or}
 use Rattle.rpl_core.specs.Core.{Core, Set, Seq, Choice, Many, Not, And, Behind, Call, Capture, Note, Start, End, Halt}
 use Rattle.rpl_core.specs.Core.{Cores, NoMore, Then}
 use Rattle.rpl_core.specs.Lengths.{has_call, has_repetition, greatest}
@@ -16,11 +17,6 @@ cause_of p =
     if has_call p then Some Recursive
     else (if has_repetition p then Some Repetition else (if nat_lt 255 (greatest p) then Some TooLong else None))
 
--- the first of two, where there is one
-abbrev pub or_then : {A : Type 0} → Option A → Option A → Option A
-or_then (Some a) o = Some a
-or_then None o = o
-
 -- what is wrong with the first bad look-behind in reading order, an outer one before those inside it
 abbrev mutual
   pub first_cause : Core → Option Cause
@@ -30,7 +26,7 @@ abbrev mutual
   first_cause (Many p) = first_cause p
   first_cause (Not p) = first_cause p
   first_cause (And p) = first_cause p
-  first_cause (Behind l n p) = or_then (cause_of p) (first_cause p)
+  first_cause (Behind l n p) = option_or (cause_of p) (first_cause p)
   first_cause (Call r) = None
   first_cause (Capture c p) = first_cause p
   first_cause (Note x) = None
@@ -40,7 +36,7 @@ abbrev mutual
 
   pub first_cause_in : Cores → Option Cause
   first_cause_in NoMore = None
-  first_cause_in (Then p ps) = or_then (first_cause p) (first_cause_in ps)
+  first_cause_in (Then p ps) = option_or (first_cause p) (first_cause_in ps)
 
 -- the body of a rule has a bad look-behind
 abbrev pub body_cause : Option Core → Option Cause

@@ -1,8 +1,9 @@
 -- The faults that a rule or a pattern may have by itself, and the first fault of a pattern.
 use Rattle.std.specs.Prelude.{ℕ, zero, suc, ◌+◌, Bool, true, false, not, List, Option, Some, None, slice_get}
+use Rattle.std.specs.Option.{option_or}
 use Rattle.rpl_core.specs.Core.{Core}
 use Rattle.rpl_simulation.specs.Static.{predicates_stay}
-use Rattle.rpl_check.specs.Causes.{Cause, first_cause, body_cause, or_then}
+use Rattle.rpl_check.specs.Causes.{Cause, first_cause, body_cause}
 use Rattle.rpl_check.specs.Facts.{passes}
 use Rattle.rpl_check.specs.Loops.{has_empty_loop}
 
@@ -40,12 +41,12 @@ halt_at h R r = fault_if (passes (has_halt_inside h) (slice_get R r)) (HaltInsid
 -- the first that f finds at the n numbers from k on
 abbrev pub first_from : (ℕ → Option Fault) → ℕ → ℕ → Option Fault
 first_from f k zero = None
-first_from f k (suc n) = or_then (f k) (first_from f (k + 1) n)
+first_from f k (suc n) = option_or (f k) (first_from f (k + 1) n)
 
 -- The first fault of a pattern: a look-behind, an empty loop, or a halt under a predicate. The rules of m may be empty,
 -- those of h may halt.
 abbrev pub goal_fault : (ℕ → Bool) → (ℕ → Bool) → Core → Option Fault
 goal_fault m h g =
-    or_then
+    option_or
     (behind_fault None (first_cause g))
-    (or_then (fault_if (has_empty_loop m g) (EmptyLoop None)) (fault_if (has_halt_inside h g) (HaltInside None)))
+    (option_or (fault_if (has_empty_loop m g) (EmptyLoop None)) (fault_if (has_halt_inside h g) (HaltInside None)))

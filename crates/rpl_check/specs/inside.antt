@@ -2,3 +2,4 @@
 pub mod Rounds
 pub mod Search
 pub mod Accepted
+pub mod Within

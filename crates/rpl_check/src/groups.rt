@@ -15,7 +15,7 @@ use crate::NoMemory;
 use crate::behinds::first_cause;
 use crate::fault::{BehindCause, CheckFault};
 use crate::inside::{has_empty_loop, predicates_stay};
-use crate::recursion::selves;
+use crate::recursion::Block;
 use rpl_core::{Rules, is_outside, joins_next};
 use std::alloc::Global;
 
@@ -111,7 +111,13 @@ fn check_recursion(
     if end - start == 1 && is_outside(rules, start) {
         return Ok(());
     }
-    let list = selves(alloc, rules, start, end, empties)?;
+    let block = Block {
+        rules,
+        start,
+        end,
+        empties,
+    };
+    let list = block.selves(alloc)?;
     if list.is_empty() {
         return Ok(());
     }

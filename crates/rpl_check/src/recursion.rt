@@ -1,12 +1,11 @@
 // Which rules of a block reach themselves before a character is taken.
 ghost use Rattle.std.specs.Prelude.{◌≡◌, ℕ, ◌-◌, ◌<◌, ◌≤◌, ◌^◌, Bool, false, true, nat_eq, length, IfOk, OnOk};
-ghost use Rattle.rpl_core.specs.Listed.{bodies_in, rules_of};
 ghost use Rattle.rpl_core.specs.View.{core_of, cores};
 ghost use Rattle.rpl_simulation.specs.Static as E;
 ghost use Rattle.rpl_check.specs.Facts.{Follows, IsLeast, any_calls_here, calls_at, calls_here, front_calls_here};
 ghost use Rattle.rpl_check.specs.Blocks as B;
 ghost use Rattle.rpl_core.specs.inside.Marks.{marked};
-ghost use Rattle.rpl_check.specs.inside.Rounds.{CallsBefore, OverReach};
+ghost use Rattle.rpl_check.specs.inside.Rounds.{OverReach};
 ghost use Rattle.rpl_check.specs.inside.Search.{AreClean, AreLeft, AreReached, Finds, ReachRule, marked_from};
 ghost use Rattle.rpl_check.specs.inside.Search.{clean_all, clean_core, clean_each, within_or_none};
 
@@ -178,279 +177,231 @@ fn find_all_calls(search: &mut Search, parts: &[Peg], empties: &[bool]) -> Resul
     Ok(any)
 }
 
-/// Finds the calls of the rule with this number, if there is one.
-fn find_calls_of(
-    search: &mut Search,
-    rules: &Rules,
-    number: u32,
-    empties: &[bool],
-) -> Result<(), NoMemory>
-    ensures { OnOk result
-        (Finds (calls_at (marked empties.now) (bodies_in rules.now) number) search.old search.new) }
-{
-    if let Some(rule) = rules.get(number) {
-        find_calls(search, &rule.body, empties)?;
-    }
-    Ok(())
+/// A block of the table: its rules from `start` on and before `end`, and which rules of the table may be empty.
+#[derive(Clone, Copy)]
+pub(crate) struct Block<'a> {
+    pub(crate) rules: &'a Rules,
+    pub(crate) start: u32,
+    pub(crate) end: u32,
+    pub(crate) empties: &'a [bool],
 }
 
-/// The rule calls only clean rules before a character.
-fn calls_clean(rules: &Rules, number: u32, empties: &[bool], clean: &[bool], start: u32) -> bool
-    ensures clean { result ≡ true → (r : ℕ) →
-        calls_at (marked empties.now) (bodies_in rules.now) number r ≡ true →
-        marked_from start clean.now r ≡ true }
-    ensures other { result ≡ false → (r : ℕ)
-        × (calls_at (marked empties.now) (bodies_in rules.now) number r ≡ true)
-        × (marked_from start clean.now r ≡ false) }
-{
-    match rules.get(number) {
-        Some(rule) => clean_front(&rule.body, empties, clean, start).is_some(),
-        None => true,
-    }
-}
+impl Block<'_> {
+    ghost use Rattle.rpl_check.specs.inside.Within.{Stands, IsLong, empty_in, table_of};
 
-/// Marks a rule that the rule `number` reaches, if it calls one that reaches `number`: such a rule reaches itself. Those
-/// that don't reach `number`, as far as is known, are `away`.
-fn mark_caller(
-    rules: &Rules,
-    number: u32,
-    rule: u32,
-    start: u32,
-    end: u32,
-    empties: &[bool],
-    away: &mut [bool],
-    left: &mut [bool],
-)
-    requires within { (start ≤ rule) × (rule < end) }
-    requires calls { CallsBefore (bodies_in rules.now) end }
-    requires away_long { length away.old ≡ end - start }
-    requires left_long { length left.old ≡ end - start }
-    requires reached { OverReach (bodies_in rules.now) (marked empties.now) (λ reach. reach number rule ≡ true) }
-    requires away { ReachRule (bodies_in rules.now) (marked empties.now) start number away.old }
-    requires left { AreLeft (bodies_in rules.now) (marked empties.now) start left.old }
-    ensures away { ReachRule (bodies_in rules.now) (marked empties.now) start number away.new }
-    ensures left { AreLeft (bodies_in rules.now) (marked empties.now) start left.new }
-{
-    if calls_clean(rules, rule, empties, away, start) {
-        return;
+    /// Finds the calls of the rule with this number, if there is one.
+    fn find_calls_of(&self, search: &mut Search, number: u32) -> Result<(), NoMemory>
+        ensures { OnOk result
+            (Finds (calls_at (empty_in self.now) (table_of self.now) number) search.old search.new) }
+    {
+        if let Some(rule) = self.rules.get(number) {
+            find_calls(search, &rule.body, self.empties)?;
+        }
+        Ok(())
     }
-    let place = (rule - start) as usize;
-    away[place] = false;
-    left[place] = true;
-}
 
-/// Marks each such rule of the list, the last first.
-fn mark_callers(
-    rules: &Rules,
-    number: u32,
-    looked: &[u32],
-    start: u32,
-    end: u32,
-    empties: &[bool],
-    away: &mut [bool],
-    left: &mut [bool],
-)
-    requires calls { CallsBefore (bodies_in rules.now) end }
-    requires away_long { length away.old ≡ end - start }
-    requires left_long { length left.old ≡ end - start }
-    requires looked { AreReached (bodies_in rules.now) (marked empties.now) number start end looked.now }
-    requires away { ReachRule (bodies_in rules.now) (marked empties.now) start number away.old }
-    requires left { AreLeft (bodies_in rules.now) (marked empties.now) start left.old }
-    ensures { AreLeft (bodies_in rules.now) (marked empties.now) start left.new }
-{
-    let mut place = looked.len();
-    while place > 0 {
-        place -= 1;
-        mark_caller(
-            rules,
-            number,
-            looked[place],
-            start,
-            end,
-            empties,
-            away,
-            left,
-        );
-    }
-}
-
-/// Marks rules that reach themselves, where `number` does: of those that it reaches, each that calls it or calls another
-/// that was marked, the last that was looked at first. So a ring of rules is marked whole.
-fn mark_ring(
-    alloc: Global,
-    rules: &Rules,
-    number: u32,
-    looked: &[u32],
-    start: u32,
-    end: u32,
-    empties: &[bool],
-    left: &mut [bool],
-) -> Result<(), NoMemory>
-    requires within { (start ≤ number) × (number < end) }
-    requires calls { CallsBefore (bodies_in rules.now) end }
-    requires itself { OverReach (bodies_in rules.now) (marked empties.now) (λ reach. reach number number ≡ true) }
-    requires looked { AreReached (bodies_in rules.now) (marked empties.now) number start end looked.now }
-    requires long { length left.old ≡ end - start }
-    requires left { AreLeft (bodies_in rules.now) (marked empties.now) start left.old }
-    ensures { AreLeft (bodies_in rules.now) (marked empties.now) start left.new }
-{
-    let mut away = vec![in alloc; true; (end - start) as usize]?;
-    away[(number - start) as usize] = false;
-    mark_callers(rules, number, looked, start, end, empties, &mut away, left);
-    Ok(())
-}
-
-/// The rule reaches itself before a character: its calls are followed through the block. Where it does, others that are
-/// found to reach themselves on the way are marked.
-fn reaches_itself(
-    alloc: Global,
-    rules: &Rules,
-    start: u32,
-    end: u32,
-    number: u32,
-    empties: &[bool],
-    left: &mut [bool],
-) -> Result<bool, NoMemory>
-    requires within { (start ≤ number) × (number < end) × (end ≤ length (rules_of rules.now)) }
-    requires earlier { CallsBefore (bodies_in rules.now) start }
-    requires calls { CallsBefore (bodies_in rules.now) end }
-    requires long { length left.old ≡ end - start }
-    requires left { AreLeft (bodies_in rules.now) (marked empties.now) start left.old }
-    ensures itself { OverReach (bodies_in rules.now) (marked empties.now)
-        (λ reach. IfOk result (λ b. b ≡ reach number number)) }
-    ensures left { AreLeft (bodies_in rules.now) (marked empties.now) start left.new }
-{
-    let mut search = Search {
-        start,
-        marks: vec![in alloc; false; (end - start) as usize]?,
-        waiting: Vec::new(alloc),
-    };
-    let mut looked = Vec::new(alloc);
-    find_calls_of(&mut search, rules, number, empties)?;
-    while let Some(next) = search.waiting.pop() {
-        looked.push(next)?;
-        find_calls_of(&mut search, rules, next, empties)?;
-    }
-    if !search.marks[(number - start) as usize] {
-        return Ok(false);
-    }
-    mark_ring(alloc, rules, number, &looked, start, end, empties, left)?;
-    Ok(true)
-}
-
-/// Marks rules of a block that don't reach themselves, without a search: the last first, each rule that calls only
-/// such rules and earlier ones before a character. Most blocks are marked whole.
-fn mark_clean(rules: &Rules, start: u32, end: u32, empties: &[bool], clean: &mut [bool])
-    requires within { (start ≤ end) × (end ≤ length (rules_of rules.now)) }
-    requires earlier { CallsBefore (bodies_in rules.now) start }
-    requires long { length clean.old ≡ end - start }
-    requires none { (r : ℕ) → marked clean.old r ≡ false }
-    ensures long { length clean.new ≡ end - start }
-    ensures clean { AreClean (bodies_in rules.now) (marked empties.now) start clean.new }
-{
-    let mut number = end;
-    while start < number {
-        number -= 1;
-        if calls_clean(rules, number, empties, clean, start) {
-            clean[(number - start) as usize] = true;
+    /// The rule calls only clean rules before a character.
+    fn calls_clean(&self, number: u32, clean: &[bool]) -> bool
+        ensures clean { result ≡ true → (r : ℕ) →
+            calls_at (empty_in self.now) (table_of self.now) number r ≡ true →
+            marked_from self.now.start clean.now r ≡ true }
+        ensures other { result ≡ false → (r : ℕ)
+            × (calls_at (empty_in self.now) (table_of self.now) number r ≡ true)
+            × (marked_from self.now.start clean.now r ≡ false) }
+    {
+        match self.rules.get(number) {
+            Some(rule) => clean_front(&rule.body, self.empties, clean, self.start).is_some(),
+            None => true,
         }
     }
-}
 
-/// A list of such marks.
-fn clean_rules(
-    alloc: Global,
-    rules: &Rules,
-    start: u32,
-    end: u32,
-    empties: &[bool],
-) -> Result<Vec<bool>, NoMemory>
-    requires within { (start ≤ end) × (end ≤ length (rules_of rules.now)) }
-    requires earlier { CallsBefore (bodies_in rules.now) start }
-    ensures long { IfOk result (λ v. length v.items ≡ end - start) }
-    ensures clean { IfOk result (λ v. AreClean (bodies_in rules.now) (marked empties.now) start v.items) }
-{
-    let mut clean = vec![in alloc; false; (end - start) as usize]?;
-    mark_clean(rules, start, end, empties, &mut clean);
-    Ok(clean)
-}
-
-/// The rule reaches itself before a character. One that is clean doesn't, and one that is marked does.
-fn is_left_recursive(
-    alloc: Global,
-    rules: &Rules,
-    start: u32,
-    end: u32,
-    number: u32,
-    empties: &[bool],
-    clean: &[bool],
-    left: &mut [bool],
-) -> Result<bool, NoMemory>
-    requires within { (start ≤ number) × (number < end) × (end ≤ length (rules_of rules.now)) }
-    requires earlier { CallsBefore (bodies_in rules.now) start }
-    requires calls { CallsBefore (bodies_in rules.now) end }
-    requires clean_long { length clean.now ≡ end - start }
-    requires clean { AreClean (bodies_in rules.now) (marked empties.now) start clean.now }
-    requires left_long { length left.old ≡ end - start }
-    requires left { AreLeft (bodies_in rules.now) (marked empties.now) start left.old }
-    ensures itself { OverReach (bodies_in rules.now) (marked empties.now)
-        (λ reach. IfOk result (λ b. b ≡ reach number number)) }
-    ensures left { AreLeft (bodies_in rules.now) (marked empties.now) start left.new }
-{
-    let place = (number - start) as usize;
-    if clean[place] {
-        return Ok(false);
+    /// Marks a rule that the rule `number` reaches, if it calls one that reaches `number`: such a rule reaches itself.
+    /// Those that don't reach `number`, as far as is known, are `away`.
+    fn mark_caller(&self, number: u32, rule: u32, away: &mut [bool], left: &mut [bool])
+        requires block { Stands self.now }
+        requires within { (self.now.start ≤ rule) × (rule < self.now.end) }
+        requires away_long { IsLong self.now away.old }
+        requires left_long { IsLong self.now left.old }
+        requires reached { OverReach (table_of self.now) (empty_in self.now) (λ reach. reach number rule ≡ true) }
+        requires away { ReachRule (table_of self.now) (empty_in self.now) self.now.start number away.old }
+        requires left { AreLeft (table_of self.now) (empty_in self.now) self.now.start left.old }
+        ensures away { ReachRule (table_of self.now) (empty_in self.now) self.now.start number away.new }
+        ensures left { AreLeft (table_of self.now) (empty_in self.now) self.now.start left.new }
+    {
+        if self.calls_clean(rule, away) {
+            return;
+        }
+        let place = (rule - self.start) as usize;
+        away[place] = false;
+        left[place] = true;
     }
-    if left[place] {
-        return Ok(true);
-    }
-    reaches_itself(alloc, rules, start, end, number, empties, left)
-}
 
-/// Lists the rules of a block that reach themselves, where the clean ones are marked, and marks them.
-fn list_selves(
-    alloc: Global,
-    rules: &Rules,
-    start: u32,
-    end: u32,
-    empties: &[bool],
-    clean: &[bool],
-    left: &mut [bool],
-) -> Result<Vec<u32>, NoMemory>
-    requires within { (start ≤ end) × (end ≤ length (rules_of rules.now)) }
-    requires earlier { CallsBefore (bodies_in rules.now) start }
-    requires calls { CallsBefore (bodies_in rules.now) end }
-    requires clean_long { length clean.now ≡ end - start }
-    requires clean { AreClean (bodies_in rules.now) (marked empties.now) start clean.now }
-    requires left_long { length left.old ≡ end - start }
-    requires left { AreLeft (bodies_in rules.now) (marked empties.now) start left.old }
-    ensures { OverReach (bodies_in rules.now) (marked empties.now)
-        (λ reach. IfOk result (λ v. v.items ≡ B.selves reach start (end - start))) }
-{
-    let mut list = Vec::new(alloc);
-    for number in start..end {
-        if is_left_recursive(alloc, rules, start, end, number, empties, clean, left)? {
-            list.push(number)?;
+    /// Marks each such rule of the list, the last first.
+    fn mark_callers(&self, number: u32, looked: &[u32], away: &mut [bool], left: &mut [bool])
+        requires block { Stands self.now }
+        requires away_long { IsLong self.now away.old }
+        requires left_long { IsLong self.now left.old }
+        requires looked { AreReached (table_of self.now) (empty_in self.now) number self.now.start self.now.end
+            looked.now }
+        requires away { ReachRule (table_of self.now) (empty_in self.now) self.now.start number away.old }
+        requires left { AreLeft (table_of self.now) (empty_in self.now) self.now.start left.old }
+        ensures { AreLeft (table_of self.now) (empty_in self.now) self.now.start left.new }
+    {
+        let mut place = looked.len();
+        while place > 0 {
+            place -= 1;
+            self.mark_caller(number, looked[place], away, left);
         }
     }
-    Ok(list)
-}
 
-/// The rules of a block that reach themselves before a character, in order.
-pub(crate) fn selves(
-    alloc: Global,
-    rules: &Rules,
-    start: u32,
-    end: u32,
-    empties: &[bool],
-) -> Result<Vec<u32>, NoMemory>
-    requires within { (start ≤ end) × (end ≤ length (rules_of rules.now)) }
-    requires earlier { CallsBefore (bodies_in rules.now) start }
-    requires calls { CallsBefore (bodies_in rules.now) end }
-    ensures { OverReach (bodies_in rules.now) (marked empties.now)
-        (λ reach. IfOk result (λ v. v.items ≡ B.selves reach start (end - start))) }
-{
-    let clean = clean_rules(alloc, rules, start, end, empties)?;
-    let mut left = vec![in alloc; false; (end - start) as usize]?;
-    list_selves(alloc, rules, start, end, empties, &clean, &mut left)
+    /// Marks rules that reach themselves, where `number` does: of those that it reaches, each that calls it or calls
+    /// another that was marked, the last that was looked at first. So a ring of rules is marked whole.
+    fn mark_ring(
+        &self,
+        alloc: Global,
+        number: u32,
+        looked: &[u32],
+        left: &mut [bool],
+    ) -> Result<(), NoMemory>
+        requires block { Stands self.now }
+        requires within { (self.now.start ≤ number) × (number < self.now.end) }
+        requires itself { OverReach (table_of self.now) (empty_in self.now) (λ reach. reach number number ≡ true) }
+        requires looked { AreReached (table_of self.now) (empty_in self.now) number self.now.start self.now.end
+            looked.now }
+        requires long { IsLong self.now left.old }
+        requires left { AreLeft (table_of self.now) (empty_in self.now) self.now.start left.old }
+        ensures { AreLeft (table_of self.now) (empty_in self.now) self.now.start left.new }
+    {
+        let mut away = vec![in alloc; true; (self.end - self.start) as usize]?;
+        away[(number - self.start) as usize] = false;
+        self.mark_callers(number, looked, &mut away, left);
+        Ok(())
+    }
+
+    /// The rule reaches itself before a character: its calls are followed through the block. Where it does, others that
+    /// are found to reach themselves on the way are marked.
+    fn reaches_itself(
+        &self,
+        alloc: Global,
+        number: u32,
+        left: &mut [bool],
+    ) -> Result<bool, NoMemory>
+        requires block { Stands self.now }
+        requires within { (self.now.start ≤ number) × (number < self.now.end) }
+        requires long { IsLong self.now left.old }
+        requires left { AreLeft (table_of self.now) (empty_in self.now) self.now.start left.old }
+        ensures itself { OverReach (table_of self.now) (empty_in self.now)
+            (λ reach. IfOk result (λ b. b ≡ reach number number)) }
+        ensures left { AreLeft (table_of self.now) (empty_in self.now) self.now.start left.new }
+    {
+        let mut search = Search {
+            start: self.start,
+            marks: vec![in alloc; false; (self.end - self.start) as usize]?,
+            waiting: Vec::new(alloc),
+        };
+        let mut looked = Vec::new(alloc);
+        self.find_calls_of(&mut search, number)?;
+        while let Some(next) = search.waiting.pop() {
+            looked.push(next)?;
+            self.find_calls_of(&mut search, next)?;
+        }
+        if !search.marks[(number - self.start) as usize] {
+            return Ok(false);
+        }
+        self.mark_ring(alloc, number, &looked, left)?;
+        Ok(true)
+    }
+
+    /// Marks rules of a block that don't reach themselves, without a search: the last first, each rule that calls only
+    /// such rules and earlier ones before a character. Most blocks are marked whole.
+    fn mark_clean(&self, clean: &mut [bool])
+        requires block { Stands self.now }
+        requires long { IsLong self.now clean.old }
+        requires none { (r : ℕ) → marked clean.old r ≡ false }
+        ensures long { IsLong self.now clean.new }
+        ensures clean { AreClean (table_of self.now) (empty_in self.now) self.now.start clean.new }
+    {
+        let mut number = self.end;
+        while self.start < number {
+            number -= 1;
+            if self.calls_clean(number, clean) {
+                clean[(number - self.start) as usize] = true;
+            }
+        }
+    }
+
+    /// A list of such marks.
+    fn clean_rules(&self, alloc: Global) -> Result<Vec<bool>, NoMemory>
+        requires { Stands self.now }
+        ensures long { IfOk result (λ v. IsLong self.now v.items) }
+        ensures clean { IfOk result (λ v.
+            AreClean (table_of self.now) (empty_in self.now) self.now.start v.items) }
+    {
+        let mut clean = vec![in alloc; false; (self.end - self.start) as usize]?;
+        self.mark_clean(&mut clean);
+        Ok(clean)
+    }
+
+    /// The rule reaches itself before a character. One that is clean doesn't, and one that is marked does.
+    fn is_left_recursive(
+        &self,
+        alloc: Global,
+        number: u32,
+        clean: &[bool],
+        left: &mut [bool],
+    ) -> Result<bool, NoMemory>
+        requires block { Stands self.now }
+        requires within { (self.now.start ≤ number) × (number < self.now.end) }
+        requires clean_long { IsLong self.now clean.now }
+        requires clean { AreClean (table_of self.now) (empty_in self.now) self.now.start clean.now }
+        requires left_long { IsLong self.now left.old }
+        requires left { AreLeft (table_of self.now) (empty_in self.now) self.now.start left.old }
+        ensures itself { OverReach (table_of self.now) (empty_in self.now)
+            (λ reach. IfOk result (λ b. b ≡ reach number number)) }
+        ensures left { AreLeft (table_of self.now) (empty_in self.now) self.now.start left.new }
+    {
+        let place = (number - self.start) as usize;
+        if clean[place] {
+            return Ok(false);
+        }
+        if left[place] {
+            return Ok(true);
+        }
+        self.reaches_itself(alloc, number, left)
+    }
+
+    /// Lists the rules of a block that reach themselves, where the clean ones are marked, and marks them.
+    fn list_selves(
+        &self,
+        alloc: Global,
+        clean: &[bool],
+        left: &mut [bool],
+    ) -> Result<Vec<u32>, NoMemory>
+        requires block { Stands self.now }
+        requires clean_long { IsLong self.now clean.now }
+        requires clean { AreClean (table_of self.now) (empty_in self.now) self.now.start clean.now }
+        requires left_long { IsLong self.now left.old }
+        requires left { AreLeft (table_of self.now) (empty_in self.now) self.now.start left.old }
+        ensures { OverReach (table_of self.now) (empty_in self.now) (λ reach.
+            IfOk result (λ v. v.items ≡ B.selves reach self.now.start (self.now.end - self.now.start))) }
+    {
+        let mut list = Vec::new(alloc);
+        for number in self.start..self.end {
+            if self.is_left_recursive(alloc, number, clean, left)? {
+                list.push(number)?;
+            }
+        }
+        Ok(list)
+    }
+
+    /// The rules of a block that reach themselves before a character, in order.
+    pub(crate) fn selves(&self, alloc: Global) -> Result<Vec<u32>, NoMemory>
+        requires { Stands self.now }
+        ensures { OverReach (table_of self.now) (empty_in self.now) (λ reach.
+            IfOk result (λ v. v.items ≡ B.selves reach self.now.start (self.now.end - self.now.start))) }
+    {
+        let clean = self.clean_rules(alloc)?;
+        let mut left = vec![in alloc; false; (self.end - self.start) as usize]?;
+        self.list_selves(alloc, &clean, &mut left)
+    }
 }

@@ -1,15 +1,16 @@
 -- The steps of a scanner over byte places, and the symbols of the text.
 use Rattle.std.proofs.Common.{◌≡◌, ℕ, zero, suc, ◌+◌, ◌≤◌, List, [], ◌∷◌, length, drop, Option, Some, None, refl, sym, ap, subst, ◌∙◌, arith, drop-drop, length-drop, add_assoc}
-use Rattle.std.specs.Prelude.{nat_eq, if◌then◌else◌, slice_get}
+use Rattle.std.specs.Prelude.{nat_eq, if◌then◌else◌}
 use Rattle.std.specs.Char.{len_utf8}
 use Rattle.std.proofs.lemmas.Bool.{ne_eqb}
 use Rattle.std.proofs.lemmas.Str.{len_utf8_bounds, len_utf8_ascii}
 use Rattle.std.proofs.lemmas.List.{drop_all}
 use Rattle.rpl_text.specs.Places.{at, index, IsPlace, step_from}
 use Rattle.rpl_text.specs.Escapes.{escape, placed, escape_from}
-use Rattle.rpl_text.proofs.Walks.{some_step, none_step, index_at, place_at, at_suc, get_below, at_zero}
+use Rattle.rpl_text.proofs.Walks.{none_step, index_at, place_at, at_suc, get_below, at_zero}
 use Rattle.rpl_text.proofs.Cuts.{at-drop}
-use Rattle.rpl_text.proofs.Escaped.{escape_plain, drop_front}
+use Rattle.rpl_text.proofs.Escaped.{escape_plain}
+use Rattle.rpl_text.proofs.Stepped.{stepped}
 use Rattle.rpl_classes.specs.Symbols.{escaped, symbols, symbols_from}
 use Rattle.rpl_classes.specs.inside.Scanned.{Scanned}
 use Rattle.rpl_classes.specs.declared.symbols.Symbol.TheVariants.{Plain, Escaped, End}
@@ -33,28 +34,6 @@ skipped (suc k) p [] le = absurd (omega arith)
 skipped (suc k) p (c ∷ cs) le =
     symbols-skip k p c cs ∙ skipped k (p + len_utf8 c) cs (omega arith)
     ∙ ap (λ x. symbols 0 x (drop k cs)) (add_assoc p (len_utf8 c) (at cs k))
-
--- what a step of the text says
-pub record Stepped (t : List ℕ) (p c q : ℕ) : Type 0 where
-  pub front : drop (index t p) t ≡ c ∷ drop (index t p + 1) t
-  pub get : slice_get t (index t p) ≡ Some c
-  pub next : q ≡ p + len_utf8 c
-  pub place : IsPlace t q
-  pub number : index t q ≡ index t p + 1
-
-pub stepped : (t : List ℕ) (p c q : ℕ) → IsPlace t p → Some (c, q) ≡ step_from t (index t p) → Stepped t p c q
-stepped t p c q h e =
-    let i = index t p in
-    let s = some_step t i c q e in
-    let b = get_below t i c s.1 in
-    let a = at_suc t i c s.1 in
-    record {
-      front = drop_front t i c s.1;
-      get = s.1;
-      next = s.0 ∙ a ∙ ap (λ x. x + len_utf8 c) h;
-      place = subst (IsPlace t) (sym s.0) (place_at t (i + 1) (omega arith));
-      number = ap (index t) s.0 ∙ index_at t (i + 1) (omega arith);
-    }
 
 pub scan_plain : (t : List ℕ) (p c q : ℕ) → IsPlace t p → Some (c, q) ≡ step_from t (index t p) → (c ≡ 92 → ⊥) → Scanned t p (Plain c) q
 scan_plain t p c q h e n =

@@ -13,8 +13,6 @@ mod fault;
 mod laws;
 mod reading;
 mod tables;
-#[cfg(test)]
-mod tests;
 mod writing;
 
 pub use code_file::{read_code, write_code};

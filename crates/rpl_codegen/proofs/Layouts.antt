@@ -11,7 +11,7 @@ use Rattle.rpl_core.specs.Programs.{bodies, place_of}
 use Rattle.rpl_codegen.specs.inside.Laid.{body_len, bodies_len, rule_code}
 use Rattle.rpl_draft.proofs.Adding.{read_at, some_at}
 use Rattle.rpl_codegen.proofs.Lengths.{code_length, size_is}
-use Rattle.rpl_codegen.proofs.Parts.{drop_here}
+use Rattle.rpl_core.proofs.Walk.{drop_here}
 
 module _ (marks : ℕ → Bool) where
   pub place_zero : (ps : List Core) (k a : ℕ) → place_of marks ps k a zero ≡ a

@@ -1,29 +1,18 @@
 -- The parts of a sequence or a choice, one after the other.
-use Rattle.std.proofs.Common.{◌≡◌, ℕ, suc, ◌+◌, ◌<◌, List, [], ◌∷◌, length, drop, get_or, refl, sym, ap, ◌∙◌, arith, length-drop}
+use Rattle.std.proofs.Common.{◌≡◌, ℕ, ◌+◌, ◌<◌, List, [], ◌∷◌, length, drop, get_or, refl, ap, ◌∙◌, arith, length-drop}
 use Rattle.std.specs.Prelude.{Bool, true, false, ◌&&◌, if◌then◌else◌, Option, Some, None, is_some}
-use Rattle.std.proofs.Math.Seq.{drop-cons}
 use Rattle.std.proofs.lemmas.List.{drop_all, nil_from_length}
 use Rattle.rpl_core.specs.Code.{code, code_first, tested_choice}
-use Rattle.rpl_core.specs.Core.{Choice, Seq, NoMore}
+use Rattle.rpl_core.specs.Core.{Choice, NoMore}
 use Rattle.rpl_core.specs.declared.peg.Peg.{Peg}
 use Rattle.rpl_core.specs.declared.peg.Peg.TheViews as V
 use Rattle.rpl_core.specs.declared.peg.Pegs.{Pegs}
 use Rattle.rpl_core.specs.Head.{head}
 use Rattle.regex_class.specs.Ranges.{Range}
 use Rattle.rpl_core.specs.View.{core_of, cores, listed}
-use Rattle.rpl_core.proofs.Rows.{seq_view, choice_view}
+use Rattle.rpl_core.proofs.Rows.{choice_view}
+use Rattle.rpl_core.proofs.Walk.{drop_here}
 use Rattle.rpl_codegen.specs.inside.Sizes.{len, len_first, tried_len}
-
-pub drop_here : {A : Type 0} (xs : List A) (k : ℕ) (x : A) → k < length xs → x ≡ get_or xs k x → drop k xs ≡ x ∷ drop (k + 1) xs
-drop_here xs k x lt is =
-    let n : k + 1 ≡ suc k = omega arith in
-    drop-cons xs k x lt ∙ ap (λ y. y ∷ drop (suc k) xs) (sym is) ∙ ap (λ n. x ∷ drop n xs) (sym n)
-
-pub seq_core : (p : Peg) (ps : Pegs) (row : List Peg) → p ≡ V.Seq ps → row ≡ listed ps → Seq (cores row) ≡ core_of p
-seq_core p ps row is e = sym (ap core_of is ∙ seq_view ps ∙ ap (λ l. Seq (cores l)) (sym e))
-
-pub choice_core : (p : Peg) (ps : Pegs) (row : List Peg) → p ≡ V.Choice ps → row ≡ listed ps → Choice (cores row) ≡ core_of p
-choice_core p ps row is e = sym (ap core_of is ∙ choice_view ps ∙ ap (λ l. Choice (cores l)) (sym e))
 
 -- a part that others follow
 first_more : (p : Peg) (ps : List Peg) → 0 < length ps → len_first (cores (p ∷ ps)) ≡ tried_len (head (core_of p)) (len (core_of p)) + len_first (cores ps)

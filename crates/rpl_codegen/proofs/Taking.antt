@@ -11,7 +11,8 @@ use Rattle.rpl_codegen.specs.inside.Laid.{bodies_nodes, rule_nodes}
 use Rattle.rpl_codegen.specs.inside.Nodes.{behind_nodes, choice_nodes, nodes_in, parts_nodes, tested_nodes}
 use Rattle.rpl_codegen.specs.inside.Taken.{Begins, Takes, left}
 use Rattle.rpl_draft.proofs.Adding.{read_at, some_at}
-use Rattle.rpl_codegen.proofs.Parts.{drop_here, drop_last}
+use Rattle.rpl_core.proofs.Walk.{drop_here}
+use Rattle.rpl_codegen.proofs.Parts.{drop_last}
 
 -- what a list begins with
 pub begins_front : (xs ys zs : List Node) → Begins xs (ys ++ zs) → Begins xs ys

@@ -1,40 +1,26 @@
 // Codes that were worked out by hand.
-use rpl_check::{Checked, check, check_pattern};
-use rpl_classes::Set;
+use crate::words::{read_pattern, read_rules};
+use rpl_check::{check, check_pattern};
 use rpl_codegen::{CompileFault, compile};
-use rpl_core::{Instr, Peg, Pegs, Program, Rule, Rules, calls_are_rules, is_in_order};
-use rpl_text::Chars;
+use rpl_core::{Instr, Program, calls_are_rules, is_in_order};
 use std::alloc::{AllocError, Global};
 use std::test::Fail;
 
-fn letter(alloc: Global, c: char) -> Result<Peg, AllocError> {
-    let set = Set::from_ranges(alloc, &[(c as u32, c as u32)])?;
-    Ok(Peg::Set(set))
-}
+/// A pattern of each kind that the worked program hasn't.
+const ALL_KINDS: &str =
+    "start a not a start seq2 not a and a behind:1:2 note:t a b seq2 many end b choice2 halt seq9 cap:*";
 
-fn boxed(alloc: Global, peg: Peg) -> Result<Box<Peg>, AllocError> {
-    Ok(Box::new(alloc, peg)?)
-}
+/// Its code.
+const CODE_OF_ALL: &str = "\
+open 0; start; testset 4 0; fail; choice 8; set 0; start; failtwice; choice 11; set 0; backcommit 12; fail; choice 16; \
+back 1; set 0; meet 21; choice 20; back 2; set 0; meet 21; fail; note 1; choice 26; set 0; set 1; partialcommit 23; \
+choice 29; end; commit 30; set 1; halt; close; finish; ";
 
-fn parts(alloc: Global, first: Peg, second: Peg) -> Result<Pegs, AllocError> {
-    let mut parts = Pegs::new(alloc);
-    parts.push(first)?;
-    parts.push(second)?;
-    Ok(parts)
-}
+/// A table of one rule, and the code of its call.
+const RULE: &str = "a b choice2 c many seq2 cap:x";
 
-fn capture(alloc: Global, label: &str, body: Peg) -> Result<Peg, AllocError> {
-    let label = Chars::from_str(alloc, label)?;
-    Ok(Peg::Capture(label, boxed(alloc, body)?))
-}
-
-fn behind(alloc: Global, least: u32, most: u32) -> Result<Peg, AllocError> {
-    Ok(Peg::Behind {
-        least,
-        most,
-        body: boxed(alloc, letter(alloc, 'a')?)?,
-    })
-}
+const CODE_OF_CALL: &str =
+    "call 2; finish; open 0; testset 7 0; choice 7; set 0; commit 8; set 1; span 2; close; return; ";
 
 /// An instruction with its operands.
 fn line(alloc: Global, instr: Instr) -> Result<String, AllocError> {
@@ -72,104 +58,49 @@ fn printed(alloc: Global, program: &Program) -> Result<String, AllocError> {
     Ok(text)
 }
 
-/// The sequence of two patterns.
-fn seq(alloc: Global, first: Peg, second: Peg) -> Result<Peg, AllocError> {
-    Ok(Peg::Seq(parts(alloc, first, second)?))
-}
-
-/// Each kind of pattern that the worked program hasn't.
-fn all_kinds(alloc: Global) -> Result<Peg, AllocError> {
-    let mut all = Pegs::new(alloc);
-    all.push(Peg::Start)?;
-    all.push(Peg::Not(boxed(alloc, letter(alloc, 'a')?)?))?;
-    let two = seq(alloc, letter(alloc, 'a')?, Peg::Start)?;
-    all.push(Peg::Not(boxed(alloc, two)?))?;
-    all.push(Peg::And(boxed(alloc, letter(alloc, 'a')?)?))?;
-    all.push(behind(alloc, 1, 2)?)?;
-    all.push(Peg::Note(Chars::from_str(alloc, "t")?))?;
-    let two = seq(alloc, letter(alloc, 'a')?, letter(alloc, 'b')?)?;
-    all.push(Peg::Many(boxed(alloc, two)?))?;
-    all.push(Peg::Choice(parts(alloc, Peg::End, letter(alloc, 'b')?)?))?;
-    all.push(Peg::Halt)?;
-    Ok(Peg::Seq(all))
-}
-
-/// The table, which has no fault.
-fn checked(alloc: Global, rules: Rules) -> Result<Checked, Fail> {
+/// What the compiler answers for a goal over a table, neither of which has a fault.
+fn compiled(alloc: Global, table: &str, goal: &str) -> Result<Result<Program, CompileFault>, Fail> {
+    let rules = read_rules(alloc, table)?;
     if !is_in_order(&rules) {
         Err("rules out of order")?;
     }
-    Ok(check(alloc, rules)?)
-}
-
-/// What the compiler answers for a goal without faults.
-fn compiled(
-    alloc: Global,
-    checked: &Checked,
-    goal: Peg,
-) -> Result<Result<Program, CompileFault>, Fail> {
+    let checked = check(alloc, rules)?;
+    let goal = read_pattern(alloc, goal)?;
     if !calls_are_rules(checked.rules(), &goal) {
         Err("a call of no rule")?;
     }
-    let goal = check_pattern(alloc, checked, goal)?;
-    Ok(compile(alloc, checked, &goal))
+    let goal = check_pattern(alloc, &checked, goal)?;
+    Ok(compile(alloc, &checked, &goal))
+}
+
+/// The code of a goal over a table.
+fn code(alloc: Global, table: &str, goal: &str) -> Result<String, Fail> {
+    let program = compiled(alloc, table, goal)??;
+    Ok(printed(alloc, &program)?)
 }
 
 #[test]
 fn codes_are_as_worked_out(rt: HostRuntime) -> Result<(), Fail> {
     let alloc = rt.alloc();
-    let none = checked(alloc, Rules::new(alloc))?;
-    let goal = capture(alloc, "*", letter(alloc, '7')?)?;
-    let program = compiled(alloc, &none, goal)??;
-    assert_eq!(rt;
-        printed(alloc, &program)?.as_str(),
-        "open 0; set 0; close; finish; "
-    );
-    let goal = capture(alloc, "*", all_kinds(alloc)?)?;
-    let program = compiled(alloc, &none, goal)??;
-    let want =
-        "open 0; start; testset 4 0; fail; choice 8; set 0; start; failtwice; choice 11; set 0; backcommit 12; fail; choice 16; back 1; set 0; meet 21; choice 20; back 2; set 0; meet 21; fail; note 1; choice 26; set 0; set 1; partialcommit 23; choice 29; end; commit 30; set 1; halt; close; finish; ";
-    assert_eq!(rt; printed(alloc, &program)?.as_str(), want);
-    assert_eq!(rt; program.sets().len(), 2);
-    assert_eq!(rt; program.label(1), Some("t"));
+    assert!(rt; code(alloc, "", "7 cap:*")?.as_str() == "open 0; set 0; close; finish; ");
+    let program = compiled(alloc, "", ALL_KINDS)??;
+    assert_eq!(rt; printed(alloc, &program)?.as_str(), CODE_OF_ALL);
+    assert!(rt; program.sets().len() == 2 && program.label(1) == Some("t"));
     Ok(())
 }
 
 #[test]
 fn only_reached_rules_are_written(rt: HostRuntime) -> Result<(), Fail> {
-    let alloc = rt.alloc();
-    let mut rules = Rules::new(alloc);
-    let words = Peg::Choice(parts(alloc, letter(alloc, 'a')?, letter(alloc, 'b')?)?);
-    let many = Peg::Many(boxed(alloc, letter(alloc, 'c')?)?);
-    let body = capture(alloc, "x", seq(alloc, words, many)?)?;
-    rules.push(Rule {
-        name: Chars::from_str(alloc, "x")?,
-        block: None,
-        body,
-    })?;
-    let table = checked(alloc, rules)?;
-    let program = compiled(alloc, &table, Peg::Call(0))??;
-    let want =
-        "call 2; finish; open 0; testset 7 0; choice 7; set 0; commit 8; set 1; span 2; close; return; ";
-    assert_eq!(rt; printed(alloc, &program)?.as_str(), want);
-    let program = compiled(alloc, &table, letter(alloc, 'a')?)??;
-    assert_eq!(rt; printed(alloc, &program)?.as_str(), "set 0; finish; ");
+    assert_eq!(rt; code(rt.alloc(), RULE, "call:0")?.as_str(), CODE_OF_CALL);
+    assert!(rt; code(rt.alloc(), RULE, "a")?.as_str() == "set 0; finish; ");
     Ok(())
 }
 
 #[test]
 fn the_longest_code_fits(rt: HostRuntime) -> Result<(), Fail> {
-    let alloc = rt.alloc();
-    let none = checked(alloc, Rules::new(alloc))?;
-    let goal = capture(alloc, "*", behind(alloc, 0, 262_142)?)?;
-    let program = compiled(alloc, &none, goal)??;
-    assert_eq!(rt; program.code().len(), 1_048_576);
-    let goal = capture(
-        alloc,
-        "*",
-        seq(alloc, behind(alloc, 0, 262_142)?, Peg::Start)?,
-    )?;
-    let answer = compiled(alloc, &none, goal)?;
+    let program = compiled(rt.alloc(), "", "a behind:0:262142 cap:*")??;
+    assert!(rt; program.code().len() == 1_048_576);
+    let answer = compiled(rt.alloc(), "", "a behind:0:262142 start seq2 cap:*")?;
     assert!(rt; matches!(answer, Err(CompileFault::CodeTooLong)));
     Ok(())
 }

@@ -1,8 +1,11 @@
 -- The text of an answer in each style.
-use Rattle.std.specs.Prelude.{ℕ, if◌then◌else◌, List, [], ◌∷◌, ◌++◌, flat_map, take, slice_range, codes, Option, None, Some}
+use Rattle.std.specs.Prelude.{ℕ, if◌then◌else◌, List, [], ◌∷◌, ◌++◌, flat_map, take, slice_range, codes, Option, None}
+use Rattle.std.specs.Prelude.{Some, ◌≡◌, ◌<◌, length, Result, Err}
 use Rattle.std.specs.Str.{encode_utf8_all, bytes_eq}
 use Rattle.rpl_core.specs.Forest.{Forest, NoTree, Tree, Noted}
 use Rattle.rpl_encode.specs.Texts.{texts, objects}
+use Rattle.rpl_encode.specs.declared.fault.EncodeFault.{EncodeFault}
+use Rattle.rpl_encode.specs.declared.fault.EncodeFault.TheVariants.{AnswerTooLong}
 use Rattle.rpl_encode.specs.declared.style.Style.{Style}
 use Rattle.rpl_encode.specs.declared.style.Style.TheVariants.{Json, Line, Matches, Subs, Plain, Bool as TrueOrFalse}
 
@@ -16,7 +19,8 @@ below_root (Noted text place behind) = NoTree
 abbrev pub hits : List ℕ → Forest → List (List ℕ)
 hits line NoTree = []
 hits line (Tree label start end below behind) =
-    if bytes_eq (encode_utf8_all label) (codes "find.*") then slice_range line start end ∷ hits line behind else hits line behind
+    if bytes_eq (encode_utf8_all label) (codes "find.*") then slice_range line start end ∷ hits line behind
+    else hits line behind
 hits line (Noted text place behind) = hits line behind
 
 abbrev pub or_else : List (List ℕ) → List (List ℕ) → List (List ℕ)
@@ -51,3 +55,7 @@ answer style line found = line_by_line (parts_of style line found)
 -- the greatest number of bytes of an answer
 abbrev pub most_bytes : ℕ
 most_bytes = 67108864
+
+-- where a text is refused as too long, it is longer than that
+abbrev pub IsTooLong : {T : Type 0} → Result T EncodeFault → List ℕ → Type 0
+IsTooLong result text = result ≡ Err AnswerTooLong → most_bytes < length text

@@ -10,7 +10,8 @@ use Rattle.rpl_encode.specs.declared.style.Style.{Style}
 -- the trees with each place moved
 abbrev pub placed : (ℕ → ℕ) → Forest → Forest
 placed place_of NoTree = NoTree
-placed place_of (Tree label start end below behind) = Tree label (place_of start) (place_of end) (placed place_of below) (placed place_of behind)
+placed place_of (Tree label start end below behind) =
+    Tree label (place_of start) (place_of end) (placed place_of below) (placed place_of behind)
 placed place_of (Noted text place behind) = Noted text (place_of place) (placed place_of behind)
 
 -- the trees of a match, if there is one

@@ -1,4 +1,5 @@
--- The texts and the JSON objects of the trees of a match, over the bytes of the line. The places of the trees are numbers of bytes.
+-- The texts and the JSON objects of the trees of a match, over the bytes of the line. The places of the trees are
+-- numbers of bytes.
 use Rattle.std.specs.Prelude.{ℕ, ◌+◌, List, [], ◌∷◌, ◌++◌, slice_range, flat_map, decimal, codes}
 use Rattle.std.specs.Str.{encode_utf8_all}
 use Rattle.rpl_core.specs.Forest.{Forest, NoTree, Tree, Noted}
@@ -31,4 +32,5 @@ abbrev pub objects : List ℕ → Forest → List (List ℕ)
 objects line NoTree = []
 objects line (Tree label start end below behind) =
     object (encode_utf8_all label) start end (slice_range line start end) (objects line below) ∷ objects line behind
-objects line (Noted text place behind) = object (codes "message") place place (encode_utf8_all text) [] ∷ objects line behind
+objects line (Noted text place behind) =
+    object (codes "message") place place (encode_utf8_all text) [] ∷ objects line behind

@@ -1,8 +1,8 @@
 // The text of an answer, whole.
-ghost use Rattle.std.specs.Prelude.{◌≡◌, ◌<◌, ◌≤◌, ◌++◌, [], Err, IfOk, OnOk, length, option_map};
+ghost use Rattle.std.specs.Prelude.{◌≡◌, ◌≤◌, ◌++◌, [], Err, IfOk, OnOk, length};
 ghost use Rattle.std.specs.Option.{option_copied};
-ghost use Rattle.rpl_encode.specs.Answer.{answer, line_by_line, most_bytes, none, parts};
-ghost use Rattle.rpl_encode.specs.Labels.{trees_in};
+ghost use Rattle.rpl_encode.specs.Answer.{IsTooLong, line_by_line, most_bytes, none};
+ghost use Rattle.rpl_encode.specs.Labels.{answer_text, match_text};
 
 use crate::children::{put_line, put_root_text, put_texts};
 use crate::fault::EncodeFault;
@@ -57,8 +57,9 @@ impl AnswerText {
         &self.text
     }
 
-    /// Becomes the text of a line's outcome in a style: of the trees that were found, or of none. It is written in the memory that there
-    /// is where that is enough, and taken back as soon as it is too long. What it holds where memory is wanting is left open.
+    /// Becomes the text of a line's outcome in a style: of the trees that were found, or of none. It is written in the
+    /// memory that there is where that is enough, and taken back as soon as it is too long. What it holds where memory
+    /// is wanting is left open.
     pub fn fill(
         &mut self,
         style: Style,
@@ -66,9 +67,10 @@ impl AnswerText {
         found: Option<&Forest>,
         program: &Program,
     ) -> Result<(), EncodeFault>
-        ensures text { OnOk result (self.new ≡ answer style line.now (option_map (trees_in program.now) (option_copied found.entry))) }
-        ensures fits { OnOk result (length (answer style line.now (option_map (trees_in program.now) (option_copied found.entry))) ≤ most_bytes) }
-        ensures too_long { result ≡ Err EncodeFault.AnswerTooLong → most_bytes < length (answer style line.now (option_map (trees_in program.now) (option_copied found.entry))) }
+        ensures text { OnOk result (self.new ≡ answer_text style line.now program.now (option_copied found.entry)) }
+        ensures fits { OnOk result
+            (length (answer_text style line.now program.now (option_copied found.entry)) ≤ most_bytes) }
+        ensures too_long { IsTooLong result (answer_text style line.now program.now (option_copied found.entry)) }
         ensures kept { result ≡ Err EncodeFault.AnswerTooLong → self.new ≡ self.old }
     {
         self.draft.clear();
@@ -97,9 +99,10 @@ pub fn encode(
     found: Option<&Forest>,
     program: &Program,
 ) -> Result<Bytes, EncodeFault>
-    ensures text { IfOk result (λ text. text ≡ answer style line.now (option_map (trees_in program.now) (option_copied found.entry))) }
-    ensures fits { OnOk result (length (answer style line.now (option_map (trees_in program.now) (option_copied found.entry))) ≤ most_bytes) }
-    ensures too_long { result ≡ Err EncodeFault.AnswerTooLong → most_bytes < length (answer style line.now (option_map (trees_in program.now) (option_copied found.entry))) }
+    ensures text { IfOk result (λ text. text ≡ answer_text style line.now program.now (option_copied found.entry)) }
+    ensures fits { OnOk result
+        (length (answer_text style line.now program.now (option_copied found.entry)) ≤ most_bytes) }
+    ensures too_long { IsTooLong result (answer_text style line.now program.now (option_copied found.entry)) }
 {
     let mut answer = AnswerText::new(alloc);
     answer.fill(style, line, found, program)?;
@@ -116,8 +119,10 @@ fn put_answer(
     found: Option<&Forest>,
     program: &Program,
 ) -> Result<(), EncodeFault>
-    ensures too_long { result ≡ Err EncodeFault.AnswerTooLong → most_bytes < length (out.old.items ++ answer style line.now (option_map (trees_in program.now) (option_copied found.entry))) }
-    ensures text { OnOk result (out.new.items ≡ out.old.items ++ (answer style line.now (option_map (trees_in program.now) (option_copied found.entry)))) }
+    ensures too_long { IsTooLong result
+        (out.old.items ++ answer_text style line.now program.now (option_copied found.entry)) }
+    ensures text { OnOk result
+        (out.new.items ≡ out.old.items ++ (answer_text style line.now program.now (option_copied found.entry))) }
 {
     match found {
         Some(forest) => put_match(out, pending, prepared, style, line, forest, program),
@@ -145,8 +150,8 @@ fn put_match(
     forest: &Forest,
     program: &Program,
 ) -> Result<(), EncodeFault>
-    ensures too_long { result ≡ Err EncodeFault.AnswerTooLong → most_bytes < length (out.old.items ++ line_by_line (parts style line.now (trees_in program.now forest.now))) }
-    ensures text { OnOk result (out.new.items ≡ out.old.items ++ (line_by_line (parts style line.now (trees_in program.now forest.now)))) }
+    ensures too_long { IsTooLong result (out.old.items ++ match_text style line.now program.now forest.now) }
+    ensures text { OnOk result (out.new.items ≡ out.old.items ++ (match_text style line.now program.now forest.now)) }
 {
     match style {
         Style::Json => {
@@ -171,8 +176,9 @@ fn put_hits(
     forest: &Forest,
     program: &Program,
 ) -> Result<(), EncodeFault>
-    ensures too_long { result ≡ Err EncodeFault.AnswerTooLong → most_bytes < length (out.old.items ++ line_by_line (parts Style.Matches line.now (trees_in program.now forest.now))) }
-    ensures text { OnOk result (out.new.items ≡ out.old.items ++ (line_by_line (parts Style.Matches line.now (trees_in program.now forest.now)))) }
+    ensures too_long { IsTooLong result (out.old.items ++ match_text Style.Matches line.now program.now forest.now) }
+    ensures text { OnOk result
+        (out.new.items ≡ out.old.items ++ (match_text Style.Matches line.now program.now forest.now)) }
 {
     if put_texts(out, true, line, forest, program)? {
         return Ok(());

@@ -1,9 +1,9 @@
 // The texts of the root, and of the nodes directly under it.
-ghost use Rattle.std.specs.Prelude.{◌≡◌, ◌<◌, ◌⊎◌, ◌++◌, [], ◌∷◌, length, slice_get, Err, OnOk, IfOk, IfSome, IfNone};
+ghost use Rattle.std.specs.Prelude.{◌≡◌, ◌<◌, ◌⊎◌, ◌++◌, [], ◌∷◌, slice_get, OnOk, IfOk, IfSome, IfNone};
 ghost use Rattle.rpl_core.specs.Program.{labels_of};
-ghost use Rattle.rpl_encode.specs.Answer.{below_root, line_by_line, most_bytes, parts};
+ghost use Rattle.rpl_encode.specs.Answer.{IsTooLong, below_root, line_by_line};
 ghost use Rattle.rpl_encode.specs.inside.Children.{below_of_first, is_some_text, is_wanted, wanted};
-ghost use Rattle.rpl_encode.specs.Labels.{trees_in};
+ghost use Rattle.rpl_encode.specs.Labels.{match_text, trees_in};
 
 use crate::answer::MOST_BYTES;
 use crate::fault::EncodeFault;
@@ -30,7 +30,9 @@ pub(crate) fn put_root_text(
     forest: &Forest,
     program: &Program,
 ) -> Result<(), NoMemory>
-    ensures { OnOk result (out.new.items ≡ out.old.items ++ (line_by_line (parts Style.Plain line.now (trees_in program.now forest.now)))) }
+    ensures { OnOk result
+        (out.new.items
+        ≡ out.old.items ++ (match_text Style.Plain line.now program.now forest.now)) }
 {
     match forest.get(0) {
         Some(root) => put_line(out, text_of(root, line, program)),
@@ -38,7 +40,8 @@ pub(crate) fn put_root_text(
     }
 }
 
-/// Writes the texts of the nodes directly under the root, or only those of hits, each with a line feed. Tells whether there was one.
+/// Writes the texts of the nodes directly under the root, or only those of hits, each with a line feed. Tells whether
+/// there was one.
 pub(crate) fn put_texts(
     out: &mut Vec<u8>,
     only_hits: bool,
@@ -46,9 +49,13 @@ pub(crate) fn put_texts(
     forest: &Forest,
     program: &Program,
 ) -> Result<bool, EncodeFault>
-    ensures text { OnOk result (out.new.items ≡ out.old.items ++ (line_by_line (wanted only_hits line.now (below_root (trees_in program.now forest.now))))) }
-    ensures too_long { result ≡ Err EncodeFault.AnswerTooLong → most_bytes < length (out.old.items ++ line_by_line (wanted only_hits line.now (below_root (trees_in program.now forest.now)))) }
-    ensures found { IfOk result (λ some. some ≡ is_some_text (wanted only_hits line.now (below_root (trees_in program.now forest.now)))) }
+    ensures text { OnOk result
+        (out.new.items
+        ≡ out.old.items ++ (line_by_line (wanted only_hits line.now (below_root (trees_in program.now forest.now))))) }
+    ensures too_long { IsTooLong result
+        (out.old.items ++ line_by_line (wanted only_hits line.now (below_root (trees_in program.now forest.now)))) }
+    ensures found { IfOk result
+        (λ some. some ≡ is_some_text (wanted only_hits line.now (below_root (trees_in program.now forest.now)))) }
 {
     let count = forest.len();
     let mut left = below_first(forest);

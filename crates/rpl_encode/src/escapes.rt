@@ -42,8 +42,8 @@ impl Escapes {
         find_places(&mut self.places, line.as_bytes(), &self.string)
     }
 
-    /// Adds what stands for the part of their line between two places. It is empty where the end is before the start, and ends where
-    /// the line does.
+    /// Adds what stands for the part of their line between two places. It is empty where the end is before the start,
+    /// and ends where the line does.
     pub(crate) fn put(
         &self,
         out: &mut Vec<u8>,
@@ -97,7 +97,8 @@ fn find_places(places: &mut Vec<usize>, line: &[u8], string: &[u8]) -> Result<()
 /// How many bytes stand for the byte at the front of a string's rest, behind which the closing quote stands.
 fn width(rest: &[u8]) -> usize
     requires { 1 < length rest.now }
-    ensures { (byte : ℕ) (behind : List ℕ) → rest.now ≡ escape_byte byte ++ behind → result ≡ length (escape_byte byte) }
+    ensures { (byte : ℕ) (behind : List ℕ) → rest.now ≡ escape_byte byte ++ behind
+        → result ≡ length (escape_byte byte) }
 {
     if rest[0] != b'\\' {
         return 1;

@@ -41,7 +41,8 @@ pub(crate) fn part_of(line: &[u8], start: usize, end: usize) -> &[u8]
     &line[start..end]
 }
 
-/// Writes the object of a node, with a comma before it unless it is the first, up to the first of the nodes below it or to its end.
+/// Writes the object of a node, with a comma before it unless it is the first, up to the first of the nodes below it or
+/// to its end.
 pub(crate) fn put_node(
     out: &mut Vec<u8>,
     node: Node,
@@ -52,7 +53,9 @@ pub(crate) fn put_node(
     program: &Program,
 ) -> Result<(), NoMemory>
     requires { AreOf line.now prepared.now.escapes }
-    ensures { OnOk result (out.new.items ≡ out.old.items ++ (comma is_first ++ (fields_at (labels_of program.now) line.now node ++ ending has_subs))) }
+    ensures { OnOk result
+        (out.new.items
+        ≡ out.old.items ++ (comma is_first ++ (fields_at (labels_of program.now) line.now node ++ ending has_subs))) }
 {
     match node.note {
         Some(text) => {
@@ -77,7 +80,9 @@ fn put_message(
     place: usize,
     text: &str,
 ) -> Result<(), NoMemory>
-    ensures { OnOk result (out.new.items ≡ out.old.items ++ (comma is_first ++ (fields label.now place place text.now ++ ending has_subs))) }
+    ensures { OnOk result
+        (out.new.items
+        ≡ out.old.items ++ (comma is_first ++ (fields label.now place place text.now ++ ending has_subs))) }
 {
     put_new_front(out, is_first, label)?;
     put_places(out, place, place)?;
@@ -95,7 +100,8 @@ fn put_part(
     end: usize,
 ) -> Result<(), NoMemory>
     requires { AreOf line.now escapes.now }
-    ensures { OnOk result (out.new.items ≡ out.old.items ++ (escape (slice_range line.now start end) ++ 34 ∷ ending has_subs)) }
+    ensures { OnOk result
+        (out.new.items ≡ out.old.items ++ (escape (slice_range line.now start end) ++ 34 ∷ ending has_subs)) }
 {
     escapes.put(out, line, start, end)?;
     put_ending(out, has_subs)
@@ -116,7 +122,9 @@ fn put_ending(out: &mut Vec<u8>, has_subs: bool) -> Result<(), NoMemory>
 /// Writes where a node starts and ends, up to the quote before its text.
 #[inline(always)]
 fn put_places(out: &mut Vec<u8>, start: usize, end: usize) -> Result<(), NoMemory>
-    ensures { OnOk result (out.new.items ≡ out.old.items ++ (decimal (start + 1) ++ (codes ",\"e\":" ++ (decimal (end + 1) ++ codes ",\"data\":\"")))) }
+    ensures { OnOk result
+        (out.new.items
+        ≡ out.old.items ++ (decimal (start + 1) ++ (codes ",\"e\":" ++ (decimal (end + 1) ++ codes ",\"data\":\"")))) }
 {
     if start == usize::MAX || end == usize::MAX {
         return put_far_places(out, start, end);
@@ -147,7 +155,9 @@ fn write_before(bytes: &[u8], buffer: &mut [u8], end: usize) -> usize
 /// The same for any places; printed one higher, the greatest has no usize.
 #[cold]
 fn put_far_places(out: &mut Vec<u8>, start: usize, end: usize) -> Result<(), NoMemory>
-    ensures { OnOk result (out.new.items ≡ out.old.items ++ (decimal (start + 1) ++ (codes ",\"e\":" ++ (decimal (end + 1) ++ codes ",\"data\":\"")))) }
+    ensures { OnOk result
+        (out.new.items
+        ≡ out.old.items ++ (decimal (start + 1) ++ (codes ",\"e\":" ++ (decimal (end + 1) ++ codes ",\"data\":\"")))) }
 {
     let mut buffer = Buffer::new();
     out.extend_from_slice(buffer.format(start as u128 + 1).as_bytes())?;

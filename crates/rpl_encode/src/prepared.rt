@@ -7,7 +7,8 @@ use crate::front::{Front, add_fronts};
 use rpl_core::{NoMemory, Program};
 use std::alloc::Global;
 
-/// What the objects of all nodes of a line share: the fronts of a program's types, and the line as it stands in a string of JSON.
+/// What the objects of all nodes of a line share: the fronts of a program's types, and the line as it stands in a
+/// string of JSON.
 #[derive(Drop)]
 pub(crate) struct Prepared {
     pub(crate) fronts: Vec<Front>,

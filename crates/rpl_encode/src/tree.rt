@@ -1,8 +1,8 @@
 // A tree as JSON.
-ghost use Rattle.std.specs.Prelude.{◌≡◌, ◌+◌, ◌<◌, ◌++◌, ◌∷◌, [], ◌↔◌, true, drop, length, reverse, vec_len, Err, OnOk, IsTrue};
+ghost use Rattle.std.specs.Prelude.{◌≡◌, ◌+◌, ◌<◌, ◌++◌, ◌∷◌, [], ◌↔◌, true, drop, reverse, vec_len, OnOk, IsTrue};
 ghost use Rattle.rpl_core.specs.Program.{labels_of};
-ghost use Rattle.rpl_encode.specs.Labels.{trees_in};
-ghost use Rattle.rpl_encode.specs.Answer.{parts, line_by_line, most_bytes};
+ghost use Rattle.rpl_encode.specs.Labels.{match_text};
+ghost use Rattle.rpl_encode.specs.Answer.{IsTooLong};
 ghost use Rattle.rpl_encode.specs.inside.Escapes.{AreOf};
 ghost use Rattle.rpl_encode.specs.inside.Walk.{rest_of};
 
@@ -14,7 +14,8 @@ use crate::style::Style;
 use rpl_core::{NoMemory, Program};
 use rpl_tree::{Forest, Node};
 
-/// Writes the object of the first tree and a line feed, or nothing where there is no tree. `pending` is room for the work.
+/// Writes the object of the first tree and a line feed, or nothing where there is no tree. `pending` is room for the
+/// work.
 pub(crate) fn put_tree(
     out: &mut Vec<u8>,
     pending: &mut Vec<usize>,
@@ -24,8 +25,9 @@ pub(crate) fn put_tree(
     program: &Program,
 ) -> Result<(), EncodeFault>
     requires { AreOf line.now prepared.now.escapes }
-    ensures text { OnOk result (out.new.items ≡ out.old.items ++ line_by_line (parts Style.Json line.now (trees_in program.now forest.now))) }
-    ensures too_long { result ≡ Err EncodeFault.AnswerTooLong → most_bytes < length (out.old.items ++ line_by_line (parts Style.Json line.now (trees_in program.now forest.now))) }
+    ensures text { OnOk result
+        (out.new.items ≡ out.old.items ++ match_text Style.Json line.now program.now forest.now) }
+    ensures too_long { IsTooLong result (out.old.items ++ match_text Style.Json line.now program.now forest.now) }
 {
     let Some(root) = forest.get(0) else {
         return Ok(());
@@ -49,15 +51,16 @@ fn open_list(pending: &mut Vec<usize>, count: usize) -> Result<(), NoMemory>
     Ok(())
 }
 
-/// Whether nodes are printed below this one: it has some, the next of which has the number `next` among `count`. A note has none.
+/// Whether nodes are printed below this one: it has some, the next of which has the number `next` among `count`. A note
+/// has none.
 fn has_subs(node: Node, below: usize, next: usize, count: usize) -> bool
     ensures { IsTrue result ↔ ((node.note ≡ None) × (0 < below) × (next < count)) }
 {
     node.note.is_none() && below > 0 && next < count
 }
 
-/// Writes the nodes from the second on, and closes the lists that are open. `pending` has the number of nodes that are still to come in each
-/// of them, the innermost last.
+/// Writes the nodes from the second on, and closes the lists that are open. `pending` has the number of nodes that are
+/// still to come in each of them, the innermost last.
 fn put_below(
     out: &mut Vec<u8>,
     pending: &mut Vec<usize>,
@@ -67,8 +70,13 @@ fn put_below(
     program: &Program,
 ) -> Result<(), EncodeFault>
     requires { AreOf line.now prepared.now.escapes }
-    ensures text { OnOk result (out.new.items ≡ out.old.items ++ rest_of (labels_of program.now) line.now (drop 1 forest.now) (reverse pending.old.items) true) }
-    ensures too_long { result ≡ Err EncodeFault.AnswerTooLong → most_bytes < length (out.old.items ++ rest_of (labels_of program.now) line.now (drop 1 forest.now) (reverse pending.old.items) true) }
+    ensures text { OnOk result
+        (out.new.items
+        ≡ out.old.items
+        ++ rest_of (labels_of program.now) line.now (drop 1 forest.now) (reverse pending.old.items) true) }
+    ensures too_long { IsTooLong result
+        (out.old.items
+        ++ rest_of (labels_of program.now) line.now (drop 1 forest.now) (reverse pending.old.items) true) }
 {
     let count = forest.len();
     let mut index = 1;

@@ -1,7 +1,8 @@
 -- Which rules a core calls, from those that its parts call.
-use Rattle.std.proofs.Common.{◌≡◌, ◌⊎◌, ℕ, zero, suc, ◌-◌, List, [], ◌∷◌, refl, ap, subst, inl, inr, arith}
+use Rattle.std.proofs.Common.{◌≡◌, ℕ, zero, suc, ◌-◌, List, [], ◌∷◌, refl, subst, inl, inr, arith}
 use Rattle.std.specs.Prelude.{Bool, true, false, ◌||◌, nat_eq, if◌then◌else◌, Option, Some, None, slice_get, min}
 use Rattle.std.proofs.lemmas.Bool.Decides.{nat_tests}
+use Rattle.std.proofs.lemmas.Bool.{or_cases, or_left, or_right}
 use Rattle.rpl_core.specs.Core.{Core, Set, Seq, Choice, Many, Not, And, Behind, Call, Capture, Note, Start, End, Halt}
 use Rattle.rpl_core.specs.Core.{Cores, NoMore, Then}
 use Rattle.rpl_core.specs.Lengths.{has_call, has_repetition, least, greatest}
@@ -31,17 +32,6 @@ Only P p = (t : ℕ) → calls p t ≡ true → P t
 abbrev pub OnlyAll : (ℕ → Type 0) → Cores → Type 0
 OnlyAll P ps = (t : ℕ) → calls_any ps t ≡ true → P t
 
-some_true : (a b : Bool) → (a || b) ≡ true → (a ≡ true) ⊎ (b ≡ true)
-some_true true b e = inl refl
-some_true false b e = inr e
-
-first_true : (a b : Bool) → a ≡ true → (a || b) ≡ true
-first_true a b e = ap (λ x. x || b) e
-
-second_true : (a b : Bool) → b ≡ true → (a || b) ≡ true
-second_true true b e = refl
-second_true false b e = e
-
 same_number : (a b : ℕ) → nat_eq a b ≡ true → a ≡ b
 same_number a b e = grind (arith, nat_tests)
 
@@ -52,13 +42,13 @@ pub only_none : (P : ℕ → Type 0) → OnlyAll P NoMore
 only_none P t e = nothing_true (P t) e
 
 pub only_then : (P : ℕ → Type 0) (p : Core) (ps : Cores) → Only P p → OnlyAll P ps → OnlyAll P (Then p ps)
-only_then P p ps f g t e = elim (some_true (calls p t) (calls_any ps t) e) [ inl a ↦ f t a | inr b ↦ g t b ]
+only_then P p ps f g t e = elim (or_cases (calls p t) (calls_any ps t) e) [ inl a ↦ f t a | inr b ↦ g t b ]
 
 only_first : (P : ℕ → Type 0) (p : Core) (ps : Cores) → OnlyAll P (Then p ps) → Only P p
-only_first P p ps h t e = h t (first_true (calls p t) (calls_any ps t) e)
+only_first P p ps h t e = h t (or_left (calls p t) (calls_any ps t) e)
 
 only_rest : (P : ℕ → Type 0) (p : Core) (ps : Cores) → OnlyAll P (Then p ps) → OnlyAll P ps
-only_rest P p ps h t e = h t (second_true (calls p t) (calls_any ps t) e)
+only_rest P p ps h t e = h t (or_right (calls p t) (calls_any ps t) e)
 
 pub only_call : (P : ℕ → Type 0) (r : ℕ) → P r → Only P (Call r)
 only_call P r h t e = subst P (same_number r t e) h

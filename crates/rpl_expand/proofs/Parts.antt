@@ -1,6 +1,6 @@
 -- The cores of some expressions, one after the other.
 use Rattle.std.proofs.Common.{◌≡◌, ◌≢◌, ℕ, zero, suc, ◌+◌, ◌<◌, ◌≤◌, List, [], ◌∷◌, length, drop, get_or, refl, sym}
-use Rattle.std.proofs.Common.{ap, ◌∙◌, subst, arith, length-drop}
+use Rattle.std.proofs.Common.{ap, ◌∙◌, arith, length-drop}
 use Rattle.std.specs.Prelude.{Bool, true, false, ◌||◌, nat_eq, Some, slice_get}
 use Rattle.std.proofs.lemmas.Bool.Decides.{nat_tests}
 use Rattle.std.proofs.lemmas.List.{drop_all}
@@ -8,14 +8,14 @@ use Rattle.rpl_core.specs.Core.{Core, Seq, Call, Cores, NoMore, Then}
 use Rattle.rpl_syntax.specs.declared.expr.Expr.{Expr}
 use Rattle.rpl_syntax.specs.View.{expr_of, exprs_all}
 use Rattle.rpl_macro.specs.declared.casing.Casing.{Casing}
-use Rattle.rpl_forms.specs.Counting.{Adds, CountsAll, seen, seen_all}
+use Rattle.rpl_forms.specs.Counting.{seen, seen_all}
 use Rattle.rpl_expand.specs.inside.Items.{alone, prefix_at, between}
 use Rattle.rpl_expand.specs.Expansion.{Scope, core, cores, spaced, is_prefix}
 use Rattle.rpl_forms.specs.Forms.{seq_of, spaced_by, joined}
 use Rattle.rpl_forms.specs.Inlining.{Inners}
-use Rattle.rpl_forms.specs.declared.size.Count.{Count}
 use Rattle.rpl_expand.proofs.Drops.{drop_here}
 use Rattle.rpl_forms.proofs.Joins.{joined_none, joined_assoc}
+use Rattle.rpl_forms.proofs.Counted.{seen_nothing}
 
 abbrev pub parts : Casing → Scope → List Expr → Cores
 parts c s es = cores c s (exprs_all es)
@@ -124,18 +124,6 @@ pub seen_between : (b : Bool) (I : Inners) (a : Bool) (p q : Core) (rest : Cores
 seen_between true I true p q rest = refl
 seen_between true I false p q rest = refl
 seen_between false I a p q rest = refl
-
-pub seen_nothing : (b : Bool) (I : Inners) → seen_all b I NoMore ≡ NoMore
-seen_nothing true I = refl
-seen_nothing false I = refl
-
-pub adds_done : (n : Count) (rest whole : Cores) → rest ≡ NoMore → Adds n rest whole → CountsAll n whole
-adds_done n rest whole e h =
-    let a = subst (λ r. Adds n r whole) e h in
-    record {
-      size_is = let x = a.size_is in let y = n.few in omega arith;
-      depth_is = let x = a.depth_is in let y = n.flat in omega arith;
-    }
 
 -- one expression more, as what is seen of it
 pub parts_seen : (b : Bool) (I : Inners) (c : Casing) (s : Scope) (es : List Expr) (k : ℕ) (e : Expr) → k < length es

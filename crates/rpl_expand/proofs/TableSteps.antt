@@ -3,11 +3,12 @@ use Rattle.std.proofs.Common.{◌≡◌, ℕ, ◌+◌, List, [], ◌∷◌, ◌+
 use Rattle.std.proofs.Common.{arith, inl, inr, append_assoc}
 use Rattle.std.specs.Prelude.{Option, Some, None, slice_get}
 use Rattle.std.proofs.lemmas.Option.{slice_get_within}
+use Rattle.std.specs.Option.{option_or}
 use Rattle.rpl_core.specs.Table.{IsNew, names_of}
 use Rattle.rpl_draft.specs.Uses.{Keeps}
 use Rattle.rpl_draft.proofs.Adding.{held}
 use Rattle.rpl_core.specs.declared.rules.Rule.{Rule}
-use Rattle.rpl_expand.specs.Faults.{Fault, or_then, size_fault, table_fault, IsDue}
+use Rattle.rpl_expand.specs.Faults.{Fault, size_fault, table_fault, IsDue}
 use Rattle.rpl_forms.specs.Inlining.{inner}
 use Rattle.rpl_forms.specs.Rows.{Row, row_at, rows_of, inners_of}
 use Rattle.rpl_expand.specs.Table.{Statement, row_of, rows}
@@ -30,12 +31,12 @@ table_turn rs r old new whole e h =
 pub fault_turn : (k : ℕ) (r : Row) (old new : List Row) (due : Option Fault) → old ≡ r ∷ new
     → size_fault (Some k) r.body ≡ None → table_fault k old ≡ due → table_fault (k + 1) new ≡ due
 fault_turn k r old new due e none h =
-    sym (ap (λ o. or_then o (table_fault (k + 1) new)) none) ∙ ap (table_fault k) (sym e) ∙ h
+    sym (ap (λ o. option_or o (table_fault (k + 1) new)) none) ∙ ap (table_fault k) (sym e) ∙ h
 
 pub fault_found : (k : ℕ) (r : Row) (old new : List Row) (due : Option Fault) (f : Fault) → old ≡ r ∷ new
     → size_fault (Some k) r.body ≡ Some f → table_fault k old ≡ due → due ≡ Some f
 fault_found k r old new due f e some h =
-    sym h ∙ ap (table_fault k) e ∙ ap (λ o. or_then o (table_fault (k + 1) new)) some
+    sym h ∙ ap (table_fault k) e ∙ ap (λ o. option_or o (table_fault (k + 1) new)) some
 
 -- a name whose place is behind all others is new, and is added
 pub new_place : (known old new : List (List ℕ)) (x : List ℕ) (k : ℕ) → old ≡ known → Keeps old (x ∷ []) new

@@ -1,6 +1,7 @@
 -- The first core that is too large, and what an answer says of it.
 use Rattle.std.specs.Prelude.{◌≡◌, ℕ, ◌+◌, ◌||◌, nat_lt, if◌then◌else◌, min, List, [], ◌∷◌, Option, Some, None}
 use Rattle.std.specs.Prelude.{Result, Ok, Err}
+use Rattle.std.specs.Option.{option_or}
 use Rattle.rpl_core.specs.Core.{Core}
 use Rattle.rpl_forms.specs.Rows.{Row}
 use Rattle.rpl_forms.specs.Sizes.{nodes, deep}
@@ -17,15 +18,10 @@ size_fault rule p =
     then Some (TooLarge rule (min 65537 (nodes p)) (min 1025 (deep p)))
     else None
 
--- the first of two, where there is one
-abbrev pub or_then : {A : Type 0} → Option A → Option A → Option A
-or_then (Some a) o = Some a
-or_then None o = o
-
 -- the first such fault of a table, whose first row has the number k
 abbrev pub table_fault : ℕ → List Row → Option Fault
 table_fault k [] = None
-table_fault k (r ∷ rs) = or_then (size_fault (Some k) r.body) (table_fault (k + 1) rs)
+table_fault k (r ∷ rs) = option_or (size_fault (Some k) r.body) (table_fault (k + 1) rs)
 
 -- the fault that an answer names; want of memory is none
 abbrev pub fault_named : ExpandFault → Option Fault

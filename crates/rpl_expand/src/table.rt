@@ -1,17 +1,21 @@
 // The rule table of a set, and the core of a pattern over it.
-ghost use Rattle.std.specs.Prelude.{◌≡◌, ◌<◌, ℕ, true, List, IfOk, None, chars, length};
+ghost use Rattle.std.specs.Prelude.{◌≡◌, ◌<◌, ℕ, true, List, IfOk, None, chars, codes, length};
 ghost use Rattle.rpl_core.specs.Core.{Core};
 ghost use Rattle.rpl_core.specs.Listed.{rules_of};
 ghost use Rattle.rpl_core.specs.Order.{IsInOrder};
 ghost use Rattle.rpl_core.specs.Programs.{calls};
 ghost use Rattle.rpl_core.specs.Table.{blocks_of, bodies_of};
 ghost use Rattle.rpl_core.specs.View.{core_of};
+ghost use Rattle.rpl_expand.specs.Expansion.{core};
 ghost use Rattle.rpl_expand.specs.Faults.{Answers, size_fault, table_fault};
 ghost use Rattle.rpl_expand.specs.Sets.{captures_of, goal_of, makes_tree, scope_of, statements, table_of};
 ghost use Rattle.rpl_expand.specs.Table.{AreBound, IsOver, MakeTrees, captured, has_root, row_of};
+ghost use Rattle.rpl_expand.specs.inside.Scopes.{scope_seen};
 ghost use Rattle.rpl_expand.specs.inside.Statements.{statement_seen};
 ghost use Rattle.rpl_forms.specs.Counting.{Counts, KnowsInners};
+ghost use Rattle.rpl_forms.specs.Inlining.{Inners};
 ghost use Rattle.rpl_forms.specs.Rows.{inners_of, row_at, rows_of};
+ghost use Rattle.rpl_macro.specs.declared.casing.Casing.TheVariants.{Plain};
 ghost use Rattle.rpl_package.specs.Sets.{set_seen};
 ghost use Rattle.rpl_package.specs.Targets.{halt_name, resolved};
 ghost use Rattle.rpl_simulation.specs.Laws.{IsCapture};
@@ -30,7 +34,7 @@ use crate::statement::Statement;
 use rpl_core::{Peg, Rule, Rules};
 use rpl_forms::count::node;
 use rpl_forms::inner::inners;
-use rpl_forms::{Count, MAX_DEPTH, MAX_SIZE};
+use rpl_forms::{Count, Inner, MAX_DEPTH, MAX_SIZE};
 use rpl_package::PackageSet;
 use rpl_syntax::Expr;
 use rpl_text::Chars;
@@ -137,6 +141,20 @@ pub fn expand(alloc: Global, set: &PackageSet) -> Result<Rules, ExpandFault>
     Ok(table.rules)
 }
 
+/// The size of the goal, which its root capture may stand around, is within the limits.
+fn check_goal(
+    scope: &Scope<'_>,
+    known: &[Option<Inner>],
+    captures: bool,
+    e: &Expr,
+) -> Result<(), ExpandFault>
+    ensures { (I : Inners) → KnowsInners known.now I → Answers (size_fault None
+        (captured captures (codes "*") (core Plain (scope_seen scope.now I) (expr_of e.now)))) result }
+{
+    let own = measure(scope, known, false, e);
+    check_size(None, counts_under(captures, own))
+}
+
 /// The core of a pattern over the rule table of its set, under its root capture unless it is the name of a rule that
 /// makes a tree; or that it is too large, and then nothing is made of it.
 pub fn expand_pattern(
@@ -159,8 +177,7 @@ pub fn expand_pattern(
     let scope = Scope::new(set, None);
     let known = inners(alloc, rules)?;
     let captures = !has_root(&scope, e);
-    let own = measure(&scope, &known, false, e);
-    if let Err(fault) = check_size(None, counts_under(captures, own)) {
+    if let Err(fault) = check_goal(&scope, &known, captures, e) {
         return Err(fault);
     }
     let base = Base {

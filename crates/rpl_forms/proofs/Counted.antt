@@ -1,11 +1,13 @@
 -- Steps of the counting.
-use Rattle.std.proofs.Common.{◌≡◌, ◌≢◌, ℕ, zero, suc, ◌+◌, ◌-◌, ◌*◌, ◌<◌, ◌≤◌, List, [], ◌∷◌, length, refl, ap, ◌∙◌, subst, arith, inl, inr}
+use Rattle.std.proofs.Common.{◌≡◌, ◌≢◌, ℕ, zero, suc, ◌+◌, ◌-◌, ◌*◌, ◌<◌, ◌≤◌, List, [], ◌∷◌, length, refl, ap, ◌∙◌}
+use Rattle.std.proofs.Common.{subst, arith, inl, inr}
 use Rattle.std.specs.Prelude.{Bool, true, false, min, max}
 use Rattle.std.proofs.lemmas.Bool.{cases_order}
 use Rattle.rpl_core.specs.Core.{Core, Seq, Many, Capture, Cores, NoMore, Then}
 use Rattle.rpl_macro.specs.declared.casing.Casing.{Casing}
 use Rattle.rpl_forms.specs.Counting.{CountsAll, Adds, seen, seen_all}
-use Rattle.rpl_forms.specs.Forms.{pair, or_nothing, copies, sets, text_core, endless, cooked_endless, cooked_turns, cooked_bounded, passed, found, kept, mark_name}
+use Rattle.rpl_forms.specs.Forms.{pair, or_nothing, copies, sets, text_core, endless, cooked_endless, cooked_turns}
+use Rattle.rpl_forms.specs.Forms.{cooked_bounded, passed, found, kept, mark_name}
 use Rattle.rpl_forms.specs.Inlining.{Inners}
 use Rattle.rpl_forms.specs.Sizes.{nodes, all_nodes, deep, most_deep}
 use Rattle.rpl_forms.specs.declared.size.Count.{Count}
@@ -82,7 +84,8 @@ pub endless_more : (p : Core) (n : ℕ) → n ≢ 0 → endless p n ≡ Seq (The
 endless_more p zero h = absurd (h refl)
 endless_more p (suc n) h = let e : suc n - 1 ≡ n = omega arith in rw e refl
 
-pub cooked_more : (b p : Core) (n : ℕ) → n ≢ 0 → cooked_endless b p n ≡ Seq (Then p (copies (n - 1) (pair b p) (Then (Many (pair b p)) NoMore)))
+pub cooked_more : (b p : Core) (n : ℕ) → n ≢ 0
+    → cooked_endless b p n ≡ Seq (Then p (copies (n - 1) (pair b p) (Then (Many (pair b p)) NoMore)))
 cooked_more b p zero h = absurd (h refl)
 cooked_more b p (suc n) h = let e : suc n - 1 ≡ n = omega arith in rw e refl
 
@@ -96,11 +99,13 @@ bounded_none b p (suc m) h = let e : suc m - 1 ≡ m = omega arith in rw e refl
 
 -- ---- searches
 
-pub seen_found : (b : Bool) (I : Inners) (p : Core) → seen b I (found p) ≡ pair (passed (seen b I p)) (seen b I (Capture (mark_name Hit) p))
+pub seen_found : (b : Bool) (I : Inners) (p : Core)
+    → seen b I (found p) ≡ pair (passed (seen b I p)) (seen b I (Capture (mark_name Hit) p))
 seen_found true I p = refl
 seen_found false I p = refl
 
-pub seen_kept : (b : Bool) (I : Inners) (p : Core) → seen b I (kept p) ≡ pair (seen b I (Capture (mark_name Skip) (passed p))) (seen b I (Capture (mark_name Hit) p))
+pub seen_kept : (b : Bool) (I : Inners) (p : Core)
+    → seen b I (kept p) ≡ pair (seen b I (Capture (mark_name Skip) (passed p))) (seen b I (Capture (mark_name Hit) p))
 seen_kept true I p = refl
 seen_kept false I p = refl
 
@@ -117,4 +122,8 @@ seen_nothing false I = refl
 pub adds_done : (n : Count) (rest whole : Cores) → rest ≡ NoMore → Adds n rest whole → CountsAll n whole
 adds_done n rest whole e h =
     let a = subst (λ r. Adds n r whole) e h in
-    record { size_is = let x = a.size_is in let y = n.few in omega arith; depth_is = let x = a.depth_is in let y = n.flat in omega arith }
+    record {
+      size_is = let x = a.size_is in let y = n.few in omega arith;
+      depth_is = let x = a.depth_is in
+          let y = n.flat in omega arith;
+    }

@@ -1,5 +1,6 @@
 -- Some cores before others.
-use Rattle.std.proofs.Common.{◌≡◌, ℕ, zero, suc, ◌+◌, ◌<◌, ◌≤◌, List, [], ◌∷◌, ◌++◌, length, get_or, refl, sym, ap, ◌∙◌, arith}
+use Rattle.std.proofs.Common.{◌≡◌, ℕ, zero, suc, ◌+◌, ◌<◌, ◌≤◌, List, [], ◌∷◌, ◌++◌, length, get_or, refl, sym, ap, ◌∙◌}
+use Rattle.std.proofs.Common.{arith}
 use Rattle.std.specs.Prelude.{◌≢◌, Some, None, slice_get}
 use Rattle.rpl_core.specs.Core.{Core, Set, Seq, Many, Cores, NoMore, Then}
 use Rattle.rpl_macro.specs.Casings.{set_in, single}
@@ -23,13 +24,16 @@ pub cores_last : (xs : List Peg) (p : Peg) → cores (xs ++ p ∷ []) ≡ joined
 cores_last [] p = refl
 cores_last (x ∷ xs) p = ap (Then (core_of x)) (cores_last xs p)
 
-pub inlined_joined : (I : Inners) (ps qs : Cores) → inlined_all I (joined ps qs) ≡ joined (inlined_all I ps) (inlined_all I qs)
+pub inlined_joined : (I : Inners) (ps qs : Cores)
+    → inlined_all I (joined ps qs) ≡ joined (inlined_all I ps) (inlined_all I qs)
 inlined_joined I NoMore qs = refl
 inlined_joined I (Then p ps) qs = ap (Then (inlined I p)) (inlined_joined I ps qs)
 
-pub inlined_more : (I : Inners) (xs ys : List Peg) (p q : Peg) → cores xs ≡ inlined_all I (cores ys) → core_of p ≡ inlined I (core_of q) → cores (xs ++ p ∷ []) ≡ inlined_all I (cores (ys ++ q ∷ []))
+pub inlined_more : (I : Inners) (xs ys : List Peg) (p q : Peg) → cores xs ≡ inlined_all I (cores ys)
+    → core_of p ≡ inlined I (core_of q) → cores (xs ++ p ∷ []) ≡ inlined_all I (cores (ys ++ q ∷ []))
 inlined_more I xs ys p q e f =
-    cores_last xs p ∙ ap (λ ps. joined ps (Then (core_of p) NoMore)) e ∙ ap (λ r. joined (inlined_all I (cores ys)) (Then r NoMore)) f
+    cores_last xs p ∙ ap (λ ps. joined ps (Then (core_of p) NoMore)) e
+    ∙ ap (λ r. joined (inlined_all I (cores ys)) (Then r NoMore)) f
     ∙ sym (inlined_joined I (cores ys) (Then (core_of q) NoMore)) ∙ ap (inlined_all I) (sym (cores_last ys q))
 
 -- copies before others
@@ -45,7 +49,8 @@ copies_more n p = let e : n + 1 ≡ suc n = omega arith in ap (λ k. copies k p 
   front (suc n) p = ap (Then p) (front n p)
 
 -- a part is no deeper than all
-pub part_deep : (ps : List Peg) (k : ℕ) (p : Peg) → k < length ps → p ≡ get_or ps k p → deep (core_of p) ≤ most_deep (cores ps)
+pub part_deep : (ps : List Peg) (k : ℕ) (p : Peg) → k < length ps → p ≡ get_or ps k p
+    → deep (core_of p) ≤ most_deep (cores ps)
 part_deep [] k p lt is = absurd (omega arith)
 part_deep (q ∷ ps) zero p lt is = let d = ap (λ x. deep (core_of x)) is in omega (arith, d)
 part_deep (q ∷ ps) (suc k) p lt is = let h = part_deep ps k p (omega arith) is in omega (arith, h)
@@ -54,7 +59,8 @@ part_deep (q ∷ ps) (suc k) p lt is = let h = part_deep ps k p (omega arith) is
 pub two_more : (a b d x y : Cores) → a ≡ NoMore → b ≡ joined a x → d ≡ joined b y → d ≡ joined x y
 two_more a b d x y e f g = g ∙ ap (λ z. joined z y) (f ∙ ap (λ z. joined z x) e)
 
-pub three_more : (a b d g x y z : Cores) → a ≡ NoMore → b ≡ joined a x → d ≡ joined b y → g ≡ joined d z → g ≡ joined x (joined y z)
+pub three_more : (a b d g x y z : Cores) → a ≡ NoMore → b ≡ joined a x → d ≡ joined b y → g ≡ joined d z
+    → g ≡ joined x (joined y z)
 three_more a b d g x y z e f h i = i ∙ ap (λ w. joined w z) (two_more a b d x y e f h) ∙ joined_assoc x y z
 
 pub group_none : (ps : List Peg) → length ps ≢ 1 → seq_of (cores ps) ≡ Seq (cores ps)
@@ -71,7 +77,8 @@ pub none_of_one : (ps : List Peg) → length ps ≡ 1 → slice_get ps 0 ≡ Non
 none_of_one [] h e = omega (arith, h)
 none_of_one (q ∷ ps) h e = cc
 
-pub sets_more : (c : Casing) (t : List ℕ) (x : ℕ) → sets c (t ++ x ∷ []) ≡ joined (sets c t) (Then (Set (set_in c (single x))) NoMore)
+pub sets_more : (c : Casing) (t : List ℕ) (x : ℕ)
+    → sets c (t ++ x ∷ []) ≡ joined (sets c t) (Then (Set (set_in c (single x))) NoMore)
 sets_more c [] x = refl
 sets_more c (y ∷ t) x = ap (Then (Set (set_in c (single y)))) (sets_more c t x)
 

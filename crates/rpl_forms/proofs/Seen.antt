@@ -6,7 +6,8 @@ use Rattle.rpl_core.specs.Lengths.{has_call, has_repetition}
 use Rattle.rpl_macro.specs.declared.casing.Casing.{Casing}
 use Rattle.rpl_macro.specs.Casings.{set_in, single}
 use Rattle.rpl_forms.specs.Counting.{Counts, seen, seen_all}
-use Rattle.rpl_forms.specs.Forms.{pair, or_nothing, copies, seq_of, sets, text_core, spaced_by, behind, endless, repeat, cooked_turns, cooked_repeat, repeated}
+use Rattle.rpl_forms.specs.Forms.{pair, or_nothing, copies, seq_of, sets, text_core, spaced_by, behind, endless, repeat}
+use Rattle.rpl_forms.specs.Forms.{cooked_turns, cooked_repeat, repeated}
 use Rattle.rpl_forms.specs.Inlining.{Inners, inlined, inlined_all}
 use Rattle.rpl_forms.specs.Sizes.{nodes, deep}
 use Rattle.rpl_forms.specs.declared.size.Count.{Count}
@@ -35,7 +36,8 @@ pub seen_pair : (b : Bool) (I : Inners) (p q : Core) → seen b I (pair p q) ≡
 seen_pair true I p q = refl
 seen_pair false I p q = refl
 
-pub seen_then : (b : Bool) (I : Inners) (p : Core) (ps : Cores) → seen_all b I (Then p ps) ≡ Then (seen b I p) (seen_all b I ps)
+pub seen_then : (b : Bool) (I : Inners) (p : Core) (ps : Cores)
+    → seen_all b I (Then p ps) ≡ Then (seen b I p) (seen_all b I ps)
 seen_then true I p ps = refl
 seen_then false I p ps = refl
 
@@ -49,17 +51,20 @@ pub seen_group : (b : Bool) (I : Inners) (ps : Cores) → seen b I (seq_of ps) �
 seen_group true I ps = inlined_group I ps
 seen_group false I ps = refl
 
-inlined_spaced : (I : Inners) (prefix : Bool) (b p : Core) (ps : Cores) → inlined_all I (spaced_by prefix b p ps) ≡ spaced_by prefix (inlined I b) (inlined I p) (inlined_all I ps)
+inlined_spaced : (I : Inners) (prefix : Bool) (b p : Core) (ps : Cores)
+    → inlined_all I (spaced_by prefix b p ps) ≡ spaced_by prefix (inlined I b) (inlined I p) (inlined_all I ps)
 inlined_spaced I true b p NoMore = refl
 inlined_spaced I false b p NoMore = refl
 inlined_spaced I true b p (Then q ps) = refl
 inlined_spaced I false b p (Then q ps) = refl
 
-pub seen_spaced : (s : Bool) (I : Inners) (prefix : Bool) (b p : Core) (ps : Cores) → seen_all s I (spaced_by prefix b p ps) ≡ spaced_by prefix (seen s I b) (seen s I p) (seen_all s I ps)
+pub seen_spaced : (s : Bool) (I : Inners) (prefix : Bool) (b p : Core) (ps : Cores)
+    → seen_all s I (spaced_by prefix b p ps) ≡ spaced_by prefix (seen s I b) (seen s I p) (seen_all s I ps)
 seen_spaced true I prefix b p ps = inlined_spaced I prefix b p ps
 seen_spaced false I prefix b p ps = refl
 
-inlined_copies : (I : Inners) (n : ℕ) (p : Core) (ps : Cores) → inlined_all I (copies n p ps) ≡ copies n (inlined I p) (inlined_all I ps)
+inlined_copies : (I : Inners) (n : ℕ) (p : Core) (ps : Cores)
+    → inlined_all I (copies n p ps) ≡ copies n (inlined I p) (inlined_all I ps)
 inlined_copies I zero p ps = refl
 inlined_copies I (suc n) p ps = ap (Then (inlined I p)) (inlined_copies I n p ps)
 
@@ -86,12 +91,14 @@ inlined_repeat I p n (Some m) =
     ap Seq (inlined_copies I n p (copies (m - n) (or_nothing p) NoMore)
     ∙ ap (copies n (inlined I p)) (inlined_copies I (m - n) (or_nothing p) NoMore))
 
-inlined_turns : (I : Inners) (b p : Core) (n m : ℕ) → inlined I (cooked_turns b p n m) ≡ cooked_turns (inlined I b) (inlined I p) n m
+inlined_turns : (I : Inners) (b p : Core) (n m : ℕ)
+    → inlined I (cooked_turns b p n m) ≡ cooked_turns (inlined I b) (inlined I p) n m
 inlined_turns I b p n m =
     ap (λ ps. Seq (Then (inlined I p) ps)) (inlined_copies I n (pair b p) (copies m (or_nothing (pair b p)) NoMore)
     ∙ ap (copies n (pair (inlined I b) (inlined I p))) (inlined_copies I m (or_nothing (pair b p)) NoMore))
 
-inlined_cooked : (I : Inners) (b p : Core) (n : ℕ) (m : Option ℕ) → inlined I (cooked_repeat b p n m) ≡ cooked_repeat (inlined I b) (inlined I p) n m
+inlined_cooked : (I : Inners) (b p : Core) (n : ℕ) (m : Option ℕ)
+    → inlined I (cooked_repeat b p n m) ≡ cooked_repeat (inlined I b) (inlined I p) n m
 inlined_cooked I b p zero None = refl
 inlined_cooked I b p (suc n) None =
     ap (λ ps. Seq (Then (inlined I p) ps)) (inlined_copies I n (pair b p) (Then (Many (pair b p)) NoMore))
@@ -99,16 +106,19 @@ inlined_cooked I b p zero (Some zero) = refl
 inlined_cooked I b p zero (Some (suc m)) = ap or_nothing (inlined_turns I b p 0 m)
 inlined_cooked I b p (suc n) (Some m) = inlined_turns I b p n (m - suc n)
 
-inlined_repeated : (I : Inners) (cooked : Bool) (b p : Core) (n : ℕ) (m : Option ℕ) → inlined I (repeated cooked b p n m) ≡ repeated cooked (inlined I b) (inlined I p) n m
+inlined_repeated : (I : Inners) (cooked : Bool) (b p : Core) (n : ℕ) (m : Option ℕ)
+    → inlined I (repeated cooked b p n m) ≡ repeated cooked (inlined I b) (inlined I p) n m
 inlined_repeated I true b p n m = inlined_cooked I b p n m
 inlined_repeated I false b p n m = inlined_repeat I p n m
 
 -- a repetition
-pub seen_repeated : (s : Bool) (I : Inners) (cooked : Bool) (b p : Core) (n : ℕ) (m : Option ℕ) → seen s I (repeated cooked b p n m) ≡ repeated cooked (seen s I b) (seen s I p) n m
+pub seen_repeated : (s : Bool) (I : Inners) (cooked : Bool) (b p : Core) (n : ℕ) (m : Option ℕ)
+    → seen s I (repeated cooked b p n m) ≡ repeated cooked (seen s I b) (seen s I p) n m
 seen_repeated true I cooked b p n m = inlined_repeated I cooked b p n m
 seen_repeated false I cooked b p n m = refl
 
-inlined_behind : (I : Inners) (p : Core) (b : Bool) (l m : ℕ) → inlined I (if b then Behind 0 0 p else Behind l m p) ≡ (if b then Behind 0 0 p else Behind l m p)
+inlined_behind : (I : Inners) (p : Core) (b : Bool) (l m : ℕ)
+    → inlined I (if b then Behind 0 0 p else Behind l m p) ≡ (if b then Behind 0 0 p else Behind l m p)
 inlined_behind I p true l m = refl
 inlined_behind I p false l m = refl
 
@@ -117,7 +127,8 @@ pub seen_behind : (b : Bool) (I : Inners) (p : Core) → seen b I (behind p) ≡
 seen_behind true I p = inlined_behind I p (has_call p || has_repetition p) _ _
 seen_behind false I p = refl
 
-either_behind : (n : Count) (p : Core) (b : Bool) (l m : ℕ) → ((l m : ℕ) → Counts n (Behind l m p)) → Counts n (if b then Behind 0 0 p else Behind l m p)
+either_behind : (n : Count) (p : Core) (b : Bool) (l m : ℕ) → ((l m : ℕ) → Counts n (Behind l m p))
+    → Counts n (if b then Behind 0 0 p else Behind l m p)
 either_behind n p true l m h = h 0 0
 either_behind n p false l m h = h l m
 
@@ -133,11 +144,13 @@ pub seen_both : (b : Bool) (I : Inners) (p q : Core) → seen b I (pair (And p) 
 seen_both true I p q = refl
 seen_both false I p q = refl
 
-pub seen_capture_inside : (b : Bool) (I : Inners) (c : List ℕ) (p : Core) → b ≡ true → seen b I (Capture c p) ≡ seen b I p
+pub seen_capture_inside : (b : Bool) (I : Inners) (c : List ℕ) (p : Core) → b ≡ true
+    → seen b I (Capture c p) ≡ seen b I p
 seen_capture_inside true I c p e = refl
 seen_capture_inside false I c p e = absurd cc
 
-pub seen_capture_outside : (b : Bool) (I : Inners) (c : List ℕ) (p : Core) → b ≡ false → seen b I (Capture c p) ≡ Capture c (seen b I p)
+pub seen_capture_outside : (b : Bool) (I : Inners) (c : List ℕ) (p : Core) → b ≡ false
+    → seen b I (Capture c p) ≡ Capture c (seen b I p)
 seen_capture_outside true I c p e = absurd cc
 seen_capture_outside false I c p e = refl
 

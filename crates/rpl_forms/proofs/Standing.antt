@@ -1,5 +1,6 @@
 -- What stands for the rules of a table behind a look-behind.
-use Rattle.std.proofs.Common.{◌≡◌, ℕ, zero, suc, ◌+◌, ◌<◌, ◌≤◌, List, [], ◌∷◌, ◌++◌, length, take, refl, sym, ap, ◌∙◌, subst, arith, length-append}
+use Rattle.std.proofs.Common.{◌≡◌, ℕ, zero, suc, ◌+◌, ◌<◌, ◌≤◌, List, [], ◌∷◌, ◌++◌, length, take, refl, sym, ap, ◌∙◌}
+use Rattle.std.proofs.Common.{subst, arith, length-append}
 use Rattle.std.specs.Prelude.{Option, Some, None, is_some, true, false, slice_get, option_map}
 use Rattle.std.proofs.Math.Seq.{take-length}
 use Rattle.std.proofs.lemmas.List.{length-map, take_all}
@@ -45,7 +46,9 @@ length_from I (r ∷ rows) =
     omega (arith, h, length-append I (inner I r.block r.body ∷ []))
 
 -- the one for each row, of those before it
-pub get_from : (I : Inners) (rows : List Row) (k : ℕ) (r : Row) → slice_get rows k ≡ Some r → slice_get (inners_from I rows) (length I + k) ≡ Some (inner (take (length I + k) (inners_from I rows)) r.block r.body)
+pub get_from : (I : Inners) (rows : List Row) (k : ℕ) (r : Row) → slice_get rows k ≡ Some r
+    → slice_get (inners_from I rows) (length I + k)
+    ≡ Some (inner (take (length I + k) (inners_from I rows)) r.block r.body)
 get_from I [] k r e = absurd cc
 get_from I (q ∷ rows) zero r e =
     let x = inner I q.block q.body in
@@ -55,49 +58,61 @@ get_from I (q ∷ rows) zero r e =
     let n : length I + 0 ≡ length I = omega arith in
     let m : length J ≡ length I + 1 = length-append I (x ∷ []) in
     let lt : length I < length J = omega arith in
-    let got : slice_get all (length I) ≡ Some x = sym (get_take (length J) (length I) all lt) ∙ ap (λ l. slice_get l (length I)) (take_from J rows) ∙ get_last I x in
+    let got : slice_get all (length I) ≡ Some x =
+    sym (get_take (length J) (length I) all lt) ∙ ap (λ l. slice_get l (length I)) (take_from J rows)
+    ∙ get_last I x in
     let front : take (length I) all ≡ I = take_front I (x ∷ []) all (take_from J rows) in
     rw n (got ∙ ap (λ y. Some (inner I y.block y.body)) same ∙ ap (λ l. Some (inner l r.block r.body)) (sym front))
 get_from I (q ∷ rows) (suc k) r e =
     let x = inner I q.block q.body in
     let J = I ++ x ∷ [] in
     let n : length J + k ≡ length I + suc k = omega (arith, length-append I (x ∷ [])) in
-    subst (λ i. slice_get (inners_from J rows) i ≡ Some (inner (take i (inners_from J rows)) r.block r.body)) n (get_from J rows k r e)
+    subst (λ i. slice_get (inners_from J rows) i ≡ Some (inner (take i (inners_from J rows)) r.block r.body)) n
+    (get_from J rows k r e)
 
 -- what stands for a rule
-pub got_inner : (rs : List Rule) (k : ℕ) (r : Rule) → slice_get rs k ≡ Some r → slice_get (inners_of rs) k ≡ Some (inner (take k (inners_of rs)) r.block (core_of r.body))
+pub got_inner : (rs : List Rule) (k : ℕ) (r : Rule) → slice_get rs k ≡ Some r
+    → slice_get (inners_of rs) k ≡ Some (inner (take k (inners_of rs)) r.block (core_of r.body))
 got_inner rs k r e =
     let row = slice_get-map row_at rs k ∙ ap (option_map row_at) e in
     let zero_on : 0 + k ≡ k = omega arith in
-    subst (λ i. slice_get (inners_of rs) i ≡ Some (inner (take i (inners_of rs)) r.block (core_of r.body))) zero_on (get_from [] (rows_of rs) k (row_at r) row)
+    subst (λ i. slice_get (inners_of rs) i ≡ Some (inner (take i (inners_of rs)) r.block (core_of r.body))) zero_on
+    (get_from [] (rows_of rs) k (row_at r) row)
 
 -- what stands for an earlier rule
-pub stands_for : (rs : List Rule) (limit k : ℕ) (r : Rule) → slice_get rs k ≡ Some r → k < limit → slice_get (take limit (inners_of rs)) k ≡ Some (inner (take k (inners_of rs)) r.block (core_of r.body))
+pub stands_for : (rs : List Rule) (limit k : ℕ) (r : Rule) → slice_get rs k ≡ Some r → k < limit
+    → slice_get (take limit (inners_of rs)) k ≡ Some (inner (take k (inners_of rs)) r.block (core_of r.body))
 stands_for rs limit k r e lt = get_take limit k (inners_of rs) lt ∙ got_inner rs k r e
 
-pub called_outside : (I : Inners) (k : ℕ) (b : Option ℕ) (p : Core) (o : Option (Option Core)) → o ≡ Some (inner I b p) → b ≡ None → called k o ≡ inlined I p
+pub called_outside : (I : Inners) (k : ℕ) (b : Option ℕ) (p : Core) (o : Option (Option Core)) → o ≡ Some (inner I b p)
+    → b ≡ None → called k o ≡ inlined I p
 called_outside I k b p o e f = ap (called k) e ∙ ap (λ x. called k (Some (inner I x p))) f
 
-pub called_inside : (I : Inners) (k : ℕ) (b : Option ℕ) (p : Core) (n : ℕ) (o : Option (Option Core)) → o ≡ Some (inner I b p) → b ≡ Some n → called k o ≡ Call k
+pub called_inside : (I : Inners) (k : ℕ) (b : Option ℕ) (p : Core) (n : ℕ) (o : Option (Option Core))
+    → o ≡ Some (inner I b p) → b ≡ Some n → called k o ≡ Call k
 called_inside I k b p n o e f = ap (called k) e ∙ ap (λ x. called k (Some (inner I x p))) f
 
 -- a call of no earlier rule
-pub called_beyond : (rs : List Rule) (limit k : ℕ) → slice_get rs k ≡ None → called k (slice_get (take limit (inners_of rs)) k) ≡ Call k
-called_beyond rs limit k e = ap (called k) (past_take limit k (inners_of rs) (omega (arith, length_from [] (rows_of rs), length-map rs row_at, past k rs e))) where
-  past : (k : ℕ) (rs : List Rule) → slice_get rs k ≡ None → length rs ≤ k
-  past k [] e = omega arith
-  past zero (r ∷ rs) e = absurd cc
-  past (suc k) (r ∷ rs) e = let h = past k rs e in omega (arith, h)
+pub called_beyond : (rs : List Rule) (limit k : ℕ) → slice_get rs k ≡ None
+    → called k (slice_get (take limit (inners_of rs)) k) ≡ Call k
+called_beyond rs limit k e =
+    ap (called k) (past_take limit k (inners_of rs)
+    (omega (arith, length_from [] (rows_of rs), length-map rs row_at, past k rs e))) where
+      past : (k : ℕ) (rs : List Rule) → slice_get rs k ≡ None → length rs ≤ k
+      past k [] e = omega arith
+      past zero (r ∷ rs) e = absurd cc
+      past (suc k) (r ∷ rs) e = let h = past k rs e in omega (arith, h)
 
-  past_take : {A : Type 0} (n k : ℕ) (xs : List A) → length xs ≤ k → slice_get (take n xs) k ≡ None
-  past_take zero k [] h = refl
-  past_take (suc n) k [] h = refl
-  past_take zero k (x ∷ xs) h = refl
-  past_take (suc n) zero (x ∷ xs) h = absurd (omega arith)
-  past_take (suc n) (suc k) (x ∷ xs) h = past_take n k xs (omega arith)
+      past_take : {A : Type 0} (n k : ℕ) (xs : List A) → length xs ≤ k → slice_get (take n xs) k ≡ None
+      past_take zero k [] h = refl
+      past_take (suc n) k [] h = refl
+      past_take zero k (x ∷ xs) h = refl
+      past_take (suc n) zero (x ∷ xs) h = absurd (omega arith)
+      past_take (suc n) (suc k) (x ∷ xs) h = past_take n k xs (omega arith)
 
 -- no call is within no rules
-pub called_late : (rs : List Rule) (limit k : ℕ) → limit ≤ k → called k (slice_get (take limit (inners_of rs)) k) ≡ Call k
+pub called_late : (rs : List Rule) (limit k : ℕ) → limit ≤ k
+    → called k (slice_get (take limit (inners_of rs)) k) ≡ Call k
 called_late rs limit k h = ap (called k) (late limit k (inners_of rs) h) where
   late : {A : Type 0} (n k : ℕ) (xs : List A) → n ≤ k → slice_get (take n xs) k ≡ None
   late zero k [] h = refl
@@ -119,9 +134,11 @@ pub whole_inners : (rs : List Rule) (n : ℕ) → n ≡ length rs → take n (in
 whole_inners rs n e = take_all n (inners_of rs) (omega (arith, e, length_from [] (rows_of rs), length-map rs row_at))
 
 -- what stands for a rule of which anything is known
-pub stands_at : (o : Option Inner) (x : Option (Option Core)) (n : Inner) → o ≡ Some n → CountsOne (Some o) x → (p : Core) × (x ≡ Some (Some p)) × Counts n.count p
+pub stands_at : (o : Option Inner) (x : Option (Option Core)) (n : Inner) → o ≡ Some n → CountsOne (Some o) x
+    → (p : Core) × (x ≡ Some (Some p)) × Counts n.count p
 stands_at None x n e c = absurd cc
-stands_at (Some m) (Some (Some p)) n e (counted _ _ h) = let same : m ≡ n = cc in (p, refl, subst (λ k. Counts k.count p) same h)
+stands_at (Some m) (Some (Some p)) n e (counted _ _ h) =
+    let same : m ≡ n = cc in (p, refl, subst (λ k. Counts k.count p) same h)
 stands_at (Some m) None n e c = elim c [ ]
 stands_at (Some m) (Some None) n e c = elim c [ ]
 
@@ -129,12 +146,14 @@ known_there : (o : Option (Option Inner)) (n : Inner) → known_of o ≡ Some n 
 known_there None n e = absurd cc
 known_there (Some m) n e = ap Some e
 
-pub stands : (ks : List (Option Inner)) (I : Inners) (r : ℕ) (n : Inner) → KnowsInners ks I → known_of (slice_get ks r) ≡ Some n → (p : Core) × (slice_get I r ≡ Some (Some p)) × Counts n.count p
+pub stands : (ks : List (Option Inner)) (I : Inners) (r : ℕ) (n : Inner) → KnowsInners ks I
+    → known_of (slice_get ks r) ≡ Some n → (p : Core) × (slice_get I r ≡ Some (Some p)) × Counts n.count p
 stands ks I r n h e =
     let there = known_there (slice_get ks r) n e in
     stands_at (Some n) (slice_get I r) n refl (subst (λ o. CountsOne o (slice_get I r)) there (h.one r))
 
-stands_not : (o : Option (Option Inner)) (x : Option (Option Core)) (r : ℕ) → known_of o ≡ None → CountsOne o x → called r x ≡ Call r
+stands_not : (o : Option (Option Inner)) (x : Option (Option Core)) (r : ℕ) → known_of o ≡ None → CountsOne o x
+    → called r x ≡ Call r
 stands_not None None r e beyond = refl
 stands_not (Some None) (Some None) r e in_block = refl
 stands_not None (Some x) r e c = elim c [ ]
@@ -143,11 +162,13 @@ stands_not (Some None) (Some (Some p)) r e c = elim c [ ]
 stands_not (Some (Some n)) x r e c = absurd cc
 
 -- a call of a rule for which nothing stands stays
-pub stays : (ks : List (Option Inner)) (I : Inners) (r : ℕ) → KnowsInners ks I → known_of (slice_get ks r) ≡ None → called r (slice_get I r) ≡ Call r
+pub stays : (ks : List (Option Inner)) (I : Inners) (r : ℕ) → KnowsInners ks I → known_of (slice_get ks r) ≡ None
+    → called r (slice_get I r) ≡ Call r
 stays ks I r h e = stands_not (slice_get ks r) (slice_get I r) r e (h.one r)
 
 -- the same stands for the first rule of a chain
-pub first_stands : (ks : List (Option Inner)) (I : Inners) (r : ℕ) (n : Inner) → KnowsInners ks I → known_of (slice_get ks r) ≡ Some n → (n.rule ≤ r) × (slice_get I n.rule ≡ slice_get I r)
+pub first_stands : (ks : List (Option Inner)) (I : Inners) (r : ℕ) (n : Inner) → KnowsInners ks I
+    → known_of (slice_get ks r) ≡ Some n → (n.rule ≤ r) × (slice_get I n.rule ≡ slice_get I r)
 first_stands ks I r n h e = h.same r n (known_there (slice_get ks r) n e)
 
 inner_some : (I : Inners) (b : Option ℕ) (p q : Core) → inner I b p ≡ Some q → inlined I p ≡ q
@@ -155,7 +176,9 @@ inner_some I None p q e = cc
 inner_some I (Some k) p q e = absurd cc
 
 -- what stands for a call is the body of the first rule of its chain
-pub body_stands : (rs : List Rule) (ks : List (Option Inner)) (number : ℕ) (n : Inner) (r : Rule) → KnowsInners ks (inners_of rs) → known_of (slice_get ks number) ≡ Some n → slice_get rs n.rule ≡ Some r → called number (slice_get (inners_of rs) number) ≡ inlined (take n.rule (inners_of rs)) (core_of r.body)
+pub body_stands : (rs : List Rule) (ks : List (Option Inner)) (number : ℕ) (n : Inner) (r : Rule)
+    → KnowsInners ks (inners_of rs) → known_of (slice_get ks number) ≡ Some n → slice_get rs n.rule ≡ Some r
+    → called number (slice_get (inners_of rs) number) ≡ inlined (take n.rule (inners_of rs)) (core_of r.body)
 body_stands rs ks number n r h e there =
     let I = inners_of rs in
     let s = stands ks I number n h e in
@@ -165,7 +188,8 @@ body_stands rs ks number n r h e there =
     ap (called number) s.1 ∙ sym (inner_some (take n.rule I) r.block (core_of r.body) s.0 one)
 
 -- the first rule of a chain is there
-pub first_there : (rs : List Rule) (ks : List (Option Inner)) (number : ℕ) (n : Inner) → KnowsInners ks (inners_of rs) → known_of (slice_get ks number) ≡ Some n → n.rule < length rs
+pub first_there : (rs : List Rule) (ks : List (Option Inner)) (number : ℕ) (n : Inner) → KnowsInners ks (inners_of rs)
+    → known_of (slice_get ks number) ≡ Some n → n.rule < length rs
 first_there rs ks number n h e =
     let I = inners_of rs in
     let s = stands ks I number n h e in
@@ -174,14 +198,17 @@ first_there rs ks number n h e =
     omega (arith, within, length_from [] (rows_of rs), length-map rs row_at)
 
 pub own_first : (I : Inners) (p : Core) (n : ℕ) → n ≡ length I → IsFirst n I p
-own_first I p n e = (omega (arith, e), ap (slice_get (I ++ Some (inlined I p) ∷ [])) e ∙ get_last I (Some (inlined I p)))
+own_first I p n e =
+    (omega (arith, e), ap (slice_get (I ++ Some (inlined I p) ∷ [])) e ∙ get_last I (Some (inlined I p)))
 
-pub get_before : {A : Type 0} (xs : List A) (x : A) (k : ℕ) → k < length xs → slice_get (xs ++ x ∷ []) k ≡ slice_get xs k
+pub get_before : {A : Type 0} (xs : List A) (x : A) (k : ℕ) → k < length xs
+    → slice_get (xs ++ x ∷ []) k ≡ slice_get xs k
 get_before [] x k lt = absurd (omega arith)
 get_before (y ∷ xs) x zero lt = refl
 get_before (y ∷ xs) x (suc k) lt = get_before xs x k (omega arith)
 
-pub chain_first : (ks : List (Option Inner)) (I : Inners) (p : Core) (r : ℕ) (n : Inner) → KnowsInners ks I → known_of (slice_get ks r) ≡ Some n → inlined I p ≡ inlined I (Call r) → IsFirst n.rule I p
+pub chain_first : (ks : List (Option Inner)) (I : Inners) (p : Core) (r : ℕ) (n : Inner) → KnowsInners ks I
+    → known_of (slice_get ks r) ≡ Some n → inlined I p ≡ inlined I (Call r) → IsFirst n.rule I p
 chain_first ks I p r n h e same =
     let s = stands ks I r n h e in
     let f = first_stands ks I r n h e in

@@ -1,5 +1,6 @@
 -- Sizes and depths that stop at one above their limits.
-use Rattle.std.specs.Prelude.{◌≡◌, ℕ, ◌+◌, ◌≤◌, Bool, true, false, List, [], ◌∷◌, ◌++◌, length, Option, Some, None, min, max, slice_get}
+use Rattle.std.specs.Prelude.{◌≡◌, ℕ, ◌+◌, ◌≤◌, Bool, true, false, List, [], ◌∷◌, ◌++◌, length, Option, Some, None, min}
+use Rattle.std.specs.Prelude.{max, slice_get}
 use Rattle.rpl_core.specs.Core.{Core, Cores}
 use Rattle.rpl_forms.specs.Sizes.{nodes, all_nodes, deep, most_deep}
 use Rattle.rpl_forms.specs.Inlining.{Inners, inlined, inlined_all}
@@ -45,12 +46,14 @@ known_of (Some n) = n
 -- stands.
 pub record KnowsInners (known : List (Option Inner)) (I : Inners) : Type 0 where
   pub one : (r : ℕ) → CountsOne (slice_get known r) (slice_get I r)
-  pub same : (r : ℕ) (n : Inner) → slice_get known r ≡ Some (Some n) → (n.rule ≤ r) × (slice_get I n.rule ≡ slice_get I r)
+  pub same : (r : ℕ) (n : Inner) → slice_get known r ≡ Some (Some n)
+      → (n.rule ≤ r) × (slice_get I n.rule ≡ slice_get I r)
 
 -- what is known of what stands for the next rule, behind those for which I stands
 pub data KnowsNext (I : Inners) : Option Inner → Option Core → Type 0 where
   nothing : KnowsNext I None None
-  stands : (n : Inner) (p : Core) → Counts n.count p → n.rule ≤ length I → slice_get (I ++ Some p ∷ []) n.rule ≡ Some (Some p) → KnowsNext I (Some n) (Some p)
+  stands : (n : Inner) (p : Core) → Counts n.count p → n.rule ≤ length I
+      → slice_get (I ++ Some p ∷ []) n.rule ≡ Some (Some p) → KnowsNext I (Some n) (Some p)
 
 -- r is a rule for which the same stands as for the next one, whose body is p
 abbrev pub IsFirst : ℕ → Inners → Core → Type 0

@@ -1,5 +1,6 @@
 -- The cores of the forms of expressions, of the cores of their parts.
-use Rattle.std.specs.Prelude.{ℕ, zero, suc, ◌-◌, Bool, true, false, ◌||◌, List, [], ◌∷◌, Option, Some, None, if◌then◌else◌, codes, min}
+use Rattle.std.specs.Prelude.{ℕ, zero, suc, ◌-◌, Bool, true, false, ◌||◌, List, [], ◌∷◌, Option, Some, None}
+use Rattle.std.specs.Prelude.{if◌then◌else◌, codes, min}
 use Rattle.regex_class.specs.Ranges.{Range}
 use Rattle.rpl_classes.specs.Algebra.{others}
 use Rattle.rpl_core.specs.Core.{Core, Set, Seq, Choice, Many, Not, Behind, Call, Capture, Note, Cores, NoMore, Then}
@@ -93,9 +94,11 @@ repeated true b p l m = cooked_repeat b p l m
 repeated false b p l m = repeat p l m
 
 -- The look-behind at a body: its least and greatest length, the greatest stopping at 256, or none where a call or a
--- repetition is in it. The least stops at 65,536, which is as many characters as a core of the allowed size can ask for.
+-- repetition is in it. The least stops at 65,536, which is as many characters as a core of the allowed size can ask
+-- for.
 abbrev pub behind : Core → Core
-behind p = if has_call p || has_repetition p then Behind 0 0 p else Behind (min 65536 (least p)) (min 256 (greatest p)) p
+behind p =
+    if has_call p || has_repetition p then Behind 0 0 p else Behind (min 65536 (least p)) (min 256 (greatest p)) p
 
 -- the type of the tree of a mark
 abbrev pub mark_name : Mark → List ℕ

@@ -1,6 +1,7 @@
 -- How many cores a core is made of, and how deep they stand inside one another.
 use Rattle.std.specs.Prelude.{ℕ, ◌+◌, max}
-use Rattle.rpl_core.specs.Core.{Core, Set, Seq, Choice, Many, Not, And, Behind, Call, Capture, Note, Start, End, Halt, Cores, NoMore, Then}
+use Rattle.rpl_core.specs.Core.{Core, Set, Seq, Choice, Many, Not, And, Behind, Call, Capture, Note, Start, End, Halt}
+use Rattle.rpl_core.specs.Core.{Cores, NoMore, Then}
 
 -- how many cores stand in it, itself too
 abbrev mutual

@@ -56,7 +56,8 @@ fn front(first: Count, rest: Count) -> Count
 
 /// One core more, of those that are left.
 pub fn add(sum: Count, next: Count) -> Count
-    ensures { (p : Core) (rest whole : Cores) → Counts next p → Adds sum (C.Then p rest) whole → Adds result rest whole }
+    ensures { (p : Core) (rest whole : Cores) → Counts next p → Adds sum (C.Then p rest) whole
+        → Adds result rest whole }
 {
     Count {
         size: (sum.size + next.size).min(MAX_SIZE + 1),
@@ -125,7 +126,8 @@ fn endless(of: Count, least: u32) -> Count
 
 /// So many times, and up to some more.
 fn bounded(of: Count, least: u32, more: u32) -> Count
-    ensures { (p : Core) → Counts of p → Counts result (C.Seq (F.copies least p (F.copies more (F.or_nothing p) C.NoMore))) }
+    ensures { (p : Core) → Counts of p
+        → Counts result (C.Seq (F.copies least p (F.copies more (F.or_nothing p) C.NoMore))) }
 {
     let last = copies(more, or_nothing(of), none());
     let all = copies(least, of, last);
@@ -195,7 +197,8 @@ pub fn cooked_repeat(boundary: Count, of: Count, least: u32, most: Option<u32>) 
 
 /// A tree around a core; behind a look-behind there are none.
 pub fn capture(inside: bool, of: Count) -> Count
-    ensures { (p : Core) (c : List ℕ) (I : Inners) → Counts of (seen inside I p) → Counts result (seen inside I (C.Capture c p)) }
+    ensures { (p : Core) (c : List ℕ) (I : Inners) → Counts of (seen inside I p)
+        → Counts result (seen inside I (C.Capture c p)) }
 {
     if inside {
         return of;
@@ -232,7 +235,8 @@ fn kept(inside: bool, of: Count) -> Count
 
 /// A message and the end of the match.
 fn error(known: &[Option<Inner>], inside: bool) -> Count
-    ensures { (I : Inners) (t : List ℕ) → KnowsInners known.now I → Counts result (seen inside I (F.pair (C.Note t) (C.Call F.halt_rule))) }
+    ensures { (I : Inners) (t : List ℕ) → KnowsInners known.now I
+        → Counts result (seen inside I (F.pair (C.Note t) (C.Call F.halt_rule))) }
 {
     let end = count_call(known, inside, HALT);
     pair(leaf(), end)
@@ -240,7 +244,8 @@ fn error(known: &[Option<Inner>], inside: bool) -> Count
 
 /// A macro of an argument with these counts.
 pub fn applied(known: &[Option<Inner>], inside: bool, kind: Option<Macro>, of: Count) -> Count
-    ensures { (I : Inners) (t : List ℕ) (p : Core) → KnowsInners known.now I → Counts of (seen inside I p) → Counts result (seen inside I (macro_core kind t p)) }
+    ensures { (I : Inners) (t : List ℕ) (p : Core) → KnowsInners known.now I → Counts of (seen inside I p)
+        → Counts result (seen inside I (macro_core kind t p)) }
 {
     match kind {
         None | Some(Macro::Ci) | Some(Macro::Uci) => of,

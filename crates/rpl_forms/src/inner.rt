@@ -4,7 +4,8 @@ ghost use Rattle.std.specs.Prelude.{◌≡◌, ◌<◌, ◌+◌, IfOk, IfSome, O
 ghost use Rattle.rpl_core.specs.Core as C;
 ghost use Rattle.rpl_core.specs.Listed.{rules_of};
 ghost use Rattle.rpl_core.specs.View.{core_of, cores, listed};
-ghost use Rattle.rpl_forms.specs.Counting.{Adds, Counts, CountsAll, IsFirst, KnowsInners, KnowsNext, known_of, seen, seen_all};
+ghost use Rattle.rpl_forms.specs.Counting.{Adds, Counts, CountsAll, IsFirst, KnowsInners, KnowsNext, known_of, seen};
+ghost use Rattle.rpl_forms.specs.Counting.{seen_all};
 ghost use Rattle.rpl_forms.specs.Inlining.{Inners, called, inlined, inlined_all, inner};
 ghost use Rattle.rpl_forms.specs.Rows.{inners_of};
 
@@ -106,7 +107,8 @@ fn called_alone(peg: &Peg) -> Option<u32>
 /// other. So a chain of names, however long, is followed in one step.
 fn first_in_chain(known: &[Option<Inner>], body: &Peg) -> u32
     requires { length known.now < 0xffff_ffff }
-    ensures { (I : Inners) → KnowsInners known.now I → length known.now ≡ length I → IsFirst result I (core_of body.now) }
+    ensures { (I : Inners) → KnowsInners known.now I → length known.now ≡ length I
+        → IsFirst result I (core_of body.now) }
 {
     let own = known.len() as u32;
     let Some(rule) = called_alone(body) else {
@@ -121,7 +123,8 @@ fn first_in_chain(known: &[Option<Inner>], body: &Peg) -> u32
 /// What is known of what stands for the next rule, if anything does.
 fn next_inner(known: &[Option<Inner>], rule: &Rule) -> Option<Inner>
     requires { length known.now < 0xffff_ffff }
-    ensures { (I : Inners) → KnowsInners known.now I → length known.now ≡ length I → KnowsNext I result (inner I rule.now.block (core_of rule.now.body)) }
+    ensures { (I : Inners) → KnowsInners known.now I → length known.now ≡ length I
+        → KnowsNext I result (inner I rule.now.block (core_of rule.now.body)) }
 {
     match rule.block {
         Some(_) => None,
@@ -135,7 +138,8 @@ fn next_inner(known: &[Option<Inner>], rule: &Rule) -> Option<Inner>
 /// Adds what is known of the next rule of a table.
 pub fn push_inner(known: &mut Vec<Option<Inner>>, rule: &Rule) -> Result<(), NoMemory>
     requires { length known.old.items < 0xffff_ffff }
-    ensures knows { OnOk result ((I : Inners) → KnowsInners known.old.items I → length known.old.items ≡ length I → KnowsInners known.new.items (I ++ inner I rule.now.block (core_of rule.now.body) ∷ [])) }
+    ensures knows { OnOk result ((I : Inners) → KnowsInners known.old.items I → length known.old.items ≡ length I
+        → KnowsInners known.new.items (I ++ inner I rule.now.block (core_of rule.now.body) ∷ [])) }
     ensures as_many { OnOk result (length known.new.items ≡ length known.old.items + 1) }
 {
     let next = next_inner(known, rule);
@@ -168,7 +172,8 @@ fn boxed(
     body: &Peg,
 ) -> Result<Box<Peg>, NoMemory>
     requires { KnowsInners known.now (inners_of (rules_of rules.now)) }
-    ensures { IfOk result (λ b. core_of b.value ≡ inlined (take limit (inners_of (rules_of rules.now))) (core_of body.now)) }
+    ensures { IfOk result (λ b. core_of b.value
+        ≡ inlined (take limit (inners_of (rules_of rules.now))) (core_of body.now)) }
 {
     let body = inline(alloc, rules, known, limit, body)?;
     Ok(Box::new(alloc, body)?)
@@ -184,7 +189,8 @@ fn inline_all(
     parts: &[Peg],
 ) -> Result<Pegs, NoMemory>
     requires { KnowsInners known.now (inners_of (rules_of rules.now)) }
-    ensures { IfOk result (λ ps. cores (listed ps) ≡ inlined_all (take limit (inners_of (rules_of rules.now))) (cores parts.now)) }
+    ensures { IfOk result (λ ps. cores (listed ps)
+        ≡ inlined_all (take limit (inners_of (rules_of rules.now))) (cores parts.now)) }
 {
     let mut others = Pegs::new(alloc);
     for part in parts {
@@ -203,7 +209,8 @@ fn inline_call(
     number: u32,
 ) -> Result<Peg, NoMemory>
     requires { KnowsInners known.now (inners_of (rules_of rules.now)) }
-    ensures { IfOk result (λ p. core_of p ≡ called number (slice_get (take limit (inners_of (rules_of rules.now))) number)) }
+    ensures { IfOk result (λ p. core_of p
+        ≡ called number (slice_get (take limit (inners_of (rules_of rules.now))) number)) }
 {
     if number >= limit {
         return Ok(Peg::Call(number));

@@ -2,8 +2,8 @@
 //!
 //! For the expansion, which goes through an expression twice, once with `count` and, if nothing is too large, once with
 //! `make`. Both have one function for each form, and both can go behind a look-behind, where captures and messages are
-//! gone and the bodies of earlier rules stand for calls (`inner`). Counts stop at one above their limits. Only memory can
-//! run out.
+//! gone and the bodies of earlier rules stand for calls (`inner`). Counts stop at one above their limits. Only memory
+//! can run out.
 #![tactic(auto)]
 
 pub mod count;

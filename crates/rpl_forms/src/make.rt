@@ -39,7 +39,8 @@ pub fn choice(parts: Pegs) -> Peg
 
 /// A pattern more at the end.
 pub fn append(parts: &mut Pegs, part: Peg) -> Result<(), NoMemory>
-    ensures { OnOk result (cores (listed parts.new) ≡ F.joined (cores (listed parts.old)) (C.Then (core_of part) C.NoMore)) }
+    ensures { OnOk result (cores (listed parts.new)
+        ≡ F.joined (cores (listed parts.old)) (C.Then (core_of part) C.NoMore)) }
 {
     parts.push(part)?;
     Ok(())
@@ -52,7 +53,8 @@ pub fn append_copies(
     number: u32,
     part: &Peg,
 ) -> Result<(), NoMemory>
-    ensures { OnOk result (cores (listed parts.new) ≡ F.joined (cores (listed parts.old)) (F.copies number (core_of part.now) C.NoMore)) }
+    ensures { OnOk result (cores (listed parts.new)
+        ≡ F.joined (cores (listed parts.old)) (F.copies number (core_of part.now) C.NoMore)) }
 {
     for _turn in 0..number {
         append(parts, part.copy(alloc)?)?;
@@ -160,7 +162,8 @@ fn endless(alloc: Global, body: Peg, least: u32) -> Result<Peg, NoMemory>
 
 /// So many times, and up to some more.
 fn bounded(alloc: Global, body: Peg, least: u32, more: u32) -> Result<Peg, NoMemory>
-    ensures { IfOk result (λ p. core_of p ≡ C.Seq (F.copies least (core_of body) (F.copies more (F.or_nothing (core_of body)) C.NoMore))) }
+    ensures { IfOk result (λ p. core_of p
+        ≡ C.Seq (F.copies least (core_of body) (F.copies more (F.or_nothing (core_of body)) C.NoMore))) }
 {
     let mut parts = Pegs::new(alloc);
     append_copies(alloc, &mut parts, least, &body)?;
@@ -276,7 +279,8 @@ fn mark_name(alloc: Global, mark: Mark) -> Result<Chars, NoMemory>
 
 /// A stretch of a search, which makes a node; behind a look-behind there are none.
 pub fn marked(alloc: Global, inside: bool, mark: Mark, body: Peg) -> Result<Peg, NoMemory>
-    ensures { IfOk result (λ q. (I : Inners) (p : Core) → core_of body ≡ seen inside I p → core_of q ≡ seen inside I (C.Capture (F.mark_name mark) p)) }
+    ensures { IfOk result (λ q. (I : Inners) (p : Core) → core_of body ≡ seen inside I p
+        → core_of q ≡ seen inside I (C.Capture (F.mark_name mark) p)) }
 {
     if inside {
         return Ok(body);
@@ -296,7 +300,8 @@ fn passed(alloc: Global, body: Peg) -> Result<Peg, NoMemory>
 
 /// A search.
 fn found(alloc: Global, inside: bool, body: Peg) -> Result<Peg, NoMemory>
-    ensures { IfOk result (λ q. (I : Inners) (p : Core) → core_of body ≡ seen inside I p → core_of q ≡ seen inside I (F.found p)) }
+    ensures { IfOk result (λ q. (I : Inners) (p : Core) → core_of body ≡ seen inside I p
+        → core_of q ≡ seen inside I (F.found p)) }
 {
     let before = passed(alloc, body.copy(alloc)?)?;
     let hit = marked(alloc, inside, Mark::Hit, body)?;
@@ -305,7 +310,8 @@ fn found(alloc: Global, inside: bool, body: Peg) -> Result<Peg, NoMemory>
 
 /// A search that keeps what it passes over.
 fn kept(alloc: Global, inside: bool, body: Peg) -> Result<Peg, NoMemory>
-    ensures { IfOk result (λ q. (I : Inners) (p : Core) → core_of body ≡ seen inside I p → core_of q ≡ seen inside I (F.kept p)) }
+    ensures { IfOk result (λ q. (I : Inners) (p : Core) → core_of body ≡ seen inside I p
+        → core_of q ≡ seen inside I (F.kept p)) }
 {
     let before = passed(alloc, body.copy(alloc)?)?;
     let before = marked(alloc, inside, Mark::Skip, before)?;
@@ -315,7 +321,8 @@ fn kept(alloc: Global, inside: bool, body: Peg) -> Result<Peg, NoMemory>
 
 /// A search again and again.
 fn all_found(alloc: Global, inside: bool, body: Peg) -> Result<Peg, NoMemory>
-    ensures { IfOk result (λ q. (I : Inners) (p : Core) → core_of body ≡ seen inside I p → core_of q ≡ seen inside I (F.endless (F.found p) 1)) }
+    ensures { IfOk result (λ q. (I : Inners) (p : Core) → core_of body ≡ seen inside I p
+        → core_of q ≡ seen inside I (F.endless (F.found p) 1)) }
 {
     let search = found(alloc, inside, body)?;
     endless(alloc, search, 1)
@@ -329,7 +336,8 @@ pub fn searched(
     body: Peg,
 ) -> Result<Peg, NoMemory>
     requires { keeps_text kind ≡ false }
-    ensures { IfOk result (λ q. (I : Inners) (t : List ℕ) (p : Core) → core_of body ≡ seen inside I p → core_of q ≡ seen inside I (F.macro_core kind t p)) }
+    ensures { IfOk result (λ q. (I : Inners) (t : List ℕ) (p : Core) → core_of body ≡ seen inside I p
+        → core_of q ≡ seen inside I (F.macro_core kind t p)) }
 {
     match kind {
         Some(Macro::Find) => found(alloc, inside, body),
@@ -368,7 +376,9 @@ pub fn error(
     arg: &Expr,
 ) -> Result<Peg, NoMemory>
     requires { KnowsInners known.now (inners_of (rules_of rules.now)) }
-    ensures { IfOk result (λ q. core_of q ≡ seen inside (inners_of (rules_of rules.now)) (F.pair (C.Note (text_of (expr_of arg.now))) (C.Call F.halt_rule))) }
+    ensures { IfOk result (λ q. core_of q
+        ≡ seen inside (inners_of (rules_of rules.now))
+        (F.pair (C.Note (text_of (expr_of arg.now))) (C.Call F.halt_rule))) }
 {
     let told = message(alloc, inside, arg)?;
     let end = call(alloc, rules, known, inside, HALT)?;

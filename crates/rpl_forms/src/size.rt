@@ -20,8 +20,8 @@ pub struct Count {
     ghost flat: { depth ≤ 1025 },
 }
 
-/// What is known of what stands for a rule behind a look-behind: its counts, and the number of the first rule in a chain
-/// of calls for which the same stands.
+/// What is known of what stands for a rule behind a look-behind: its counts, and the number of the first rule in a
+/// chain of calls for which the same stands.
 #[derive(Clone, Copy, Debug)]
 pub struct Inner {
     pub count: Count,

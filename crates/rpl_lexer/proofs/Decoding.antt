@@ -1,15 +1,15 @@
 -- The reading of a text, character by character.
 use Rattle.std.proofs.Common.{◌≡◌, ℕ, zero, suc, ◌+◌, ◌<◌, ◌≤◌, List, [], ◌∷◌, ◌++◌, length, drop, Option, Some, None, refl, sym, ap, subst, ◌∙◌, arith, drop-drop, length-drop}
-use Rattle.std.specs.Prelude.{nat_eq, if◌then◌else◌, slice_get, chars, encode_utf8, encode_utf8_all, IsUtf8}
-use Rattle.std.specs.Char.{len_utf8}
+use Rattle.std.specs.Prelude.{nat_eq, if◌then◌else◌, chars, encode_utf8, encode_utf8_all, IsUtf8}
 use Rattle.std.proofs.lemmas.Bool.{ne_eqb}
-use Rattle.std.proofs.lemmas.Str.{len_utf8_bounds, len_utf8_ascii, chars-nil, encodes-chars, encodes-append, chars_from_encodes}
+use Rattle.std.proofs.lemmas.Str.{len_utf8_ascii, chars-nil, encodes-chars, encodes-append, chars_from_encodes}
 use Rattle.std.proofs.lemmas.List.{drop_all, append-nil}
 use Rattle.rpl_text.specs.Places.{at, index, IsPlace, step_from}
 use Rattle.rpl_text.specs.Escapes.{escape, placed, escape_from}
-use Rattle.rpl_text.proofs.Walks.{some_step, none_step, index_at, place_at, at_suc, get_below, at_le, at_end}
+use Rattle.rpl_text.proofs.Walks.{none_step, index_at, place_at, at_suc, get_below, at_le, at_end}
 use Rattle.rpl_text.proofs.Cuts.{at-drop}
-use Rattle.rpl_text.proofs.Escaped.{escape_plain, drop_front}
+use Rattle.rpl_text.proofs.Escaped.{escape_plain}
+use Rattle.rpl_text.proofs.Stepped.{stepped}
 use Rattle.rpl_lexer.specs.Payloads.{unescaped, decoded}
 use Rattle.rpl_lexer.specs.inside.Decoding.{Decodes}
 
@@ -30,28 +30,6 @@ pub skipped : (k : ℕ) (cs : List ℕ) → decoded k cs ≡ decoded 0 (drop k c
 skipped zero cs = refl
 skipped (suc k) [] = decoded-nil (suc k) ∙ sym (decoded-nil 0)
 skipped (suc k) (c ∷ cs) = decoded-skip k c cs ∙ skipped k cs
-
--- what a step of the text says
-pub record Stepped (t : List ℕ) (p c q : ℕ) : Type 0 where
-  pub front : drop (index t p) t ≡ c ∷ drop (index t p + 1) t
-  pub get : slice_get t (index t p) ≡ Some c
-  pub forward : p < q
-  pub place : IsPlace t q
-  pub number : index t q ≡ index t p + 1
-
-pub stepped : (t : List ℕ) (p c q : ℕ) → IsPlace t p → Some (c, q) ≡ step_from t (index t p) → Stepped t p c q
-stepped t p c q h e =
-    let i = index t p in
-    let s = some_step t i c q e in
-    let b = get_below t i c s.1 in
-    let n : q ≡ p + len_utf8 c = s.0 ∙ at_suc t i c s.1 ∙ ap (λ x. x + len_utf8 c) h in
-    record {
-      front = drop_front t i c s.1;
-      get = s.1;
-      forward = let w = len_utf8_bounds c in omega (arith, n, w.0);
-      place = subst (IsPlace t) (sym s.0) (place_at t (i + 1) (omega arith));
-      number = ap (index t) s.0 ∙ index_at t (i + 1) (omega arith);
-    }
 
 -- at the end, at a quote, and at any other character that stands for itself
 pub reads_end : (t : List ℕ) (p : ℕ) → None ≡ step_from t (index t p) → Decodes t p None

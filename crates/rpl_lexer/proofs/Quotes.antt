@@ -8,6 +8,7 @@ use Rattle.std.proofs.lemmas.Bool.Decides.{nat_tests}
 use Rattle.std.proofs.lemmas.Str.{inside_one, encode_ascii, encodes-append}
 use Rattle.rpl_text.specs.Characters.{is_char}
 use Rattle.rpl_text.specs.Escapes.{hex, numbered, is_kept, escape}
+use Rattle.rpl_text.proofs.Escaped.{escape-cons, escape-nil}
 use Rattle.rpl_text.proofs.Hex.{hex-cons, hex-nil}
 use Rattle.rpl_lexer.specs.declared.token.TokenKind.TheVariants as K
 use Rattle.rpl_lexer.specs.declared.enclosed.Enclosure.TheVariants.{Quotes}
@@ -83,25 +84,6 @@ hex_digits (suc n) v w (d ∷ ds) h e =
           }
       | inr ge ↦ none_some w (sym (ap (λ b. if b then hex n (16 * v + digit_value d) ds else None) (le-ltb (digit_value d) 16 ge)) ∙ f)
     ]
-
-abbrev by_letter : ℕ → Option ℕ → Option ℕ → Option ℕ → Option (ℕ × ℕ)
-by_letter c two four eight =
-    if is_kept c then Some (c, 1)
-    else (if nat_eq c 110 then Some (10, 1)
-    else (if nat_eq c 114 then Some (13, 1)
-    else (if nat_eq c 116 then Some (9, 1)
-    else (if nat_eq c 120 then numbered 2 0x7f two
-    else (if nat_eq c 117 then numbered 4 0x10_ffff four
-    else (if nat_eq c 85 then numbered 8 0x10_ffff eight
-    else None))))))
-
-escape-cons : (c : ℕ) (cs : List ℕ) → escape (c ∷ cs) ≡ by_letter c (hex 2 0 cs) (hex 4 0 cs) (hex 8 0 cs)
-unfolding escape
-escape-cons c cs = refl
-
-escape-nil : escape [] ≡ None
-unfolding escape
-escape-nil = refl
 
 if_cases : (b : Bool) (x y r : Option (ℕ × ℕ)) → (if b then x else y) ≡ r → ((b ≡ true) × (x ≡ r)) ⊎ ((b ≡ false) × (y ≡ r))
 if_cases true x y r e = inl (refl, e)

@@ -8,8 +8,8 @@ ghost use Rattle.rpl_lexer.specs.inside.Spans.{Within, IsWithin};
 use crate::bytes::{Class, behind, has_at, is_digit, past};
 use crate::fault::LexKind;
 use crate::front::Stand;
-use crate::number::number;
 use crate::token::TokenKind;
+use rpl_text::value_of_digits;
 
 /// The numbers of bounds as they are written.
 #[derive(Clone, Copy, Debug, PartialEq, Eq)]
@@ -94,7 +94,7 @@ fn is_wide(bytes: &[u8], span: Span) -> bool
     requires { IsWithin (length bytes.now) span }
     ensures { result ≡ is_wide bytes.now span }
 {
-    number(part(bytes, span)).is_none()
+    value_of_digits(part(bytes, span)).is_none()
 }
 
 /// What stands there whose opening brace stands before the bytes, where bounds begin.
@@ -158,7 +158,7 @@ fn number_in(bytes: &[u8], span: Span) -> Option<u64>
     ensures { result ≡ number_in bytes.now span }
 {
     if span.start < span.end {
-        number(part(bytes, span))
+        value_of_digits(part(bytes, span))
     } else {
         None
     }

@@ -9,9 +9,9 @@ use crate::bytes::{Class, behind, front_of, has_at, is_digit, is_letter, past, r
 use crate::enclosed::{Enclosure, enclosed};
 use crate::fault::LexKind;
 use crate::keyword::keyword_named;
-use crate::number::number;
 use crate::punct::Punct;
 use crate::token::TokenKind;
+use rpl_text::value_of_digits;
 
 /// What stands at the front of some bytes.
 #[derive(Clone, Copy)]
@@ -90,7 +90,7 @@ fn digits(bytes: &[u8]) -> Stand
     ensures inside { Within (length bytes.now) result }
 {
     let len = run_len(Class::Digit, bytes);
-    match number(front_of(bytes, len)) {
+    match value_of_digits(front_of(bytes, len)) {
         Some(_) => Stand::Found {
             kind: TokenKind::Number,
             len,

@@ -15,7 +15,6 @@ mod front;
 mod gaps;
 mod keyword;
 mod laws;
-mod number;
 mod payload;
 mod punct;
 mod token;

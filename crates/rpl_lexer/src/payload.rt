@@ -16,10 +16,9 @@ use crate::bounds::{Bounds, bounds_in};
 use crate::bytes::{Class, run_len};
 use crate::enclosed::nesting;
 use crate::keyword::{Keyword, keyword_named};
-use crate::number::number;
 use crate::punct::Punct;
 use crate::token::{Token, TokenKind};
-use rpl_text::{Chars, Text, read_escape};
+use rpl_text::{Chars, Text, read_escape, value_of_digits};
 use std::alloc::Global;
 
 /// The text of a token, as it stands in the text that it is a token of.
@@ -70,7 +69,7 @@ pub fn number_of(text: &str, token: Token) -> u64
     requires stands { IsToken text.now token }
     ensures { result ≡ number_of text.now token }
 {
-    number(token_text(text, token).as_bytes()).unwrap_or(0)
+    value_of_digits(token_text(text, token).as_bytes()).unwrap_or(0)
 }
 
 /// The two names of a Qualified: the one before the dot, and the one behind it.

@@ -6,8 +6,6 @@
 #![tactic(auto)]
 
 mod list;
-#[cfg(test)]
-mod tests;
 
 pub use list::List;
 /// Want of memory, which every call that takes memory may answer.

@@ -4,3 +4,4 @@ mod Stepping
 mod Later
 mod Advancing
 mod Ranges
+mod Pushing

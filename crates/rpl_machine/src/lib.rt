@@ -7,6 +7,7 @@
 
 mod act;
 mod answer;
+mod failing;
 mod lists;
 mod looping;
 mod moves;
@@ -19,6 +20,3 @@ pub use answer::{Answer, RunFault};
 pub use rpl_core::NoMemory;
 pub use scratch::{Scratch, run};
 pub use steps::Steps;
-
-#[cfg(test)]
-mod tests;

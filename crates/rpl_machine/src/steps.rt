@@ -41,3 +41,14 @@ impl<L: Ledger> Steps<L> {
         self.book.add(&mut self.share, 1);
     }
 }
+
+/// Counts a step. Answers how many are left then.
+#[inline(always)]
+pub(crate) fn spend<L: Ledger>(left: u64, steps: &mut Steps<L>) -> u64
+    requires { 0 < left }
+    ensures left { result + 1 ≡ left }
+    ensures steps { steps.new ≡ steps.old + 1 }
+{
+    steps.tick();
+    left - 1
+}

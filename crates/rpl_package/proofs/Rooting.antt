@@ -1,6 +1,6 @@
 -- Steps of the roots.
 use Rattle.std.proofs.Common.{◌≡◌, ℕ, ◌+◌, ◌<◌, ◌≤◌, List, [], ◌∷◌, length, drop, get_or, Some, None, sym, ap}
-use Rattle.std.proofs.Common.{true, false}
+use Rattle.std.proofs.Common.{true, false, ap₂, ◌∙◌}
 use Rattle.std.specs.Prelude.{if◌then◌else◌, Ok, is_some, nat_lt, encode_utf8_all}
 use Rattle.rosie_io.specs.Opening.{file_of}
 use Rattle.std.proofs.lemmas.List.{drop_all}
@@ -15,6 +15,7 @@ use Rattle.rpl_package.specs.Loading.{World, State, own_text, walk}
 use Rattle.rpl_package.specs.Roots.{top_head, named_root, root_text, with_root, counted, next, asked_root}
 use Rattle.rpl_package.specs.Roots.{file_root, read_root}
 use Rattle.rpl_package.specs.declared.rooted.Root.{Root}
+use Rattle.rpl_package.specs.declared.stock.Head.{Head}
 use Rattle.rpl_package.proofs.Outcomes.{Follows, same, trail, then_follows}
 
 pub named_free : (w : World) (f : List ℕ) (t : Said) (q : QName) (s : State) → is_some (first_of q.name s.own.prefixes) ≡ false
@@ -22,6 +23,12 @@ pub named_free : (w : World) (f : List ℕ) (t : Said) (q : QName) (s : State) �
 named_free w f t q s h =
     ap (λ b. if b then at_once (fault f q.at (Duplicate q.name))
     else and_then (own_text w (walk w w.most) s.stock (top_head ∷ []) f None q.name t) (λ u. at_once (Ok (with_root q.name s.own u)))) h
+
+-- a root whose package name is no prefix yet goes on as a text of its own
+pub named_leads : (w : World) (f : List ℕ) (t : Said) (q : QName) (s : State) (hs : List Head) (l : List ℕ) → is_some (first_of q.name s.own.prefixes) ≡ false → hs ≡ top_head ∷ [] → l ≡ q.name
+    → Follows (and_then (own_text w (walk w w.most) s.stock hs f None l t) (λ u. at_once (Ok (with_root q.name s.own u)))) (named_root w f t q s)
+named_leads w f t q s hs l free held label =
+    same _ _ (ap₂ (λ h n. and_then (own_text w (walk w w.most) s.stock h f None n t) (λ u. at_once (Ok (with_root q.name s.own u)))) held label ∙ sym (named_free w f t q s free))
 
 pub roomy : (w : World) (f : List ℕ) (t : Said) (q : QName) (s : State) → nat_lt (length s.stock.modules + 1) w.most ≡ true
     → Follows (named_root w f t q s) (root_text w f t (Some q) s)

@@ -1,11 +1,11 @@
 -- Steps of the walk.
 use Rattle.std.proofs.Common.{◌≡◌, ◌≢◌, ℕ, zero, suc, ◌+◌, ◌-◌, List, [], ◌∷◌, ◌++◌, length, Option, Some, None}
-use Rattle.std.proofs.Common.{refl, sym, ap, ◌∙◌, true, false, arith}
+use Rattle.std.proofs.Common.{refl, sym, ap, ap₂, ◌∙◌, true, false, arith}
 use Rattle.std.specs.Prelude.{nat_lt, if◌then◌else◌, Ok}
 use Rattle.rpl_syntax.specs.Modules.{Said}
 use Rattle.rpl_syntax.specs.declared.module.Import.{Import}
-use Rattle.rpl_scope.specs.Faults.{fault, fault_at, ◌>>=◌, IsStop}
-use Rattle.rpl_scope.specs.Packages.{first_of}
+use Rattle.rpl_scope.specs.Faults.{fault, fault_at, ◌>>=◌, IsStop, StopIs}
+use Rattle.rpl_scope.specs.Packages.{Module, first_of}
 use Rattle.rpl_scope.specs.declared.fault.Stop.{Stop}
 use Rattle.rpl_scope.proofs.Stops.{told}
 use Rattle.rpl_scope.specs.declared.fault.LoadKind.TheVariants.{ImportCycle, ImportMissing, TooManyPackages, Duplicate}
@@ -27,6 +27,29 @@ pub walk_is : (w : World) (n : ℕ) (s : Stock) (hs : List Head) (f path bytes :
     → walk w n s hs f path bytes ≡ and_then (at_once (w.text f bytes)) (λ t. own_text w (walk w (n - 1)) s hs f (Some path) (label_of t.name path) t)
 walk_is w zero s hs f path bytes h = absurd (h refl)
 walk_is w (suc n) s hs f path bytes h = let e : suc n - 1 ≡ n = omega arith in rw e refl
+
+-- a text of its own whose package name is free: its head is held, and its module begins empty
+pub own_leads : (w : World) (below : Walk) (s : Stock) (hs : List Head) (f : List ℕ) (path : Option (List ℕ)) (label : List ℕ) (t : Said) (now : List Head) (m : Module)
+    → is_taken label hs s ≡ false → now ≡ hs ++ record { path = path; label = label } ∷ [] → m ≡ empty_module path label
+    → Follows (checks w below now f t (record { stock = s; own = m })) (own_text w below s hs f path label t)
+own_leads w below s hs f path label t now m free held empty =
+    same _ _ (ap₂ (λ h o. checks w below h f t (record { stock = s; own = o })) held empty ∙ sym (own_free w below s hs f path label t free))
+
+-- an imported file that is read as t goes on as a text of its own
+pub read_leads : (w : World) (n : ℕ) (s : Stock) (hs : List Head) (f path bytes : List ℕ) (t : Said) (p l : List ℕ)
+    → n ≢ 0 → w.text f bytes ≡ Ok t → p ≡ path → l ≡ label_of t.name path
+    → Follows (own_text w (walk w (n - 1)) s hs f (Some p) l t) (walk w n s hs f path bytes)
+read_leads w n s hs f path bytes t p l deep read copied label =
+    trail _ _ _ (same _ _ (ap₂ (λ q k. own_text w (walk w (n - 1)) s hs f (Some q) k t) copied label))
+    (trail _ _ _ (then_follows (at_once (w.text f bytes)) t (λ x. own_text w (walk w (n - 1)) s hs f (Some path) (label_of x.name path) x) read)
+    (same _ _ (sym (walk_is w n s hs f path bytes deep))))
+
+-- and one that isn't read stops there
+pub unread_stops : (w : World) (n : ℕ) (s : Stock) (hs : List Head) (f path bytes : List ℕ) → n ≢ 0 → (stop : Stop) → StopIs stop (w.text f bytes)
+    → MayStop stop (walk w n s hs f path bytes)
+unread_stops w n s hs f path bytes deep stop h =
+    may_lead stop _ _ (same _ _ (sym (walk_is w n s hs f path bytes deep)))
+    (may_then stop (at_once (w.text f bytes)) (λ x. own_text w (walk w (n - 1)) s hs f (Some path) (label_of x.name path) x) (may stop (w.text f bytes) h))
 
 -- a path that is neither being loaded nor loaded is searched
 pub reach_new : (w : World) (below : Walk) (hs : List Head) (f : List ℕ) (i : Import) (s : Stock)

@@ -15,3 +15,4 @@ pub mod Tables
 pub mod Targets
 pub mod Texts
 pub mod Views
+pub mod inside

@@ -1,10 +1,10 @@
 //! Packages: a set of RPL texts, in which each import is loaded once, and what its names stand for.
 //!
-//! For the expansion and the commands. `load` reads the roots and all that they import, `load_pattern` a pattern and the
-//! packages that it names; a `PackageSet` then tells what any name of any rule stands for, which names there are, and the
-//! rule table. The first fault of all is answered, with its file and place, in the one order that `specs/` says; a read
-//! fault only where a read or an open failed. Every file is closed on every way out, and time is linear in the bytes
-//! that are read.
+//! For the expansion and the commands. `load` reads the roots and all that they import, `load_pattern` a pattern and
+//! the packages that it names; a `PackageSet` then tells what any name of any rule stands for, which names there are,
+//! and the rule table. The first fault of all is answered, with its file and place, in the one order that `specs/`
+//! says; a read fault only where a read or an open failed. Every file is closed on every way out, and time is linear in
+//! the bytes that are read.
 #![tactic(auto)]
 
 mod edge;

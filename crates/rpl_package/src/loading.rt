@@ -1,17 +1,16 @@
 // Loading the roots.
-ghost use Rattle.std.specs.Prelude.{◌≡◌, [], ◌∷◌, IfOk, IfErr, false};
-ghost use Rattle.rosie_io.specs.Loading.{NotFewer};
+ghost use Rattle.std.specs.Prelude.{◌≡◌, [], ◌∷◌, IfOk, IfErr};
 ghost use Rattle.rpl_package.specs.Asking.{Walks};
 ghost use Rattle.rpl_package.specs.Loading.{world};
-ghost use Rattle.rpl_package.specs.Reading.{HasCause};
 ghost use Rattle.rpl_package.specs.Roots.{begun, load, top_head, whole};
 ghost use Rattle.rpl_package.specs.Sets.{set_seen};
 ghost use Rattle.rpl_package.specs.Stocks.{state_seen};
+ghost use Rattle.rpl_package.specs.inside.Leaving.{LeavesFiles};
 ghost use Rattle.rpl_scope.specs.declared.fault.Stop.TheVariants.{Memory as OutOfMemory};
 
 use crate::rooted::{Root, enter_roots};
 use crate::set::PackageSet;
-use crate::stock::{Head, Stock, empty_module, finish};
+use crate::stock::{Head, State, Stock, empty_module, finish};
 use crate::table::table_of;
 use rosie_io::Files;
 use rpl_scope::{Module, Named, NoMemory, Stop};
@@ -19,9 +18,9 @@ use rpl_text::Chars;
 use std::alloc::Global;
 
 /// Nothing loaded, and the top module at work.
-fn begin(alloc: Global) -> Result<(Stock, Module), NoMemory>
-    ensures state { IfOk result (λ s. state_seen s.0 s.1 ≡ begun.state) }
-    ensures held { IfOk result (λ s. s.0.held.items ≡ top_head ∷ []) }
+fn begin(alloc: Global) -> Result<State, NoMemory>
+    ensures state { IfOk result (λ s. state_seen s.stock s.own ≡ begun.state) }
+    ensures held { IfOk result (λ s. s.stock.held.items ≡ top_head ∷ []) }
 {
     let mut held = Vec::new(alloc);
     let label = Chars::empty(alloc);
@@ -33,7 +32,8 @@ fn begin(alloc: Global) -> Result<(Stock, Module), NoMemory>
         held,
     };
     let label = Chars::empty(alloc);
-    Ok((stock, empty_module(alloc, None, label)))
+    let own = empty_module(alloc, None, label);
+    Ok(State { stock, own })
 }
 
 /// The set of the modules that are loaded when the top module is finished.
@@ -73,15 +73,11 @@ pub fn load_set<F: Files>(
     roots: &[Root],
 ) -> Result<PackageSet, Stop>
     ensures gives { F.tells → Walks set_seen result (load (world (F.tree files.old) folders.now) roots.now) }
-    ensures cause { HasCause result (F.faults files.old) (F.faults files.new)
-        (F.failed_opens files.old) (F.failed_opens files.new) }
-    ensures taken { NotFewer (F.taken files.old) (F.taken files.new) }
-    ensures tree { F.tree files.new ≡ F.tree files.old }
-    ensures closed { F.is_open files.old ≡ false → F.is_open files.new ≡ false }
+    ensures files { LeavesFiles F.Source result files.old files.new }
 {
-    let (mut stock, mut own) = begin(alloc)?;
-    match enter_roots(alloc, files, folders, &mut stock, &mut own, roots) {
-        Ok(into) => whole(alloc, stock, own, into),
+    let mut state = begin(alloc)?;
+    match enter_roots(alloc, files, folders, &mut state, roots) {
+        Ok(into) => whole(alloc, state.stock, state.own, into),
         Err(stop) => Err(stop),
     }
 }

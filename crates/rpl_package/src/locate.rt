@@ -1,10 +1,10 @@
 // The file of an import.
 ghost use Rattle.std.specs.Prelude.{◌≡◌, IfOk, IfErr, false, [], ◌∷◌, encode_utf8_all};
-ghost use Rattle.rosie_io.specs.Loading.{NotFewer};
 ghost use Rattle.rosie_io.specs.Opening.{file_of};
 ghost use Rattle.rpl_package.specs.Asking.{Asks};
 ghost use Rattle.rpl_package.specs.Loading.{file_in, find, tried};
-ghost use Rattle.rpl_package.specs.Reading.{ReadsFile, Locates, IsQuiet, HasCause};
+ghost use Rattle.rpl_package.specs.Reading.{ReadsFile, Locates, IsQuiet};
+ghost use Rattle.rpl_package.specs.inside.Leaving.{LeavesFiles};
 
 use crate::reading::Read;
 use rosie_io::{FileFault, Files, read_file};
@@ -38,10 +38,7 @@ pub fn read_in<F: Files>(alloc: Global, files: &mut F, file: &Chars) -> Result<O
     ensures found { F.tells → IfOk result (λ r. ReadsFile r (file_of (encode_utf8_all file.now) (F.tree files.old))) }
     ensures quiet { IfErr result IsQuiet }
     ensures asks { Asks result (file.now ∷ []) }
-    ensures cause { HasCause result (F.faults files.old) (F.faults files.new)
-        (F.failed_opens files.old) (F.failed_opens files.new) }
-    ensures taken { NotFewer (F.taken files.old) (F.taken files.new) }
-    ensures tree { F.tree files.new ≡ F.tree files.old }
+    ensures files { LeavesFiles F.Source result files.old files.new }
     ensures closed { F.is_open files.new ≡ false }
 {
     match read_file(alloc, files, file.as_str(), MOST_BYTES) {
@@ -64,11 +61,7 @@ pub fn locate<F: Files>(
     ensures found { F.tells → IfOk result (λ l. Locates l (find (F.tree files.old) folders.now path.now)) }
     ensures quiet { IfErr result IsQuiet }
     ensures asks { F.tells → Asks result (tried (F.tree files.old) folders.now path.now) }
-    ensures cause { HasCause result (F.faults files.old) (F.faults files.new)
-        (F.failed_opens files.old) (F.failed_opens files.new) }
-    ensures taken { NotFewer (F.taken files.old) (F.taken files.new) }
-    ensures tree { F.tree files.new ≡ F.tree files.old }
-    ensures closed { F.is_open files.old ≡ false → F.is_open files.new ≡ false }
+    ensures files { LeavesFiles F.Source result files.old files.new }
 {
     for folder in folders {
         let file = file_in(alloc, folder, path)?;

@@ -1,6 +1,5 @@
 // The pattern: its text, the packages that it imports, its names and its macros.
 ghost use Rattle.std.specs.Prelude.{◌≡◌, [], IfErr, IfOk, OnOk, false, map};
-ghost use Rattle.rosie_io.specs.Loading.{NotFewer};
 ghost use Rattle.rpl_syntax.specs.Expression.{Expr as Said};
 ghost use Rattle.rpl_syntax.specs.View.{expr_of};
 ghost use Rattle.rpl_scope.specs.Bodies.{names};
@@ -12,15 +11,16 @@ ghost use Rattle.rpl_package.specs.Loading.{world};
 ghost use Rattle.rpl_package.specs.Marks.{CutsTo};
 ghost use Rattle.rpl_package.specs.Patterns.{enter_pattern, goal_entered, pattern_fault, pattern_name, put_by};
 ghost use Rattle.rpl_package.specs.Patterns.{wanted, wanted_at};
-ghost use Rattle.rpl_package.specs.Reading.{HasCause, IsLoud};
+ghost use Rattle.rpl_package.specs.Reading.{IsLoud};
 ghost use Rattle.rpl_package.specs.Stocks.{stock_seen};
+ghost use Rattle.rpl_package.specs.inside.Leaving.{LeavesFiles};
 ghost use Rattle.rpl_scope.specs.Packages.{nth};
 ghost use Rattle.rpl_scope.specs.Seen.{module_seen, modules_seen};
 
 use crate::locate::MOST_BYTES;
 use crate::reading::{lex_stop, parse_stop};
 use crate::stock::Stock;
-use crate::walk::{MOST_MODULES, reach};
+use crate::walk::{Importer, MOST_MODULES, reach};
 use rosie_io::Files;
 use rpl_lexer::{cut_computes, lex};
 use rpl_parser::{one_pattern, parse_pattern};
@@ -157,33 +157,29 @@ fn put(
 fn enter_name<F: Files>(
     alloc: Global,
     files: &mut F,
-    folders: &[Chars],
     stock: &mut Stock,
     top: u32,
-    file: &Chars,
+    importer: Importer<'_>,
     name: &QName,
 ) -> Result<(), Stop>
     requires { stock.old.held.items ≡ [] }
-    ensures gives { F.tells → Walks (λ _. stock_seen stock.new) result
-        (pattern_name (world (F.tree files.old) folders.now) file.now top name.now (stock_seen stock.old)) }
+    ensures gives { F.tells → let w = world (F.tree files.old) importer.entry.folders.now in
+        Walks (λ _. stock_seen stock.new) result
+        (pattern_name w importer.entry.file.now top name.now (stock_seen stock.old)) }
     ensures held { OnOk result (stock.new.held.items ≡ stock.old.held.items) }
     ensures kept { (a : L.Stock) → CutsTo top a (stock_seen stock.old) → CutsTo top a (stock_seen stock.new) }
-    ensures cause { HasCause result (F.faults files.old) (F.faults files.new)
-        (F.failed_opens files.old) (F.failed_opens files.new) }
-    ensures taken { NotFewer (F.taken files.old) (F.taken files.new) }
-    ensures tree { F.tree files.new ≡ F.tree files.old }
-    ensures closed { F.is_open files.old ≡ false → F.is_open files.new ≡ false }
+    ensures files { LeavesFiles F.Source result files.old files.new }
 {
     let asked = wanted_at(alloc, &stock.modules, top, name)?;
     let Some(import) = asked else {
         return Ok(());
     };
     let depth = MOST_MODULES;
-    let number = match reach(alloc, files, folders, stock, file, &import, depth) {
+    let number = match reach(alloc, files, stock, importer, &import, depth) {
         Ok(number) => number,
         Err(stop) => return Err(stop),
     };
-    if let Err(stop) = put(alloc, stock, top, file, &import, number) {
+    if let Err(stop) = put(alloc, stock, top, importer.file, &import, number) {
         return Err(stop);
     }
     Ok(())
@@ -193,26 +189,22 @@ fn enter_name<F: Files>(
 fn enter_names<F: Files>(
     alloc: Global,
     files: &mut F,
-    folders: &[Chars],
     stock: &mut Stock,
     top: u32,
-    file: &Chars,
+    importer: Importer<'_>,
     all: &[&QName],
 ) -> Result<(), Stop>
     requires { stock.old.held.items ≡ [] }
-    ensures gives { F.tells → Walks (λ _. stock_seen stock.new) result
-        (each_in_turn (pattern_name (world (F.tree files.old) folders.now) file.now top) (map (λ q. q.now) all.now)
+    ensures gives { F.tells → let w = world (F.tree files.old) importer.entry.folders.now in
+        Walks (λ _. stock_seen stock.new) result
+        (each_in_turn (pattern_name w importer.entry.file.now top) (map (λ q. q.now) all.now)
         (stock_seen stock.old)) }
     ensures held { OnOk result (stock.new.held.items ≡ []) }
     ensures kept { (a : L.Stock) → CutsTo top a (stock_seen stock.old) → CutsTo top a (stock_seen stock.new) }
-    ensures cause { HasCause result (F.faults files.old) (F.faults files.new)
-        (F.failed_opens files.old) (F.failed_opens files.new) }
-    ensures taken { NotFewer (F.taken files.old) (F.taken files.new) }
-    ensures tree { F.tree files.new ≡ F.tree files.old }
-    ensures closed { F.is_open files.old ≡ false → F.is_open files.new ≡ false }
+    ensures files { LeavesFiles F.Source result files.old files.new }
 {
     for name in all {
-        if let Err(stop) = enter_name(alloc, files, folders, stock, top, file, name) {
+        if let Err(stop) = enter_name(alloc, files, stock, top, importer, name) {
             return Err(stop);
         }
     }
@@ -251,29 +243,25 @@ fn check_pattern(
 fn enter_expr<F: Files>(
     alloc: Global,
     files: &mut F,
-    folders: &[Chars],
     stock: &mut Stock,
     top: u32,
-    file: &Chars,
+    importer: Importer<'_>,
     e: &Expr,
 ) -> Result<(), Stop>
     requires { stock.old.held.items ≡ [] }
-    ensures gives { F.tells → Walks (λ _. stock_seen stock.new) result
-        (enter_pattern (world (F.tree files.old) folders.now) file.now top (stock_seen stock.old) (expr_of e.now)) }
+    ensures gives { F.tells → let w = world (F.tree files.old) importer.entry.folders.now in
+        Walks (λ _. stock_seen stock.new) result
+        (enter_pattern w importer.entry.file.now top (stock_seen stock.old) (expr_of e.now)) }
     ensures held { OnOk result (stock.new.held.items ≡ []) }
     ensures kept { (a : L.Stock) → CutsTo top a (stock_seen stock.old) → CutsTo top a (stock_seen stock.new) }
-    ensures cause { HasCause result (F.faults files.old) (F.faults files.new)
-        (F.failed_opens files.old) (F.failed_opens files.new) }
-    ensures taken { NotFewer (F.taken files.old) (F.taken files.new) }
-    ensures tree { F.tree files.new ≡ F.tree files.old }
-    ensures closed { F.is_open files.old ≡ false → F.is_open files.new ≡ false }
+    ensures files { LeavesFiles F.Source result files.old files.new }
 {
     let mut all = Vec::new(alloc);
     push_names(e, &mut all)?;
-    if let Err(stop) = enter_names(alloc, files, folders, stock, top, file, &all) {
+    if let Err(stop) = enter_names(alloc, files, stock, top, importer, &all) {
         return Err(stop);
     }
-    if let Err(stop) = check_pattern(alloc, stock, top, file, &all, e) {
+    if let Err(stop) = check_pattern(alloc, stock, top, importer.file, &all, e) {
         return Err(stop);
     }
     Ok(())
@@ -294,18 +282,16 @@ pub fn enter_pattern<F: Files>(
         (goal_entered (world (F.tree files.old) folders.now) top (stock_seen stock.old) r) }
     ensures held { OnOk result (stock.new.held.items ≡ []) }
     ensures kept { (a : L.Stock) → CutsTo top a (stock_seen stock.old) → CutsTo top a (stock_seen stock.new) }
-    ensures cause { HasCause result (F.faults files.old) (F.faults files.new)
-        (F.failed_opens files.old) (F.failed_opens files.new) }
-    ensures taken { NotFewer (F.taken files.old) (F.taken files.new) }
-    ensures tree { F.tree files.new ≡ F.tree files.old }
-    ensures closed { F.is_open files.old ≡ false → F.is_open files.new ≡ false }
+    ensures files { LeavesFiles F.Source result files.old files.new }
 {
     let file = Chars::from_str(alloc, "(pattern)")?;
     let e = match read_goal(alloc, &file, goal) {
         Ok(e) => e,
         Err(stop) => return Err(stop),
     };
-    if let Err(stop) = enter_expr(alloc, files, folders, stock, top, &file, &e) {
+    let file = &file;
+    let importer = Importer { file, folders };
+    if let Err(stop) = enter_expr(alloc, files, stock, top, importer, &e) {
         return Err(stop);
     }
     Ok(e)

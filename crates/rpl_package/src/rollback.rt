@@ -1,6 +1,5 @@
 // The pattern that is looked for, over a set.
-ghost use Rattle.std.specs.Prelude.{◌≡◌, [], OnErr, false};
-ghost use Rattle.rosie_io.specs.Loading.{NotFewer};
+ghost use Rattle.std.specs.Prelude.{◌≡◌, [], OnErr};
 ghost use Rattle.rpl_syntax.specs.Expression.{Expr as Said};
 ghost use Rattle.rpl_syntax.specs.View.{expr_of};
 ghost use Rattle.rpl_scope.specs.Faults.{Or};
@@ -12,9 +11,9 @@ ghost use Rattle.rpl_scope.specs.Packages.{nth};
 ghost use Rattle.rpl_scope.specs.Seen.{modules_seen};
 ghost use Rattle.rpl_package.specs.Loading.{world};
 ghost use Rattle.rpl_package.specs.Patterns.{load_pattern};
-ghost use Rattle.rpl_package.specs.Reading.{HasCause};
 ghost use Rattle.rpl_package.specs.Sets.{set_seen};
 ghost use Rattle.rpl_package.specs.Stocks.{stock_seen};
+ghost use Rattle.rpl_package.specs.inside.Leaving.{LeavesFiles};
 
 use crate::pattern::{Goal, enter_pattern};
 use crate::set::PackageSet;
@@ -91,11 +90,7 @@ pub fn enter_goal<F: Files>(
         → Walks (λ e. (expr_of e, set_seen set.new)) result
         (load_pattern (world (F.tree files.old) folders.now) (set_seen set.old) r) }
     ensures kept { OnErr result (set_seen set.new ≡ set_seen set.old) }
-    ensures cause { HasCause result (F.faults files.old) (F.faults files.new)
-        (F.failed_opens files.old) (F.failed_opens files.new) }
-    ensures taken { NotFewer (F.taken files.old) (F.taken files.new) }
-    ensures tree { F.tree files.new ≡ F.tree files.old }
-    ensures closed { F.is_open files.old ≡ false → F.is_open files.new ≡ false }
+    ensures files { LeavesFiles F.Source result files.old files.new }
 {
     let marks = marks_of(&set.stock, set.top);
     match enter_pattern(alloc, files, folders, &mut set.stock, set.top, goal) {

@@ -1,23 +1,22 @@
 // The roots of a command, one after the other.
-ghost use Rattle.std.specs.Prelude.{◌≡◌, ◌<◌, [], ◌∷◌, OnOk, IfOk, Some, None, false, encode_utf8_all};
-ghost use Rattle.rosie_io.specs.Loading.{NotFewer};
+ghost use Rattle.std.specs.Prelude.{◌≡◌, ◌<◌, [], ◌∷◌, OnOk, IfOk, Some, None, encode_utf8_all};
 ghost use Rattle.rpl_syntax.specs.Modules.{said};
 ghost use Rattle.rpl_package.specs.Asking.{Walks, and_then};
 ghost use Rattle.rpl_scope.specs.Faults.{Gives};
 ghost use Rattle.rpl_package.specs.Loading.{world};
-ghost use Rattle.rpl_package.specs.Reading.{HasCause};
 ghost use Rattle.rpl_package.specs.Roots.{top_head, next, given_name, root_by, load_roots, named_root, root_text};
 ghost use Rattle.rpl_package.specs.Roots.{read_root, file_root, asked_root};
 ghost use Rattle.rpl_package.specs.Stocks.{state_seen};
 ghost use Rattle.rpl_package.specs.Texts.{module_text};
+ghost use Rattle.rpl_package.specs.inside.Leaving.{LeavesFiles};
 
 use crate::locate::{MOST_BYTES, read_in};
 use crate::reading::{parse, read_module};
-use crate::stock::{Stock, finish};
-use crate::walk::{MOST_MODULES, load_own, load_text};
+use crate::stock::{State, finish};
+use crate::walk::{Importer, MOST_MODULES, load_own, load_text};
 use rosie_io::Files;
 use rpl_list::List;
-use rpl_scope::{LoadKind, Module, NoMemory, Stop, fault_at, put_prefix};
+use rpl_scope::{LoadKind, NoMemory, Stop, fault_at, put_prefix};
 use rpl_syntax::{Module as Said, QName};
 use rpl_text::Chars;
 use std::alloc::Global;
@@ -43,25 +42,20 @@ fn enter_named<F: Files>(
     alloc: Global,
     files: &mut F,
     folders: &[Chars],
-    stock: &mut Stock,
-    own: &mut Module,
+    state: &mut State,
     file: &Chars,
-    text: &Said,
     name: &QName,
+    text: &Said,
 ) -> Result<Option<u32>, Stop>
     requires name { text.now.package ≡ Some name.now }
-    requires held { stock.old.held.items ≡ top_head ∷ [] }
-    ensures gives { F.tells → Walks (λ n. (n, state_seen stock.new own.new)) result
+    requires held { state.old.stock.held.items ≡ top_head ∷ [] }
+    ensures gives { F.tells → Walks (λ n. (n, state_seen state.new.stock state.new.own)) result
         (named_root (world (F.tree files.old) folders.now) file.now (said text.now) name.now
-        (state_seen stock.old own.old)) }
-    ensures held { OnOk result (stock.new.held.items ≡ stock.old.held.items) }
-    ensures cause { HasCause result (F.faults files.old) (F.faults files.new)
-        (F.failed_opens files.old) (F.failed_opens files.new) }
-    ensures taken { NotFewer (F.taken files.old) (F.taken files.new) }
-    ensures tree { F.tree files.new ≡ F.tree files.old }
-    ensures closed { F.is_open files.old ≡ false → F.is_open files.new ≡ false }
+        (state_seen state.old.stock state.old.own)) }
+    ensures held { OnOk result (state.new.stock.held.items ≡ state.old.stock.held.items) }
+    ensures files { LeavesFiles F.Source result files.old files.new }
 {
-    if own.prefixes.get(&name.name).is_some() {
+    if state.own.prefixes.get(&name.name).is_some() {
         let kind = LoadKind::Duplicate {
             name: name.name.copy(alloc)?,
         };
@@ -69,17 +63,26 @@ fn enter_named<F: Files>(
     }
     let label = name.name.copy(alloc)?;
     let depth = MOST_MODULES;
+    let importer = Importer { file, folders };
     let from = match load_own(
-        alloc, files, folders, stock, file, None, label, name.at, text, depth,
+        alloc,
+        files,
+        &mut state.stock,
+        importer,
+        None,
+        label,
+        name.at,
+        text,
+        depth,
     ) {
         Ok(from) => from,
         Err(stop) => return Err(stop),
     };
-    let number = match finish(alloc, stock, from) {
+    let number = match finish(alloc, &mut state.stock, from) {
         Ok(number) => number,
         Err(stop) => return Err(stop),
     };
-    if let Err(stop) = put_prefix(alloc, own, &name.name, number) {
+    if let Err(stop) = put_prefix(alloc, &mut state.own, &name.name, number) {
         return Err(stop);
     }
     Ok(Some(number))
@@ -91,35 +94,39 @@ pub fn enter_root<F: Files>(
     alloc: Global,
     files: &mut F,
     folders: &[Chars],
-    stock: &mut Stock,
-    own: &mut Module,
+    state: &mut State,
     file: &Chars,
     text: &Said,
 ) -> Result<Option<u32>, Stop>
-    requires held { stock.old.held.items ≡ top_head ∷ [] }
-    ensures gives { F.tells → Walks (λ n. (n, state_seen stock.new own.new)) result
+    requires held { state.old.stock.held.items ≡ top_head ∷ [] }
+    ensures gives { F.tells → Walks (λ n. (n, state_seen state.new.stock state.new.own)) result
         (root_text (world (F.tree files.old) folders.now) file.now (said text.now) (said text.now).name
-        (state_seen stock.old own.old)) }
-    ensures held { OnOk result (stock.new.held.items ≡ stock.old.held.items) }
-    ensures cause { HasCause result (F.faults files.old) (F.faults files.new)
-        (F.failed_opens files.old) (F.failed_opens files.new) }
-    ensures taken { NotFewer (F.taken files.old) (F.taken files.new) }
-    ensures tree { F.tree files.new ≡ F.tree files.old }
-    ensures closed { F.is_open files.old ≡ false → F.is_open files.new ≡ false }
+        (state_seen state.old.stock state.old.own)) }
+    ensures held { OnOk result (state.new.stock.held.items ≡ state.old.stock.held.items) }
+    ensures files { LeavesFiles F.Source result files.old files.new }
 {
     match &text.package {
         None => {
             let depth = MOST_MODULES;
-            if let Err(stop) = load_text(alloc, files, folders, stock, own, file, text, depth) {
+            let importer = Importer { file, folders };
+            if let Err(stop) = load_text(
+                alloc,
+                files,
+                &mut state.stock,
+                &mut state.own,
+                importer,
+                text,
+                depth,
+            ) {
                 return Err(stop);
             }
             Ok(None)
         }
         Some(name) => {
-            if stock.modules.len() + 1 >= MOST_MODULES {
+            if state.stock.modules.len() + 1 >= MOST_MODULES {
                 return Err(fault_at(alloc, file, name.at, LoadKind::TooManyPackages));
             }
-            match enter_named(alloc, files, folders, stock, own, file, text, name) {
+            match enter_named(alloc, files, folders, state, file, name, text) {
                 Ok(number) => Ok(number),
                 Err(stop) => Err(stop),
             }
@@ -144,27 +151,22 @@ pub fn enter_given<F: Files>(
     alloc: Global,
     files: &mut F,
     folders: &[Chars],
-    stock: &mut Stock,
-    own: &mut Module,
+    state: &mut State,
     file: &Chars,
     text: &Chars,
 ) -> Result<Option<u32>, Stop>
-    requires held { stock.old.held.items ≡ top_head ∷ [] }
-    ensures gives { F.tells → Walks (λ n. (n, state_seen stock.new own.new)) result
+    requires held { state.old.stock.held.items ≡ top_head ∷ [] }
+    ensures gives { F.tells → Walks (λ n. (n, state_seen state.new.stock state.new.own)) result
         (read_root (world (F.tree files.old) folders.now) file.now (encode_utf8_all text.now)
-        (state_seen stock.old own.old)) }
-    ensures held { OnOk result (stock.new.held.items ≡ stock.old.held.items) }
-    ensures cause { HasCause result (F.faults files.old) (F.faults files.new)
-        (F.failed_opens files.old) (F.failed_opens files.new) }
-    ensures taken { NotFewer (F.taken files.old) (F.taken files.new) }
-    ensures tree { F.tree files.new ≡ F.tree files.old }
-    ensures closed { F.is_open files.old ≡ false → F.is_open files.new ≡ false }
+        (state_seen state.old.stock state.old.own)) }
+    ensures held { OnOk result (state.new.stock.held.items ≡ state.old.stock.held.items) }
+    ensures files { LeavesFiles F.Source result files.old files.new }
 {
     let said = match read_given(alloc, file, text) {
         Ok(said) => said,
         Err(stop) => return Err(stop),
     };
-    match enter_root(alloc, files, folders, stock, own, file, &said) {
+    match enter_root(alloc, files, folders, state, file, &said) {
         Ok(number) => Ok(number),
         Err(stop) => Err(stop),
     }
@@ -176,20 +178,15 @@ pub fn enter_file<F: Files>(
     alloc: Global,
     files: &mut F,
     folders: &[Chars],
-    stock: &mut Stock,
-    own: &mut Module,
+    state: &mut State,
     path: &Chars,
 ) -> Result<Option<u32>, Stop>
-    requires held { stock.old.held.items ≡ top_head ∷ [] }
-    ensures gives { F.tells → Walks (λ n. (n, state_seen stock.new own.new)) result
+    requires held { state.old.stock.held.items ≡ top_head ∷ [] }
+    ensures gives { F.tells → Walks (λ n. (n, state_seen state.new.stock state.new.own)) result
         (and_then (asked_root (world (F.tree files.old) folders.now) path.now)
-        (file_root (world (F.tree files.old) folders.now) path.now (state_seen stock.old own.old))) }
-    ensures held { OnOk result (stock.new.held.items ≡ stock.old.held.items) }
-    ensures cause { HasCause result (F.faults files.old) (F.faults files.new)
-        (F.failed_opens files.old) (F.failed_opens files.new) }
-    ensures taken { NotFewer (F.taken files.old) (F.taken files.new) }
-    ensures tree { F.tree files.new ≡ F.tree files.old }
-    ensures closed { F.is_open files.old ≡ false → F.is_open files.new ≡ false }
+        (file_root (world (F.tree files.old) folders.now) path.now (state_seen state.old.stock state.old.own))) }
+    ensures held { OnOk result (state.new.stock.held.items ≡ state.old.stock.held.items) }
+    ensures files { LeavesFiles F.Source result files.old files.new }
 {
     let read = match read_in(alloc, files, path) {
         Ok(Some(read)) => read,
@@ -200,7 +197,7 @@ pub fn enter_file<F: Files>(
         Ok(said) => said,
         Err(stop) => return Err(stop),
     };
-    match enter_root(alloc, files, folders, stock, own, path, &said) {
+    match enter_root(alloc, files, folders, state, path, &said) {
         Ok(number) => Ok(number),
         Err(stop) => Err(stop),
     }
@@ -230,31 +227,26 @@ fn enter_one<F: Files>(
     alloc: Global,
     files: &mut F,
     folders: &[Chars],
-    stock: &mut Stock,
-    own: &mut Module,
+    state: &mut State,
     given: u32,
     root: &Root,
 ) -> Result<Option<u32>, Stop>
-    requires held { stock.old.held.items ≡ top_head ∷ [] }
-    ensures gives { F.tells → Walks (λ n. (n, state_seen stock.new own.new)) result
-        (root_by (world (F.tree files.old) folders.now) given root.now (state_seen stock.old own.old)) }
-    ensures held { OnOk result (stock.new.held.items ≡ stock.old.held.items) }
-    ensures cause { HasCause result (F.faults files.old) (F.faults files.new)
-        (F.failed_opens files.old) (F.failed_opens files.new) }
-    ensures taken { NotFewer (F.taken files.old) (F.taken files.new) }
-    ensures tree { F.tree files.new ≡ F.tree files.old }
-    ensures closed { F.is_open files.old ≡ false → F.is_open files.new ≡ false }
+    requires held { state.old.stock.held.items ≡ top_head ∷ [] }
+    ensures gives { F.tells → Walks (λ n. (n, state_seen state.new.stock state.new.own)) result
+        (root_by (world (F.tree files.old) folders.now) given root.now (state_seen state.old.stock state.old.own)) }
+    ensures held { OnOk result (state.new.stock.held.items ≡ state.old.stock.held.items) }
+    ensures files { LeavesFiles F.Source result files.old files.new }
 {
     match root {
         Root::File(path) => {
-            match enter_file(alloc, files, folders, stock, own, path) {
+            match enter_file(alloc, files, folders, state, path) {
                 Ok(number) => Ok(number),
                 Err(stop) => Err(stop),
             }
         }
         Root::Given(text) => {
             let name = given_name(alloc, given)?;
-            match enter_given(alloc, files, folders, stock, own, &name, text) {
+            match enter_given(alloc, files, folders, state, &name, text) {
                 Ok(number) => Ok(number),
                 Err(stop) => Err(stop),
             }
@@ -267,20 +259,16 @@ pub fn enter_roots<F: Files>(
     alloc: Global,
     files: &mut F,
     folders: &[Chars],
-    stock: &mut Stock,
-    own: &mut Module,
+    state: &mut State,
     roots: &[Root],
 ) -> Result<Vec<Option<u32>>, Stop>
-    requires held { stock.old.held.items ≡ top_head ∷ [] }
-    ensures gives { F.tells → Walks (λ into. record { roots = into.items; state = state_seen stock.new own.new }) result
+    requires held { state.old.stock.held.items ≡ top_head ∷ [] }
+    ensures gives { F.tells → Walks
+        (λ into. record { roots = into.items; state = state_seen state.new.stock state.new.own }) result
         (load_roots (world (F.tree files.old) folders.now) roots.now
-        (record { roots = []; state = state_seen stock.old own.old })) }
-    ensures held { OnOk result (stock.new.held.items ≡ stock.old.held.items) }
-    ensures cause { HasCause result (F.faults files.old) (F.faults files.new)
-        (F.failed_opens files.old) (F.failed_opens files.new) }
-    ensures taken { NotFewer (F.taken files.old) (F.taken files.new) }
-    ensures tree { F.tree files.new ≡ F.tree files.old }
-    ensures closed { F.is_open files.old ≡ false → F.is_open files.new ≡ false }
+        (record { roots = []; state = state_seen state.old.stock state.old.own })) }
+    ensures held { OnOk result (state.new.stock.held.items ≡ state.old.stock.held.items) }
+    ensures files { LeavesFiles F.Source result files.old files.new }
 {
     let mut given = 0;
     let mut into = Vec::new(alloc);
@@ -289,7 +277,7 @@ pub fn enter_roots<F: Files>(
             return Err(Stop::Memory);
         }
         given = next(given, root);
-        let number = match enter_one(alloc, files, folders, stock, own, given, root) {
+        let number = match enter_one(alloc, files, folders, state, given, root) {
             Ok(number) => number,
             Err(stop) => return Err(stop),
         };

@@ -28,6 +28,13 @@ pub struct Stock {
     pub held: Vec<Head>,
 }
 
+/// The modules, and the one at work, which isn't among them yet.
+#[derive(Drop)]
+pub struct State {
+    pub stock: Stock,
+    pub own: Module,
+}
+
 /// What is known of a module that is being loaded.
 pub fn head_of(alloc: Global, path: &Option<Chars>, label: &Chars) -> Result<Head, NoMemory>
     ensures { IfOk result (λ h. h ≡ record { path = path.now; label = label.now }) }

@@ -1,15 +1,15 @@
 // The walk over a text and all that it imports.
-ghost use Rattle.std.specs.Prelude.{◌≡◌, ◌<◌, ℕ, List, OnOk, IfOk, IfErr, Some, None, false, length, [], ◌∷◌, ◌++◌};
-ghost use Rattle.rosie_io.specs.Loading.{NotFewer};
+ghost use Rattle.std.specs.Prelude.{◌≡◌, ◌<◌, ℕ, List, OnOk, IfOk, IfErr, Some, None, length, [], ◌∷◌, ◌++◌};
 ghost use Rattle.rpl_syntax.specs.Modules.{said};
 ghost use Rattle.rpl_package.specs.Asking.{Walks};
 ghost use Rattle.rpl_package.specs.Kept.{Keeps};
 ghost use Rattle.rpl_package.specs.Loading.{world, walk, reach, import_entry, import_entries, checks, own_text};
 ghost use Rattle.rpl_package.specs.Loading.{label_of, label_at, with_text};
-ghost use Rattle.rpl_package.specs.Reading.{IsRead, HasCause};
+ghost use Rattle.rpl_package.specs.Reading.{IsRead};
 ghost use Rattle.rpl_scope.specs.Seen.{module_seen};
 ghost use Rattle.rpl_scope.specs.declared.fault.Stop.TheVariants.{Memory as OutOfMemory};
 ghost use Rattle.rpl_package.specs.Stocks.{stock_seen, state_seen};
+ghost use Rattle.rpl_package.specs.inside.Leaving.{LeavesFiles};
 
 use crate::locate::{Located, locate};
 use crate::reading::{Read, read_module};
@@ -22,6 +22,13 @@ use std::alloc::Global;
 
 /// The most modules that may be loaded, the top module among them.
 pub const MOST_MODULES: usize = 1_024;
+
+/// A text that imports: its file, and the folders in which its imports are looked for.
+#[derive(Clone, Copy)]
+pub struct Importer<'a> {
+    pub file: &'a Chars,
+    pub folders: &'a [Chars],
+}
 
 /// One text more of a module.
 fn push_text(alloc: Global, own: &mut Module, file: &Chars) -> Result<u32, Stop>
@@ -44,47 +51,44 @@ fn push_text(alloc: Global, own: &mut Module, file: &Chars) -> Result<u32, Stop>
 pub fn reach<F: Files>(
     alloc: Global,
     files: &mut F,
-    folders: &[Chars],
     stock: &mut Stock,
-    file: &Chars,
+    importer: Importer<'_>,
     import: &Import,
     depth: usize,
 ) -> Result<u32, Stop>
-    ensures gives { F.tells → Walks (λ n. (n, stock_seen stock.new)) result
-        (reach (world (F.tree files.old) folders.now) (walk (world (F.tree files.old) folders.now) depth)
-        stock.old.held.items file.now import.now (stock_seen stock.old)) }
+    ensures gives { F.tells → let w = world (F.tree files.old) importer.entry.folders.now in
+        Walks (λ n. (n, stock_seen stock.new)) result
+        (reach w (walk w depth)
+        stock.old.held.items importer.entry.file.now import.now (stock_seen stock.old)) }
     ensures held { OnOk result (stock.new.held.items ≡ stock.old.held.items) }
     ensures kept { Keeps (stock_seen stock.old) (stock_seen stock.new) }
-    ensures cause { HasCause result (F.faults files.old) (F.faults files.new)
-        (F.failed_opens files.old) (F.failed_opens files.new) }
-    ensures taken { NotFewer (F.taken files.old) (F.taken files.new) }
-    ensures tree { F.tree files.new ≡ F.tree files.old }
-    ensures closed { F.is_open files.old ≡ false → F.is_open files.new ≡ false }
+    ensures files { LeavesFiles F.Source result files.old files.new }
 {
     if is_loading(&stock.held, &import.path) {
         let kind = LoadKind::ImportCycle {
             path: import.path.copy(alloc)?,
         };
-        return Err(fault_at(alloc, file, import.at, kind));
+        return Err(fault_at(alloc, importer.file, import.at, kind));
     }
     if let Some(number) = stock.paths.get(&import.path) {
         return Ok(number);
     }
-    let found = match locate(alloc, files, folders, &import.path) {
+    let found = match locate(alloc, files, importer.folders, &import.path) {
         Ok(Some(found)) => found,
         Ok(None) => {
             let kind = LoadKind::ImportMissing {
                 path: import.path.copy(alloc)?,
             };
-            return Err(fault_at(alloc, file, import.at, kind));
+            return Err(fault_at(alloc, importer.file, import.at, kind));
         }
         Err(stop) => return Err(stop),
     };
     if stock.modules.len() >= MOST_MODULES
         || MOST_MODULES - stock.modules.len() <= stock.held.len()
     {
-        return Err(fault_at(alloc, file, import.at, LoadKind::TooManyPackages));
+        return Err(fault_at(alloc, importer.file, import.at, LoadKind::TooManyPackages));
     }
+    let folders = importer.folders;
     match load_module(alloc, files, folders, stock, &import.path, found, depth) {
         Err(stop) => Err(stop),
         Ok(from) => match finish(alloc, stock, from) {
@@ -122,11 +126,7 @@ fn load_module<F: Files>(
         path.now bytes) }
     ensures held { OnOk result (stock.new.held.items ≡ stock.old.held.items) }
     ensures kept { Keeps (stock_seen stock.old) (stock_seen stock.new) }
-    ensures cause { HasCause result (F.faults files.old) (F.faults files.new)
-        (F.failed_opens files.old) (F.failed_opens files.new) }
-    ensures taken { NotFewer (F.taken files.old) (F.taken files.new) }
-    ensures tree { F.tree files.new ≡ F.tree files.old }
-    ensures closed { F.is_open files.old ≡ false → F.is_open files.new ≡ false }
+    ensures files { LeavesFiles F.Source result files.old files.new }
 {
     let Located { file, read } = found;
     if depth == 0 {
@@ -138,17 +138,11 @@ fn load_module<F: Files>(
     };
     let (label, at) = label_of(alloc, &said.package, path)?;
     let place = Some(path.copy(alloc)?);
+    let file = &file;
+    let importer = Importer { file, folders };
+    let depth = depth - 1;
     match load_own(
-        alloc,
-        files,
-        folders,
-        stock,
-        &file,
-        place,
-        label,
-        at,
-        &said,
-        depth - 1,
+        alloc, files, stock, importer, place, label, at, &said, depth,
     ) {
         Ok(from) => Ok(from),
         Err(stop) => Err(stop),
@@ -161,9 +155,8 @@ fn load_module<F: Files>(
 pub fn load_own<F: Files>(
     alloc: Global,
     files: &mut F,
-    folders: &[Chars],
     stock: &mut Stock,
-    file: &Chars,
+    importer: Importer<'_>,
     path: Option<Chars>,
     label: Chars,
     at: usize,
@@ -171,25 +164,22 @@ pub fn load_own<F: Files>(
     depth: usize,
 ) -> Result<Module, Stop>
     requires { at ≡ label_at text.now.package }
-    ensures gives { F.tells → Walks (λ m. state_seen stock.new m) result
-        (own_text (world (F.tree files.old) folders.now) (walk (world (F.tree files.old) folders.now) depth)
-        (stock_seen stock.old) stock.old.held.items file.now path label (said text.now)) }
+    ensures gives { F.tells → let w = world (F.tree files.old) importer.entry.folders.now in
+        Walks (λ m. state_seen stock.new m) result
+        (own_text w (walk w depth)
+        (stock_seen stock.old) stock.old.held.items importer.entry.file.now path label (said text.now)) }
     ensures held { OnOk result (stock.new.held.items ≡ stock.old.held.items) }
     ensures kept { Keeps (stock_seen stock.old) (stock_seen stock.new) }
-    ensures cause { HasCause result (F.faults files.old) (F.faults files.new)
-        (F.failed_opens files.old) (F.failed_opens files.new) }
-    ensures taken { NotFewer (F.taken files.old) (F.taken files.new) }
-    ensures tree { F.tree files.new ≡ F.tree files.old }
-    ensures closed { F.is_open files.old ≡ false → F.is_open files.new ≡ false }
+    ensures files { LeavesFiles F.Source result files.old files.new }
 {
     if is_taken(stock, &label) {
         let kind = LoadKind::Duplicate { name: label };
-        return Err(fault_at(alloc, file, at, kind));
+        return Err(fault_at(alloc, importer.file, at, kind));
     }
     let head = head_of(alloc, &path, &label)?;
     stock.held.push(head)?;
     let mut own = empty_module(alloc, path, label);
-    if let Err(stop) = load_text(alloc, files, folders, stock, &mut own, file, text, depth) {
+    if let Err(stop) = load_text(alloc, files, stock, &mut own, importer, text, depth) {
         return Err(stop);
     }
     stock.held.pop();
@@ -201,31 +191,27 @@ pub fn load_own<F: Files>(
 pub fn load_text<F: Files>(
     alloc: Global,
     files: &mut F,
-    folders: &[Chars],
     stock: &mut Stock,
     own: &mut Module,
-    file: &Chars,
+    importer: Importer<'_>,
     text: &Said,
     depth: usize,
 ) -> Result<(), Stop>
-    ensures gives { F.tells → Walks (λ _. state_seen stock.new own.new) result
-        (checks (world (F.tree files.old) folders.now) (walk (world (F.tree files.old) folders.now) depth)
-        stock.old.held.items file.now (said text.now) (state_seen stock.old own.old)) }
+    ensures gives { F.tells → let w = world (F.tree files.old) importer.entry.folders.now in
+        Walks (λ _. state_seen stock.new own.new) result
+        (checks w (walk w depth)
+        stock.old.held.items importer.entry.file.now (said text.now) (state_seen stock.old own.old)) }
     ensures held { OnOk result (stock.new.held.items ≡ stock.old.held.items) }
     ensures kept { Keeps (stock_seen stock.old) (stock_seen stock.new) }
-    ensures cause { HasCause result (F.faults files.old) (F.faults files.new)
-        (F.failed_opens files.old) (F.failed_opens files.new) }
-    ensures taken { NotFewer (F.taken files.old) (F.taken files.new) }
-    ensures tree { F.tree files.new ≡ F.tree files.old }
-    ensures closed { F.is_open files.old ≡ false → F.is_open files.new ≡ false }
+    ensures files { LeavesFiles F.Source result files.old files.new }
 {
-    let number = push_text(alloc, own, file)?;
+    let number = push_text(alloc, own, importer.file)?;
     let imports = text.imports.as_slice();
-    if let Err(stop) = enter_imports(alloc, files, folders, stock, own, file, imports, depth) {
+    if let Err(stop) = enter_imports(alloc, files, stock, own, importer, imports, depth) {
         return Err(stop);
     }
     let items = text.items.as_slice();
-    if let Err(stop) = enter_items(alloc, &stock.modules, own, file, number, items) {
+    if let Err(stop) = enter_items(alloc, &stock.modules, own, importer.file, number, items) {
         return Err(stop);
     }
     Ok(())
@@ -236,26 +222,22 @@ pub fn load_text<F: Files>(
 pub fn enter_imports<F: Files>(
     alloc: Global,
     files: &mut F,
-    folders: &[Chars],
     stock: &mut Stock,
     own: &mut Module,
-    file: &Chars,
+    importer: Importer<'_>,
     imports: &[Import],
     depth: usize,
 ) -> Result<(), Stop>
-    ensures gives { F.tells → Walks (λ _. state_seen stock.new own.new) result
-        (import_entries (world (F.tree files.old) folders.now) (walk (world (F.tree files.old) folders.now) depth)
-        stock.old.held.items file.now imports.now (state_seen stock.old own.old)) }
+    ensures gives { F.tells → let w = world (F.tree files.old) importer.entry.folders.now in
+        Walks (λ _. state_seen stock.new own.new) result
+        (import_entries w (walk w depth)
+        stock.old.held.items importer.entry.file.now imports.now (state_seen stock.old own.old)) }
     ensures held { OnOk result (stock.new.held.items ≡ stock.old.held.items) }
     ensures kept { Keeps (stock_seen stock.old) (stock_seen stock.new) }
-    ensures cause { HasCause result (F.faults files.old) (F.faults files.new)
-        (F.failed_opens files.old) (F.failed_opens files.new) }
-    ensures taken { NotFewer (F.taken files.old) (F.taken files.new) }
-    ensures tree { F.tree files.new ≡ F.tree files.old }
-    ensures closed { F.is_open files.old ≡ false → F.is_open files.new ≡ false }
+    ensures files { LeavesFiles F.Source result files.old files.new }
 {
     for import in imports {
-        if let Err(stop) = enter_import(alloc, files, folders, stock, own, file, import, depth) {
+        if let Err(stop) = enter_import(alloc, files, stock, own, importer, import, depth) {
             return Err(stop);
         }
     }
@@ -267,29 +249,25 @@ pub fn enter_imports<F: Files>(
 fn enter_import<F: Files>(
     alloc: Global,
     files: &mut F,
-    folders: &[Chars],
     stock: &mut Stock,
     own: &mut Module,
-    file: &Chars,
+    importer: Importer<'_>,
     import: &Import,
     depth: usize,
 ) -> Result<(), Stop>
-    ensures gives { F.tells → Walks (λ _. state_seen stock.new own.new) result
-        (import_entry (world (F.tree files.old) folders.now) (walk (world (F.tree files.old) folders.now) depth)
-        stock.old.held.items file.now import.now (state_seen stock.old own.old)) }
+    ensures gives { F.tells → let w = world (F.tree files.old) importer.entry.folders.now in
+        Walks (λ _. state_seen stock.new own.new) result
+        (import_entry w (walk w depth)
+        stock.old.held.items importer.entry.file.now import.now (state_seen stock.old own.old)) }
     ensures held { OnOk result (stock.new.held.items ≡ stock.old.held.items) }
     ensures kept { Keeps (stock_seen stock.old) (stock_seen stock.new) }
-    ensures cause { HasCause result (F.faults files.old) (F.faults files.new)
-        (F.failed_opens files.old) (F.failed_opens files.new) }
-    ensures taken { NotFewer (F.taken files.old) (F.taken files.new) }
-    ensures tree { F.tree files.new ≡ F.tree files.old }
-    ensures closed { F.is_open files.old ≡ false → F.is_open files.new ≡ false }
+    ensures files { LeavesFiles F.Source result files.old files.new }
 {
-    let number = match reach(alloc, files, folders, stock, file, import, depth) {
+    let number = match reach(alloc, files, stock, importer, import, depth) {
         Ok(number) => number,
         Err(stop) => return Err(stop),
     };
-    if let Err(stop) = take_in(alloc, &stock.modules, own, file, import, number) {
+    if let Err(stop) = take_in(alloc, &stock.modules, own, importer.file, import, number) {
         return Err(stop);
     }
     Ok(())

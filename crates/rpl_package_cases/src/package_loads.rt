@@ -252,8 +252,8 @@ fn a_file_is_cut_off(rt: HostRuntime) -> Result<(), Fail> {
     Ok(())
 }
 
-/// The file at whose call this one is, where `own.rpl` and all that it imports are loaded, and then `far` for a pattern:
-/// an open each, and a read for each 16 bytes that are left and for the end. `l/far.rpl` isn't there.
+/// The file at whose call this one is, where `own.rpl` and all that it imports are loaded, and then `far` for a
+/// pattern: an open each, and a read for each 16 bytes that are left and for the end. `l/far.rpl` isn't there.
 fn asked(call: u64) -> &'static str {
     match call {
         1..=5 => "own.rpl:0: read failed",

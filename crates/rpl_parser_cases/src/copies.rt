@@ -3,7 +3,6 @@ use rpl_classes::Set;
 use rpl_syntax::{Expr, Exprs, Mark, QName, Sign, print_expr};
 use rpl_text::Chars;
 use std::alloc::Global;
-use std::process::Abort;
 use std::test::Fail;
 
 fn name(alloc: Global, prefix: Option<&str>, name: &str, at: usize) -> Result<QName, Fail> {
@@ -65,21 +64,21 @@ fn sample(alloc: Global) -> Result<Expr, Fail> {
     Ok(Expr::Choice(parts))
 }
 
-fn expect_copy(rt: &impl Abort, alloc: Global, e: &Expr, want: &str) -> Result<(), Fail> {
+/// Do the expression and its copy print as this text?
+fn is_copied(alloc: Global, e: &Expr, want: &str) -> Result<bool, Fail> {
     let copy = e.copy(alloc)?;
     let printed = print_expr(alloc, e)?;
-    assert_eq!(rt; printed.as_str(), want);
-    let printed = print_expr(alloc, &copy)?;
-    assert_eq!(rt; printed.as_str(), want);
-    Ok(())
+    let again = print_expr(alloc, &copy)?;
+    Ok(printed.as_str() == want && again.as_str() == want)
 }
 
 #[test]
 fn copies_of_expressions(rt: HostRuntime) -> Result<(), Fail> {
     let alloc = rt.alloc();
     let want = "(\"a\\\"\" [^[\\U00000061-\\U0000007A]]) / {!. & {^ $}{2,3}} / f:net.ip";
-    expect_copy(&rt, alloc, &sample(alloc)?, want)?;
-    expect_copy(&rt, alloc, &Expr::Boundary, "~")
+    assert!(rt; is_copied(alloc, &sample(alloc)?, want)?);
+    assert!(rt; is_copied(alloc, &Expr::Boundary, "~")?);
+    Ok(())
 }
 
 #[test]
@@ -92,7 +91,8 @@ fn copies_of_what_macros_make(rt: HostRuntime) -> Result<(), Fail> {
         return Err(Fail::from("the mark is kept"));
     };
     assert!(rt; matches!(&**body, Expr::Note(_)));
-    expect_copy(&rt, alloc, &copy, "\"no\"")
+    assert!(rt; is_copied(alloc, &copy, "\"no\"")?);
+    Ok(())
 }
 
 #[test]
@@ -100,26 +100,29 @@ fn copies_of_lists(rt: HostRuntime) -> Result<(), Fail> {
     let alloc = rt.alloc();
     let list = two(alloc, sample(alloc)?, Expr::Any)?;
     let copy = list.copy(alloc)?;
-    assert_eq!(rt; copy.len(), 2);
+    assert!(rt; copy.len() == 2);
     let last = copy.get(1).ok_or("the second")?;
-    assert_eq!(rt; print_expr(alloc, last)?.as_str(), ".");
+    assert!(rt; print_expr(alloc, last)?.as_str() == ".");
     let group = Expr::Raw(copy);
     let want = "{{(\"a\\\"\" [^[\\U00000061-\\U0000007A]]) / {!. & {^ $}{2,3}} / f:net.ip} .}";
-    assert_eq!(rt; print_expr(alloc, &group)?.as_str(), want);
+    assert!(rt; print_expr(alloc, &group)?.as_str() == want);
     Ok(())
+}
+
+/// Is this the copy of a name with such parts at such a place?
+fn is_name(copy: &QName, prefix: &str, name: &str, at: usize) -> bool {
+    let found = match &copy.prefix {
+        Some(prefix) => prefix.as_str(),
+        None => "",
+    };
+    found == prefix && copy.name.as_str() == name && copy.at == at
 }
 
 #[test]
 fn copies_of_names(rt: HostRuntime) -> Result<(), Fail> {
-    let alloc = rt.alloc();
-    let copy = name(alloc, Some("net"), "ip", 9)?.copy(alloc)?;
-    assert_eq!(rt;
-        copy.prefix.as_ref().map(|prefix| prefix.as_str()),
-        Some("net")
-    );
-    assert_eq!(rt; copy.name.as_str(), "ip");
-    assert_eq!(rt; copy.at, 9);
-    let copy = name(alloc, None, "f", 0)?.copy(alloc)?;
+    let copy = name(rt.alloc(), Some("net"), "ip", 9)?.copy(rt.alloc())?;
+    assert!(rt; is_name(&copy, "net", "ip", 9));
+    let copy = name(rt.alloc(), None, "f", 0)?.copy(rt.alloc())?;
     assert!(rt; copy.prefix.is_none());
     Ok(())
 }

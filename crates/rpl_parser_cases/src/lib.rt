@@ -1,7 +1,7 @@
 //! Tests of reading and printing together: patterns with the expressions that they stand for and their printed texts,
 //! and modules with what they say, worked by hand, or with their faults; copies of expressions, and what macros make of
-//! them; and twenty thousand made-up texts, each of which is refused, or read and printed and read again. Nothing stands
-//! on this crate.
+//! them; and twenty thousand made-up texts, each of which is refused, or read and printed and read again. Nothing
+//! stands on this crate.
 #![tactic(auto)]
 
 #[cfg(test)]
@@ -20,3 +20,5 @@ mod modules;
 mod printed;
 #[cfg(test)]
 mod readings;
+#[cfg(test)]
+mod rows;

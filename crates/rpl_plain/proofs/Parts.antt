@@ -1,5 +1,5 @@
 -- The parts of a list from an index on.
-use Rattle.std.proofs.Common.{◌≡◌, ℕ, ◌+◌, ◌<◌, List, length, drop, get_or, sym, ap, ◌∙◌, arith}
+use Rattle.std.proofs.Common.{◌≡◌, ◌≢◌, ℕ, ◌+◌, ◌<◌, List, length, drop, get_or, sym, ap, ◌∙◌, arith}
 use Rattle.std.proofs.lemmas.List.{drop_more}
 use Rattle.rpl_core.specs.Core.{Core, Then}
 use Rattle.rpl_core.specs.View.{core_of, cores}
@@ -25,3 +25,10 @@ first_here below R t ps k p i lt e =
     part_here ps k p (omega arith) e ∙ ap (Then (core_of p)) more in
     ap (λ x. level_first below R t x i) two
     ∙ ap (λ x. or_else (level below R t (core_of p) i) i (level_first below R t x)) (sym more)
+
+-- the same, where the part at the index isn't the last
+pub first_more : (below : Core → ℕ → Outcome) (R : List Core) (t : List ℕ) (ps : List Peg) (k : ℕ) (p : Peg) (i : ℕ)
+    → k < length ps → k + 1 ≢ length ps → p ≡ get_or ps k p
+    → level_first below R t (cores (drop k ps)) i
+    ≡ or_else (level below R t (core_of p) i) i (level_first below R t (cores (drop (k + 1) ps)))
+first_more below R t ps k p i lt more e = first_here below R t ps k p i (omega (arith, more)) e

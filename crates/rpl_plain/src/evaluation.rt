@@ -27,7 +27,16 @@ pub fn evaluate(
 ) -> Result<Outcome, AllocError>
     ensures { IfOk result (IsOutcome (M.peg depth (bodies_in rules.now) text.now (core_of e.now) place)) }
 {
-    evaluate_core(alloc, depth, rules, text, e, place)
+    let over = Over { alloc, rules, text };
+    evaluate_core(&over, depth, e, place)
+}
+
+/// What is evaluated over: the rules that are called, and the text.
+#[derive(Clone, Copy)]
+struct Over<'a> {
+    alloc: Global,
+    rules: &'a Rules,
+    text: &'a [char],
 }
 
 /// One character, if it is in the set.
@@ -43,60 +52,43 @@ fn one_char(set: &Set, text: &[char], place: usize) -> Outcome
 
 /// One evaluation.
 #[cycle(evaluate)]
-fn evaluate_core(
-    alloc: Global,
-    depth: u32,
-    rules: &Rules,
-    text: &[char],
-    e: &Peg,
-    place: usize,
-) -> Result<Outcome, AllocError>
-    ensures { IfOk result (IsOutcome (core_at depth (bodies_in rules.now) text.now (core_of e.now) place)) }
+fn evaluate_core(over: &Over<'_>, depth: u32, e: &Peg, place: usize) -> Result<Outcome, AllocError>
+    ensures { IfOk result
+        (IsOutcome (core_at depth (bodies_in over.now.rules.now) over.now.text.now (core_of e.now) place)) }
 {
     match e {
-        Peg::Set(set) => Ok(one_char(set, text, place)),
+        Peg::Set(set) => Ok(one_char(set, over.text, place)),
         Peg::Seq(parts) => {
-            let o = evaluate_all(alloc, depth, rules, text, parts.as_slice(), 0, place)?;
+            let o = evaluate_all(over, depth, parts.as_slice(), 0, place)?;
             Ok(more(1, o))
         }
-        Peg::Choice(parts) => {
-            evaluate_first(alloc, depth, rules, text, parts.as_slice(), 0, place)
-        }
-        Peg::Many(body) => evaluate_turns(alloc, depth, rules, text, body, place),
+        Peg::Choice(parts) => { evaluate_first(over, depth, parts.as_slice(), 0, place) }
+        Peg::Many(body) => evaluate_turns(over, depth, body, place),
         Peg::Not(body) => {
-            let o = evaluate_core(alloc, depth, rules, text, body, place)?;
+            let o = evaluate_core(over, depth, body, place)?;
             Ok(if_fails(o, place))
         }
         Peg::And(body) => {
-            let o = evaluate_core(alloc, depth, rules, text, body, place)?;
+            let o = evaluate_core(over, depth, body, place)?;
             Ok(if_matches(o, place))
         }
         Peg::Behind { least, most, body } => {
             let count = (*most as usize + 1).saturating_sub(*least as usize);
-            let o = evaluate_lengths(
-                alloc,
-                depth,
-                rules,
-                text,
-                body,
-                count,
-                *least as usize,
-                place,
-            )?;
+            let o = evaluate_lengths(over, depth, body, count, *least as usize, place)?;
             Ok(more(1, o))
         }
-        Peg::Call(rule) => evaluate_call(alloc, depth, rules, text, *rule, place),
+        Peg::Call(rule) => evaluate_call(over, depth, *rule, place),
         Peg::Capture(label, body) => {
-            let o = evaluate_core(alloc, depth, rules, text, body, place)?;
-            under(alloc, label, place, o)
+            let o = evaluate_core(over, depth, body, place)?;
+            under(over.alloc, label, place, o)
         }
         Peg::Note(text) => Ok(Outcome::At {
             work: 1,
             place,
-            trees: noted(alloc, text, place)?,
+            trees: noted(over.alloc, text, place)?,
         }),
         Peg::Start => Ok(only_if(place == 0, place)),
-        Peg::End => Ok(only_if(place == text.len(), place)),
+        Peg::End => Ok(only_if(place == over.text.len(), place)),
         Peg::Halt => Ok(Outcome::HaltAt {
             work: 1,
             place,
@@ -108,16 +100,15 @@ fn evaluate_core(
 /// Turns of a repeated body, each further turn one level deeper.
 #[cycle(evaluate)]
 fn evaluate_turns(
-    alloc: Global,
+    over: &Over<'_>,
     depth: u32,
-    rules: &Rules,
-    text: &[char],
     body: &Peg,
     place: usize,
 ) -> Result<Outcome, AllocError>
-    ensures { IfOk result (IsOutcome (core_at depth (bodies_in rules.now) text.now (C.Many (core_of body.now)) place)) }
+    ensures { IfOk result
+        (IsOutcome (core_at depth (bodies_in over.now.rules.now) over.now.text.now (C.Many (core_of body.now)) place)) }
 {
-    match evaluate_core(alloc, depth, rules, text, body, place)? {
+    match evaluate_core(over, depth, body, place)? {
         Outcome::Open => Ok(Outcome::Open),
         Outcome::Fail { work } => Ok(stays(work, place)),
         Outcome::At {
@@ -128,8 +119,8 @@ fn evaluate_turns(
             if depth == 0 {
                 return Ok(Outcome::Open);
             }
-            let rest = evaluate_turns(alloc, depth - 1, rules, text, body, next)?;
-            prefixed(alloc, plus(1, work), trees, rest)
+            let rest = evaluate_turns(over, depth - 1, body, next)?;
+            prefixed(over.alloc, plus(1, work), trees, rest)
         }
         Outcome::HaltAt { work, place, trees } => Ok(Outcome::HaltAt {
             work: plus(1, work),
@@ -142,22 +133,21 @@ fn evaluate_turns(
 /// The body of a rule, one level deeper.
 #[cycle(evaluate)]
 fn evaluate_call(
-    alloc: Global,
+    over: &Over<'_>,
     depth: u32,
-    rules: &Rules,
-    text: &[char],
     rule: u32,
     place: usize,
 ) -> Result<Outcome, AllocError>
-    ensures { IfOk result (IsOutcome (core_at depth (bodies_in rules.now) text.now (C.Call rule) place)) }
+    ensures { IfOk result
+        (IsOutcome (core_at depth (bodies_in over.now.rules.now) over.now.text.now (C.Call rule) place)) }
 {
-    match rules.get(rule) {
+    match over.rules.get(rule) {
         None => Ok(Outcome::Open),
         Some(rule) => {
             if depth == 0 {
                 return Ok(Outcome::Open);
             }
-            let o = evaluate_core(alloc, depth - 1, rules, text, &rule.body, place)?;
+            let o = evaluate_core(over, depth - 1, &rule.body, place)?;
             Ok(more(1, o))
         }
     }
@@ -166,16 +156,14 @@ fn evaluate_call(
 /// The parts from the one with this number on, in turn.
 #[cycle(evaluate)]
 fn evaluate_all(
-    alloc: Global,
+    over: &Over<'_>,
     depth: u32,
-    rules: &Rules,
-    text: &[char],
     parts: &[Peg],
     from: usize,
     place: usize,
 ) -> Result<Outcome, AllocError>
-    ensures { IfOk result
-        (IsOutcome (all_at depth (bodies_in rules.now) text.now (cores (drop from parts.now)) place)) }
+    ensures { IfOk result (IsOutcome
+        (all_at depth (bodies_in over.now.rules.now) over.now.text.now (cores (drop from parts.now)) place)) }
 {
     if from >= parts.len() {
         return Ok(Outcome::At {
@@ -184,14 +172,14 @@ fn evaluate_all(
             trees: Forest::NoTree,
         });
     }
-    match evaluate_core(alloc, depth, rules, text, &parts[from], place)? {
+    match evaluate_core(over, depth, &parts[from], place)? {
         Outcome::At {
             work,
             place: next,
             trees,
         } => {
-            let rest = evaluate_all(alloc, depth, rules, text, parts, from + 1, next)?;
-            prefixed(alloc, work, trees, rest)
+            let rest = evaluate_all(over, depth, parts, from + 1, next)?;
+            prefixed(over.alloc, work, trees, rest)
         }
         Outcome::Open => Ok(Outcome::Open),
         Outcome::Fail { work } => Ok(Outcome::Fail { work }),
@@ -202,27 +190,25 @@ fn evaluate_all(
 /// The first that succeeds of the parts from the one with this number on.
 #[cycle(evaluate)]
 fn evaluate_first(
-    alloc: Global,
+    over: &Over<'_>,
     depth: u32,
-    rules: &Rules,
-    text: &[char],
     parts: &[Peg],
     from: usize,
     place: usize,
 ) -> Result<Outcome, AllocError>
-    ensures { IfOk result
-        (IsOutcome (first_at depth (bodies_in rules.now) text.now (cores (drop from parts.now)) place)) }
+    ensures { IfOk result (IsOutcome
+        (first_at depth (bodies_in over.now.rules.now) over.now.text.now (cores (drop from parts.now)) place)) }
 {
     if from >= parts.len() {
         return Ok(Outcome::Fail { work: 1 });
     }
-    let o = evaluate_core(alloc, depth, rules, text, &parts[from], place)?;
+    let o = evaluate_core(over, depth, &parts[from], place)?;
     if from + 1 == parts.len() {
         return Ok(o);
     }
     match o {
         Outcome::Fail { work } => {
-            let rest = evaluate_first(alloc, depth, rules, text, parts, from + 1, place)?;
+            let rest = evaluate_first(over, depth, parts, from + 1, place)?;
             Ok(more(plus(1, work), rest))
         }
         Outcome::Open => Ok(Outcome::Open),
@@ -242,45 +228,25 @@ fn evaluate_first(
 /// The body from `length` characters back, and then from one more, `count` lengths in all.
 #[cycle(evaluate)]
 fn evaluate_lengths(
-    alloc: Global,
+    over: &Over<'_>,
     depth: u32,
-    rules: &Rules,
-    text: &[char],
     body: &Peg,
     count: usize,
     length: usize,
     place: usize,
 ) -> Result<Outcome, AllocError>
     requires { length + count < 2 ^ 64 }
-    ensures { IfOk result (IsOutcome
-        (M.lengths count length (core_at depth (bodies_in rules.now) text.now (core_of body.now)) place)) }
+    ensures { IfOk result (IsOutcome (M.lengths count length
+        (core_at depth (bodies_in over.now.rules.now) over.now.text.now (core_of body.now)) place)) }
 {
     if count == 0 {
         return Ok(Outcome::Fail { work: 0 });
     }
     if place < length {
-        let rest = evaluate_lengths(
-            alloc,
-            depth,
-            rules,
-            text,
-            body,
-            count - 1,
-            length + 1,
-            place,
-        )?;
+        let rest = evaluate_lengths(over, depth, body, count - 1, length + 1, place)?;
         return Ok(more(1, rest));
     }
-    let o = evaluate_core(alloc, depth, rules, text, body, place - length)?;
-    let rest = evaluate_lengths(
-        alloc,
-        depth,
-        rules,
-        text,
-        body,
-        count - 1,
-        length + 1,
-        place,
-    )?;
+    let o = evaluate_core(over, depth, body, place - length)?;
+    let rest = evaluate_lengths(over, depth, body, count - 1, length + 1, place)?;
     Ok(ends_here(o, place, rest))
 }

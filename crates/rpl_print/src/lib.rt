@@ -7,8 +7,6 @@
 
 mod sets;
 mod strings;
-#[cfg(test)]
-mod tests;
 mod words;
 
 pub use strings::{is_plain, push_quoted, quoted};

@@ -231,26 +231,26 @@ module _ (R : List Core) (label : List ℕ) (p : Core) (marks : ℕ → Bool) (f
   abbrev shapes1 : Shapes
   shapes1 = shapes R g1 marks found ahead further
 
-  abbrev T1 : ℕ → Instr → Shape → Type 0
-  T1 a i s = s.frame ≡ 0 → s.trees ≡ 0 → (a ≡ 0) ⊎ (i ≡ I.Finish)
+  abbrev TreesByItself : ℕ → Instr → Shape → Type 0
+  TreesByItself a i s = s.frame ≡ 0 → s.trees ≡ 0 → (a ≡ 0) ⊎ (i ≡ I.Finish)
 
-  each1 : Each (Good shapes1 T1) 0 (program marks R g1) (all R g1 marks found ahead further)
+  each1 : Each (Good shapes1 TreesByItself) 0 (program marks R g1) (all R g1 marks found ahead further)
   each1 =
-      whole R g1 marks found ahead further T1
-      (each_map (Tight shapes1 0) (Good shapes1 T1) (λ b i s h. record { fine = loose shapes1 0 0 b i s h.fine; tree = λ z c. inl (h.first c) }) 0 (code (address marks R g1) g1 0) (shapes_of (address marks R g1) g1 (fresh 0) 0)
+      whole R g1 marks found ahead further TreesByItself
+      (each_map (Tight shapes1 0) (Good shapes1 TreesByItself) (λ b i s h. record { fine = loose shapes1 0 0 b i s h.fine; tree = λ z c. inl (h.first c) }) 0 (code (address marks R g1) g1 0) (shapes_of (address marks R g1) g1 (fresh 0) 0)
       (tight R g1 marks found ahead further 0 label p ahead (front R g1 marks found ahead further) (back R g1 marks found ahead further).0))
       (λ z c. inr refl)
       (λ r x e m.
       let ne = (linked_rule R g1 marks found ahead further r x e m).0 in
-      each_map (Fine shapes1 (address marks R g1 r) 0) (Good shapes1 T1) (λ b i s h. record { fine = loose shapes1 (address marks R g1 r) 0 b i s h; tree = λ z c. absurd (ne (sym h.frame ∙ z)) }) (address marks R g1 r) (code (address marks R g1) x (address marks R g1 r) ++ I.Return ∷ []) (shapes_of (address marks R g1) x (fresh (address marks R g1 r)) (address marks R g1 r) ++ fresh (address marks R g1 r) ∷ [])
+      each_map (Fine shapes1 (address marks R g1 r) 0) (Good shapes1 TreesByItself) (λ b i s h. record { fine = loose shapes1 (address marks R g1 r) 0 b i s h; tree = λ z c. absurd (ne (sym h.frame ∙ z)) }) (address marks R g1 r) (code (address marks R g1) x (address marks R g1 r) ++ I.Return ∷ []) (shapes_of (address marks R g1) x (fresh (address marks R g1 r)) (address marks R g1 r) ++ fresh (address marks R g1 r) ∷ [])
       (rule_fine R g1 marks found ahead further r x e m))
 
   by_itself : IsSafe (program marks R g1)
-  by_itself = record { shapes = shapes1; kept = kept R g1 marks found ahead further T1 each1; tree = inl (record { label = label; opens = refl; inside = inside }) }
+  by_itself = record { shapes = shapes1; kept = kept R g1 marks found ahead further TreesByItself each1; tree = inl (record { label = label; opens = refl; inside = inside }) }
     where
       inside : IsOpen (program marks R g1) shapes1 0 I.Finish
       inside a s e z c =
-          let x = here R g1 marks found ahead further T1 each1 a s e in
+          let x = here R g1 marks found ahead further TreesByItself each1 a s e in
           ⊎_elim (λ first. inl first) (λ end. inr (x.1 ∙ ap Some end)) (x.2.tree z c)
 
 -- the code of a goal that calls one
@@ -273,8 +273,8 @@ module _ (R : List Core) (label : List ℕ) (p : Core) (r0 : ℕ) (is : slice_ge
   link : Linked shapes2 at2 r0
   link = linked R g2 marks found ahead further r0 called
 
-  abbrev T2 : ℕ → Instr → Shape → Type 0
-  T2 a i s = (s.frame ≡ 0 → (a ≡ 0) ⊎ (a ≡ 1)) × (s.frame ≡ L → s.trees ≡ 0 → (a ≡ L) ⊎ (i ≡ I.Return))
+  abbrev TreesByCall : ℕ → Instr → Shape → Type 0
+  TreesByCall a i s = (s.frame ≡ 0 → (a ≡ 0) ⊎ (a ≡ 1)) × (s.frame ≡ L → s.trees ≡ 0 → (a ≡ L) ⊎ (i ≡ I.Return))
 
   -- no other marked rule begins there
   apart : (r : ℕ) (x : Core) → slice_get R r ≡ Some x → marks r ≡ true → r ≢ r0 → at2 r ≢ L
@@ -287,40 +287,40 @@ module _ (R : List Core) (label : List ℕ) (p : Core) (r0 : ℕ) (is : slice_ge
       (cases_lt r r0)
 
   -- the code of the rule that is the tree
-  root : Each (Good shapes2 T2) L (code at2 (Capture label p) L ++ I.Return ∷ []) (shapes_of at2 (Capture label p) (fresh L) L ++ fresh L ∷ [])
+  root : Each (Good shapes2 TreesByCall) L (code at2 (Capture label p) L ++ I.Return ∷ []) (shapes_of at2 (Capture label p) (fresh L) L ++ fresh L ∷ [])
   root =
-      each_append (Good shapes2 T2) L (code at2 (Capture label p) L) (I.Return ∷ []) (shapes_of at2 (Capture label p) (fresh L) L) (fresh L ∷ [])
-      (each_map (Tight shapes2 L) (Good shapes2 T2) (λ b i s h. record { fine = loose shapes2 L 0 b i s h.fine; tree = (λ z. absurd (link.0 (sym h.fine.frame ∙ z)), λ z c. inl (h.first c)) }) L (code at2 (Capture label p) L) (shapes_of at2 (Capture label p) (fresh L) L)
+      each_append (Good shapes2 TreesByCall) L (code at2 (Capture label p) L) (I.Return ∷ []) (shapes_of at2 (Capture label p) (fresh L) L) (fresh L ∷ [])
+      (each_map (Tight shapes2 L) (Good shapes2 TreesByCall) (λ b i s h. record { fine = loose shapes2 L 0 b i s h.fine; tree = (λ z. absurd (link.0 (sym h.fine.frame ∙ z)), λ z c. inl (h.first c)) }) L (code at2 (Capture label p) L) (shapes_of at2 (Capture label p) (fresh L) L)
       (tight R g2 marks found ahead further L label p (λ r k. further r0 r (Capture label p) called is k) (rule_front R g2 marks found ahead further r0 (Capture label p) is called) (rule_end R g2 marks found ahead further r0 (Capture label p) is called)))
       (record { fine = loose shapes2 L 0 (L + length (code at2 (Capture label p) L)) I.Return (fresh L) (return_fine shapes2 L (L + length (code at2 (Capture label p) L)) link.0); tree = (λ z. absurd (link.0 z), λ z c. inr refl) }, tt)
 
-  each2 : Each (Good shapes2 T2) 0 (program marks R g2) (all R g2 marks found ahead further)
+  each2 : Each (Good shapes2 TreesByCall) 0 (program marks R g2) (all R g2 marks found ahead further)
   each2 =
-      whole R g2 marks found ahead further T2
+      whole R g2 marks found ahead further TreesByCall
       (record { fine = call_fine shapes2 0 0 0 L (fresh 0) refl (omega arith) (omega arith) link.0 link.1 (back R g2 marks found ahead further).0; tree = (λ z. inl refl, λ z c. inl z) }, tt)
       (λ z. inr refl, λ z c. absurd (link.0 (sym z)))
       (λ r x e m. ⊎_elim (λ same. itself_there r x e same) (λ other. elsewhere r x e m other) (cases_eq r r0))
     where
-      itself_there : (r : ℕ) (x : Core) → slice_get R r ≡ Some x → r ≡ r0 → Each (Good shapes2 T2) (at2 r) (code at2 x (at2 r) ++ I.Return ∷ []) (shapes_of at2 x (fresh (at2 r)) (at2 r) ++ fresh (at2 r) ∷ [])
+      itself_there : (r : ℕ) (x : Core) → slice_get R r ≡ Some x → r ≡ r0 → Each (Good shapes2 TreesByCall) (at2 r) (code at2 x (at2 r) ++ I.Return ∷ []) (shapes_of at2 x (fresh (at2 r)) (at2 r) ++ fresh (at2 r) ∷ [])
       itself_there r x e same =
           let two : Some (Capture label p) ≡ Some x = sym is ∙ ap (slice_get R) (sym same) ∙ e in
           let body : Capture label p ≡ x = cc in
-          subst (λ q. Each (Good shapes2 T2) (at2 q) (code at2 x (at2 q) ++ I.Return ∷ []) (shapes_of at2 x (fresh (at2 q)) (at2 q) ++ fresh (at2 q) ∷ [])) (sym same)
-          (subst (λ y. Each (Good shapes2 T2) L (code at2 y L ++ I.Return ∷ []) (shapes_of at2 y (fresh L) L ++ fresh L ∷ [])) body root)
+          subst (λ q. Each (Good shapes2 TreesByCall) (at2 q) (code at2 x (at2 q) ++ I.Return ∷ []) (shapes_of at2 x (fresh (at2 q)) (at2 q) ++ fresh (at2 q) ∷ [])) (sym same)
+          (subst (λ y. Each (Good shapes2 TreesByCall) L (code at2 y L ++ I.Return ∷ []) (shapes_of at2 y (fresh L) L ++ fresh L ∷ [])) body root)
 
-      elsewhere : (r : ℕ) (x : Core) → slice_get R r ≡ Some x → marks r ≡ true → r ≢ r0 → Each (Good shapes2 T2) (at2 r) (code at2 x (at2 r) ++ I.Return ∷ []) (shapes_of at2 x (fresh (at2 r)) (at2 r) ++ fresh (at2 r) ∷ [])
+      elsewhere : (r : ℕ) (x : Core) → slice_get R r ≡ Some x → marks r ≡ true → r ≢ r0 → Each (Good shapes2 TreesByCall) (at2 r) (code at2 x (at2 r) ++ I.Return ∷ []) (shapes_of at2 x (fresh (at2 r)) (at2 r) ++ fresh (at2 r) ∷ [])
       elsewhere r x e m other =
           let ne = (linked_rule R g2 marks found ahead further r x e m).0 in
           let away = apart r x e m other in
-          each_map (Fine shapes2 (at2 r) 0) (Good shapes2 T2) (λ b i s h. record { fine = loose shapes2 (at2 r) 0 b i s h; tree = (λ z. absurd (ne (sym h.frame ∙ z)), λ z c. absurd (away (sym h.frame ∙ z))) }) (at2 r) (code at2 x (at2 r) ++ I.Return ∷ []) (shapes_of at2 x (fresh (at2 r)) (at2 r) ++ fresh (at2 r) ∷ [])
+          each_map (Fine shapes2 (at2 r) 0) (Good shapes2 TreesByCall) (λ b i s h. record { fine = loose shapes2 (at2 r) 0 b i s h; tree = (λ z. absurd (ne (sym h.frame ∙ z)), λ z c. absurd (away (sym h.frame ∙ z))) }) (at2 r) (code at2 x (at2 r) ++ I.Return ∷ []) (shapes_of at2 x (fresh (at2 r)) (at2 r) ++ fresh (at2 r) ∷ [])
           (rule_fine R g2 marks found ahead further r x e m)
 
   by_a_call : IsSafe (program marks R g2)
   by_a_call =
       record {
         shapes = shapes2;
-        kept = kept R g2 marks found ahead further T2 each2;
-        tree = inr (record { called = L; label = label; calls = refl; ends = refl; opens = opens; alone = alone; only_called = λ a s given e by. only_called R g2 marks found ahead further T2 each2 L a s given link.1 e by; inside = inside });
+        kept = kept R g2 marks found ahead further TreesByCall each2;
+        tree = inr (record { called = L; label = label; calls = refl; ends = refl; opens = opens; alone = alone; only_called = λ a s given e by. only_called R g2 marks found ahead further TreesByCall each2 L a s given link.1 e by; inside = inside });
       }
     where
       opens : slice_get (program marks R g2) L ≡ Some (I.Open label)
@@ -330,11 +330,11 @@ module _ (R : List Core) (label : List ℕ) (p : Core) (r0 : ℕ) (is : slice_ge
           (placed_rule (program marks R g2) marks at2 R 0 (size g2 + 1) r0 (Capture label p) (subst (λ n. HasAt (program marks R g2) n (bodies marks at2 R 0 (size g2 + 1))) (goal_long R g2 marks found ahead further) rules) is (ap marks (sym z0) ∙ called)).0
 
       alone : (a : ℕ) (s : Shape) → shapes2 a ≡ Some s → s.frame ≡ 0 → (a ≡ 0) ⊎ (a ≡ 1)
-      alone a s e z = let x = here R g2 marks found ahead further T2 each2 a s e in x.2.tree.0 z
+      alone a s e z = let x = here R g2 marks found ahead further TreesByCall each2 a s e in x.2.tree.0 z
 
       inside : IsOpen (program marks R g2) shapes2 L I.Return
       inside a s e z c =
-          let x = here R g2 marks found ahead further T2 each2 a s e in
+          let x = here R g2 marks found ahead further TreesByCall each2 a s e in
           ⊎_elim (λ first. inl first) (λ end. inr (x.1 ∙ ap Some end)) (x.2.tree.1 z c)
 
 -- what is reached is a rule of the table

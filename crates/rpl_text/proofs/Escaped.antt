@@ -56,7 +56,7 @@ hex-encode (suc n) v (c ∷ cs) = elim (cases_lt c 128) [
 ]
 
 -- what an escape is by its letter and the numbers behind it
-abbrev by_letter : ℕ → Option ℕ → Option ℕ → Option ℕ → Option (ℕ × ℕ)
+abbrev pub by_letter : ℕ → Option ℕ → Option ℕ → Option ℕ → Option (ℕ × ℕ)
 by_letter c two four eight =
     if is_kept c then Some (c, 1)
     else (if nat_eq c 110 then Some (10, 1)
@@ -67,11 +67,11 @@ by_letter c two four eight =
     else (if nat_eq c 85 then numbered 8 0x10_ffff eight
     else None))))))
 
-escape-cons : (c : ℕ) (cs : List ℕ) → escape (c ∷ cs) ≡ by_letter c (hex 2 0 cs) (hex 4 0 cs) (hex 8 0 cs)
+pub escape-cons : (c : ℕ) (cs : List ℕ) → escape (c ∷ cs) ≡ by_letter c (hex 2 0 cs) (hex 4 0 cs) (hex 8 0 cs)
 unfolding escape
 escape-cons c cs = refl
 
-escape-nil : escape [] ≡ None
+pub escape-nil : escape [] ≡ None
 unfolding escape
 escape-nil = refl
 

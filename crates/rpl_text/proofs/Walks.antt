@@ -1,7 +1,7 @@
 -- Places in bytes and in characters.
 use Rattle.std.proofs.Common.{◌≡◌, ℕ, zero, suc, ◌+◌, ◌-◌, ◌<◌, ◌≤◌, List, [], ◌∷◌, ◌++◌, length, take, drop, Option, Some, None, refl, sym, ap, subst, ◌∙◌, arith, drop_at, drop-drop, length-append, length-take-le, length-drop, append_assoc, take-append-drop}
 use Rattle.std.proofs.lemmas.Bool.Decides.{nat_tests}
-use Rattle.std.specs.Prelude.{true, false, nat_le, if◌then◌else◌, slice_get, chars, encode_utf8, encode_utf8_all, IsUtf8, IsCharBoundary}
+use Rattle.std.specs.Prelude.{Bool, true, false, nat_le, if◌then◌else◌, slice_get, chars, encode_utf8, encode_utf8_all, IsUtf8, IsCharBoundary}
 use Rattle.std.specs.Char.{len_utf8}
 use Rattle.std.specs.Str.{all_scalars}
 use Rattle.std.proofs.lemmas.Str.{encodes-chars, encodes_same, encodes-append, chars-append, length-encode, len_utf8_bounds, cons_from_encodes, IsUtf8-take, IsCharBoundary-from_drop, scalars-chars}
@@ -232,3 +232,41 @@ pub place_done : (t : List ℕ) (n : ℕ) → n ≤ length t → Some (at t n) �
 place_done t n le =
     let q : nat_le n (length t) ≡ true = grind (arith, nat_tests) in
     ap (λ b. if b then Some (at t n) else None) (sym q)
+
+-- a step over one character
+pub record Next (t : List ℕ) (p c n : ℕ) : Type 0 where
+  pub char : slice_get t (index t p) ≡ Some c
+  pub number : index t n ≡ index t p + 1
+  pub place : IsPlace t n
+
+pub next_is : (t : List ℕ) (p c n : ℕ) → Some (c, n) ≡ step_from t (index t p) → Next t p c n
+next_is t p c n e =
+    let s = some_step t (index t p) c n e in
+    let b = get_below t (index t p) c s.1 in
+    let le : index t p + 1 ≤ length t = omega arith in
+    record {
+      char = s.1;
+      number = ap (index t) s.0 ∙ index_at t (index t p + 1) le;
+      place = subst (IsPlace t) (sym s.0) (place_at t (index t p + 1) le);
+    }
+
+-- k characters back
+pub back_is : (t : List ℕ) (i k q : ℕ) → i ≤ length t → Some q ≡ back_from t i k
+    → (nat_le k i ≡ true) × (index t q ≡ i - k) × IsPlace t q
+back_is t i k q le e = by_case (nat_le k i) refl e
+  where
+    by_case : (b : Bool) → nat_le k i ≡ b → Some q ≡ (if b then Some (at t (i - k)) else None)
+        → (nat_le k i ≡ true) × (index t q ≡ i - k) × IsPlace t q
+    by_case true h e =
+        let s : q ≡ at t (i - k) = cc in
+        let number = ap (index t) s ∙ index_at t (i - k) (omega arith) in
+        (h, number, subst (IsPlace t) (sym s) (place_at t (i - k) (omega arith)))
+    by_case false h e = absurd (cc)
+
+pub back_not : (t : List ℕ) (i k : ℕ) → None ≡ back_from t i k → nat_le k i ≡ false
+back_not t i k e = by_case (nat_le k i) refl e
+  where
+    by_case : (b : Bool) → nat_le k i ≡ b → None ≡ (if b then Some (at t (i - k)) else None)
+        → nat_le k i ≡ false
+    by_case true h e = absurd (cc)
+    by_case false h e = h

@@ -10,12 +10,10 @@ mod chars;
 mod escapes;
 mod line;
 mod numbers;
-#[cfg(test)]
-mod tests;
 mod text;
 
 pub use chars::Chars;
 pub use escapes::{escape, read_escape};
-pub use numbers::read_number;
+pub use numbers::{read_number, value_of_digits};
 pub use std::alloc::AllocError as NoMemory;
 pub use text::Text;

@@ -18,8 +18,9 @@ fn are_digits(word: &[u8]) -> bool
     !word.is_empty() && all_digits(word)
 }
 
-/// The number that digits spell, where 64 bits hold it.
-fn value(digits: &[u8]) -> Option<u64>
+/// The number that digits spell, where 64 bits hold it. Each byte counts as its distance from `0`, and one before `0` as
+/// 0: that all are digits is the caller's to see.
+pub fn value_of_digits(digits: &[u8]) -> Option<u64>
     ensures { result ≡ narrow (value 0 digits.now) }
 {
     let mut number: u64 = 0;
@@ -35,5 +36,9 @@ fn value(digits: &[u8]) -> Option<u64>
 pub fn read_number(word: &[u8]) -> Option<u64>
     ensures { result ≡ number_of word.now }
 {
-    if are_digits(word) { value(word) } else { None }
+    if are_digits(word) {
+        value_of_digits(word)
+    } else {
+        None
+    }
 }

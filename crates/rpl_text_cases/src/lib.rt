@@ -1,8 +1,16 @@
-//! Tests of tokens and of sets of characters: texts and brackets worked by hand, the tables of the POSIX C locale, and
-//! Unicode's own files. Nothing stands on this crate.
+//! Tests of lists, texts, characters, sets, printed words and tokens: texts and brackets worked by hand, the tables of
+//! the POSIX C locale, and Unicode's own files. Nothing stands on this crate.
 #![tactic(auto)]
 
 #[cfg(test)]
+mod classes;
+#[cfg(test)]
+mod lists;
+#[cfg(test)]
+mod printed;
+#[cfg(test)]
 mod sets;
+#[cfg(test)]
+mod texts;
 #[cfg(test)]
 mod tokens;

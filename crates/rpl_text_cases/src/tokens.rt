@@ -198,7 +198,7 @@ end.x => Keyword End
 :b => Sign Colon";
 
 /// The row with its line feeds.
-fn unfolded(alloc: Global, row: &str) -> Result<String, AllocError> {
+pub(crate) fn unfolded(alloc: Global, row: &str) -> Result<String, AllocError> {
     let mut text = String::new(alloc);
     for c in row.chars() {
         text.push(if c == '¶' { '\n' } else { c })?;

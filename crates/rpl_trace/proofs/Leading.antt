@@ -254,31 +254,26 @@ length_by R t onward n c k p i (Fail w) f s v h = (λ e. absurd (cc), next_lengt
 length_by R t onward n c k p i (At w j x) f s v h = (λ e. absurd (cc), length_if R t onward n c k p i w (nat_eq j i) f s v h)
 length_by R t onward n c k p i (HaltAt w j x) f s v h = (λ e. absurd (cc), next_length R t onward n c k p i (1 + w) f s v h)
 
--- enough characters stand before the place, or too few do
-pub length_tried : (R : List Core) (t : List ℕ) (onward : Onward) (c k : ℕ) (p : Core) (i : ℕ) (s : Standing) (v : ℕ) → nat_le k i ≡ true → LeadsLengths R t onward p (suc c) k i s v
-    → LeadsCore R t (λ e. closing (Shorter R t onward p c (k + 1) i) (if_met e i)) p (i - k) (Inside s (Length k) i NoneLeft) (v + 1)
-length_tried R t onward c k p i s v e (n, h) =
+-- what a length leads to, where enough characters stand before the place and where too few do
+abbrev AtLength : (R : List Core) (t : List ℕ) (onward : Onward) (n c k : ℕ) (p : Core) (i : ℕ) (s : Standing) (v : ℕ) → Bool → Type 0
+AtLength R t onward n c k p i s v enough =
     let others = lengths c (k + 1) (core_at n R t p) i in
     let g = lengths_made c (k + 1) (core_at n R t p) (made_at n R t p) i in
     let o = core_at n R t p (i - k) in
     let f = made_at n R t p (i - k) in
-    let P : Bool → Type 0 = λ b.
-    Leads onward (if b then ends_here o i others else more 1 others)
-    (if b then One (Length k) i (length_ending o i) f (where_no_end o i g) else One (Length k) i Fails NoneLeft g) s v in
-    (n, length_by R t onward n c k p i o f s v (subst P e h))
+    Leads onward (if enough then ends_here o i others else more 1 others)
+    (if enough then One (Length k) i (length_ending o i) f (where_no_end o i g) else One (Length k) i Fails NoneLeft g) s v
+
+pub length_tried : (R : List Core) (t : List ℕ) (onward : Onward) (c k : ℕ) (p : Core) (i : ℕ) (s : Standing) (v : ℕ) → nat_le k i ≡ true → LeadsLengths R t onward p (suc c) k i s v
+    → LeadsCore R t (λ e. closing (Shorter R t onward p c (k + 1) i) (if_met e i)) p (i - k) (Inside s (Length k) i NoneLeft) (v + 1)
+length_tried R t onward c k p i s v e (n, h) =
+    (n, length_by R t onward n c k p i (core_at n R t p (i - k)) (made_at n R t p (i - k)) s v (subst (AtLength R t onward n c k p i s v) e h))
 
 pub length_short : (R : List Core) (t : List ℕ) (onward : Onward) (c k : ℕ) (p : Core) (i : ℕ) (s : Standing) (v : ℕ) → nat_le k i ≡ false → LeadsLengths R t onward p (suc c) k i s v
     → LeadsLengths R t onward p c (k + 1) i (add s (One (Length k) i Fails NoneLeft NoneLeft)) (v + 1)
 length_short R t onward c k p i s v e (n, h) =
-    let others = lengths c (k + 1) (core_at n R t p) i in
-    let g = lengths_made c (k + 1) (core_at n R t p) (made_at n R t p) i in
-    let o = core_at n R t p (i - k) in
-    let f = made_at n R t p (i - k) in
-    let P : Bool → Type 0 = λ b.
-    Leads onward (if b then ends_here o i others else more 1 others)
-    (if b then One (Length k) i (length_ending o i) f (where_no_end o i g) else One (Length k) i Fails NoneLeft g) s v in
     let Q : ℕ → Type 0 = λ x. LeadsLengths R t onward p c (k + 1) i (add s (One (Length k) i Fails NoneLeft NoneLeft)) x in
-    subst Q (omega arith) (next_length R t onward n c k p i 1 NoneLeft s v (subst P e h))
+    subst Q (omega arith) (next_length R t onward n c k p i 1 NoneLeft s v (subst (AtLength R t onward n c k p i s v) e h))
 
 pub no_lengths : (R : List Core) (t : List ℕ) (onward : Onward) (k : ℕ) (p : Core) (i : ℕ) (s : Standing) (v : ℕ) → LeadsLengths R t onward p 0 k i s v → onward Fails s v
 no_lengths R t onward k p i s v (n, h) = moved onward Fails Fails (add s NoneLeft) s (v + count NoneLeft) v refl (add_none s) (omega arith) h.1

@@ -22,6 +22,3 @@ mod tracer;
 pub use answer::{Trace, TraceFault};
 pub use goal::trace;
 pub use laws::count_law;
-
-#[cfg(test)]
-mod tests;

@@ -12,6 +12,3 @@ mod node;
 pub use forest::{Forest, build};
 pub use node::Node;
 pub use rpl_core::{Caught, NoMemory};
-
-#[cfg(test)]
-mod tests;

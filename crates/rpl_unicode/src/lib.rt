@@ -10,8 +10,6 @@ mod classes;
 mod fault;
 mod folding;
 mod ranges;
-#[cfg(test)]
-mod tests;
 
 pub use classes::class_ranges;
 pub use fault::ClassFault;

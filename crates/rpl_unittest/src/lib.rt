@@ -13,8 +13,6 @@ mod question;
 mod reader;
 mod said;
 mod test;
-#[cfg(test)]
-mod tests;
 mod verdict;
 mod word;
 

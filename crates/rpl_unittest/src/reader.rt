@@ -17,7 +17,7 @@ pub enum TestFault {
     #[error("out of memory")]
     NoMemory,
     /// A test comment says no test.
-    #[error("bad test in line {line}")]
+    #[error("bad comment of tests in line {line}")]
     BadTest {
         /// The line of the comment, from 1.
         line: u64,

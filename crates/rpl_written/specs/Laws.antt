@@ -38,8 +38,8 @@ BracketsAreWritten = (s : List ℕ) (t : Token) → t.kind ≡ K.Bracket → IsT
 -- what may stand in bounds, with spaces and tabs around each part: a number, or a comma with a number or none on each
 -- side
 pub data InBounds : List ℕ → Type 0 where
-  one_number : (a ds b : List ℕ) → each is_space a ≡ true → each is_digit ds ≡ true → 0 < length ds → each is_space b ≡ true
-      → InBounds (a ++ ds ++ b)
+  one_number : (a ds b : List ℕ) → each is_space a ≡ true → each is_digit ds ≡ true → 0 < length ds
+      → each is_space b ≡ true → InBounds (a ++ ds ++ b)
   with_comma : (a ds b c es d : List ℕ) → each is_space a ≡ true → each is_digit ds ≡ true → each is_space b ≡ true
       → each is_space c ≡ true → each is_digit es ≡ true → each is_space d ≡ true
       → InBounds (a ++ ds ++ b ++ 44 ∷ c ++ es ++ d)

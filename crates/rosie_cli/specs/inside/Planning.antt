@@ -1,21 +1,32 @@
 -- How contracts see a plan, and what comes of making one.
-use Rattle.std.specs.Prelude.{◌≡◌, ◌≢◌, ℕ, List, Result, Ok, Err, string_bytes, encode_utf8_all}
-use Rattle.std.specs.List.{Contains}
+use Rattle.std.specs.Prelude.{◌≡◌, ◌≢◌, ℕ, List, Option, None, Some, Result, Ok, Err, IfErr, IfOk}
+use Rattle.std.specs.Prelude.{string_bytes, encode_utf8_all}
+use Rattle.rosie_faults.specs.Lines.{Line, compile_line}
+use Rattle.rosie_io.specs.Loading.{NotFewer}
+use Rattle.rosie_io.specs.declared.outside.Source.{Ghosts}
+use Rattle.rosie_jobs.specs.Jobs.{matcher_of, runner_of, tracer_of}
+use Rattle.rosie_jobs.specs.Lines.{Job}
+use Rattle.rosie_prepare.specs.Answers.{HasCause, IsAsked}
+use Rattle.rosie_prepare.specs.declared.unready.Unready.{Unready}
+use Rattle.rosie_prepare.specs.declared.unready.Unready.TheVariants as U
 use Rattle.rosie_run.specs.Inputs.{names_of}
-use Rattle.rosie_run.specs.Sources.{Moment, Still, NoFewer, RoseIn}
+use Rattle.rosie_run.specs.Sources.{Moment, moment}
 use Rattle.rosie_run.specs.declared.ended.Ended.{Ended}
 use Rattle.rosie_run.specs.declared.tally.Tally.{Tally}
-use Rattle.rosie_jobs.specs.Jobs.{matcher_of, runner_of, tracer_of}
-use Rattle.rosie_verdicts.specs.Seen.{bench_of, trials_of}
-use Rattle.rosie_cli.specs.Plans as P
-use Rattle.rosie_cli.specs.declared.plan.Plan.{Plan}
-use Rattle.rosie_cli.specs.declared.plan.Plan.TheVariants.{Refuse, Answer, Write, Test, Match, Trace, Run, Sample}
 use Rattle.rosie_sample.specs.Runs.{sampled_of}
-use Rattle.rosie_cli.specs.declared.plan.Unplanned.{Unplanned}
-use Rattle.rosie_cli.specs.declared.plan.Unplanned.TheVariants.{NoMemory, ReadFault}
+use Rattle.rosie_verdicts.specs.Seen.{bench_of, trials_of}
+use Rattle.rpl_codegen.specs.declared.whole.CompileFault.{CompileFault}
+use Rattle.rpl_codegen.specs.declared.whole.CompileFault.TheVariants as C
+use Rattle.rpl_forms.specs.Rows.{Row}
+use Rattle.rosie_cli.specs.Planned.{matching, sampling, tracing}
+use Rattle.rosie_cli.specs.Plans as P
+use Rattle.rosie_cli.specs.Promises.{IsPromised}
+use Rattle.rosie_cli.specs.declared.goal_plan.Purpose.{Purpose}
+use Rattle.rosie_cli.specs.declared.goal_plan.Purpose.TheVariants as R
+use Rattle.rosie_cli.specs.declared.plan.Plan.{Plan}
+use Rattle.rosie_cli.specs.declared.plan.Plan.TheVariants.{Answer, Write, Test, Match, Trace, Run, Sample}
 
 abbrev pub plan_of : Plan → P.Plan
-plan_of (Refuse text) = P.refusal (string_bytes text)
 plan_of (Answer text) = P.whole_answer (string_bytes text)
 plan_of (Write bytes) = P.Writes bytes
 plan_of (Test suite) = P.Tries (bench_of suite) (trials_of suite)
@@ -24,27 +35,43 @@ plan_of (Trace job whole names) = P.Reads (tracer_of job) whole (names_of encode
 plan_of (Run job whole names) = P.Reads (runner_of job) whole (names_of encode_utf8_all names)
 plan_of (Sample run) = P.Samples (sampled_of run)
 
--- each plan that is meant is this one
-abbrev pub PlansRun : Plan → (P.Plan → Type 0) → Type 0
-PlansRun plan IsMeant = (p : P.Plan) → IsMeant p → p ≡ plan_of plan
+-- the run of a pattern for a purpose
+abbrev pub run_of : Purpose → List Row → Job → P.Plan
+run_of (R.Match settings inputs) = matching settings inputs
+run_of (R.Trace limit whole inputs) = tracing limit whole inputs
+run_of (R.Sample settings seed lines) = sampling settings seed lines
 
--- the path that wasn't read is one of those that are asked for
-abbrev pub IsUnread : Unplanned → List (List ℕ) → Type 0
-IsUnread NoMemory asked = Unit {0}
-IsUnread (ReadFault path) asked = Contains asked (encode_utf8_all path)
+-- the line of a pattern that has no program, where there is one
+abbrev pub due_of : CompileFault → Option Line
+due_of C.CodeTooLong = Some compile_line
+due_of C.NoMemory = None
 
-abbrev pub Plans : Result Plan Unplanned → P.Planned → Type 0
-Plans (Ok plan) p = p.plan ≡ plan_of plan
-Plans (Err unplanned) p = IsUnread unplanned p.asked
+-- what is made is this plan; a refusal is one that tells its line, and any other answer says nothing of it
+abbrev pub IsMade : Result Plan Unready → P.Plan → Type 0
+IsMade (Ok plan) p = p ≡ plan_of plan
+IsMade (Err U.NoMemory) p = Unit {0}
+IsMade (Err (U.Refused line)) p = p ≡ P.refusal (string_bytes line)
+IsMade (Err (U.ReadFault path)) p = Unit {0}
 
--- the counts of the files: a read failed only where one of them rose
-abbrev pub Counts : Unplanned → Moment → Moment → Type 0
-Counts NoMemory f0 f1 = NoFewer f0 f1
-Counts (ReadFault path) f0 f1 = NoFewer f0 f1 × RoseIn f0 f1
+-- whichever is meant
+abbrev pub Makes : Result Plan Unready → (P.Plan → Type 0) → Type 0
+Makes result IsMeant = (p : P.Plan) → IsMeant p → IsMade result p
 
-abbrev pub HasCause : Result Plan Unplanned → Moment → Moment → Type 0
-HasCause (Ok plan) f0 f1 = Still f0 f1
-HasCause (Err unplanned) f0 f1 = Counts unplanned f0 f1
+-- and a path that wasn't read is one of those that are asked for
+abbrev pub Plans : Result Plan Unready → P.Planned → Type 0
+Plans result p = IsMade result p.plan × IfErr result (λ u. IsAsked u p.asked)
+
+-- what a source tells and counts at one time
+abbrev pub moment_of : {F : Type 0} → Ghosts F → F → Moment
+moment_of S files = moment S.rest S.taken S.faults S.failed_opens files
+
+-- What planning leaves: a plan that keeps its promise, and files that were only read. A read failed only where a count of
+-- failures rose.
+pub record Leaves {F : Type 0} (S : Ghosts F) (result : Result Plan Unready) (old new : F) : Type 0 where
+  pub due : IfOk result (λ plan. IsPromised (plan_of plan))
+  pub cause : HasCause result (moment_of S old) (moment_of S new)
+  pub taken : NotFewer (S.taken old) (S.taken new)
+  pub tree : S.tree new ≡ S.tree old
 
 -- no input is read
 abbrev pub IsSaid : P.Plan → Type 0

@@ -20,7 +20,8 @@ with_line counts line =
     record { tally = added counts.tally line; matched = counts.matched + cond line.hit 1 0 }
 
 -- so many lines were matched, and just their pieces are written; the lines to come are those behind the number x
-pub record Counted (W : Telling) (makes : Makes) (seed lines before x : ℕ) (counts : Counts) (a b : Texts) : Type 0 where
+pub record Counted (W : Telling) (makes : Makes) (seed lines before x : ℕ) (counts : Counts) (a b : Texts)
+    : Type 0 where
   pub done : List Piece
   pub stands : Stands W (line_pieces makes seed lines) done
       (pieces_from makes 16777216 (codes "-") before (sample x (lines - before))) a b counts.tally

@@ -1,6 +1,8 @@
 -- What comes of one line of a session.
-use Rattle.std.specs.Prelude.{◌≡◌, ◌+◌, ℕ, Result, Ok, Err, encode_utf8_all, string_bytes}
+use Rattle.std.specs.Prelude.{◌≡◌, ◌+◌, ℕ, Result, Ok, Err, IfErr, encode_utf8_all, string_bytes}
 use Rattle.std.specs.List.{Contains}
+use Rattle.rosie_io.specs.Loading.{NotFewer}
+use Rattle.rosie_io.specs.declared.outside.Source.{Ghosts}
 use Rattle.rosie_jobs.specs.Jobs.{matcher_of}
 use Rattle.rosie_jobs.specs.Lines.{Job}
 use Rattle.rosie_jobs.specs.Makers.{Matches}
@@ -12,7 +14,7 @@ use Rattle.rosie_prepare.specs.declared.unready.Unready.TheVariants as U
 use Rattle.rosie_repl.specs.Session.{Session}
 use Rattle.rosie_run.specs.Made.{IsMade}
 use Rattle.rosie_run.specs.Report.{Piece, fault_piece}
-use Rattle.rosie_run.specs.Sources.{Moment, NoFewer, RoseIn, Still}
+use Rattle.rosie_run.specs.Sources.{Moment, NoFewer, RoseIn, Still, moment}
 use Rattle.rosie_run.specs.declared.trouble.Trouble.TheVariants as T
 use Rattle.rosie_session.specs.Replay.{Turn, ok_piece, plain}
 use Rattle.rosie_session.specs.declared.halt.Halt.{Halt}
@@ -82,3 +84,15 @@ HaltFiles (H.Unread path) f0 f1 = NoFewer f0 f1 × RoseIn f0 f1
 abbrev pub FilesBy : {A : Type 0} → Result A Halt → Moment → Moment → Type 0
 FilesBy (Ok a) f0 f1 = Still f0 f1
 FilesBy (Err halt) f0 f1 = HaltFiles halt f0 f1
+
+-- what a source tells and counts at one time
+abbrev pub moment_of : {F : Type 0} → Ghosts F → F → Moment
+moment_of S files = moment S.rest S.taken S.faults S.failed_opens files
+
+-- What a turn leaves of the files, which are only read: a read failed only where a count of failures rose. Where nothing
+-- is said, memory is wanting or a file wasn't read.
+pub record Leaves {F : Type 0} (S : Ghosts F) (result : Result Said Halt) (old new : F) : Type 0 where
+  pub inner : IfErr result IsInner
+  pub cause : FilesBy result (moment_of S old) (moment_of S new)
+  pub taken : NotFewer (S.taken old) (S.taken new)
+  pub tree : S.tree new ≡ S.tree old

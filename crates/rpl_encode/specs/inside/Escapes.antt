@@ -5,7 +5,8 @@ use Rattle.json.specs.Print.{escape}
 use Rattle.rpl_print.specs.Quoted.{quoted, is_plain}
 use Rattle.rpl_encode.specs.declared.escapes.Escapes.{Escapes}
 
--- the string is that of the line, and the places tell where in it what stands for each byte begins, and where the last ends
+-- the string is that of the line, and the places tell where in it what stands for each byte begins, and where the last
+-- ends
 pub record AreEscaped (line string places : List ℕ) : Type 0 where
   pub is_string : string ≡ quoted line
   pub count : length places ≡ length line + 1

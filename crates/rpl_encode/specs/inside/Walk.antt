@@ -1,5 +1,6 @@
 -- What is written of the nodes of a flat list, one after the other.
-use Rattle.std.specs.Prelude.{ℕ, Bool, true, false, List, [], ◌∷◌, ◌++◌, take, drop, slice_range, flat_map, codes, Option, None, Some}
+use Rattle.std.specs.Prelude.{ℕ, Bool, true, false, List, [], ◌∷◌, ◌++◌, take, drop, slice_range, flat_map, codes}
+use Rattle.std.specs.Prelude.{Option, None, Some}
 use Rattle.std.specs.Str.{encode_utf8_all}
 use Rattle.rpl_tree.specs.declared.node.Node.{Node}
 use Rattle.rpl_tree.specs.Trees.{forest_of}
@@ -15,7 +16,8 @@ abbrev pub text_at : List (List ℕ) → List ℕ → Node → List ℕ
 text_at labels line n = text_by labels line n n.note
 
 abbrev pub fields_by : List (List ℕ) → List ℕ → Node → Option ℕ → List ℕ
-fields_by labels line n None = fields (encode_utf8_all (label_in labels n.label)) n.start n.end (text_by labels line n None)
+fields_by labels line n None =
+    fields (encode_utf8_all (label_in labels n.label)) n.start n.end (text_by labels line n None)
 fields_by labels line n (Some text) = fields (codes "message") n.start n.start (text_by labels line n (Some text))
 
 -- the object of a node up to what is below it
@@ -37,7 +39,8 @@ abbrev pub joined : Bool → List (List ℕ) → List ℕ
 joined first [] = []
 joined first (o ∷ os) = comma first ++ (o ++ flat_map (λ p. 44 ∷ p) os)
 
--- The rest of the text, from a node on, where lists of objects are open, the innermost first, and so many nodes are still to come in each.
+-- The rest of the text, from a node on, where lists of objects are open, the innermost first, and so many nodes are
+-- still to come in each.
 abbrev pub rest_of : List (List ℕ) → List ℕ → List Node → List ℕ → Bool → List ℕ
 rest_of labels line nodes [] first = []
 rest_of labels line nodes (left ∷ pending) first =

@@ -1,3 +1,4 @@
+use Rattle.std.proofs.Common.{◌∙◌}
 use Rattle.std.specs.Prelude.{Ok, Err, encode_utf8_all, string_bytes}
 use Rattle.rosie_run.specs.Inputs.{names_of}
 use Rattle.rpl_core.specs.Program.{instructions}
@@ -13,14 +14,18 @@ returns-in_ok-job-in-Ok-clause-plans g c = λ tells p is.
     let s = c.args.settings in
     let code = instructions c.in-Ok.program in
     let made = c.in_ok-job-in-Ok in
-    let names = input_names c.args.inputs in
-    reads-same (Runs s code) (runner_of made.job) s.whole names (names_of encode_utf8_all c.in_ok-names.names) p.plan
-    made.ensures c.in_ok-names.ensures
-    (code_plans s (encode_utf8_all c.args.path) c.text_of.result.now names (g.F.Source.tree c.args.files.now) p (Ok code)
-    is c.text_of.ensures (c.in-Ok.ensures.loads tells))
+    let names = input_names c.args.inputs in (
+      code_plans s (encode_utf8_all c.args.path) c.text_of.result.now names (g.F.Source.tree c.args.files.now) p (Ok code)
+          is c.text_of.ensures (c.in-Ok.ensures.loads tells)
+          ∙ reads-same (Runs s code) (runner_of made.job) s.whole names (names_of encode_utf8_all c.in_ok-names.names)
+          made.ensures c.in_ok-names.ensures,
+      tt,
+    )
 
 pub returns-in-Refused-clause-plans : goal.returns-in-Refused-clause-plans
-returns-in-Refused-clause-plans g c = λ tells p is.
-    code_plans c.args.settings (encode_utf8_all c.args.path) c.text_of.result.now (input_names c.args.inputs)
-    (g.F.Source.tree c.args.files.now) p (Err (string_bytes c.in-Refused.line)) is c.text_of.ensures
-    (rw c.in-Refused.is at (c.in-Err.ensures.loads tells))
+returns-in-Refused-clause-plans g c = λ tells p is. (
+  code_plans c.args.settings (encode_utf8_all c.args.path) c.text_of.result.now (input_names c.args.inputs)
+      (g.F.Source.tree c.args.files.now) p (Err (string_bytes c.in-Refused.line)) is c.text_of.ensures
+      (rw c.in-Refused.is at (c.in-Err.ensures.loads tells)),
+  tt,
+)

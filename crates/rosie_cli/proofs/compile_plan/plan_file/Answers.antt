@@ -1,12 +1,13 @@
-use Rattle.std.proofs.Common.{◌≤◌, ◌∙◌, ap, length, sym, arith}
+use Rattle.std.proofs.Common.{◌≤◌, length, arith}
 use Rattle.rosie_prepare.specs.Views.{ready_seen}
-use Rattle.rosie_prepare.proofs.Passing.{bodies-rows_of}
+use Rattle.rosie_prepare.proofs.Passing.{bodies-rows_of, told_own}
 use Rattle.rpl_check.specs.Goal.{peg_of}
 use Rattle.rpl_core.specs.Program.{instructions}
 use Rattle.rpl_core.specs.Table.{bodies_of}
 use Rattle.rpl_core.specs.View.{core_of}
-use Rattle.rosie_cli.specs.Plans.{refusal}
+use Rattle.rosie_cli.specs.inside.Planning.{due_of}
 use Rattle.rosie_cli.proofs.Compiled.{code_counts, code_is_some, file_plan, long_file}
+use Rattle.rosie_cli.proofs.Made.{told-made}
 use Rattle.rosie_cli.proofs.compile_plan.plan_file.Goals as goal
 
 pub write_code-requires-clause-some : goal.write_code-requires-clause-some
@@ -17,8 +18,8 @@ write_code-requires-clause-some c =
     c.in-Ok.ensures.code in
     omega (arith, code_counts program, some)
 
-pub returns-in_ok-write_code-in-Ok-clause-plans : goal.returns-in_ok-write_code-in-Ok-clause-plans
-returns-in_ok-write_code-in-Ok-clause-plans c = λ p is.
+pub returns-in_ok-write_code-in-Ok-clause-makes : goal.returns-in_ok-write_code-in-Ok-clause-makes
+returns-in_ok-write_code-in-Ok-clause-makes c = λ p is.
     let ready = c.args.ready.now in
     let program = c.in-Ok.program in
     let within = c.in-Ok.ensures.fits in
@@ -31,9 +32,12 @@ returns-in_ok-write_code-in-Ok-clause-due c =
     let root = c.requires.root in
     (instructions c.in-Ok.program, c.in_ok-write_code-in-Ok.ensures, c.in-Ok.ensures.safe root.0 root.1)
 
-pub returns-in_ok-compile_line-in-CodeTooLong-clause-plans : goal.returns-in_ok-compile_line-in-CodeTooLong-clause-plans
-returns-in_ok-compile_line-in-CodeTooLong-clause-plans c = λ p is.
+pub returns-in-Err-clause-makes : goal.returns-in-Err-clause-makes
+returns-in-Err-clause-makes c = λ p is.
     let ready = c.args.ready.now in
-    long_file (ready_seen ready) (bodies_of ready.rules) (bodies-rows_of ready.rules) p is
-    (c.in-Err.ensures.too_long c.in-CodeTooLong.is)
-    ∙ ap refusal (sym c.in_ok-compile_line-in-CodeTooLong.ensures)
+    told-made c.in-Err.fault c.uncompiled.result p c.uncompiled.ensures
+    (λ long. long_file (ready_seen ready) (bodies_of ready.rules) (bodies-rows_of ready.rules) p is
+    (c.in-Err.ensures.too_long long))
+
+pub returns-in-Err-clause-own : goal.returns-in-Err-clause-own
+returns-in-Err-clause-own c = told_own (due_of c.in-Err.fault) c.uncompiled.result c.uncompiled.ensures

@@ -1,17 +1,29 @@
 use Rattle.std.proofs.Common.{subst}
 use Rattle.rosie_cli.specs.Expanding.{Expands}
+use Rattle.rosie_cli.proofs.Made.{due-plans, leaves-own, leaves-through, made-plans, plans-through}
 use Rattle.rosie_cli.proofs.expand_plan.plan_expansion.Goals as goal
 
-pub returns-in_ok-plan_text-in-Ok-clause-plans : goal.returns-in_ok-plan_text-in-Ok-clause-plans
-returns-in_ok-plan_text-in-Ok-clause-plans g c = λ t p is.
-    let due = c.in-Ok.ensures.prepares t p.asked is.ready is.prepares in
-    c.in_ok-plan_text-in-Ok.ensures.plans p.plan (subst (λ r. Expands c.args.wants_code r p.plan) due is.expands)
+pub returns-clause-plans : goal.returns-clause-plans
+returns-clause-plans g c = λ t p is.
+    let due = c.in_ok-ready.ensures.prepares t p.asked is.ready is.prepares in
+    made-plans c.plan_text.result p c.plan_text.ensures.own
+    (c.plan_text.ensures.makes p.plan (subst (λ r. Expands c.args.wants_code r p.plan) due is.expands))
 
-pub returns-in-Refused-clause-plans : goal.returns-in-Refused-clause-plans
-returns-in-Refused-clause-plans g c = λ t p is.
-    let due = rw c.in-Refused.is at (c.in-Err.ensures.prepares t p.asked is.ready is.prepares) in
-    subst (λ r. Expands c.args.wants_code r p.plan) due is.expands
+pub returns-clause-leaves : goal.returns-clause-leaves
+returns-clause-leaves g c =
+    let before = c.in_ok-ready.ensures in
+    leaves-own g.F.Source c.plan_text.result _ _ before.taken before.tree before.cause c.plan_text.ensures.due c.plan_text.ensures.own
 
-pub returns-in-ReadFault-clause-plans : goal.returns-in-ReadFault-clause-plans
-returns-in-ReadFault-clause-plans g c = λ t p is.
-    rw c.in-ReadFault.is at (c.in-Err.ensures.asked t p.asked is.ready is.prepares)
+pub returns-in_err-ready-clause-plans : goal.returns-in_err-ready-clause-plans
+returns-in_err-ready-clause-plans g c = λ t p is.
+    let u = c.in_err-ready.field-0.0 in
+    let e = c.in_err-ready.ensures in
+    plans-through c.from_residual.result u p c.from_residual.ensures.1
+    (due-plans u p (Expands c.args.wants_code) is.ready (λ line plan x. x)
+    (e.prepares t p.asked is.ready is.prepares) (e.asked t p.asked is.ready is.prepares) is.expands)
+
+pub returns-in_err-ready-clause-leaves : goal.returns-in_err-ready-clause-leaves
+returns-in_err-ready-clause-leaves g c =
+    let e = c.in_err-ready.ensures in
+    leaves-through g.F.Source c.from_residual.result _ _ e.taken e.tree c.in_err-ready.field-0.0
+    c.from_residual.ensures.1 e.cause

@@ -1,22 +1,24 @@
 use Rattle.std.proofs.Common.{◌≤◌, ◌∙◌, ap, length, sym, arith, string_bytes}
 use Rattle.std.proofs.lemmas.List.{length-map}
 use Rattle.rosie_prepare.specs.Views.{ready_seen}
-use Rattle.rosie_prepare.proofs.Passing.{bodies-rows_of}
+use Rattle.rosie_prepare.proofs.Passing.{bodies-rows_of, told_own}
 use Rattle.rpl_core.specs.Numbers.{instr_of}
 use Rattle.rpl_core.specs.Program.{code_of, instructions, labels_of, sets_of}
 use Rattle.rpl_core.specs.Table.{bodies_of}
-use Rattle.rosie_cli.specs.Plans.{refusal, whole_answer}
+use Rattle.rosie_cli.specs.Plans.{whole_answer}
+use Rattle.rosie_cli.specs.inside.Planning.{due_of}
 use Rattle.rosie_cli.proofs.Expanded.{plain_plan, coded_plan, long_plan}
+use Rattle.rosie_cli.proofs.Made.{told-made}
 use Rattle.rosie_cli.proofs.expand_plan.plan_text.Goals as goal
 
-pub returns-then-not-wants_code-clause-plans : goal.returns-then-not-wants_code-clause-plans
-returns-then-not-wants_code-clause-plans c = λ p is.
+pub returns-then-not-wants_code-clause-makes : goal.returns-then-not-wants_code-clause-makes
+returns-then-not-wants_code-clause-makes c = λ p is.
     let ready = c.args.ready.now in
     plain_plan (ready_seen ready) (bodies_of ready.rules) (bodies-rows_of ready.rules) (string_bytes c.in_ok-text.text)
     c.in_ok-text.ensures p c.args.wants_code c.if-not-wants_code.true is
 
-pub returns-in-Ok-clause-plans : goal.returns-in-Ok-clause-plans
-returns-in-Ok-clause-plans c = λ p is.
+pub returns-in_ok-push_program-in-Ok-clause-makes : goal.returns-in_ok-push_program-in-Ok-clause-makes
+returns-in_ok-push_program-in-Ok-clause-makes c = λ p is.
     let ready = c.args.ready.now in
     let program = c.in-Ok.program in
     let long = length-map (code_of program) (instr_of (sets_of program) (labels_of program)) in
@@ -27,10 +29,13 @@ returns-in-Ok-clause-plans c = λ p is.
     c.in-Ok.ensures.code fits
     ∙ ap whole_answer (sym c.in_ok-push_program-in-Ok.ensures)
 
-pub returns-in-CodeTooLong-clause-plans : goal.returns-in-CodeTooLong-clause-plans
-returns-in-CodeTooLong-clause-plans c = λ p is.
+pub returns-in-Err-clause-makes : goal.returns-in-Err-clause-makes
+returns-in-Err-clause-makes c = λ p is.
     let ready = c.args.ready.now in
-    long_plan (ready_seen ready) (bodies_of ready.rules) (bodies-rows_of ready.rules) (string_bytes c.in_ok-text.text)
-    c.in_ok-text.ensures p c.args.wants_code c.if-not-wants_code.false is
-    (c.in-Err.ensures.too_long c.in-CodeTooLong.is)
-    ∙ ap refusal (sym c.in_ok-compile_line-in-CodeTooLong.ensures)
+    told-made c.in-Err.fault c.uncompiled.result p c.uncompiled.ensures
+    (λ long. long_plan (ready_seen ready) (bodies_of ready.rules) (bodies-rows_of ready.rules)
+    (string_bytes c.in_ok-text.text) c.in_ok-text.ensures p c.args.wants_code c.if-not-wants_code.false is
+    (c.in-Err.ensures.too_long long))
+
+pub returns-in-Err-clause-own : goal.returns-in-Err-clause-own
+returns-in-Err-clause-own c = told_own (due_of c.in-Err.fault) c.uncompiled.result c.uncompiled.ensures

@@ -1,19 +1,32 @@
-use Rattle.std.proofs.Common.{◌∙◌, ap, subst}
+use Rattle.std.proofs.Common.{◌∙◌, ap, sym, subst}
+use Rattle.rosie_prepare.specs.Answers.{IsAsked}
 use Rattle.rosie_show.proofs.Texts.{one_text}
 use Rattle.rpl_package.specs.Names.{all_listed}
 use Rattle.rpl_package.specs.Sets.{set_seen}
 use Rattle.rosie_cli.specs.Listing.{Lists}
 use Rattle.rosie_cli.specs.Plans.{whole_answer}
+use Rattle.rosie_cli.proofs.Made.{due-plans, leaves-through, plans-through}
 use Rattle.rosie_cli.proofs.list_plan.plan_list.Goals as goal
 
-pub returns-in_ok-names_text-in-Ok-clause-plans : goal.returns-in_ok-names_text-in-Ok-clause-plans
-returns-in_ok-names_text-in-Ok-clause-plans g c = λ t p is.
-    let due = c.in-Ok.ensures.prepares t is.packages is.comes in
-    let lists = subst (λ r. Lists r p.plan) due is.lists in
-    lists.2 ∙ ap whole_answer
-    (one_text (all_listed (set_seen c.in-Ok.ready.set)) lists.0 _ lists.1 c.in_ok-names_text-in-Ok.ensures)
+pub returns-clause-plans : goal.returns-clause-plans
+returns-clause-plans g c = λ t p is.
+    let due = c.in_ok-ready.ensures.prepares t is.packages is.comes in
+    let lists = subst (λ r. Lists r p.plan) due is.lists in (
+      lists.2 ∙ ap whole_answer
+          (one_text (all_listed (set_seen c.in_ok-ready.ready.set)) lists.0 _ lists.1 c.in_ok-names_text.ensures),
+      tt,
+    )
 
-pub returns-in-Refused-clause-plans : goal.returns-in-Refused-clause-plans
-returns-in-Refused-clause-plans g c = λ t p is.
-    let due = rw c.in-Refused.is at (c.in-Err.ensures.prepares t is.packages is.comes) in
-    subst (λ r. Lists r p.plan) due is.lists
+pub returns-in_err-ready-clause-plans : goal.returns-in_err-ready-clause-plans
+returns-in_err-ready-clause-plans g c = λ t p is.
+    let u = c.in_err-ready.field-0.0 in
+    let e = c.in_err-ready.ensures in
+    plans-through c.from_residual.result u p c.from_residual.ensures.1
+    (due-plans u p Lists is.packages (λ line plan x. x) (e.prepares t is.packages is.comes)
+    (subst (IsAsked u) (sym is.asked) (e.asked t)) is.lists)
+
+pub returns-in_err-ready-clause-leaves : goal.returns-in_err-ready-clause-leaves
+returns-in_err-ready-clause-leaves g c =
+    let e = c.in_err-ready.ensures in
+    leaves-through g.F.Source c.from_residual.result _ _ e.taken e.tree c.in_err-ready.field-0.0
+    c.from_residual.ensures.1 e.cause

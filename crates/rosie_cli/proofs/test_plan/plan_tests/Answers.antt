@@ -1,15 +1,22 @@
-use Rattle.std.proofs.Common.{◌∙◌, ap, subst}
+use Rattle.std.proofs.Common.{◌≡◌, ◌∙◌, ap}
 use Rattle.rosie_cli.specs.Testing.{tried}
+use Rattle.rosie_cli.proofs.Made.{due-plans, leaves-through, plans-through}
 use Rattle.rosie_cli.proofs.test_plan.plan_tests.Goals as goal
 
-pub returns-in-Ok-clause-plans : goal.returns-in-Ok-clause-plans
-returns-in-Ok-clause-plans g c = λ t p is.
-    is.tries ∙ ap tried (c.in-Ok.ensures.prepares t p.asked is.suite is.comes)
+pub returns-clause-plans : goal.returns-clause-plans
+returns-clause-plans g c = λ t p is.
+    (is.tries ∙ ap tried (c.in_ok-suite.ensures.prepares t p.asked is.suite is.comes), tt)
 
-pub returns-in-Refused-clause-plans : goal.returns-in-Refused-clause-plans
-returns-in-Refused-clause-plans g c = λ t p is.
-    is.tries ∙ ap tried (rw c.in-Refused.is at (c.in-Err.ensures.prepares t p.asked is.suite is.comes))
+pub returns-in_err-suite-clause-plans : goal.returns-in_err-suite-clause-plans
+returns-in_err-suite-clause-plans g c = λ t p is.
+    let u = c.in_err-suite.field-0.0 in
+    let e = c.in_err-suite.ensures in
+    plans-through c.from_residual.result u p c.from_residual.ensures.1
+    (due-plans u p (λ r plan. plan ≡ tried r) is.suite (λ line plan x. x) (e.prepares t p.asked is.suite is.comes)
+    (e.asked t p.asked is.suite is.comes) is.tries)
 
-pub returns-in-ReadFault-clause-plans : goal.returns-in-ReadFault-clause-plans
-returns-in-ReadFault-clause-plans g c = λ t p is.
-    rw c.in-ReadFault.is at (c.in-Err.ensures.asked t p.asked is.suite is.comes)
+pub returns-in_err-suite-clause-leaves : goal.returns-in_err-suite-clause-leaves
+returns-in_err-suite-clause-leaves g c =
+    let e = c.in_err-suite.ensures in
+    leaves-through g.F.Source c.from_residual.result _ _ e.taken e.tree c.in_err-suite.field-0.0
+    c.from_residual.ensures.1 e.cause

@@ -10,7 +10,7 @@ use Rattle.rosie_cli.proofs.top.run_plan.Goals as goal
 
 pub returns-in-Answer-clause-rest : goal.returns-in-Answer-clause-rest
 returns-in-Answer-clause-rest g c = λ t u.
-    said-goes c.say-in-Answer.result (plan_of c.args.plan.now) _
+    said-goes c.say.result (plan_of c.args.plan.now) _
     (subst (λ x. IsSaid (plan_of x)) (sym c.in-Answer.is) tt)
 
 pub returns-in-Write-clause-rest : goal.returns-in-Write-clause-rest
@@ -36,25 +36,28 @@ pub returns-in-Match-clause-runs : goal.returns-in-Match-clause-runs
 returns-in-Match-clause-runs g c = λ knows.
     let m = c.in-Match in
     let tells = subst (λ x. KnowsInputs (plan_of x) g.F.Source.tells g.I.Source.tells) m.is knows in
-    match-runs c.run_inputs.result _ (matcher_of m.job) m.whole
-    (names_of encode_utf8_all m.names) (names_of encode_utf8_all c.as_slice-names.result.now) (plan_of c.args.plan.now)
+    match-runs c.run_inputs.result _ (matcher_of m.job) m.whole (names_of encode_utf8_all m.names)
+    (names_of encode_utf8_all c.as_slice-names.result.now) _ (plan_of c.args.plan.now)
     (g.F.Source.tree c.args.files.now) _ _ _ _ (ap plan_of m.is)
-    (ap (names_of encode_utf8_all) c.as_slice-names.ensures) (c.run_inputs.ensures.runs tells.0 tells.1)
+    (ap (names_of encode_utf8_all) c.as_slice-names.ensures) c.reading-reading.ensures
+    (c.run_inputs.ensures.runs tells.0 tells.1)
 
 pub returns-in-Trace-clause-runs : goal.returns-in-Trace-clause-runs
 returns-in-Trace-clause-runs g c = λ knows.
     let m = c.in-Trace in
     let tells = subst (λ x. KnowsInputs (plan_of x) g.F.Source.tells g.I.Source.tells) m.is knows in
-    match-runs c.run_inputs-in-Trace.result _ (tracer_of m.job) m.whole
-    (names_of encode_utf8_all m.names) (names_of encode_utf8_all c.as_slice-names-in-Trace.result.now) (plan_of c.args.plan.now)
+    match-runs c.run_inputs-in-Trace.result _ (tracer_of m.job) m.whole (names_of encode_utf8_all m.names)
+    (names_of encode_utf8_all c.as_slice-names-in-Trace.result.now) _ (plan_of c.args.plan.now)
     (g.F.Source.tree c.args.files.now) _ _ _ _ (ap plan_of m.is)
-    (ap (names_of encode_utf8_all) c.as_slice-names-in-Trace.ensures) (c.run_inputs-in-Trace.ensures.runs tells.0 tells.1)
+    (ap (names_of encode_utf8_all) c.as_slice-names-in-Trace.ensures) c.reading-reading-in-Trace.ensures
+    (c.run_inputs-in-Trace.ensures.runs tells.0 tells.1)
 
 pub returns-in-Run-clause-runs : goal.returns-in-Run-clause-runs
 returns-in-Run-clause-runs g c = λ knows.
     let m = c.in-Run in
     let tells = subst (λ x. KnowsInputs (plan_of x) g.F.Source.tells g.I.Source.tells) m.is knows in
-    match-runs c.run_inputs-in-Run.result _ (runner_of m.job) m.whole
-    (names_of encode_utf8_all m.names) (names_of encode_utf8_all c.as_slice-names-in-Run.result.now) (plan_of c.args.plan.now)
+    match-runs c.run_inputs-in-Run.result _ (runner_of m.job) m.whole (names_of encode_utf8_all m.names)
+    (names_of encode_utf8_all c.as_slice-names-in-Run.result.now) _ (plan_of c.args.plan.now)
     (g.F.Source.tree c.args.files.now) _ _ _ _ (ap plan_of m.is)
-    (ap (names_of encode_utf8_all) c.as_slice-names-in-Run.ensures) (c.run_inputs-in-Run.ensures.runs tells.0 tells.1)
+    (ap (names_of encode_utf8_all) c.as_slice-names-in-Run.ensures) c.reading-reading-in-Run.ensures
+    (c.run_inputs-in-Run.ensures.runs tells.0 tells.1)

@@ -5,15 +5,15 @@ use Rattle.rosie_cli.specs.Plans.{Plan, refusal}
 use Rattle.rosie_cli.specs.Promises.{IsPromised}
 use Rattle.rosie_cli.specs.Report.{KnowsInputs}
 use Rattle.rosie_cli.specs.Words.{asked}
-use Rattle.rosie_cli.proofs.Whole.{do-goes-on, do-knows, do-planned, planned-goes, refused-plan, refused-runs}
+use Rattle.rosie_cli.proofs.Whole.{do-goes-on, do-knows, do-planned, planned-goes, refused-plan, refused-runs, said-goes}
 use Rattle.rosie_cli.proofs.top.run_words.Goals as goal
 
 pub returns-in-Refuse-clause-runs : goal.returns-in-Refuse-clause-runs
 returns-in-Refuse-clause-runs g c = λ p files is inputs.
     let text = string_bytes c.in-Refuse.text in
     let e = rw c.in-Refuse.is at c.in-Ok.ensures in
-    let same = refused-plan (asked (words_of c.args.words.now)) text _ p e is in
-    refused-runs c.run_plan.result _ p (refusal text) _ _ _ _ _ _ same (c.run_plan.ensures.runs tt)
+    refused-runs c.refuse.result _ p text _ _ _ _ _ (refused-plan (asked (words_of c.args.words.now)) text _ p e is)
+    (c.refuse.ensures.runs c.args.steps.now)
 
 pub returns-in-Refuse-clause-due : goal.returns-in-Refuse-clause-due
 returns-in-Refuse-clause-due g c = λ p files is stepped.
@@ -25,8 +25,8 @@ pub returns-in-Refuse-clause-rest : goal.returns-in-Refuse-clause-rest
 returns-in-Refuse-clause-rest g c = λ t u p is.
     let text = string_bytes c.in-Refuse.text in
     let e = rw c.in-Refuse.is at c.in-Ok.ensures in
-    planned-goes c.run_plan.result p (refusal text) _ (refused-plan (asked (words_of c.args.words.now)) text _ p e is)
-    (c.run_plan.ensures.rest t u)
+    planned-goes c.refuse.result p (refusal text) _ (refused-plan (asked (words_of c.args.words.now)) text _ p e is)
+    (said-goes c.refuse.result (refusal text) _ tt)
 
 pub returns-in-Do-clause-runs : goal.returns-in-Do-clause-runs
 returns-in-Do-clause-runs g c = λ p files is inputs.

@@ -40,14 +40,14 @@ returns-in-Err-answer-clause-makes g c = λ ft it w is.
     sp.1 sp.2 halt _ _ halted (c.in-Err-answer.ensures.steps ft w is)
 
 pub returns-in-Err-answer-clause-stops : goal.returns-in-Err-answer-clause-stops
-returns-in-Err-answer-clause-stops g c = inner_stops c.in-Err-answer.halt _ _ _ _ _ c.in-Err-answer.ensures.inner
+returns-in-Err-answer-clause-stops g c = inner_stops c.in-Err-answer.halt _ _ _ _ _ c.in-Err-answer.ensures.leaves.inner
 
 pub returns-in-Err-answer-clause-of_reading : goal.returns-in-Err-answer-clause-of_reading
-returns-in-Err-answer-clause-of_reading g c = inner_reading c.in-Err-answer.halt c.in-Err-answer.ensures.inner
+returns-in-Err-answer-clause-of_reading g c = inner_reading c.in-Err-answer.halt c.in-Err-answer.ensures.leaves.inner
 
 pub returns-in-Err-answer-clause-cause : goal.returns-in-Err-answer-clause-cause
 returns-in-Err-answer-clause-cause g c =
-    inner_input c.in-Err-answer.halt _ _ c.in-Err-answer.ensures.inner c.in-Ok.ensures.cause
+    inner_input c.in-Err-answer.halt _ _ c.in-Err-answer.ensures.leaves.inner c.in-Ok.ensures.cause
 
 pub returns-in_ok-wrong-in-TooLong-clause-makes : goal.returns-in_ok-wrong-in-TooLong-clause-makes
 returns-in_ok-wrong-in-TooLong-clause-makes g c = λ ft it w is.

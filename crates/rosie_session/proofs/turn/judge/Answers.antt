@@ -4,7 +4,7 @@ use Rattle.rosie_repl.specs.Seen.{edit_seen}
 use Rattle.rosie_repl.specs.States.{session_of}
 use Rattle.rosie_run.specs.Report.{Piece}
 use Rattle.rosie_session.specs.inside.Turning.{IsSaid}
-use Rattle.rosie_session.proofs.Turns.{back_made, memory_files}
+use Rattle.rosie_session.proofs.Turns.{back_made, memory_leaves}
 use Rattle.rosie_session.proofs.turn.judge.Goals as goal
 
 pub returns-in_ok-accepted-in-Ok-clause-turns : goal.returns-in_ok-accepted-in-Ok-clause-turns
@@ -23,6 +23,7 @@ returns-in-Refused-clause-turns g c = λ t w is before made.
 pub returns-in-ReadFault-clause-turns : goal.returns-in-ReadFault-clause-turns
 returns-in-ReadFault-clause-turns g c = λ t w is before made. rw c.in-ReadFault.is at (c.in-Err.ensures.judges t w is before)
 
-pub returns-in_err-accepted-in-Ok-clause-cause : goal.returns-in_err-accepted-in-Ok-clause-cause
-returns-in_err-accepted-in-Ok-clause-cause g c =
-    memory_files c.from_residual.result _ _ c.from_residual.ensures.1 c.in-Ok.ensures.cause
+pub returns-in_err-accepted-in-Ok-clause-leaves : goal.returns-in_err-accepted-in-Ok-clause-leaves
+returns-in_err-accepted-in-Ok-clause-leaves g c =
+    let e = c.in-Ok.ensures in
+    memory_leaves g.F.Source c.from_residual.result _ _ e.taken e.tree e.cause c.from_residual.ensures.1

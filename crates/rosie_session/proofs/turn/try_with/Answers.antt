@@ -1,7 +1,7 @@
 use Rattle.std.proofs.Common.{refl}
 use Rattle.std.specs.Prelude.{Some, chars, string_bytes}
 use Rattle.rosie_repl.specs.States.{session_of}
-use Rattle.rosie_session.proofs.Turns.{memory_files, refused_cost, try_cost, try_made, try_refused}
+use Rattle.rosie_session.proofs.Turns.{memory_leaves, refused_cost, try_cost, try_made, try_refused}
 use Rattle.rosie_session.proofs.turn.try_with.Goals as goal
 
 pub returns-in_ok-try_job-in-Ok-clause-turns : goal.returns-in_ok-try_job-in-Ok-clause-turns
@@ -35,6 +35,7 @@ returns-in-Refused-clause-steps g c = λ t w is.
 pub returns-in-ReadFault-clause-turns : goal.returns-in-ReadFault-clause-turns
 returns-in-ReadFault-clause-turns g c = λ t w is. rw c.in-ReadFault.is at (c.in-Err.ensures.asked t w is)
 
-pub returns-in_err-try_job-in-Ok-clause-cause : goal.returns-in_err-try_job-in-Ok-clause-cause
-returns-in_err-try_job-in-Ok-clause-cause g c =
-    memory_files c.from_residual.result _ _ c.from_residual.ensures.1 c.in-Ok.ensures.cause
+pub returns-in_err-try_job-in-Ok-clause-leaves : goal.returns-in_err-try_job-in-Ok-clause-leaves
+returns-in_err-try_job-in-Ok-clause-leaves g c =
+    let e = c.in-Ok.ensures in
+    memory_leaves g.F.Source c.from_residual.result _ _ e.taken e.tree e.cause c.from_residual.ensures.1

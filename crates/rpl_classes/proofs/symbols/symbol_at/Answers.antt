@@ -1,6 +1,7 @@
 use Rattle.std.proofs.Common.{◌∙◌, Some, sym, ap, arith}
 use Rattle.std.specs.Prelude.{chars}
-use Rattle.rpl_classes.proofs.Scans.{stepped, scan_plain, scan_end, scan_bad, scan_escape}
+use Rattle.rpl_text.proofs.Stepped.{stepped}
+use Rattle.rpl_classes.proofs.Scans.{scan_plain, scan_end, scan_bad, scan_escape}
 use Rattle.rpl_text.proofs.Escaped.{byte_stood}
 use Rattle.rpl_classes.proofs.symbols.symbol_at.Goals as goal
 

@@ -8,7 +8,8 @@ use Rattle.rpl_codegen.specs.inside.Gathered.{Gathers}
 use Rattle.rpl_codegen.specs.inside.Nodes.{choice_nodes, inner_nodes, tested_nodes}
 use Rattle.rpl_codegen.specs.inside.Sizes.{capped_len, len}
 use Rattle.rpl_codegen.proofs.Gathering.{gathers_joined, gathers_last, gathers_set, gathers_then, joined_head}
-use Rattle.rpl_codegen.proofs.Parts.{drop_here, drop_last, seq_core, choice_core, len_first_here, tried_is, and_assoc}
+use Rattle.rpl_core.proofs.Walk.{choice_core, drop_here, seq_core}
+use Rattle.rpl_codegen.proofs.Parts.{drop_last, len_first_here, tried_is, and_assoc}
 use Rattle.rpl_codegen.proofs.Taking.{filled, listed_turn, tried_here}
 use Rattle.rpl_codegen.proofs.size.+measure.Goals.{measure_first-then-tried, measure_first-else-tried, measure_first-then-all, measure_first-else-all, measure_first-then-all-2, measure_first-else-all-2}
 use Rattle.rpl_codegen.proofs.size.+measure.Goals as goal

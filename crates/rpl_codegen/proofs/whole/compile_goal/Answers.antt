@@ -1,6 +1,8 @@
-use Rattle.std.proofs.Common.{◌∙◌, ◌++◌, sym, ap, subst, arith, length, refl}
+use Rattle.std.proofs.Common.{◌≡◌, ◌∙◌, ◌++◌, List, sym, ap, subst, arith, length, refl}
+use Rattle.rpl_core.specs.Instr.{Instr}
 use Rattle.rpl_core.specs.Listed.{rules_of}
 use Rattle.rpl_core.specs.Numbers.{AreInRange}
+use Rattle.rpl_core.specs.Program.{instructions}
 use Rattle.rpl_core.specs.Programs.{program}
 use Rattle.rpl_core.specs.Table.{bodies_of}
 use Rattle.rpl_core.specs.View.{core_of}
@@ -8,12 +10,14 @@ use Rattle.rpl_codegen.specs.inside.Laid.{LaysOut, bodies_nodes}
 use Rattle.rpl_reach.specs.Marked.{marked}
 use Rattle.rpl_codegen.specs.inside.Nodes.{nodes_in}
 use Rattle.rpl_codegen.specs.inside.Taken.{left}
+use Rattle.rpl_draft.specs.Written.{Adds}
 use Rattle.rpl_draft.specs.Uses.{sets_in, labels_in}
 use Rattle.rpl_codegen.specs.inside.Written.{address_of}
 use Rattle.rpl_codegen.proofs.Finish.{compiled, finished, is_code, program_means, kept}
 use Rattle.rpl_codegen.proofs.Jumps.{program_length}
 use Rattle.rpl_codegen.proofs.Lengths.{code_length}
 use Rattle.rpl_codegen.proofs.Taking.{as_begins, begins_all, begins_behind, begins_front}
+use Rattle.rpl_codegen.proofs.whole.compile_goal.Goals.{After-drop-marks-2}
 use Rattle.rpl_codegen.proofs.whole.compile_goal.Goals as goal
 
 pub returns-then-size-gt-MAX_CODE-clause-too_long : goal.returns-then-size-gt-MAX_CODE-clause-too_long
@@ -57,43 +61,32 @@ new-requires-2 c =
     (subst (λ l. AreInRange d3.code d3.sets l) (sym c.in_ok-labels.ensures)
     (finished d d3 bs R g c.requires c.in_ok-marks.ensures c.new-draft.ensures.code all).1)
 
+-- the program of the goal, and that the draft holds it
+abbrev wanted : After-drop-marks-2 → List Instr
+wanted c = program (marked c.in_ok-marks.marks.items) (bodies_of (rules_of c.args.rules.now)) (core_of c.args.goal.now)
+
+written : (c : After-drop-marks-2) → Adds c.new-draft.result c.emit_rules.new.draft (wanted c)
+written c =
+    compiled c.new-draft.result c.emit.new.draft c.put.new.self c.emit_rules.new.draft c.in_ok-layout.layout c.in_ok-marks.marks.items c.deref.result.now c.deref-2.result.now (bodies_of (rules_of c.args.rules.now)) (core_of c.args.goal.now) c.deref.ensures.value c.deref-2.ensures.value c.in_ok-layout.ensures.layout (omega (arith, c.size.ensures, c.if-size-gt-MAX_CODE.false)) c.new-draft.ensures.code c.in_ok-emit.ensures.code c.in_ok-put.ensures c.in_ok-emit_rules.ensures
+
+means : (c : After-drop-marks-2) → instructions c.new-2.result ≡ wanted c
+means c =
+    let d = c.emit_rules.new.draft in
+    let is = finished c.new-draft.result d c.in_ok-marks.marks.items (bodies_of (rules_of c.args.rules.now)) (core_of c.args.goal.now) c.requires c.in_ok-marks.ensures c.new-draft.ensures.code (written c) in
+    program_means c.new-2.result d.code d.sets d.labels (wanted c) c.new-2.ensures.code (c.new-2.ensures.sets ∙ c.in_ok-sets.ensures) (c.new-2.ensures.labels ∙ c.in_ok-labels.ensures) is.0
+
 pub returns-clause-code : goal.returns-clause-code
-returns-clause-code c =
-    let R = bodies_of (rules_of c.args.rules.now) in
-    let g = core_of c.args.goal.now in
-    let bs = c.in_ok-marks.marks.items in
-    let d = c.new-draft.result in
-    let d3 = c.emit_rules.new.draft in
-    let p = c.new-2.result in
-    let all = compiled d c.emit.new.draft c.put.new.self d3 c.in_ok-layout.layout bs c.deref.result.now c.deref-2.result.now R g c.deref.ensures.value c.deref-2.ensures.value c.in_ok-layout.ensures.layout (omega (arith, c.size.ensures, c.if-size-gt-MAX_CODE.false)) c.new-draft.ensures.code c.in_ok-emit.ensures.code c.in_ok-put.ensures c.in_ok-emit_rules.ensures in
-    let is = finished d d3 bs R g c.requires c.in_ok-marks.ensures c.new-draft.ensures.code all in
-    is_code bs R g _ c.in_ok-marks.ensures (program_means p d3.code d3.sets d3.labels (program (marked bs) R g) c.new-2.ensures.code (c.new-2.ensures.sets ∙ c.in_ok-sets.ensures) (c.new-2.ensures.labels ∙ c.in_ok-labels.ensures) is.0)
+returns-clause-code c = is_code c.in_ok-marks.marks.items (bodies_of (rules_of c.args.rules.now)) (core_of c.args.goal.now) _ c.in_ok-marks.ensures (means c)
 
 pub returns-clause-sets : goal.returns-clause-sets
 returns-clause-sets c =
-    let R = bodies_of (rules_of c.args.rules.now) in
-    let g = core_of c.args.goal.now in
-    let bs = c.in_ok-marks.marks.items in
-    let d = c.new-draft.result in
-    let d3 = c.emit_rules.new.draft in
-    let p = c.new-2.result in
-    let all = compiled d c.emit.new.draft c.put.new.self d3 c.in_ok-layout.layout bs c.deref.result.now c.deref-2.result.now R g c.deref.ensures.value c.deref-2.ensures.value c.in_ok-layout.ensures.layout (omega (arith, c.size.ensures, c.if-size-gt-MAX_CODE.false)) c.new-draft.ensures.code c.in_ok-emit.ensures.code c.in_ok-put.ensures c.in_ok-emit_rules.ensures in
-    let is = finished d d3 bs R g c.requires c.in_ok-marks.ensures c.new-draft.ensures.code all in
-    let same = program_means p d3.code d3.sets d3.labels (program (marked bs) R g) c.new-2.ensures.code (c.new-2.ensures.sets ∙ c.in_ok-sets.ensures) (c.new-2.ensures.labels ∙ c.in_ok-labels.ensures) is.0 in
-    kept (sets_in (program (marked bs) R g)) _ d.sets d3.sets p.sets (ap sets_in (sym same)) c.new-draft.ensures.sets (sym (c.new-2.ensures.sets ∙ c.in_ok-sets.ensures)) all.sets
+    let a = written c in
+    kept (sets_in (wanted c)) _ c.new-draft.result.sets c.emit_rules.new.draft.sets c.new-2.result.sets (ap sets_in (sym (means c))) c.new-draft.ensures.sets (sym (c.new-2.ensures.sets ∙ c.in_ok-sets.ensures)) a.sets
 
 pub returns-clause-labels : goal.returns-clause-labels
 returns-clause-labels c =
-    let R = bodies_of (rules_of c.args.rules.now) in
-    let g = core_of c.args.goal.now in
-    let bs = c.in_ok-marks.marks.items in
-    let d = c.new-draft.result in
-    let d3 = c.emit_rules.new.draft in
-    let p = c.new-2.result in
-    let all = compiled d c.emit.new.draft c.put.new.self d3 c.in_ok-layout.layout bs c.deref.result.now c.deref-2.result.now R g c.deref.ensures.value c.deref-2.ensures.value c.in_ok-layout.ensures.layout (omega (arith, c.size.ensures, c.if-size-gt-MAX_CODE.false)) c.new-draft.ensures.code c.in_ok-emit.ensures.code c.in_ok-put.ensures c.in_ok-emit_rules.ensures in
-    let is = finished d d3 bs R g c.requires c.in_ok-marks.ensures c.new-draft.ensures.code all in
-    let same = program_means p d3.code d3.sets d3.labels (program (marked bs) R g) c.new-2.ensures.code (c.new-2.ensures.sets ∙ c.in_ok-sets.ensures) (c.new-2.ensures.labels ∙ c.in_ok-labels.ensures) is.0 in
-    kept (labels_in (program (marked bs) R g)) _ d.labels d3.labels p.labels (ap labels_in (sym same)) c.new-draft.ensures.labels (sym (c.new-2.ensures.labels ∙ c.in_ok-labels.ensures)) all.labels
+    let a = written c in
+    kept (labels_in (wanted c)) _ c.new-draft.result.labels c.emit_rules.new.draft.labels c.new-2.result.labels (ap labels_in (sym (means c))) c.new-draft.ensures.labels (sym (c.new-2.ensures.labels ∙ c.in_ok-labels.ensures)) a.labels
 
 pub emit-requires-clause-nodes : goal.emit-requires-clause-nodes
 emit-requires-clause-nodes c =

@@ -1,4 +1,4 @@
-use Rattle.std.proofs.Common.{◌≡◌, ℕ, List, ◌<◌, ◌+◌, ◌-◌, ◌∙◌, suc, length, drop, get_or, refl, sym, ap, subst, arith, [], ◌∷◌}
+use Rattle.std.proofs.Common.{◌≡◌, ◌≢◌, ℕ, List, ◌<◌, ◌+◌, ◌-◌, ◌∙◌, suc, length, drop, get_or, refl, sym, ap, subst, arith, [], ◌∷◌}
 use Rattle.std.proofs.lemmas.Bool.{eqb-true, eqb-false}
 use Rattle.std.specs.Prelude.{OnOk}
 use Rattle.rpl_core.specs.Code as C
@@ -6,6 +6,7 @@ use Rattle.rpl_core.specs.Core.{Behind, Core}
 use Rattle.rpl_core.specs.Head as H
 use Rattle.rpl_core.specs.Instr as I
 use Rattle.rpl_core.specs.View.{core_of, cores, listed}
+use Rattle.rpl_core.specs.declared.peg.Peg.{Peg}
 use Rattle.rpl_core.proofs.Rows.{seq_view, choice_view}
 use Rattle.rpl_codegen.specs.inside.Sizes.{len, len_all, len_first, many_len, not_len}
 use Rattle.rpl_codegen.specs.inside.Nodes.{behind_nodes, choice_nodes, inner_nodes, nodes_in, parts_nodes, tested_nodes}
@@ -16,11 +17,16 @@ use Rattle.rpl_draft.specs.declared.draft.Draft.{Draft}
 use Rattle.rpl_codegen.specs.declared.size.Node.{Node}
 use Rattle.rpl_draft.proofs.Adding.{adds_then}
 use Rattle.rpl_codegen.proofs.Lengths.{code_length, first_length}
-use Rattle.rpl_codegen.proofs.Parts.{drop_here, len_first_here, code_first_here, drop_last, no_parts, part_of}
+use Rattle.rpl_core.proofs.Walk.{drop_here}
+use Rattle.rpl_codegen.proofs.Parts.{len_first_here, code_first_here, drop_last, no_parts, part_of}
 use Rattle.rpl_codegen.proofs.Pieces.{on_ok, piece_loop, piece_refuse, piece_and, piece_capture, piece_choice, piece_length, piece_tried, test_length, behind_end, room_turn}
 use Rattle.rpl_codegen.proofs.Taking.{as_begins, as_taken, begins_behind, begins_front, last_here, more_lengths, parts_here, takes_anew, takes_none, takes_then, tried_here}
 use Rattle.rpl_codegen.proofs.Weights.{seq_part, choice_part}
 use Rattle.rpl_codegen.proofs.writing.+emit.Goals as goal
+
+-- the last part of a choice
+last_part : (row ps : List Peg) (k : ℕ) (p : Peg) → row ≡ ps → length row ≢ 0 → length row - 1 ≡ k → p ≡ get_or row (length row - 1) p → (k + 1 ≡ length ps) × (p ≡ get_or ps k p)
+last_part row ps k p same some last is = (omega (arith, some, ap length same), part_of row ps k p same (is ∙ ap (λ i. get_or row i p) last))
 
 pub emit_all-loop-part-init : goal.emit_all-loop-part-init
 emit_all-loop-part-init t c =
@@ -190,19 +196,12 @@ emit_first-loop-number-preserved t c =
 
 pub emit_first-emit-requires : goal.emit_first-emit-requires
 emit_first-emit-requires t c =
-    let row = c.as_slice-parts.result.now in
     let ps = listed c.args.parts.now in
     let k = c.loop-number.number in
     let p = c.index-parts-last.result in
-    let some = eqb-false (length row) 0 (sym c.is_empty.ensures ∙ c.if-is_empty.false) in
-    let full : 0 < length row = omega (arith, some) in
-    let same = c.as_slice-parts.ensures in
-    let x = c.index-parts-last.is in
-    let last : k + 1 ≡ length ps = omega (arith, full, ap length same) in
-    let at_last : length row - 1 ≡ k = omega arith in
-    let is = part_of row ps k p same (x ∙ ap (λ i. get_or row i p) at_last) in
-    let here = ap (λ l. len_first (cores l)) (drop_last ps k p last is) in
-    (omega (arith, c.decreases, choice_part c.args.parts.now k p (omega arith) is), (omega (arith, here, ap len (choice_view c.args.parts.now), c.requires.room, c.requires.end, c.loop-number.invariant.0), as_begins (left c.loop-number.nodes) _ _ (last_here ps k p last is) c.loop-number.invariant.2))
+    let last = last_part c.as_slice-parts.result.now ps k p c.as_slice-parts.ensures (eqb-false (length c.as_slice-parts.result.now) 0 (sym c.is_empty.ensures ∙ c.if-is_empty.false)) (omega arith) c.index-parts-last.is in
+    let here = ap (λ l. len_first (cores l)) (drop_last ps k p last.0 last.1) in
+    (omega (arith, c.decreases, choice_part c.args.parts.now k p (omega arith) last.1), (omega (arith, here, ap len (choice_view c.args.parts.now), c.requires.room, c.requires.end, c.loop-number.invariant.0), as_begins (left c.loop-number.nodes) _ _ (last_here ps k p last.0 last.1) c.loop-number.invariant.2))
 
 pub emit_length-put-requires-3 : goal.emit_length-put-requires-3
 emit_length-put-requires-3 t c =
@@ -328,17 +327,10 @@ emit_first-returns-then-is_empty-clause-nodes t c =
 
 pub emit_first-returns-clause-nodes : goal.emit_first-returns-clause-nodes
 emit_first-returns-clause-nodes t c =
-    let row = c.as_slice-parts.result.now in
     let ps = listed c.args.parts.now in
     let k = c.loop-number.number in
     let p = c.index-parts-last.result in
-    let some = eqb-false (length row) 0 (sym c.is_empty.ensures ∙ c.if-is_empty.false) in
-    let full : 0 < length row = omega (arith, some) in
-    let same = c.as_slice-parts.ensures in
-    let x = c.index-parts-last.is in
-    let last : k + 1 ≡ length ps = omega (arith, full, ap length same) in
-    let at_last : length row - 1 ≡ k = omega arith in
-    let is = part_of row ps k p same (x ∙ ap (λ i. get_or row i p) at_last) in
-    let alone = last_here ps k p last is in
+    let last = last_part c.as_slice-parts.result.now ps k p c.as_slice-parts.ensures (eqb-false (length c.as_slice-parts.result.now) 0 (sym c.is_empty.ensures ∙ c.if-is_empty.false)) (omega arith) c.index-parts-last.is in
+    let alone = last_here ps k p last.0 last.1 in
     let s = c.loop-number.nodes in
     on_ok c.emit.result _ _ (λ w. c.loop-number.invariant.3 c.emit.new.nodes (as_taken s c.emit.new.nodes _ _ (sym alone) w)) c.emit.ensures.nodes

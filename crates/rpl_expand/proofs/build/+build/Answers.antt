@@ -1,10 +1,11 @@
-use Rattle.std.proofs.Common.{◌≡◌, ◌≢◌, length, sym, ap, ap₂, ◌∙◌, subst, arith}
-use Rattle.std.specs.Prelude.{IfOk, Some}
+use Rattle.std.proofs.Common.{◌≡◌, ◌≢◌, ℕ, length, sym, ap, ap₂, ◌∙◌, subst, arith}
+use Rattle.std.specs.Prelude.{Bool, true, false, IfOk, Option, Some}
 use Rattle.std.proofs.lemmas.Bool.Decides.{nat_tests}
 use Rattle.std.proofs.lemmas.Result.{IfOk-weaker}
 use Rattle.rpl_core.specs.Core as C
 use Rattle.rpl_core.specs.Listed.{rules_of}
 use Rattle.rpl_core.specs.View.{core_of, cores, listed}
+use Rattle.rpl_syntax.specs.Expression.{Expr}
 use Rattle.rpl_syntax.specs.View.{expr_of, exprs_all}
 use Rattle.rpl_syntax.proofs.Rows.{cooked_view, raw_view, choice_view}
 use Rattle.rpl_forms.specs.Counting.{seen, seen_all}
@@ -13,7 +14,10 @@ use Rattle.rpl_forms.specs.Rows.{inners_of}
 use Rattle.rpl_forms.proofs.Seen.{seen_text, seen_seq, seen_choice, seen_repeated}
 use Rattle.rpl_expand.specs.Expansion.{core, is_cooked, spaced}
 use Rattle.rpl_expand.specs.Expansion as E
+use Rattle.rpl_expand.specs.inside.Bases.{base_inners, base_scope, core_at, shown}
 use Rattle.rpl_expand.specs.inside.Items.{between}
+use Rattle.rpl_expand.specs.declared.base.Base.{Base}
+use Rattle.rpl_expand.specs.declared.mode.Mode.{Mode}
 use Rattle.rpl_expand.specs.inside.Scopes.{scope_seen}
 use Rattle.rpl_expand.proofs.Parts as P
 use Rattle.rpl_expand.proofs.Places.{seen_set, seen_start, seen_end}
@@ -103,10 +107,8 @@ build-returns-in_ok-parts-in-Choice t c =
 
 pub build_raw-returns-in_ok-parts-in_default : goal.build_raw-returns-in_ok-parts-in_default
 build_raw-returns-in_ok-parts-in_default t c =
-    let b = c.args.mode.inside in
-    let k = c.args.mode.casing in
-    let I = inners_of (rules_of c.args.base.now.rules.now) in
-    let s = scope_seen c.args.base.now.scope I in
+    let mode = c.args.mode in
+    let base = c.args.base.now in
     let es = c.args.items.now in
     let many : length es ≢ 1 =
     elim c.in_default.branch [
@@ -114,14 +116,13 @@ build_raw-returns-in_ok-parts-in_default t c =
       | build_raw-in_default-via-else-items-lt1+else-items-lt2 w ↦ grind (arith, nat_tests)
     ] in
     c.seq.ensures ∙ ap C.Seq c.in_ok-parts-in_default.ensures
-    ∙ sym (ap (seen b I) (P.raw_more k s es many) ∙ seen_seq b I (P.parts k s es))
+    ∙ sym (ap (shown base mode.inside) (P.raw_more mode.casing (base_scope base) es many)
+    ∙ seen_seq mode.inside (base_inners base) (P.parts mode.casing (base_scope base) es))
 
 pub build_cooked-returns-in_ok-parts-in_default : goal.build_cooked-returns-in_ok-parts-in_default
 build_cooked-returns-in_ok-parts-in_default t c =
-    let b = c.args.mode.inside in
     let k = c.args.mode.casing in
-    let I = inners_of (rules_of c.args.base.now.rules.now) in
-    let s = scope_seen c.args.base.now.scope I in
+    let b = c.args.base.now in
     let es = c.args.items.now in
     let many : length es ≢ 1 =
     elim c.in_default.branch [
@@ -129,7 +130,8 @@ build_cooked-returns-in_ok-parts-in_default t c =
       | build_cooked-in_default-via-else-items-lt1+else-items-lt2 w ↦ grind (arith, nat_tests)
     ] in
     c.seq.ensures ∙ ap C.Seq c.in_ok-parts-in_default.ensures
-    ∙ sym (ap (seen b I) (P.cooked_more k s es many) ∙ seen_seq b I (P.items k s es))
+    ∙ sym (ap (shown b c.args.mode.inside) (P.cooked_more k (base_scope b) es many)
+    ∙ seen_seq c.args.mode.inside (base_inners b) (P.items k (base_scope b) es))
 
 pub build_all-loop-item-preserved : goal.build_all-loop-item-preserved
 build_all-loop-item-preserved t c =
@@ -180,52 +182,44 @@ build_spaced-returns t c =
     P.all_made (cores (listed c.loop-number.parts)) _ _
     (P.none_spaced b I k s es c.loop-number.number c.loop-number-test.false) c.loop-number.invariant
 
+-- a repetition there, where it is known whether its body is cooked
+repeat_at : (base : Base) (mode : Mode) (body : Expr) (l : ℕ) (m : Option ℕ) (cooked : Bool) → is_cooked body ≡ cooked
+    → shown base mode.inside
+    (F.repeated (is_cooked body) (C.Call base.scope.boundary) (core mode.casing (base_scope base) body) l m)
+    ≡ F.repeated cooked (shown base mode.inside (C.Call base.scope.boundary)) (core_at base mode body) l m
+repeat_at base mode body l m cooked test =
+    let q = C.Call base.scope.boundary in
+    seen_repeated mode.inside (base_inners base) (is_cooked body) q (core mode.casing (base_scope base) body) l m
+    ∙ ap (λ x. F.repeated x (shown base mode.inside q) (core_at base mode body) l m) test
+
 pub build_repeat-returns-then-not-is_cooked : goal.build_repeat-returns-then-not-is_cooked
 build_repeat-returns-then-not-is_cooked t c =
-    let b = c.args.mode.inside in
-    let k = c.args.mode.casing in
-    let I = inners_of (rules_of c.args.base.now.rules.now) in
-    let s = scope_seen c.args.base.now.scope I in
-    let p = core k s (expr_of c.args.body.now) in
     let l = c.args.least in
     let m = c.args.most in
-    let q = C.Call s.boundary in
     let test = sym c.is_cooked.ensures ∙ c.if-not-is_cooked.true in
-    let same = seen_repeated b I (is_cooked (expr_of c.args.body.now)) q p l m
-    ∙ ap (λ x. F.repeated x (seen b I q) (seen b I p) l m) test in
+    let same = repeat_at c.args.base.now c.args.mode (expr_of c.args.body.now) l m false test in
     subst (λ w. IfOk c.repeat.result (λ r. core_of r ≡ w)) (ap (λ x. F.repeat x l m) c.in_ok-turn.ensures ∙ sym same)
     c.repeat.ensures
 
 pub build_repeat-returns-then-is_once : goal.build_repeat-returns-then-is_once
 build_repeat-returns-then-is_once t c =
-    let b = c.args.mode.inside in
-    let k = c.args.mode.casing in
-    let I = inners_of (rules_of c.args.base.now.rules.now) in
-    let s = scope_seen c.args.base.now.scope I in
-    let p = core k s (expr_of c.args.body.now) in
+    let base = c.args.base.now in
+    let body = expr_of c.args.body.now in
     let l = c.args.least in
-    let m = c.args.most in
-    let q = C.Call s.boundary in
+    let q = shown base c.args.mode.inside (C.Call base.scope.boundary) in
     let test = sym c.is_cooked.ensures ∙ c.if-not-is_cooked.false in
-    let most : m ≡ Some 1 = c.is_once.ensures.most c.if-is_once.true in
-    let same = seen_repeated b I (is_cooked (expr_of c.args.body.now)) q p l m
-    ∙ ap₂ (λ x n. F.repeated x (seen b I q) (seen b I p) l n) test most in
-    IfOk-weaker c.cooked_once.result _ _ (λ r e. e (seen b I q)
-    ∙ ap (λ x. F.cooked_bounded (seen b I q) x l 1) c.in_ok-turn.ensures ∙ sym same) c.cooked_once.ensures
+    let most : c.args.most ≡ Some 1 = c.is_once.ensures.most c.if-is_once.true in
+    let same = repeat_at base c.args.mode body l c.args.most true test
+    ∙ ap (λ n. F.repeated true q (core_at base c.args.mode body) l n) most in
+    IfOk-weaker c.cooked_once.result _ _ (λ r e. e q
+    ∙ ap (λ x. F.cooked_bounded q x l 1) c.in_ok-turn.ensures ∙ sym same) c.cooked_once.ensures
 
 pub build_repeat-returns : goal.build_repeat-returns
 build_repeat-returns t c =
-    let b = c.args.mode.inside in
-    let k = c.args.mode.casing in
-    let I = inners_of (rules_of c.args.base.now.rules.now) in
-    let s = scope_seen c.args.base.now.scope I in
-    let p = core k s (expr_of c.args.body.now) in
     let l = c.args.least in
     let m = c.args.most in
-    let q = C.Call s.boundary in
     let test = sym c.is_cooked.ensures ∙ c.if-not-is_cooked.false in
-    let same = seen_repeated b I (is_cooked (expr_of c.args.body.now)) q p l m
-    ∙ ap (λ x. F.repeated x (seen b I q) (seen b I p) l m) test in
+    let same = repeat_at c.args.base.now c.args.mode (expr_of c.args.body.now) l m true test in
     subst (λ w. IfOk c.cooked_repeat.result (λ r. core_of r ≡ w))
     (ap₂ (λ x y. F.cooked_repeat x y l m) c.in_ok-boundary.ensures c.in_ok-turn.ensures ∙ sym same)
     c.cooked_repeat.ensures

@@ -1,15 +1,20 @@
-use Rattle.std.proofs.Common.{◌≢◌, ◌+◌, drop, length, sym, ap, ◌∙◌, subst, arith}
+use Rattle.std.specs.Prelude.{Bool, true, false, Option}
+use Rattle.std.proofs.Common.{◌≡◌, ◌≢◌, ℕ, ◌+◌, drop, length, sym, ap, ◌∙◌, subst, arith}
 use Rattle.std.proofs.lemmas.Bool.Decides.{nat_tests}
 use Rattle.rpl_core.specs.Core.{Choice, Call, Then}
+use Rattle.rpl_macro.specs.declared.casing.Casing.{Casing}
+use Rattle.rpl_syntax.specs.Expression as X
 use Rattle.rpl_syntax.specs.View.{expr_of, exprs_all}
 use Rattle.rpl_syntax.proofs.Rows.{cooked_view, raw_view, choice_view}
 use Rattle.rpl_forms.specs.Counting.{Adds, Counts, seen, seen_all}
 use Rattle.rpl_expand.specs.inside.Items.{between}
-use Rattle.rpl_expand.specs.Expansion.{core, cores, spaced, is_cooked}
+use Rattle.rpl_expand.specs.Expansion.{Scope, core, cores, spaced, is_cooked}
 use Rattle.rpl_forms.specs.Forms.{seq_of, repeated}
+use Rattle.rpl_forms.specs.Inlining.{Inners}
 use Rattle.rpl_expand.specs.inside.Scopes.{scope_seen}
 use Rattle.rpl_expand.proofs.Parts.{parts, items, raw_more, cooked_more, parts_seen, items_seen, none_left}
-use Rattle.rpl_expand.proofs.Parts.{none_spaced, adds_done}
+use Rattle.rpl_expand.proofs.Parts.{none_spaced}
+use Rattle.rpl_forms.proofs.Counted.{adds_done}
 use Rattle.rpl_forms.proofs.Seen.{seen_seq, seen_choice, seen_text, seen_both, seen_repeated}
 use Rattle.rpl_expand.proofs.measure.+measure.Goals.{measure_cooked-in_default-via-then-items-lt1}
 use Rattle.rpl_expand.proofs.measure.+measure.Goals.{measure_cooked-in_default-via-else-items-lt1+else-items-lt2}
@@ -66,19 +71,25 @@ measure-returns-in-Both t c = λ k I h.
     let same = ap (λ e. seen b I (core k s (expr_of e))) c.in-Both.is ∙ seen_both b I p q in
     subst (Counts c.pair.result) (sym same) (c.pair.ensures _ _ (c.node-before.ensures.and _ one) two)
 
+-- a repetition, where it is known whether its body is cooked
+repeat_seen : (b : Bool) (I : Inners) (k : Casing) (s : Scope) (body : X.Expr) (least : ℕ) (most : Option ℕ) (cooked : Bool)
+    → is_cooked body ≡ cooked
+    → seen b I (core k s (X.Repeat body least most))
+    ≡ repeated cooked (seen b I (Call s.boundary)) (seen b I (core k s body)) least most
+repeat_seen b I k s body least most cooked test =
+    let p = core k s body in
+    seen_repeated b I (is_cooked body) (Call s.boundary) p least most
+    ∙ ap (λ x. repeated x (seen b I (Call s.boundary)) (seen b I p) least most) test
+
 pub measure-returns-then-is_cooked : goal.measure-returns-then-is_cooked
 measure-returns-then-is_cooked t c = λ k I h.
-    let b = c.args.inside in
     let s = scope_seen c.args.scope.now I in
-    let body = c.in-Repeat.body.value in
-    let p = core k s (expr_of body) in
-    let of = subst (λ e. Counts c.measure-of.result (seen b I (core k s (expr_of e)))) c.deref-in-Repeat.ensures
-    (c.measure-of.ensures k I h) in
-    let test = ap (λ e. is_cooked (expr_of e)) (sym c.deref-in-Repeat-2.ensures) ∙ sym c.is_cooked.ensures
-    ∙ c.if-is_cooked.true in
-    let same = ap (λ e. seen b I (core k s (expr_of e))) c.in-Repeat.is
-    ∙ seen_repeated b I _ (Call s.boundary) p c.in-Repeat.least c.in-Repeat.most
-    ∙ ap (λ x. repeated x (seen b I (Call s.boundary)) (seen b I p) c.in-Repeat.least c.in-Repeat.most) test in
+    let r = c.in-Repeat in
+    let of = subst (λ e. Counts c.measure-of.result (seen c.args.inside I (core k s (expr_of e))))
+    c.deref-in-Repeat.ensures (c.measure-of.ensures k I h) in
+    let test = ap (λ e. is_cooked (expr_of e)) (sym c.deref-in-Repeat-2.ensures) ∙ sym c.is_cooked.ensures in
+    let same = ap (λ e. seen c.args.inside I (core k s (expr_of e))) r.is
+    ∙ repeat_seen c.args.inside I k s (expr_of r.body.value) r.least r.most true (test ∙ c.if-is_cooked.true) in
     subst (Counts c.cooked_repeat.result) (sym same)
     (c.cooked_repeat.ensures _ _ (c.count_call-boundary.ensures I h) of)
 
@@ -86,16 +97,14 @@ pub measure-returns-else-is_cooked : goal.measure-returns-else-is_cooked
 measure-returns-else-is_cooked t c = λ k I h.
     let b = c.args.inside in
     let s = scope_seen c.args.scope.now I in
-    let body = c.in-Repeat.body.value in
-    let p = core k s (expr_of body) in
-    let of = subst (λ e. Counts c.measure-of.result (seen b I (core k s (expr_of e)))) c.deref-in-Repeat.ensures
-    (c.measure-of.ensures k I h) in
-    let test = ap (λ e. is_cooked (expr_of e)) (sym c.deref-in-Repeat-2.ensures) ∙ sym c.is_cooked.ensures
-    ∙ c.if-is_cooked.false in
-    let same = ap (λ e. seen b I (core k s (expr_of e))) c.in-Repeat.is
-    ∙ seen_repeated b I _ (Call s.boundary) p c.in-Repeat.least c.in-Repeat.most
-    ∙ ap (λ x. repeated x (seen b I (Call s.boundary)) (seen b I p) c.in-Repeat.least c.in-Repeat.most) test in
-    subst (Counts c.repeat.result) (sym same) (c.repeat.ensures _ of)
+    let r = c.in-Repeat in
+    let not_cooked =
+    ap (λ e. is_cooked (expr_of e)) (sym c.deref-in-Repeat-2.ensures) ∙ sym c.is_cooked.ensures ∙ c.if-is_cooked.false in
+    let same = ap (λ e. seen b I (core k s (expr_of e))) r.is
+    ∙ repeat_seen b I k s (expr_of r.body.value) r.least r.most false not_cooked in
+    subst (Counts c.repeat.result) (sym same) (c.repeat.ensures _
+    (subst (λ e. Counts c.measure-of.result (seen b I (core k s (expr_of e)))) c.deref-in-Repeat.ensures
+    (c.measure-of.ensures k I h)))
 
 pub measure_cooked-returns-in_default : goal.measure_cooked-returns-in_default
 measure_cooked-returns-in_default t c = λ k I h.

@@ -1,12 +1,11 @@
 use Rattle.std.proofs.Common.{◌≡◌, ℕ, List, refl, sym, ap, ap₂, ◌∙◌, subst}
-use Rattle.std.specs.Prelude.{None, codes, not}
+use Rattle.std.specs.Prelude.{Bool, None, codes, not}
 use Rattle.rpl_core.specs.Listed.{rules_of}
 use Rattle.rpl_core.specs.Programs.{calls}
 use Rattle.rpl_core.specs.Table.{bodies_of}
 use Rattle.rpl_core.specs.View.{core_of}
 use Rattle.rpl_simulation.specs.Laws.{IsCapture}
 use Rattle.rpl_macro.proofs.Names.{chars_low, encode_low}
-use Rattle.rpl_macro.specs.declared.casing.Casing.TheVariants.{Plain}
 use Rattle.rpl_syntax.specs.View.{expr_of}
 use Rattle.rpl_package.specs.Sets.{set_seen}
 use Rattle.rpl_expand.specs.Expansion.{core}
@@ -18,35 +17,37 @@ use Rattle.rpl_expand.specs.Table.{captured}
 use Rattle.rpl_expand.specs.inside.Scopes.{scope_seen}
 use Rattle.rpl_expand.proofs.Rooting.{goal_only, goal_root}
 use Rattle.rpl_expand.proofs.Views.{goal_is}
+use Rattle.rpl_expand.specs.declared.scope.Scope.{Scope}
+use Rattle.rpl_forms.specs.Inlining.{Inners}
+use Rattle.rpl_syntax.specs.Expression.{Expr}
+use Rattle.rpl_core.specs.Core.{Core}
+use Rattle.rpl_macro.specs.declared.casing.Casing.TheVariants.{Plain}
 use Rattle.rpl_expand.proofs.table.expand_pattern.Goals as goal
+
+-- the core of a pattern under its root capture, unless it has one
+abbrev own : (s : Scope) (I : Inners) (e : Expr) → Bool → Core
+own s I e r = captured (not r) (codes "*") (core Plain (scope_seen s I) e)
 
 pub returns-in-Err-clause-exactly : goal.returns-in-Err-clause-exactly
 returns-in-Err-clause-exactly c =
     let I = inners_of (rules_of c.args.rules.now) in
-    let s = c.new-scope.result in
-    let e = expr_of c.args.e.now in
-    let own = core Plain (scope_seen s I) e in
-    let p = captured (not c.has_root-captures.result) (codes "*") own in
-    let is = goal_is s c.args.set.now I e c.has_root-captures.result c.new-scope.ensures.set c.new-scope.ensures.at
-    c.new-scope.ensures.boundary c.has_root-captures.ensures in
+    let r = c.has_root-captures in
+    let s = c.new-scope in
+    let is = goal_is s.result c.args.set.now I (expr_of c.args.e.now) r.result s.ensures.set s.ensures.at s.ensures.boundary r.ensures in
     let known = subst (λ l. KnowsInners l I) (sym c.deref.ensures.value) c.in_ok-known.ensures.knows in
-    let counts = c.counts_under.ensures own (codes "*") (c.measure-own.ensures Plain I known) in
-    let due = subst (Answers (size_fault None p)) c.in-Err.is (c.check_size.ensures p counts) in
+    let p = own s.result I (expr_of c.args.e.now) r.result in
+    let due = subst (Answers (size_fault None p)) c.in-Err.is (c.check_goal.ensures I known) in
     subst (λ q. IsDue (size_fault None q) (fault_named c.in-Err.fault)) is due
 
 pub returns-clause-exactly : goal.returns-clause-exactly
 returns-clause-exactly c =
     let I = inners_of (rules_of c.args.rules.now) in
-    let s = c.new-scope.result in
-    let e = expr_of c.args.e.now in
-    let own = core Plain (scope_seen s I) e in
-    let p = captured (not c.has_root-captures.result) (codes "*") own in
-    let is = goal_is s c.args.set.now I e c.has_root-captures.result c.new-scope.ensures.set c.new-scope.ensures.at
-    c.new-scope.ensures.boundary c.has_root-captures.ensures in
+    let r = c.has_root-captures in
+    let s = c.new-scope in
     let known = subst (λ l. KnowsInners l I) (sym c.deref.ensures.value) c.in_ok-known.ensures.knows in
-    let counts = c.counts_under.ensures own (codes "*") (c.measure-own.ensures Plain I known) in
-    let fits = subst (Answers (size_fault None p)) c.in_default.is (c.check_size.ensures p counts) in
-    sym (ap (size_fault None) is) ∙ fits
+    let is = goal_is s.result c.args.set.now I (expr_of c.args.e.now) r.result s.ensures.set s.ensures.at s.ensures.boundary r.ensures in
+    let p = own s.result I (expr_of c.args.e.now) r.result in
+    sym (ap (size_fault None) is) ∙ subst (Answers (size_fault None p)) c.in_default.is (c.check_goal.ensures I known)
 
 pub returns-clause-goal : goal.returns-clause-goal
 returns-clause-goal c =

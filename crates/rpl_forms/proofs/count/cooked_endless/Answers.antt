@@ -14,4 +14,6 @@ pub returns : goal.returns
 returns c = λ b p f g.
     let turn = c.pair-turn.ensures b p f g in
     subst (Counts c.node.result) (sym (cooked_more b p c.args.least c.if-least-eq0.false))
-    (c.node.ensures.seq _ (c.front-all.ensures p _ g (c.copies-rest.ensures _ _ turn (c.front-last.ensures _ _ (c.node-many.ensures.many _ turn) c.none.ensures.all))))
+    (c.node.ensures.seq _ (c.front-all.ensures p _ g
+    (c.copies-rest.ensures _ _ turn
+    (c.front-last.ensures _ _ (c.node-many.ensures.many _ turn) c.none.ensures.all))))

@@ -8,6 +8,14 @@ pub returns : goal.returns
 returns c = λ p ps f g.
     let some : c.args.number ≢ 0 = c.if-number-eq0.false in
     record {
-      size_is = omega (arith, ap (λ s. c.args.number * s) f.size_is, f.size_is, g.size_is, copies_nodes c.args.number p ps, capped_times c.args.number (nodes p) (Measures.all_nodes ps) some);
+      size_is =
+          omega (
+            arith,
+            ap (λ s. c.args.number * s) f.size_is,
+            f.size_is,
+            g.size_is,
+            copies_nodes c.args.number p ps,
+            capped_times c.args.number (nodes p) (Measures.all_nodes ps) some,
+          );
       depth_is = omega (arith, f.depth_is, g.depth_is, copies_deep c.args.number p ps some);
     }

@@ -10,4 +10,5 @@ returns c = λ I t h.
     let b = c.args.inside in
     let one = seen_note b I t in
     let note = c.leaf.ensures (seen b I (Note t)) one.0 one.1 in
-    subst (Counts c.pair.result) (sym (seen_pair b I (Note t) (Call halt_rule))) (c.pair.ensures _ _ note (c.count_call-end.ensures I h))
+    subst (Counts c.pair.result) (sym (seen_pair b I (Note t) (Call halt_rule)))
+    (c.pair.ensures _ _ note (c.count_call-end.ensures I h))

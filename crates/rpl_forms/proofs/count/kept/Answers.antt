@@ -8,5 +8,7 @@ use Rattle.rpl_forms.proofs.count.kept.Goals as goal
 pub returns : goal.returns
 returns c = λ p I f.
     let hit = c.capture-hit.ensures p (mark_name Hit) I f in
-    let skip = c.capture-before.ensures (passed p) (mark_name Skip) I (subst (Counts c.passed.result) (sym (seen_passed c.args.inside I p)) (c.passed.ensures _ f)) in
+    let skip =
+    c.capture-before.ensures (passed p) (mark_name Skip) I
+    (subst (Counts c.passed.result) (sym (seen_passed c.args.inside I p)) (c.passed.ensures _ f)) in
     subst (Counts c.pair.result) (sym (seen_kept c.args.inside I p)) (c.pair.ensures _ _ skip hit)

@@ -23,7 +23,8 @@ inline-inline_all-requires t c =
 
 pub inline-inline_all-requires-in-Choice : goal.inline-inline_all-requires-in-Choice
 inline-inline_all-requires-in-Choice t c =
-    let d = ap deep (choice_core c.args.peg.now c.in-Choice.parts c.as_slice-in-Choice.result.now c.in-Choice.is c.as_slice-in-Choice.ensures) in
+    let d = ap deep (choice_core c.args.peg.now c.in-Choice.parts c.as_slice-in-Choice.result.now c.in-Choice.is
+    c.as_slice-in-Choice.ensures) in
     (omega (arith, d, c.decreases), c.requires)
 
 pub inline-returns-in_ok-inline_all-in-Seq : goal.inline-returns-in_ok-inline_all-in-Seq
@@ -36,12 +37,14 @@ pub inline-returns-in_ok-parts-in-Choice : goal.inline-returns-in_ok-parts-in-Ch
 inline-returns-in_ok-parts-in-Choice t c =
     let I = take c.args.limit (inners_of (rules_of c.args.rules.now)) in
     choice_view c.in_ok-parts-in-Choice.parts ∙ ap C.Choice c.in_ok-parts-in-Choice.ensures
-    ∙ ap (inlined I) (choice_core c.args.peg.now c.in-Choice.parts c.as_slice-in-Choice.result.now c.in-Choice.is c.as_slice-in-Choice.ensures)
+    ∙ ap (inlined I) (choice_core c.args.peg.now c.in-Choice.parts c.as_slice-in-Choice.result.now c.in-Choice.is
+    c.as_slice-in-Choice.ensures)
 
 pub inline-returns-in-Note : goal.inline-returns-in-Note
 inline-returns-in-Note t c =
     let I = take c.args.limit (inners_of (rules_of c.args.rules.now)) in
-    seq_view c.new.result ∙ ap (λ ps. C.Seq (cores ps)) c.new.ensures ∙ sym (ap (λ p. inlined I (core_of p)) c.in-Note.is)
+    seq_view c.new.result ∙ ap (λ ps. C.Seq (cores ps)) c.new.ensures
+    ∙ sym (ap (λ p. inlined I (core_of p)) c.in-Note.is)
 
 pub inline_all-inline-requires : goal.inline_all-inline-requires
 inline_all-inline-requires t c =
@@ -54,17 +57,22 @@ inline_all-loop-part-preserved t c =
     let all = c.args.parts.now in
     let i = c.loop-part.part-index in
     let part = c.part-item.result in
-    let more = inlined_more I (listed c.loop-part.others) (take i all) c.in_ok-inline.field-0 (get_or all i part) c.loop-part.invariant (c.in_ok-inline.ensures ∙ ap (λ p. inlined I (core_of p)) c.part-item.is) in
-    ap cores c.in_ok-push.ensures.ok ∙ more ∙ ap (λ ps. inlined_all I (cores ps)) (sym (take_more all i part c.loop-part-test.true))
+    let more =
+    inlined_more I (listed c.loop-part.others) (take i all) c.in_ok-inline.field-0 (get_or all i part)
+    c.loop-part.invariant (c.in_ok-inline.ensures ∙ ap (λ p. inlined I (core_of p)) c.part-item.is) in
+    ap cores c.in_ok-push.ensures.ok ∙ more
+    ∙ ap (λ ps. inlined_all I (cores ps)) (sym (take_more all i part c.loop-part-test.true))
 
 pub inline_call-returns-then-number-limit : goal.inline_call-returns-then-number-limit
-inline_call-returns-then-number-limit t c = sym (called_late (rules_of c.args.rules.now) c.args.limit c.args.number c.if-number-limit.true)
+inline_call-returns-then-number-limit t c =
+    sym (called_late (rules_of c.args.rules.now) c.args.limit c.args.number c.if-number-limit.true)
 
 pub inline_call-returns-in_default : goal.inline_call-returns-in_default
 inline_call-returns-in_default t c =
     let I = inners_of (rules_of c.args.rules.now) in
     let none = sym c.inner_of.ensures ∙ c.in_default.is in
-    sym (ap (called c.args.number) (get_take c.args.limit c.args.number I c.if-number-limit.false) ∙ stays c.args.known.now I c.args.number c.requires none)
+    sym (ap (called c.args.number) (get_take c.args.limit c.args.number I c.if-number-limit.false)
+    ∙ stays c.args.known.now I c.args.number c.requires none)
 
 pub inline_call-returns-in_default-get : goal.inline_call-returns-in_default-get
 inline_call-returns-in_default-get t c =
@@ -79,7 +87,9 @@ inline_call-inline-requires t c =
     let some = sym c.inner_of.ensures ∙ c.in-Some.is in
     let here = sym c.get.ensures ∙ ap option_copied c.in-Some-get.is in
     let first = first_stands c.args.known.now (inners_of rs) c.args.number c.in-Some.inner c.requires some in
-    let less = reach_less rs c.args.limit c.in-Some.inner.rule c.in-Some-get.rule.now here (omega (arith, first.0, c.if-number-limit.false)) in
+    let less =
+    reach_less rs c.args.limit c.in-Some.inner.rule c.in-Some-get.rule.now here
+    (omega (arith, first.0, c.if-number-limit.false)) in
     (omega (arith, less, c.decreases), c.requires)
 
 pub inline_call-returns : goal.inline_call-returns
@@ -87,5 +97,7 @@ inline_call-returns t c =
     let rs = rules_of c.args.rules.now in
     let some = sym c.inner_of.ensures ∙ c.in-Some.is in
     let here = sym c.get.ensures ∙ ap option_copied c.in-Some-get.is in
-    let same = ap (called c.args.number) (get_take c.args.limit c.args.number (inners_of rs) c.if-number-limit.false) ∙ body_stands rs c.args.known.now c.args.number c.in-Some.inner c.in-Some-get.rule.now c.requires some here in
+    let same =
+    ap (called c.args.number) (get_take c.args.limit c.args.number (inners_of rs) c.if-number-limit.false)
+    ∙ body_stands rs c.args.known.now c.args.number c.in-Some.inner c.in-Some-get.rule.now c.requires some here in
     subst (λ q. IfOk c.inline.result (λ p. core_of p ≡ q)) (sym same) c.inline.ensures

@@ -20,4 +20,6 @@ abbrev pub decreases-inline_call : goal.decreases-inline_call
 decreases-inline_call l = reach (rules_of l.rules.now) l.limit
 
 abbrev pub invariant-inline_all-loop-part : goal.invariant-inline_all-loop-part
-invariant-inline_all-loop-part l = cores (listed l.others) ≡ inlined_all (take l.limit (inners_of (rules_of l.rules))) (cores (take l.part-index l.parts))
+invariant-inline_all-loop-part l =
+    cores (listed l.others) ≡ inlined_all (take l.limit (inners_of (rules_of l.rules)))
+    (cores (take l.part-index l.parts))

@@ -14,5 +14,7 @@ returns c =
     let rs = rules_of c.args.rules.now in
     let I = inners_of rs in
     let all = whole_inners rs c.len.result c.len.ensures.count in
-    let same = ap (λ l. called c.args.rule (slice_get l c.args.rule)) all ∙ sym (ap (λ b. seen b I (C.Call c.args.rule)) c.if-not-inside.false) in
+    let same =
+    ap (λ l. called c.args.rule (slice_get l c.args.rule)) all
+    ∙ sym (ap (λ b. seen b I (C.Call c.args.rule)) c.if-not-inside.false) in
     subst (λ q. IfOk c.inline_call.result (λ p. core_of p ≡ q)) same c.inline_call.ensures

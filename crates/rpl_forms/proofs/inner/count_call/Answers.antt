@@ -15,5 +15,7 @@ returns-in-Some c = λ I h.
 pub returns-in-None : goal.returns-in-None
 returns-in-None c = λ I h.
     let r = c.args.rule in
-    let same = ap (λ b. seen b I (C.Call r)) c.if-not-inside.false ∙ stays c.args.known.now I r h (sym c.inner_of.ensures ∙ c.in-None.is) in
+    let same =
+    ap (λ b. seen b I (C.Call r)) c.if-not-inside.false
+    ∙ stays c.args.known.now I r h (sym c.inner_of.ensures ∙ c.in-None.is) in
     subst (Counts c.leaf-in-None.result) (sym same) (c.leaf-in-None.ensures (C.Call r) refl refl)

@@ -11,4 +11,5 @@ returns-in-None c = λ I h long. own_first I (core_of c.args.body.now) _ long
 
 pub returns-in-Some-inner_of : goal.returns-in-Some-inner_of
 returns-in-Some-inner_of c = λ I h long.
-    chain_first c.args.known.now I (core_of c.args.body.now) c.in-Some.rule c.in-Some-inner_of.inner h (sym c.inner_of.ensures ∙ c.in-Some-inner_of.is) (c.in-Some.ensures I)
+    chain_first c.args.known.now I (core_of c.args.body.now) c.in-Some.rule c.in-Some-inner_of.inner h
+    (sym c.inner_of.ensures ∙ c.in-Some-inner_of.is) (c.in-Some.ensures I)

@@ -19,7 +19,9 @@ loop-number-preserved c =
     let k = c.loop-number.number in
     let here = sym c.get.ensures ∙ ap option_copied c.in-Some.is in
     let first = as_many_first rs k c.in-Some.rule.now here in
-    let more = c.in_ok-push_inner.ensures.knows (take k (inners_of rs)) c.loop-number.invariant.knows (c.loop-number.invariant.as_many ∙ sym first) in
+    let more =
+    c.in_ok-push_inner.ensures.knows (take k (inners_of rs)) c.loop-number.invariant.knows
+    (c.loop-number.invariant.as_many ∙ sym first) in
     record {
       knows = subst (KnowsInners c.push_inner.new.known.items) (sym (inners_turn rs k c.in-Some.rule.now here)) more;
       as_many = c.in_ok-push_inner.ensures.as_many ∙ ap (λ n. n + 1) c.loop-number.invariant.as_many;
@@ -28,23 +30,27 @@ loop-number-preserved c =
 pub returns-in_default-clause-knows : goal.returns-in_default-clause-knows
 returns-in_default-clause-knows c =
     let rs = rules_of c.args.rules.now in
-    let lt : c.loop-number.number < length rs = omega (arith, c.loop-number-test.true, c.len-number-end.ensures.count) in
+    let lt : c.loop-number.number < length rs =
+    omega (arith, c.loop-number-test.true, c.len-number-end.ensures.count) in
     absurd (rule_there rs c.loop-number.number lt (sym c.get.ensures ∙ ap option_copied c.in_default.is))
 
 pub returns-in_default-clause-as_many : goal.returns-in_default-clause-as_many
 returns-in_default-clause-as_many c =
     let rs = rules_of c.args.rules.now in
-    let lt : c.loop-number.number < length rs = omega (arith, c.loop-number-test.true, c.len-number-end.ensures.count) in
+    let lt : c.loop-number.number < length rs =
+    omega (arith, c.loop-number-test.true, c.len-number-end.ensures.count) in
     absurd (rule_there rs c.loop-number.number lt (sym c.get.ensures ∙ ap option_copied c.in_default.is))
 
 pub returns-clause-knows : goal.returns-clause-knows
 returns-clause-knows c =
     let rs = rules_of c.args.rules.now in
-    let n : c.loop-number.number ≡ length rs = omega (arith, c.loop-number-test.false, c.loop-number.auto.number-end, c.len-number-end.ensures.count) in
+    let n : c.loop-number.number ≡ length rs =
+    omega (arith, c.loop-number-test.false, c.loop-number.auto.number-end, c.len-number-end.ensures.count) in
     subst (KnowsInners c.loop-number.known.items) (whole_inners rs c.loop-number.number n) c.loop-number.invariant.knows
 
 pub returns-clause-as_many : goal.returns-clause-as_many
 returns-clause-as_many c =
     let rs = rules_of c.args.rules.now in
-    let n : c.loop-number.number ≡ length rs = omega (arith, c.loop-number-test.false, c.loop-number.auto.number-end, c.len-number-end.ensures.count) in
+    let n : c.loop-number.number ≡ length rs =
+    omega (arith, c.loop-number-test.false, c.loop-number.auto.number-end, c.len-number-end.ensures.count) in
     c.loop-number.invariant.as_many ∙ n

@@ -14,4 +14,5 @@ returns-in-None c = λ I h long.
     let f = c.first_in_chain.ensures I h long in
     let n : Inner = record { count = c.weigh.result; rule = c.first_in_chain.result } in
     let p = inlined I (core_of c.args.rule.now.body) in
-    subst (λ b. KnowsNext I (Some n) (inner I b (core_of c.args.rule.now.body))) (sym c.in-None.is) (stands n p (c.weigh.ensures I h) f.0 f.1)
+    subst (λ b. KnowsNext I (Some n) (inner I b (core_of c.args.rule.now.body))) (sym c.in-None.is)
+    (stands n p (c.weigh.ensures I h) f.0 f.1)

@@ -11,4 +11,5 @@ returns-clause-knows c = λ I h long.
     let same = c.deref.ensures.value in
     let here = subst (λ l. KnowsInners l I) (sym same) h in
     let next = c.next_inner-next.ensures I here (ap length same ∙ long) in
-    subst (λ l. KnowsInners l (I ++ inner I c.args.rule.now.block (core_of c.args.rule.now.body) ∷ [])) (sym c.in_ok-push.ensures.items) (knows_more old I c.next_inner-next.result _ long h next)
+    subst (λ l. KnowsInners l (I ++ inner I c.args.rule.now.block (core_of c.args.rule.now.body) ∷ []))
+    (sym c.in_ok-push.ensures.items) (knows_more old I c.next_inner-next.result _ long h next)

@@ -14,7 +14,10 @@ returns c =
     let t = F.pair b p in
     let turn = c.in_ok-turn.ensures ∙ ap (F.pair b) c.in_ok-copy.ensures in
     let many = c.in_ok-many.ensures ∙ ap C.Many turn in
-    let all = three_more (cores (listed c.new-parts.result)) _ _ _ (C.Then p C.NoMore) (F.copies n (core_of c.in_ok-turn.turn) C.NoMore) (C.Then (core_of c.in_ok-many.field-0) C.NoMore) (ap cores c.new-parts.ensures) c.in_ok-append.ensures c.in_ok-append_copies.ensures c.in_ok-append-2.ensures in
+    let all =
+    three_more (cores (listed c.new-parts.result)) _ _ _ (C.Then p C.NoMore)
+    (F.copies n (core_of c.in_ok-turn.turn) C.NoMore) (C.Then (core_of c.in_ok-many.field-0) C.NoMore)
+    (ap cores c.new-parts.ensures) c.in_ok-append.ensures c.in_ok-append_copies.ensures c.in_ok-append-2.ensures in
     c.seq.ensures ∙ ap C.Seq (all
     ∙ ap (λ q. C.Then p (F.joined (F.copies n q C.NoMore) (C.Then (core_of c.in_ok-many.field-0) C.NoMore))) turn
     ∙ ap (λ q. C.Then p (F.joined (F.copies n t C.NoMore) (C.Then q C.NoMore))) many

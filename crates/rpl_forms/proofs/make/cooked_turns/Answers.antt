@@ -14,7 +14,11 @@ returns c =
     let t = F.pair b p in
     let turn = c.in_ok-turn.ensures ∙ ap (F.pair b) c.in_ok-copy.ensures in
     let option = c.in_ok-option.ensures ∙ ap F.or_nothing turn in
-    let all = three_more (cores (listed c.new-parts.result)) _ _ _ (C.Then p C.NoMore) (F.copies n (core_of c.in_ok-turn.turn) C.NoMore) (F.copies m (core_of c.in_ok-option.option) C.NoMore) (ap cores c.new-parts.ensures) c.in_ok-append.ensures c.in_ok-append_copies.ensures c.in_ok-append_copies-2.ensures in
+    let all =
+    three_more (cores (listed c.new-parts.result)) _ _ _ (C.Then p C.NoMore)
+    (F.copies n (core_of c.in_ok-turn.turn) C.NoMore) (F.copies m (core_of c.in_ok-option.option) C.NoMore)
+    (ap cores c.new-parts.ensures) c.in_ok-append.ensures c.in_ok-append_copies.ensures
+    c.in_ok-append_copies-2.ensures in
     c.seq.ensures ∙ ap C.Seq (all
     ∙ ap (λ q. C.Then p (F.joined (F.copies n q C.NoMore) (F.copies m (core_of c.in_ok-option.option) C.NoMore))) turn
     ∙ ap (λ q. C.Then p (F.joined (F.copies n t C.NoMore) (F.copies m q C.NoMore))) option

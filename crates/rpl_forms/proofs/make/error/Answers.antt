@@ -15,5 +15,6 @@ returns c =
     let I = inners_of (rules_of c.args.rules.now) in
     let b = c.args.inside in
     let t = text_of (expr_of c.args.arg.now) in
-    let same = ap₂ F.pair (c.in_ok-told.ensures I) c.in_ok-end.ensures ∙ sym (seen_pair b I (C.Note t) (C.Call F.halt_rule)) in
+    let same =
+    ap₂ F.pair (c.in_ok-told.ensures I) c.in_ok-end.ensures ∙ sym (seen_pair b I (C.Note t) (C.Call F.halt_rule)) in
     subst (λ q. IfOk c.pair.result (λ p. core_of p ≡ q)) same c.pair.ensures

@@ -6,13 +6,15 @@ use Rattle.rpl_forms.proofs.Joins.{group_none, group_one, none_of_one}
 use Rattle.rpl_forms.proofs.make.group.Goals as goal
 
 pub returns-then-len-ne1 : goal.returns-then-len-ne1
-returns-then-len-ne1 c = c.seq.ensures ∙ sym (group_none (listed c.args.parts) (λ e. c.if-len-ne1.true (c.len.ensures ∙ e)))
+returns-then-len-ne1 c =
+    c.seq.ensures ∙ sym (group_none (listed c.args.parts) (λ e. c.if-len-ne1.true (c.len.ensures ∙ e)))
 
 pub returns-in-Some : goal.returns-in-Some
 returns-in-Some c =
     let one = sym c.len.ensures ∙ c.if-len-ne1.false in
     let got = sym c.get.ensures ∙ ap option_copied c.in-Some.is in
-    subst (λ q. IfOk c.copy.result (λ p. core_of p ≡ q)) (sym (group_one (listed c.args.parts) c.in-Some.part.now one got)) c.copy.ensures
+    subst (λ q. IfOk c.copy.result (λ p. core_of p ≡ q))
+    (sym (group_one (listed c.args.parts) c.in-Some.part.now one got)) c.copy.ensures
 
 pub returns : goal.returns
 returns c =

@@ -5,7 +5,10 @@ use Rattle.rpl_forms.proofs.Seen.{seen_note_inside, seen_note_outside}
 use Rattle.rpl_forms.proofs.make.note.Goals as goal
 
 pub returns-then-inside : goal.returns-then-inside
-returns-then-inside c = λ I. c.seq.ensures ∙ ap (λ ps. C.Seq (cores ps)) c.new.ensures ∙ sym (seen_note_inside c.args.inside I c.args.text.now c.if-inside.true)
+returns-then-inside c =
+    λ I. c.seq.ensures ∙ ap (λ ps. C.Seq (cores ps)) c.new.ensures
+    ∙ sym (seen_note_inside c.args.inside I c.args.text.now c.if-inside.true)
 
 pub returns : goal.returns
-returns c = λ I. ap C.Note c.in_ok-copy.ensures ∙ sym (seen_note_outside c.args.inside I c.args.text.now c.if-inside.false)
+returns c =
+    λ I. ap C.Note c.in_ok-copy.ensures ∙ sym (seen_note_outside c.args.inside I c.args.text.now c.if-inside.false)

@@ -2,7 +2,8 @@ use Rattle.std.proofs.Common.{◌∙◌, Some, sym, ap, subst, arith}
 use Rattle.std.specs.Prelude.{chars}
 use Rattle.rpl_text.proofs.Escaped.{byte_stood}
 use Rattle.rpl_lexer.specs.inside.Decoding.{Decodes}
-use Rattle.rpl_lexer.proofs.Decoding.{stepped, reads_end, reads_quote, reads_plain, reads_escape}
+use Rattle.rpl_text.proofs.Stepped.{stepped}
+use Rattle.rpl_lexer.proofs.Decoding.{reads_end, reads_quote, reads_plain, reads_escape}
 use Rattle.rpl_lexer.proofs.payload.next_char.Goals as goal
 
 pub returns-in_err-c : goal.returns-in_err-c

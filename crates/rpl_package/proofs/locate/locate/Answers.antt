@@ -2,7 +2,7 @@ use Rattle.std.proofs.Common.{◌∷◌, [], ap₂, sym, subst, ◌∙◌}
 use Rattle.std.specs.Prelude.{encode_utf8_all}
 use Rattle.std.specs.List.{Contains}
 use Rattle.rosie_io.specs.Opening.{file_of}
-use Rattle.rpl_package.proofs.Causes.{fewer}
+use Rattle.rpl_package.proofs.Leaving.{after}
 use Rattle.rpl_package.proofs.Locating.{asks_more, asks_first, asks_next, finds_next}
 use Rattle.rpl_package.proofs.locate.locate.Goals as goal
 
@@ -25,13 +25,9 @@ loop-folder-preserved g c =
     let i = c.loop-folder.folder-index in
     let d = c.folder-item.result in
     let inv = c.loop-folder.invariant in
-    let here = ap₂ (λ f t. file_of (encode_utf8_all f) t) (sym c.in_ok-file.ensures) (sym inv.tree) in
+    let here = ap₂ (λ f t. file_of (encode_utf8_all f) t) (sym c.in_ok-file.ensures) (sym inv.files.tree) in
     record {
-      tree = c.in-Ok-None.ensures.tree ∙ inv.tree;
-      reads = c.in-Ok-None.ensures.cause.0 ∙ inv.reads;
-      opens = c.in-Ok-None.ensures.cause.1 ∙ inv.opens;
-      taken = fewer _ _ _ inv.taken c.in-Ok-None.ensures.taken;
-      closed = λ _. c.in-Ok-None.ensures.closed;
+      files = after g.F.Source _ _ _ _ _ _ inv.files c.in-Ok-None.ensures.files;
       more = λ tells p h.
           let none = rw c.in-Ok-None.field-0-is at c.in-Ok-None.ensures.found tells in
           inv.more tells p (asks_next T ds path i d c.loop-folder-test.true c.folder-item.is (here ∙ none) p h);

@@ -33,7 +33,12 @@ returns-in-Err-NotText-clause-found g c = λ t.
     let h = rw c.in-Err-NotText.field-0-is at c.in-Err-NotText.ensures.err t in
     (h.0, there ∙ h.1, (h.2, h.3))
 
-pub returns-in-Err-ReadFault-clause-cause : goal.returns-in-Err-ReadFault-clause-cause
-returns-in-Err-ReadFault-clause-cause g c =
+pub returns-in-Err-ReadFault-clause-files : goal.returns-in-Err-ReadFault-clause-files
+returns-in-Err-ReadFault-clause-files g c =
     let h = rw c.in-Err-ReadFault.field-0-is at c.in-Err-ReadFault.ensures.cause in
-    read_cause c.fault_at.result _ _ _ _ _ c.fault_at.ensures refl h
+    record {
+      cause = read_cause c.fault_at.result _ _ _ _ _ c.fault_at.ensures refl h;
+      taken = c.read_file.ensures.taken;
+      tree = c.read_file.ensures.tree;
+      closed = λ _. c.read_file.ensures.is_open;
+    }

@@ -1,25 +1,22 @@
-use Rattle.std.proofs.Common.{◌≡◌, [], map, drop, false}
-use Rattle.rosie_io.specs.Loading.{NotFewer}
+use Rattle.std.proofs.Common.{◌≡◌, [], map, drop}
+use Rattle.std.specs.Prelude.{Ok}
 use Rattle.rpl_package.specs.Asking.{each_in_turn}
 use Rattle.rpl_package.specs.Loading as L
 use Rattle.rpl_package.specs.Loading.{world}
 use Rattle.rpl_package.specs.Marks.{CutsTo}
 use Rattle.rpl_package.specs.Patterns.{pattern_name}
 use Rattle.rpl_package.specs.Stocks.{stock_seen}
+use Rattle.rpl_package.specs.inside.Leaving.{LeavesFiles}
 use Rattle.rpl_package.proofs.Outcomes.{Follows}
 use Rattle.rpl_package.proofs.pattern.enter_names.Given as goal
 
 abbrev pub invariant-loop-name : goal.invariant-loop-name
 invariant-loop-name g l =
     record {
-      tree : g.F.Source.tree l.files ≡ g.F.Source.tree l.fn.files;
-      reads : g.F.Source.faults l.files ≡ g.F.Source.faults l.fn.files;
-      opens : g.F.Source.failed_opens l.files ≡ g.F.Source.failed_opens l.fn.files;
-      taken : NotFewer (g.F.Source.taken l.fn.files) (g.F.Source.taken l.files);
-      closed : g.F.Source.is_open l.fn.files ≡ false → g.F.Source.is_open l.files ≡ false;
+      files : LeavesFiles g.F.Source (Ok (tt {0})) l.fn.files l.files;
       held : l.stock.held.items ≡ [];
       kept : (a : L.Stock) → CutsTo l.top a (stock_seen l.fn.stock) → CutsTo l.top a (stock_seen l.stock);
       left : g.F.Source.tells → Follows
-          (each_in_turn (pattern_name (world (g.F.Source.tree l.fn.files) l.folders) l.file l.top) (map (λ q. q.now) (drop l.name-index l.all)) (stock_seen l.stock))
-          (each_in_turn (pattern_name (world (g.F.Source.tree l.fn.files) l.folders) l.file l.top) (map (λ q. q.now) l.all) (stock_seen l.fn.stock));
+          (each_in_turn (pattern_name (world (g.F.Source.tree l.fn.files) l.importer.folders.now) l.importer.file.now l.top) (map (λ q. q.now) (drop l.name-index l.all)) (stock_seen l.stock))
+          (each_in_turn (pattern_name (world (g.F.Source.tree l.fn.files) l.importer.folders.now) l.importer.file.now l.top) (map (λ q. q.now) l.all) (stock_seen l.fn.stock));
     }

@@ -1,4 +1,4 @@
-use Rattle.std.proofs.Common.{rules, refl, ap, sym, ◌∙◌}
+use Rattle.std.proofs.Common.{rules, ap, sym, ◌∙◌}
 use Rattle.std.specs.Prelude.{Ok, codes}
 use Rattle.std.proofs.lemmas.Str.{chars-IsAscii}
 use Rattle.rpl_syntax.specs.View.{expr_of}
@@ -8,15 +8,15 @@ use Rattle.rpl_package.specs.Goals.{pattern_file}
 use Rattle.rpl_package.specs.Loading.{world}
 use Rattle.rpl_package.specs.Patterns.{enter_pattern}
 use Rattle.rpl_package.specs.Stocks.{stock_seen}
-use Rattle.rpl_package.proofs.Causes.{loud_cause}
+use Rattle.rpl_package.proofs.Leaving.{unread}
 use Rattle.rpl_package.proofs.Outcomes.{same, may_lead, may_then, then_follows}
 use Rattle.rpl_package.proofs.pattern.enter_pattern.Goals as goal
 
 pub read_goal-requires : goal.read_goal-requires
 read_goal-requires g c = c.in_ok-file.ensures ∙ chars-IsAscii (codes "(pattern)") (search rules)
 
-pub returns-in-Err-clause-cause : goal.returns-in-Err-clause-cause
-returns-in-Err-clause-cause g c = loud_cause c.in-Err.stop _ _ _ _ c.in-Err.ensures.loud refl refl
+pub returns-in-Err-clause-files : goal.returns-in-Err-clause-files
+returns-in-Err-clause-files g c = unread g.F.Source c.in-Err.stop _ c.in-Err.ensures.loud
 
 pub returns-in-Err-enter_expr-clause-gives : goal.returns-in-Err-enter_expr-clause-gives
 returns-in-Err-enter_expr-clause-gives g c = λ tells r h.

@@ -15,9 +15,7 @@ returns-in-Ok-clause-gives c =
     let S = stock_seen c.args.stock.now in
     let ms = c.args.stock.now.modules.items in
     let i = c.args.top in
-    let v = c.in-Some.ensures.variant.0 refl in
-    let o = c.args.stock.now.modules.ok.0 in
-    let lt : i < length ms = omega (arith, v, o) in
+    let lt : i < length ms = omega (arith, c.in-Some.ensures.variant.0 refl, c.args.stock.now.modules.ok.0) in
     let there = nth_seen ms i c.in-Some.own.now lt c.in-Some.ensures.value in
     ap (put_by c.args.file.now c.args.import.now c.args.number i S) there
     ∙ ap (λ r. r >>= λ n. Ok (with_module S i n)) c.in-Ok.ensures.gives
@@ -29,9 +27,7 @@ returns-in-Ok-clause-kept c = λ a h.
     let ms = c.args.stock.now.modules.items in
     let i = c.args.top in
     let e = c.args.import.now in
-    let v = c.in-Some.ensures.variant.0 refl in
-    let o = c.args.stock.now.modules.ok.0 in
-    let lt : i < length ms = omega (arith, v, o) in
+    let lt : i < length ms = omega (arith, c.in-Some.ensures.variant.0 refl, c.args.stock.now.modules.ok.0) in
     let m0 = module_seen c.in-Some.own.now in
     let m1 = module_seen c.add_prefix.new.own in
     let there = nth_seen ms i c.in-Some.own.now lt c.in-Some.ensures.value in
@@ -43,27 +39,21 @@ returns-in-Err-clause-gives c =
     let S = stock_seen c.args.stock.now in
     let ms = c.args.stock.now.modules.items in
     let i = c.args.top in
-    let e = c.args.import.now in
-    let v = c.in-Some.ensures.variant.0 refl in
-    let o = c.args.stock.now.modules.ok.0 in
-    let lt : i < length ms = omega (arith, v, o) in
+    let lt : i < length ms = omega (arith, c.in-Some.ensures.variant.0 refl, c.args.stock.now.modules.ok.0) in
     let m0 = module_seen c.in-Some.own.now in
     let there = nth_seen ms i c.in-Some.own.now lt c.in-Some.ensures.value in
-    subst (λ x. StopIs c.in-Err.stop (put_by c.args.file.now e c.args.number i S x)) (sym there)
-    (stops c.in-Err.stop (add_prefix c.args.file.now e.at e.path c.args.number m0) (λ n. Ok (with_module S i n)) c.in-Err.ensures.gives)
+    subst (λ x. StopIs c.in-Err.stop (put_by c.args.file.now c.args.import.now c.args.number i S x)) (sym there)
+    (stops c.in-Err.stop (add_prefix c.args.file.now c.args.import.now.at c.args.import.now.path c.args.number m0) (λ n. Ok (with_module S i n)) c.in-Err.ensures.gives)
 
 pub returns-in-Err-clause-kept : goal.returns-in-Err-clause-kept
 returns-in-Err-clause-kept c = λ a h.
     let S = stock_seen c.args.stock.now in
     let ms = c.args.stock.now.modules.items in
     let i = c.args.top in
-    let v = c.in-Some.ensures.variant.0 refl in
-    let o = c.args.stock.now.modules.ok.0 in
-    let lt : i < length ms = omega (arith, v, o) in
-    let m0 = module_seen c.in-Some.own.now in
+    let lt : i < length ms = omega (arith, c.in-Some.ensures.variant.0 refl, c.args.stock.now.modules.ok.0) in
     let there = nth_seen ms i c.in-Some.own.now lt c.in-Some.ensures.value in
     cuts_is i a S _ h
-    (ap (λ l. stock l S.paths S.labels) (seen_set ms i c.add_prefix.new.own ∙ ap (replaced (modules_seen ms) i) c.in-Err.ensures.kept ∙ replaced_same (modules_seen ms) i m0 there))
+    (ap (λ l. stock l S.paths S.labels) (seen_set ms i c.add_prefix.new.own ∙ ap (replaced (modules_seen ms) i) c.in-Err.ensures.kept ∙ replaced_same (modules_seen ms) i _ there))
 
 pub returns-in-None-clause-gives : goal.returns-in-None-clause-gives
 returns-in-None-clause-gives c =

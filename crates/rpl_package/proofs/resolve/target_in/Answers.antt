@@ -34,8 +34,7 @@ pub returns-in-Some-get : goal.returns-in-Some-get
 returns-in-Some-get c =
     let ms = modules_seen c.args.modules.now in
     let i = c.args.number in
-    let k = c.args.place in
     let n = c.in-Some-get.first.now in
-    let there = found_in ms i k _ (sym c.in-Some.ensures) in
+    let there = found_in ms i c.args.place _ (sym c.in-Some.ensures) in
     let is : n ≡ first_rule ms i = c.in-Some-get.ensures.lookup.1 ∙ ap (λ l. get_or l i n) (c.deref.ensures.value ∙ c.requires.firsts) ∙ first_is ms i n there.0 there.1 in
-    ap (λ x. Ok (record { rule = x + k; captures = not c.in-Some.rule.now.alias })) is ∙ ap (target_by (first_rule ms i + k)) c.in-Some.ensures
+    ap (λ x. Ok (record { rule = x + c.args.place; captures = not c.in-Some.rule.now.alias })) is ∙ ap (target_by (first_rule ms i + c.args.place)) c.in-Some.ensures

@@ -14,10 +14,10 @@ returns-clause-gives g c = λ tells.
     let ds = c.args.folders.now in
     let W = world (g.F.Source.tree c.args.files.now) ds in
     let p = c.args.path.now in
-    let s0 = state_seen c.args.stock.now c.args.own.now in
+    let s0 = state_seen c.args.state.now.stock c.args.state.now.own in
     let found = rw c.in-Ok-Some.field-0-is at c.in-Ok-Some.ensures.found tells in
     let m = said c.in-Ok.said in
     let stop = c.in-Err-enter_root.stop in
     let read : module_text p found.0 ≡ Ok m = c.in-Ok.ensures.gives found.0 found.2 in
     may_lead stop _ _ (file_led W p s0 found.0 m found.1 read)
-    (may_lead stop _ _ (same _ _ (ap (λ U. root_text (world U ds) p m m.name s0) c.read_in.ensures.tree)) (c.in-Err-enter_root.ensures.gives tells))
+    (may_lead stop _ _ (same _ _ (ap (λ U. root_text (world U ds) p m m.name s0) c.read_in.ensures.files.tree)) (c.in-Err-enter_root.ensures.gives tells))

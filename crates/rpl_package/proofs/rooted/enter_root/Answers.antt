@@ -14,7 +14,7 @@ returns-in-Err-clause-gives g c = λ tells.
     let W = world (g.F.Source.tree c.args.files.now) c.args.folders.now in
     let f = c.args.file.now in
     let m = said c.args.text.now in
-    let s0 = state_seen c.args.stock.now c.args.own.now in
+    let s0 = state_seen c.args.state.now.stock c.args.state.now.own in
     let s = c.in-Err.stop in
     let moved = ap (λ h. checks W (walk W 1024) h f m s0) c.requires.held in
     may_lead s _ _ (same _ _ (sym (ap (λ n. root_text W f m n s0) c.in-None.is)))
@@ -25,6 +25,6 @@ returns-in_default-clause-gives g c = λ tells.
     let W = world (g.F.Source.tree c.args.files.now) c.args.folders.now in
     let f = c.args.file.now in
     let m = said c.args.text.now in
-    let s0 = state_seen c.args.stock.now c.args.own.now in
+    let s0 = state_seen c.args.state.now.stock c.args.state.now.own in
     let moved = ap (λ h. (checks W (walk W 1024) h f m s0).answer) (sym c.requires.held) in
     ap (λ n. (root_text W f m n s0).answer) c.in-None.is ∙ ap (λ r. r >>= λ u. Ok (None, u)) (moved ∙ c.in_default.ensures.gives tells)

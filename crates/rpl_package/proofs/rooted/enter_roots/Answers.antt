@@ -5,7 +5,7 @@ use Rattle.rpl_package.specs.Asking.{at_once, each_in_turn}
 use Rattle.rpl_package.specs.Loading.{world}
 use Rattle.rpl_package.specs.Roots.{Roots, counted, next, root_by, root_entry}
 use Rattle.rpl_package.specs.Stocks.{state_seen}
-use Rattle.rpl_package.proofs.Causes.{fewer}
+use Rattle.rpl_package.proofs.Leaving.{after}
 use Rattle.rpl_package.proofs.Outcomes.{same, trail, may_lead, may_then, turn_on, turn_stop}
 use Rattle.rpl_package.proofs.Rooting.{counted_front}
 use Rattle.rpl_package.proofs.rooted.enter_roots.Goals as goal
@@ -14,17 +14,15 @@ pub returns-in-Err-clause-gives : goal.returns-in-Err-clause-gives
 returns-in-Err-clause-gives g c = λ tells.
     let ds = c.args.folders.now in
     let W = world (g.F.Source.tree c.args.files.now) ds in
-    let rs = c.args.roots.now in
-    let n = c.loop-root.root-index in
     let r = c.root-item.result in
     let k = c.loop-root.given in
-    let s0 = state_seen c.loop-root.stock c.loop-root.own in
+    let s0 = state_seen c.loop-root.state.stock c.loop-root.state.own in
     let st : Roots = record { roots = c.loop-root.into.items; state = s0 } in
     let inv = c.loop-root.invariant in
     let stop = c.in-Err.stop in
-    turn_stop (root_entry W) (counted k (drop n rs)) (counted (next k r) (drop (n + 1) rs)) (next k r, r) st _ (counted_front k rs n r c.loop-root-test.true c.root-item.is) (inv.left tells) stop
+    turn_stop (root_entry W) _ _ (next k r, r) st _ (counted_front k c.args.roots.now c.loop-root.root-index r c.loop-root-test.true c.root-item.is) (inv.left tells) stop
     (may_then stop (root_by W (next k r) r s0) (λ t. at_once (Ok (record { roots = st.roots ++ t.0 ∷ []; state = t.1 })))
-    (may_lead stop _ _ (same _ _ (ap₂ (λ U j. root_by (world U ds) j r s0) inv.tree c.next-given.ensures)) (c.in-Err.ensures.gives tells)))
+    (may_lead stop _ _ (same _ _ (ap₂ (λ U j. root_by (world U ds) j r s0) inv.files.tree c.next-given.ensures)) (c.in-Err.ensures.gives tells)))
 
 pub loop-root-preserved : goal.loop-root-preserved
 loop-root-preserved g c =
@@ -34,20 +32,16 @@ loop-root-preserved g c =
     let n = c.loop-root.root-index in
     let r = c.root-item.result in
     let k = c.loop-root.given in
-    let s0 = state_seen c.loop-root.stock c.loop-root.own in
-    let s1 = state_seen c.enter_one.new.stock c.enter_one.new.own in
+    let s0 = state_seen c.loop-root.state.stock c.loop-root.state.own in
+    let s1 = state_seen c.enter_one.new.state.stock c.enter_one.new.state.own in
     let st : Roots = record { roots = c.loop-root.into.items; state = s0 } in
     let st1 : Roots = record { roots = c.loop-root.into.items ++ c.in-Ok.number ∷ []; state = s1 } in
     let inv = c.loop-root.invariant in
     record {
-      tree = c.in-Ok.ensures.tree ∙ inv.tree;
-      reads = c.in-Ok.ensures.cause.0 ∙ inv.reads;
-      opens = c.in-Ok.ensures.cause.1 ∙ inv.opens;
-      taken = fewer _ _ _ inv.taken c.in-Ok.ensures.taken;
-      closed = λ o. c.in-Ok.ensures.closed (inv.closed o);
+      files = after g.F.Source _ _ _ _ _ _ inv.files c.in-Ok.ensures.files;
       held = c.in-Ok.ensures.held ∙ inv.held;
       left = λ tells.
-          let one = ap₂ (λ U j. (root_by (world U ds) j r s0).answer) (sym inv.tree) (sym c.next-given.ensures) ∙ c.in-Ok.ensures.gives tells in
+          let one = ap₂ (λ U j. (root_by (world U ds) j r s0).answer) (sym inv.files.tree) (sym c.next-given.ensures) ∙ c.in-Ok.ensures.gives tells in
           trail _ _ _
           (same _ _ (ap₂ (λ j xs. each_in_turn (root_entry W) (counted j (drop (n + 1) rs)) (record { roots = xs; state = s1 })) c.next-given.ensures c.in_ok-push.ensures.items))
           (turn_on (root_entry W) (counted k (drop n rs)) (counted (next k r) (drop (n + 1) rs)) (next k r, r) st _ (counted_front k rs n r c.loop-root-test.true c.root-item.is) (inv.left tells) st1

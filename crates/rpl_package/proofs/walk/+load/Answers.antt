@@ -1,17 +1,15 @@
-use Rattle.std.proofs.Common.{drop, length, ◌+◌, true, ◌≡◌, ◌≢◌, ◌++◌, ◌∷◌, [], Some, ap, ap₂, sym, ◌∙◌, ◌-◌}
-use Rattle.std.proofs.Common.{refl, arith}
+use Rattle.std.proofs.Common.{drop, length, ◌+◌, true, ◌≡◌, ◌≢◌, ◌++◌, ◌∷◌, [], ap, ap₂, sym, ◌∙◌}
+use Rattle.std.proofs.Common.{arith}
 use Rattle.std.specs.Prelude.{Ok, nat_lt}
 use Rattle.std.proofs.lemmas.List.{length-map}
 use Rattle.std.proofs.lemmas.Bool.Decides.{nat_tests}
-use Rattle.rpl_syntax.specs.Modules.{Said, said}
+use Rattle.rpl_syntax.specs.Modules.{said}
 use Rattle.rpl_scope.specs.Seen.{module_seen}
-use Rattle.rpl_package.specs.Asking.{Outcome, at_once}
-use Rattle.rpl_package.specs.Loading.{State, is_loading, world, walk, own_text, checks, label_of, import_entry}
+use Rattle.rpl_package.specs.Loading.{is_loading, world, walk, import_entry}
 use Rattle.rpl_package.specs.Stocks.{stock_seen, state_seen}
-use Rattle.rpl_package.specs.Texts.{module_text}
-use Rattle.rpl_package.proofs.Causes.{fewer, loud_cause}
-use Rattle.rpl_package.proofs.Outcomes.{same, trail, may, may_then, may_lead, then_follows, turn_on, turn_stop}
-use Rattle.rpl_package.proofs.Walking.{own_free, walk_is, reach_fresh, reach_unread, reach_stopped}
+use Rattle.rpl_package.proofs.Leaving.{after, unread}
+use Rattle.rpl_package.proofs.Outcomes.{same, may_lead, turn_on, turn_stop}
+use Rattle.rpl_package.proofs.Walking.{own_leads, read_leads, unread_stops, reach_fresh, reach_unread, reach_stopped}
 use Rattle.rpl_package.proofs.Keeping.{keeps_trans}
 use Rattle.rpl_scope.proofs.Checking.{front}
 use Rattle.rpl_package.proofs.walk.+load.Goals as goal
@@ -19,103 +17,70 @@ use Rattle.rpl_package.proofs.walk.+load.Goals as goal
 pub load_module-returns-in-Err-clause-gives : goal.load_module-returns-in-Err-clause-gives
 load_module-returns-in-Err-clause-gives g t c = λ tells bytes r.
     let W = world (g.F.Source.tree c.args.files.now) c.args.folders.now in
-    let S = stock_seen c.args.stock.now in
-    let hs = c.args.stock.now.held.items in
-    let f = c.args.found.file in
-    let p = c.args.path.now in
     let deep : c.args.depth ≢ 0 = grind (arith, nat_tests) in
-    let s = c.in-Err.stop in
-    may_lead s _ _ (same _ _ (sym (walk_is W c.args.depth S hs f p bytes deep)))
-    (may_then s (at_once (module_text f bytes)) (λ x. own_text W (walk W (c.args.depth - 1)) S hs f (Some p) (label_of x.name p) x)
-    (may s (module_text f bytes) (c.in-Err.ensures.gives bytes r)))
+    unread_stops W c.args.depth (stock_seen c.args.stock.now) c.args.stock.now.held.items c.args.found.file c.args.path.now bytes deep c.in-Err.stop (c.in-Err.ensures.gives bytes r)
 
-pub load_module-returns-in-Err-clause-cause : goal.load_module-returns-in-Err-clause-cause
-load_module-returns-in-Err-clause-cause g t c = loud_cause c.in-Err.stop _ _ _ _ c.in-Err.ensures.loud refl refl
+pub load_module-returns-in-Err-clause-files : goal.load_module-returns-in-Err-clause-files
+load_module-returns-in-Err-clause-files g t c = unread g.F.Source c.in-Err.stop _ c.in-Err.ensures.loud
 
 pub load_module-returns-in-Ok-load_own-clause-gives : goal.load_module-returns-in-Ok-load_own-clause-gives
 load_module-returns-in-Ok-load_own-clause-gives g t c = λ tells bytes r.
     let W = world (g.F.Source.tree c.args.files.now) c.args.folders.now in
-    let S = stock_seen c.args.stock.now in
-    let hs = c.args.stock.now.held.items in
-    let f = c.args.found.file in
-    let p = c.args.path.now in
-    let m = said c.in-Ok.said in
     let deep : c.args.depth ≢ 0 = grind (arith, nat_tests) in
     let label = ap (λ x. x.0) c.in_ok-label.ensures.ok in
-    let next : Said → Outcome State = λ x. own_text W (walk W (c.args.depth - 1)) S hs f (Some p) (label_of x.name p) x in
-    let led = trail _ _ _ (then_follows (at_once (module_text f bytes)) m next (c.in-Ok.ensures.gives bytes r)) (same _ _ (sym (walk_is W c.args.depth S hs f p bytes deep))) in
-    let moved = ap₂ (λ q l. own_text W (walk W (c.args.depth - 1)) S hs f (Some q) l m) c.in_ok-copy.ensures label in
-    sym (trail _ _ _ (same _ _ moved) led).0 ∙ c.in-Ok-load_own.ensures.gives tells
+    let led = read_leads W c.args.depth (stock_seen c.args.stock.now) c.args.stock.now.held.items c.args.found.file c.args.path.now bytes (said c.in-Ok.said) _ _ deep (c.in-Ok.ensures.gives bytes r) c.in_ok-copy.ensures label in
+    sym led.0 ∙ c.in-Ok-load_own.ensures.gives tells
 
 pub load_module-returns-clause-gives : goal.load_module-returns-clause-gives
 load_module-returns-clause-gives g t c = λ tells bytes r.
     let W = world (g.F.Source.tree c.args.files.now) c.args.folders.now in
-    let S = stock_seen c.args.stock.now in
-    let hs = c.args.stock.now.held.items in
-    let f = c.args.found.file in
-    let p = c.args.path.now in
-    let m = said c.in-Ok.said in
     let deep : c.args.depth ≢ 0 = grind (arith, nat_tests) in
     let label = ap (λ x. x.0) c.in_ok-label.ensures.ok in
-    let next : Said → Outcome State = λ x. own_text W (walk W (c.args.depth - 1)) S hs f (Some p) (label_of x.name p) x in
-    let led = trail _ _ _ (then_follows (at_once (module_text f bytes)) m next (c.in-Ok.ensures.gives bytes r)) (same _ _ (sym (walk_is W c.args.depth S hs f p bytes deep))) in
-    let moved = ap₂ (λ q l. own_text W (walk W (c.args.depth - 1)) S hs f (Some q) l m) c.in_ok-copy.ensures label in
-    may_lead c.in-Err-load_own.stop _ _ (trail _ _ _ (same _ _ moved) led) (c.in-Err-load_own.ensures.gives tells)
+    let led = read_leads W c.args.depth (stock_seen c.args.stock.now) c.args.stock.now.held.items c.args.found.file c.args.path.now bytes (said c.in-Ok.said) _ _ deep (c.in-Ok.ensures.gives bytes r) c.in_ok-copy.ensures label in
+    may_lead c.in-Err-load_own.stop _ _ led (c.in-Err-load_own.ensures.gives tells)
 
 pub load_own-returns-in-Err-clause-gives : goal.load_own-returns-in-Err-clause-gives
 load_own-returns-in-Err-clause-gives g t c = λ tells.
-    let W = world (g.F.Source.tree c.args.files.now) c.args.folders.now in
-    let B = walk W c.args.depth in
-    let S = stock_seen c.args.stock.now in
-    let hs = c.args.stock.now.held.items in
-    let f = c.args.file.now in
-    let m = said c.args.text.now in
+    let W = world (g.F.Source.tree c.args.files.now) c.args.importer.folders.now in
     let free = sym c.is_taken.ensures ∙ c.if-is_taken.false in
-    let held = c.in_ok-push.ensures.items ∙ ap (λ x. hs ++ x ∷ []) c.in_ok-head.ensures in
-    let moved = own_free W B S hs f c.args.path c.args.label m free
-    ∙ ap₂ (λ h o. checks W B h f m (record { stock = S; own = o })) (sym held) (sym c.empty_module-own.ensures) in
-    may_lead c.in-Err.stop _ _ (same _ _ (sym moved)) (c.in-Err.ensures.gives tells)
+    let held = c.in_ok-push.ensures.items ∙ ap (λ x. c.args.stock.now.held.items ++ x ∷ []) c.in_ok-head.ensures in
+    let led = own_leads W (walk W c.args.depth) (stock_seen c.args.stock.now) c.args.stock.now.held.items c.args.importer.file.now c.args.path c.args.label (said c.args.text.now) _ _ free held c.empty_module-own.ensures in
+    may_lead c.in-Err.stop _ _ led (c.in-Err.ensures.gives tells)
 
 pub load_own-returns-clause-gives : goal.load_own-returns-clause-gives
 load_own-returns-clause-gives g t c = λ tells.
-    let W = world (g.F.Source.tree c.args.files.now) c.args.folders.now in
-    let B = walk W c.args.depth in
-    let S = stock_seen c.args.stock.now in
-    let hs = c.args.stock.now.held.items in
-    let f = c.args.file.now in
-    let m = said c.args.text.now in
+    let W = world (g.F.Source.tree c.args.files.now) c.args.importer.folders.now in
     let free = sym c.is_taken.ensures ∙ c.if-is_taken.false in
-    let held = c.in_ok-push.ensures.items ∙ ap (λ x. hs ++ x ∷ []) c.in_ok-head.ensures in
-    ap (λ o. o.answer) (own_free W B S hs f c.args.path c.args.label m free
-    ∙ ap₂ (λ h o. checks W B h f m (record { stock = S; own = o })) (sym held) (sym c.empty_module-own.ensures)) ∙ c.in_default.ensures.gives tells
+    let held = c.in_ok-push.ensures.items ∙ ap (λ x. c.args.stock.now.held.items ++ x ∷ []) c.in_ok-head.ensures in
+    let led = own_leads W (walk W c.args.depth) (stock_seen c.args.stock.now) c.args.stock.now.held.items c.args.importer.file.now c.args.path c.args.label (said c.args.text.now) _ _ free held c.empty_module-own.ensures in
+    sym led.0 ∙ c.in_default.ensures.gives tells
 
 pub reach-returns-in-Ok-finish-clause-gives : goal.reach-returns-in-Ok-finish-clause-gives
 reach-returns-in-Ok-finish-clause-gives g t c = λ tells.
-    let W = world (g.F.Source.tree c.args.files.now) c.args.folders.now in
+    let W = world (g.F.Source.tree c.args.files.now) c.args.importer.folders.now in
     let S = stock_seen c.args.stock.now in
     let hs = c.args.stock.now.held.items in
     let i = c.args.import.now in
     let free = ap (is_loading i.path) (sym c.deref.ensures.value) ∙ sym c.is_loading.ensures ∙ c.if-is_loading.false in
-    let new = sym c.get.ensures ∙ c.in_default.is in
     let found = rw c.in-Ok-Some.field-0-is at c.in-Ok-Some.ensures.found tells in
     let count : length S.modules ≡ length c.args.stock.now.modules.items = length-map c.args.stock.now.modules.items module_seen in
     let room : nat_lt (length S.modules + length hs) 1024 ≡ true = grind (arith, nat_tests, count) in
-    let walked = ap (λ T. (walk (world T c.args.folders.now) c.args.depth S hs c.in-Ok-Some.found.file i.path found.0).answer) (sym c.locate.ensures.tree) ∙ c.in-Ok.ensures.gives tells found.0 found.2 in
-    reach_fresh W (walk W c.args.depth) hs c.args.file.now i S c.in-Ok-Some.found.file found.0 (state_seen c.load_module.new.stock c.in-Ok.from) free new found.1 room walked
+    let walked = ap (λ T. (walk (world T c.args.importer.folders.now) c.args.depth S hs c.in-Ok-Some.found.file i.path found.0).answer) (sym c.locate.ensures.files.tree) ∙ c.in-Ok.ensures.gives tells found.0 found.2 in
+    reach_fresh W (walk W c.args.depth) hs c.args.importer.file.now i S c.in-Ok-Some.found.file found.0 (state_seen c.load_module.new.stock c.in-Ok.from) free (sym c.get.ensures ∙ c.in_default.is) found.1 room walked
     ∙ ap₂ (λ n s. Ok (n, s)) (sym c.in-Ok-finish.ensures.number) (sym c.in-Ok-finish.ensures.stock)
 
 pub reach-returns-in-Err-clause-gives : goal.reach-returns-in-Err-clause-gives
 reach-returns-in-Err-clause-gives g t c = λ tells.
-    let W = world (g.F.Source.tree c.args.files.now) c.args.folders.now in
+    let W = world (g.F.Source.tree c.args.files.now) c.args.importer.folders.now in
     let i = c.args.import.now in
     let free = ap (is_loading i.path) (sym c.deref.ensures.value) ∙ sym c.is_loading.ensures ∙ c.if-is_loading.false in
     let new = sym c.get.ensures ∙ c.in_default.is in
-    reach_unread W (walk W c.args.depth) c.args.stock.now.held.items c.args.file.now i (stock_seen c.args.stock.now) free new c.in-Err.stop c.in-Err.ensures.quiet (c.in-Err.ensures.asks tells)
+    reach_unread W (walk W c.args.depth) c.args.stock.now.held.items c.args.importer.file.now i (stock_seen c.args.stock.now) free new c.in-Err.stop c.in-Err.ensures.quiet (c.in-Err.ensures.asks tells)
 
 pub reach-returns-in-Err-load_module-clause-gives : goal.reach-returns-in-Err-load_module-clause-gives
 reach-returns-in-Err-load_module-clause-gives g t c = λ tells.
-    let T = g.F.Source.tree c.args.files.now in
-    let W = world T c.args.folders.now in
+    let ds = c.args.importer.folders.now in
+    let W = world (g.F.Source.tree c.args.files.now) ds in
     let S = stock_seen c.args.stock.now in
     let hs = c.args.stock.now.held.items in
     let i = c.args.import.now in
@@ -125,49 +90,40 @@ reach-returns-in-Err-load_module-clause-gives g t c = λ tells.
     let count : length S.modules ≡ length c.args.stock.now.modules.items = length-map c.args.stock.now.modules.items module_seen in
     let room : nat_lt (length S.modules + length hs) 1024 ≡ true = grind (arith, nat_tests, count) in
     let s = c.in-Err-load_module.stop in
-    reach_stopped W (walk W c.args.depth) hs c.args.file.now i S free new s c.in-Ok-Some.found.file found.0 found.1 room
-    (may_lead s _ _ (same _ _ (ap (λ U. walk (world U c.args.folders.now) c.args.depth S hs c.in-Ok-Some.found.file i.path found.0) c.locate.ensures.tree)) (c.in-Err-load_module.ensures.gives tells found.0 found.2))
+    reach_stopped W (walk W c.args.depth) hs c.args.importer.file.now i S free new s c.in-Ok-Some.found.file found.0 found.1 room
+    (may_lead s _ _ (same _ _ (ap (λ U. walk (world U ds) c.args.depth S hs c.in-Ok-Some.found.file i.path found.0) c.locate.ensures.files.tree)) (c.in-Err-load_module.ensures.gives tells found.0 found.2))
 
 pub enter_imports-returns-in-Err-clause-gives : goal.enter_imports-returns-in-Err-clause-gives
 enter_imports-returns-in-Err-clause-gives g t c = λ tells.
-    let T = g.F.Source.tree c.args.files.now in
-    let ds = c.args.folders.now in
-    let W = world T ds in
+    let ds = c.args.importer.folders.now in
+    let W = world (g.F.Source.tree c.args.files.now) ds in
     let d = c.args.depth in
-    let hs = c.args.stock.now.held.items in
-    let f = c.args.file.now in
-    let is = c.args.imports.now in
-    let n = c.loop-import.import-index in
+    let f = c.args.importer.file.now in
     let i = c.import-item.result in
     let s0 = state_seen c.loop-import.stock c.loop-import.own in
     let inv = c.loop-import.invariant in
-    let s = c.in-Err.stop in
-    turn_stop (import_entry W (walk W d) hs f) (drop n is) (drop (n + 1) is) i s0 _ (front is n i c.loop-import-test.true c.import-item.is) (inv.left tells) s
-    (may_lead s _ _ (same _ _ (ap₂ (λ U h. import_entry (world U ds) (walk (world U ds) d) h f i s0) inv.tree inv.held)) (c.in-Err.ensures.gives tells))
+    turn_stop (import_entry W (walk W d) c.args.stock.now.held.items f) _ _ i s0 _
+    (front c.args.imports.now c.loop-import.import-index i c.loop-import-test.true c.import-item.is) (inv.left tells) c.in-Err.stop
+    (may_lead c.in-Err.stop _ _ (same _ _ (ap₂ (λ U h. import_entry (world U ds) (walk (world U ds) d) h f i s0) inv.files.tree inv.held)) (c.in-Err.ensures.gives tells))
 
 pub enter_imports-loop-import-preserved : goal.enter_imports-loop-import-preserved
 enter_imports-loop-import-preserved g t c =
-    let T = g.F.Source.tree c.args.files.now in
-    let ds = c.args.folders.now in
-    let W = world T ds in
+    let ds = c.args.importer.folders.now in
+    let W = world (g.F.Source.tree c.args.files.now) ds in
     let d = c.args.depth in
     let hs = c.args.stock.now.held.items in
-    let f = c.args.file.now in
+    let f = c.args.importer.file.now in
     let is = c.args.imports.now in
     let n = c.loop-import.import-index in
     let i = c.import-item.result in
     let s0 = state_seen c.loop-import.stock c.loop-import.own in
     let inv = c.loop-import.invariant in
     record {
-      tree = c.in_default.ensures.tree ∙ inv.tree;
-      reads = c.in_default.ensures.cause.0 ∙ inv.reads;
-      opens = c.in_default.ensures.cause.1 ∙ inv.opens;
-      taken = fewer _ _ _ inv.taken c.in_default.ensures.taken;
-      closed = λ o. c.in_default.ensures.closed (inv.closed o);
+      files = after g.F.Source _ _ _ _ _ _ inv.files c.in_default.ensures.files;
       held = c.in_default.ensures.held ∙ inv.held;
       kept = keeps_trans _ _ _ inv.kept c.in_default.ensures.kept;
       left = λ tells.
           turn_on (import_entry W (walk W d) hs f) (drop n is) (drop (n + 1) is) i s0 _ (front is n i c.loop-import-test.true c.import-item.is) (inv.left tells)
           (state_seen c.enter_import.new.stock c.enter_import.new.own)
-          (ap₂ (λ U h. (import_entry (world U ds) (walk (world U ds) d) h f i s0).answer) (sym inv.tree) (sym inv.held) ∙ c.in_default.ensures.gives tells);
+          (ap₂ (λ U h. (import_entry (world U ds) (walk (world U ds) d) h f i s0).answer) (sym inv.files.tree) (sym inv.held) ∙ c.in_default.ensures.gives tells);
     }

@@ -1,8 +1,9 @@
-use Rattle.std.proofs.Common.{◌≡◌, ◌+◌, ◌*◌, drop, false}
-use Rattle.rosie_io.specs.Loading.{NotFewer}
+use Rattle.std.proofs.Common.{◌≡◌, ◌+◌, ◌*◌, drop}
+use Rattle.std.specs.Prelude.{Ok}
 use Rattle.rpl_package.specs.Loading.{world, walk, import_entries}
 use Rattle.rpl_package.specs.Kept.{Keeps}
 use Rattle.rpl_package.specs.Stocks.{stock_seen, state_seen}
+use Rattle.rpl_package.specs.inside.Leaving.{LeavesFiles}
 use Rattle.rpl_package.proofs.Outcomes.{Follows}
 use Rattle.rpl_package.proofs.walk.+load.Given as goal
 
@@ -27,14 +28,10 @@ decreases-load_own g l = 6 * l.depth + 5
 abbrev pub invariant-enter_imports-loop-import : goal.invariant-enter_imports-loop-import
 invariant-enter_imports-loop-import g l =
     record {
-      tree : g.F.Source.tree l.files ≡ g.F.Source.tree l.fn.files;
-      reads : g.F.Source.faults l.files ≡ g.F.Source.faults l.fn.files;
-      opens : g.F.Source.failed_opens l.files ≡ g.F.Source.failed_opens l.fn.files;
-      taken : NotFewer (g.F.Source.taken l.fn.files) (g.F.Source.taken l.files);
-      closed : g.F.Source.is_open l.fn.files ≡ false → g.F.Source.is_open l.files ≡ false;
+      files : LeavesFiles g.F.Source (Ok (tt {0})) l.fn.files l.files;
       held : l.stock.held.items ≡ l.fn.stock.held.items;
       kept : Keeps (stock_seen l.fn.stock) (stock_seen l.stock);
       left : g.F.Source.tells → Follows
-          (import_entries (world (g.F.Source.tree l.fn.files) l.folders) (walk (world (g.F.Source.tree l.fn.files) l.folders) l.depth) l.fn.stock.held.items l.file (drop l.import-index l.imports) (state_seen l.stock l.own))
-          (import_entries (world (g.F.Source.tree l.fn.files) l.folders) (walk (world (g.F.Source.tree l.fn.files) l.folders) l.depth) l.fn.stock.held.items l.file l.imports (state_seen l.fn.stock l.fn.own));
+          (import_entries (world (g.F.Source.tree l.fn.files) l.importer.folders.now) (walk (world (g.F.Source.tree l.fn.files) l.importer.folders.now) l.depth) l.fn.stock.held.items l.importer.file.now (drop l.import-index l.imports) (state_seen l.stock l.own))
+          (import_entries (world (g.F.Source.tree l.fn.files) l.importer.folders.now) (walk (world (g.F.Source.tree l.fn.files) l.importer.folders.now) l.depth) l.fn.stock.held.items l.importer.file.now l.imports (state_seen l.fn.stock l.fn.own));
     }

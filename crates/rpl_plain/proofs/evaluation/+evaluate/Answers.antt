@@ -13,13 +13,13 @@ use Rattle.rpl_plain.specs.Outcomes.{outcome_of, forest_of, capped}
 use Rattle.rpl_plain.specs.inside.Below.{below, core_at, all_at, first_at}
 use Rattle.rpl_plain.proofs.Capped.{capped_more, first_fails, first_matches, first_halts, turn_matches, one_length}
 use Rattle.rpl_plain.proofs.Levels.{below_is, length_here}
-use Rattle.rpl_plain.proofs.Parts.{first_here}
+use Rattle.rpl_plain.proofs.Parts.{first_more}
 use Rattle.rpl_plain.proofs.Weights.{weight, weight_all, weight_in, deeper_less}
 use Rattle.rpl_plain.proofs.evaluation.+evaluate.Goals as goal
 
 pub evaluate_call-evaluate_core-requires : goal.evaluate_call-evaluate_core-requires
 evaluate_call-evaluate_core-requires t c =
-    let table = rules_of c.args.rules.now in
+    let table = rules_of c.args.over.now.rules.now in
     let p = core_of c.in-Some.rule.now.body in
     let found : slice_get (bodies_of table) c.args.rule ≡ Some p =
     slice_get-map (λ (r : Rule). core_of r.body) table c.args.rule
@@ -32,24 +32,24 @@ evaluate_call-evaluate_core-requires t c =
 
 pub evaluate_call-returns-in-None : goal.evaluate_call-returns-in-None
 evaluate_call-returns-in-None t c =
-    let table = rules_of c.args.rules.now in
+    let table = rules_of c.args.over.now.rules.now in
     let none =
     slice_get-map (λ (r : Rule). core_of r.body) table c.args.rule
     ∙ ap (option_map (λ (r : Rule). core_of r.body)) (sym c.get.ensures ∙ ap option_copied c.in-None.is) in
-    sym (ap (λ o. capped (M.called o (λ p. below c.args.depth (bodies_of table) c.args.text.now p c.args.place))) none)
+    sym (ap (λ o. capped (M.called o (λ p. below c.args.depth (bodies_of table) c.args.over.now.text.now p c.args.place))) none)
 
 pub evaluate_call-returns-in_ok-o-in-Some : goal.evaluate_call-returns-in_ok-o-in-Some
 evaluate_call-returns-in_ok-o-in-Some t c =
-    let table = rules_of c.args.rules.now in
+    let table = rules_of c.args.over.now.rules.now in
     let p = core_of c.in-Some.rule.now.body in
     let found =
     slice_get-map (λ (r : Rule). core_of r.body) table c.args.rule
     ∙ ap (option_map (λ (r : Rule). core_of r.body)) (sym c.get.ensures ∙ ap option_copied c.in-Some.is) in
     let some : 0 < c.args.depth = let ne = c.if-depth-eq0.false in omega arith in
-    let down = below_is c.args.depth (bodies_of table) c.args.text.now p c.args.place some in
+    let down = below_is c.args.depth (bodies_of table) c.args.over.now.text.now p c.args.place some in
     c.more.ensures ∙ ap (λ x. capped (M.more 1 x)) (c.in_ok-o-in-Some.ensures ∙ ap capped (sym down))
     ∙ capped_more 1 1 _ refl ∙ sym (ap
-    (λ o. capped (M.called o (λ q. below c.args.depth (bodies_of table) c.args.text.now q c.args.place))) found)
+    (λ o. capped (M.called o (λ q. below c.args.depth (bodies_of table) c.args.over.now.text.now q c.args.place))) found)
 
 pub evaluate_core-evaluate_all-requires : goal.evaluate_core-evaluate_all-requires
 evaluate_core-evaluate_all-requires t c =
@@ -65,8 +65,8 @@ evaluate_core-evaluate_first-requires t c =
 
 pub evaluate_core-returns-in_ok-o-in-Seq : goal.evaluate_core-returns-in_ok-o-in-Seq
 evaluate_core-returns-in_ok-o-in-Seq t c =
-    let at = core_at c.args.depth (bodies_of (rules_of c.args.rules.now)) c.args.text.now in
-    let all = all_at c.args.depth (bodies_of (rules_of c.args.rules.now)) c.args.text.now in
+    let at = core_at c.args.depth (bodies_of (rules_of c.args.over.now.rules.now)) c.args.over.now.text.now in
+    let all = all_at c.args.depth (bodies_of (rules_of c.args.over.now.rules.now)) c.args.over.now.text.now in
     let parts = cores c.in-Seq.parts.items.items in
     let each : outcome_of c.in_ok-o-in-Seq.o ≡ capped (all parts c.args.place) =
     subst (λ ps. outcome_of c.in_ok-o-in-Seq.o ≡ capped (all (cores ps) c.args.place)) c.as_slice.ensures
@@ -78,8 +78,8 @@ evaluate_core-returns-in_ok-o-in-Seq t c =
 
 pub evaluate_core-returns-in-Choice : goal.evaluate_core-returns-in-Choice
 evaluate_core-returns-in-Choice t c =
-    let at = core_at c.args.depth (bodies_of (rules_of c.args.rules.now)) c.args.text.now in
-    let first = first_at c.args.depth (bodies_of (rules_of c.args.rules.now)) c.args.text.now in
+    let at = core_at c.args.depth (bodies_of (rules_of c.args.over.now.rules.now)) c.args.over.now.text.now in
+    let first = first_at c.args.depth (bodies_of (rules_of c.args.over.now.rules.now)) c.args.over.now.text.now in
     let same =
     ap (λ ps. capped (first (cores ps) c.args.place)) c.as_slice-in-Choice.ensures
     ∙ sym (ap (λ p. capped (at p c.args.place)) (ap core_of c.in-Choice.is ∙ choice_view c.in-Choice.parts)) in
@@ -87,8 +87,8 @@ evaluate_core-returns-in-Choice t c =
 
 pub evaluate_turns-returns-in_ok-rest-in-At : goal.evaluate_turns-returns-in_ok-rest-in-At
 evaluate_turns-returns-in_ok-rest-in-At t c =
-    let R = bodies_of (rules_of c.args.rules.now) in
-    let text = c.args.text.now in
+    let R = bodies_of (rules_of c.args.over.now.rules.now) in
+    let text = c.args.over.now.text.now in
     let n = c.args.depth in
     let i = c.args.place in
     let p = core_of c.args.body.now in
@@ -107,59 +107,47 @@ evaluate_turns-returns-in_ok-rest-in-At t c =
 
 pub evaluate_first-returns-in_ok-rest-in-Fail : goal.evaluate_first-returns-in_ok-rest-in-Fail
 evaluate_first-returns-in_ok-rest-in-Fail t c =
-    let R = bodies_of (rules_of c.args.rules.now) in
-    let text = c.args.text.now in
+    let R = bodies_of (rules_of c.args.over.now.rules.now) in
+    let text = c.args.over.now.text.now in
     let n = c.args.depth in
-    let i = c.args.place in
-    let parts = c.args.parts.now in
-    let p = c.index-parts-from.result in
-    let rest = first_at n R text (cores (drop (c.args.from + 1) parts)) in
-    let inside : c.args.from + 1 < length parts = let a = c.if-from-parts.false in let b = c.if-from-parts-2.false in
-    omega arith in
-    let here = first_here (below n R text) R text parts c.args.from p i inside c.index-parts-from.is in
+    let here = first_more (below n R text) R text c.args.parts.now c.args.from c.index-parts-from.result c.args.place
+    c.if-from-parts.false c.if-from-parts-2.false c.index-parts-from.is in
     let fails = sym (ap outcome_of c.in-Fail.is) ∙ c.in_ok-o.ensures in
     c.more.ensures ∙ ap (λ w. capped (M.more w (outcome_of c.in_ok-rest-in-Fail.rest))) c.plus.ensures
     ∙ ap (λ x. capped (M.more (min (1 + c.in-Fail.work) (2 ^ 64 - 1)) x)) c.in_ok-rest-in-Fail.ensures
-    ∙ first_fails (core_at n R text (core_of p) i) i rest c.in-Fail.work fails ∙ sym (ap capped here)
+    ∙ first_fails (core_at n R text (core_of c.index-parts-from.result) c.args.place) c.args.place
+    (first_at n R text (cores (drop (c.args.from + 1) c.args.parts.now))) c.in-Fail.work fails ∙ sym (ap capped here)
 
 pub evaluate_first-returns-in-At : goal.evaluate_first-returns-in-At
 evaluate_first-returns-in-At t c =
-    let R = bodies_of (rules_of c.args.rules.now) in
-    let text = c.args.text.now in
+    let R = bodies_of (rules_of c.args.over.now.rules.now) in
+    let text = c.args.over.now.text.now in
     let n = c.args.depth in
-    let i = c.args.place in
-    let parts = c.args.parts.now in
-    let p = c.index-parts-from.result in
-    let rest = first_at n R text (cores (drop (c.args.from + 1) parts)) in
-    let inside : c.args.from + 1 < length parts = let a = c.if-from-parts.false in let b = c.if-from-parts-2.false in
-    omega arith in
-    let here = first_here (below n R text) R text parts c.args.from p i inside c.index-parts-from.is in
+    let here = first_more (below n R text) R text c.args.parts.now c.args.from c.index-parts-from.result c.args.place
+    c.if-from-parts.false c.if-from-parts-2.false c.index-parts-from.is in
     let matches = sym (ap outcome_of c.in-At.is) ∙ c.in_ok-o.ensures in
     ap (λ w. M.At w c.in-At.place (forest_of c.in-At.trees)) c.plus-in-At.ensures
-    ∙ first_matches (core_at n R text (core_of p) i) i rest c.in-At.work c.in-At.place (forest_of c.in-At.trees)
+    ∙ first_matches (core_at n R text (core_of c.index-parts-from.result) c.args.place) c.args.place
+    (first_at n R text (cores (drop (c.args.from + 1) c.args.parts.now))) c.in-At.work c.in-At.place (forest_of c.in-At.trees)
     matches ∙ sym (ap capped here)
 
 pub evaluate_first-returns-in-HaltAt : goal.evaluate_first-returns-in-HaltAt
 evaluate_first-returns-in-HaltAt t c =
-    let R = bodies_of (rules_of c.args.rules.now) in
-    let text = c.args.text.now in
+    let R = bodies_of (rules_of c.args.over.now.rules.now) in
+    let text = c.args.over.now.text.now in
     let n = c.args.depth in
-    let i = c.args.place in
-    let parts = c.args.parts.now in
-    let p = c.index-parts-from.result in
-    let rest = first_at n R text (cores (drop (c.args.from + 1) parts)) in
-    let inside : c.args.from + 1 < length parts = let a = c.if-from-parts.false in let b = c.if-from-parts-2.false in
-    omega arith in
-    let here = first_here (below n R text) R text parts c.args.from p i inside c.index-parts-from.is in
+    let here = first_more (below n R text) R text c.args.parts.now c.args.from c.index-parts-from.result c.args.place
+    c.if-from-parts.false c.if-from-parts-2.false c.index-parts-from.is in
     let halts = sym (ap outcome_of c.in-HaltAt.is) ∙ c.in_ok-o.ensures in
     ap (λ w. M.HaltAt w c.in-HaltAt.place (forest_of c.in-HaltAt.trees)) c.plus-in-HaltAt.ensures
-    ∙ first_halts (core_at n R text (core_of p) i) i rest c.in-HaltAt.work c.in-HaltAt.place
+    ∙ first_halts (core_at n R text (core_of c.index-parts-from.result) c.args.place) c.args.place
+    (first_at n R text (cores (drop (c.args.from + 1) c.args.parts.now))) c.in-HaltAt.work c.in-HaltAt.place
     (forest_of c.in-HaltAt.trees) halts ∙ sym (ap capped here)
 
 pub evaluate_lengths-returns : goal.evaluate_lengths-returns
 evaluate_lengths-returns t c =
-    let R = bodies_of (rules_of c.args.rules.now) in
-    let at = core_at c.args.depth R c.args.text.now (core_of c.args.body.now) in
+    let R = bodies_of (rules_of c.args.over.now.rules.now) in
+    let at = core_at c.args.depth R c.args.over.now.text.now (core_of c.args.body.now) in
     let i = c.args.place in
     let k = c.args.length in
     let some : 0 < c.args.count = let ne = c.if-count-eq0.false in omega arith in

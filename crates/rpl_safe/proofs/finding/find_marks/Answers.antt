@@ -1,11 +1,12 @@
-use Rattle.std.proofs.Common.{◌≡◌, sym, ap, ◌∙◌, subst, refl, arith, length, Some, None}
+use Rattle.std.proofs.Common.{◌≡◌, ◌+◌, ◌<◌, sym, ap, ◌∙◌, subst, refl, arith, length, Some, None}
 use Rattle.std.proofs.lemmas.List.{length-map, nil_from_length}
 use Rattle.std.specs.Prelude.{true, false, Ok}
 use Rattle.rpl_core.specs.Numbers.{instr_of}
 use Rattle.rpl_core.specs.Program.{instructions, sets_of, labels_of, code_of}
-use Rattle.rpl_safe.specs.inside.Marks.{Puts, marks_at, next_mark, given_of}
+use Rattle.rpl_safe.specs.inside.Marks.{Found, Puts, marks_at, next_mark, given_of, unmarked}
 use Rattle.rpl_safe.specs.declared.finding.Search.{Search}
 use Rattle.rpl_safe.proofs.Placing.{found_begin, look_on, look_off, waits_marked, waits_inside, few_trees, found_end, read_instr}
+use Rattle.rpl_safe.proofs.finding.find_marks.Goals.{Else-not-branch}
 use Rattle.rpl_safe.proofs.finding.find_marks.Goals as goal
 
 pub loop-address-init : goal.loop-address-init
@@ -30,29 +31,23 @@ returns-then-not-branch c =
     (c.goes_on-next.ensures (sets_of p) (labels_of p) ∙ ap (λ l. next_mark (marks_at l) (instr_of (sets_of p) (labels_of p) c.in-Some-get.instr.now) c.in-Some.address c.in-Some-mark_at.mark) c.deref-in-Some-mark_at.ensures.value)
     c.put_all.ensures (c.in_ok-put_all.was ∙ ap Ok c.if-not-branch.true)
 
-pub loop-address-smaller-else-not-branch : goal.loop-address-smaller-else-not-branch
-loop-address-smaller-else-not-branch c =
+-- the address was looked at, and less is left
+looked : (c : Else-not-branch) → Found (instructions c.args.program.now) c.put_all.new.self × (length c.put_all.new.self.waiting.items + unmarked c.put_all.new.self.marks.items < length c.loop-address.search.waiting.items + unmarked c.loop-address.search.marks.items)
+looked c =
     let p = c.args.program.now in
     let s : Search = record { marks = c.loop-address.search.marks; waiting = c.pop.new.self } in
-    let h = look_on (instructions p) c.loop-address.search s c.put_all.new.self c.in-Some.address c.in-Some-mark_at.mark (instr_of (sets_of p) (labels_of p) c.in-Some-get.instr.now) (given_of c.goes_on-next.result) c.put_all.result
+    look_on (instructions p) c.loop-address.search s c.put_all.new.self c.in-Some.address c.in-Some-mark_at.mark (instr_of (sets_of p) (labels_of p) c.in-Some-get.instr.now) (given_of c.goes_on-next.result) c.put_all.result
     c.loop-address.invariant c.in-Some.ensures.items refl
     (sym (ap (λ l. marks_at l c.in-Some.address) c.deref.ensures.value) ∙ sym c.mark_at.ensures ∙ c.in-Some-mark_at.is)
     (read_instr p c.code-code.result.now c.in-Some.address c.in-Some-get.instr.now c.code-code.ensures.same c.in-Some-get.ensures.lookup.3.0 c.in-Some-get.ensures.lookup.1)
     (c.goes_on-next.ensures (sets_of p) (labels_of p) ∙ ap (λ l. next_mark (marks_at l) (instr_of (sets_of p) (labels_of p) c.in-Some-get.instr.now) c.in-Some.address c.in-Some-mark_at.mark) c.deref-in-Some-mark_at.ensures.value)
-    c.put_all.ensures (c.in_ok-put_all.was ∙ ap Ok c.if-not-branch.false) in
-    h.1
+    c.put_all.ensures (c.in_ok-put_all.was ∙ ap Ok c.if-not-branch.false)
+
+pub loop-address-smaller-else-not-branch : goal.loop-address-smaller-else-not-branch
+loop-address-smaller-else-not-branch c = let h = looked c in h.1
 
 pub loop-address-preserved-else-not-branch : goal.loop-address-preserved-else-not-branch
-loop-address-preserved-else-not-branch c =
-    let p = c.args.program.now in
-    let s : Search = record { marks = c.loop-address.search.marks; waiting = c.pop.new.self } in
-    let h = look_on (instructions p) c.loop-address.search s c.put_all.new.self c.in-Some.address c.in-Some-mark_at.mark (instr_of (sets_of p) (labels_of p) c.in-Some-get.instr.now) (given_of c.goes_on-next.result) c.put_all.result
-    c.loop-address.invariant c.in-Some.ensures.items refl
-    (sym (ap (λ l. marks_at l c.in-Some.address) c.deref.ensures.value) ∙ sym c.mark_at.ensures ∙ c.in-Some-mark_at.is)
-    (read_instr p c.code-code.result.now c.in-Some.address c.in-Some-get.instr.now c.code-code.ensures.same c.in-Some-get.ensures.lookup.3.0 c.in-Some-get.ensures.lookup.1)
-    (c.goes_on-next.ensures (sets_of p) (labels_of p) ∙ ap (λ l. next_mark (marks_at l) (instr_of (sets_of p) (labels_of p) c.in-Some-get.instr.now) c.in-Some.address c.in-Some-mark_at.mark) c.deref-in-Some-mark_at.ensures.value)
-    c.put_all.ensures (c.in_ok-put_all.was ∙ ap Ok c.if-not-branch.false) in
-    h.0
+loop-address-preserved-else-not-branch c = let h = looked c in h.0
 
 pub loop-address-preserved-in_default-mark_at : goal.loop-address-preserved-in_default-mark_at
 loop-address-preserved-in_default-mark_at c =

@@ -1,6 +1,7 @@
 use Rattle.std.proofs.Common.{◌∙◌, sym}
 use Rattle.rpl_text.specs.Seen.{text_of}
-use Rattle.rpl_trace.proofs.Walks.{next_is, char_ends}
+use Rattle.rpl_text.proofs.Walks.{next_is}
+use Rattle.rpl_trace.proofs.Walks.{char_ends}
 use Rattle.rpl_trace.proofs.endings.one_char.Goals as goal
 
 pub returns-then-has-clause-end : goal.returns-then-has-clause-end

@@ -1,4 +1,4 @@
-use Rattle.std.proofs.Common.{◌≡◌, ◌<◌, get_or, ◌+◌, ◌∷◌, [], ◌∙◌, length, map, take, ap, sym, subst, lit<}
+use Rattle.std.proofs.Common.{◌≡◌, ◌<◌, ◌++◌, ℕ, List, get_or, ◌+◌, ◌∷◌, [], ◌∙◌, length, map, take, ap, sym, subst, lit<}
 use Rattle.std.proofs.lemmas.List.{map-append, length-append, length-map}
 use Rattle.std.proofs.lemmas.Iterator.Splits.{YieldsList-from_str_split}
 use Rattle.std.proofs.lemmas.Iterator.Consumers.{YieldsList-turn, YieldsList-end, YieldsList-so_far}
@@ -23,33 +23,34 @@ returns-then-not-branch-clause-bad c =
     c.loop-line.invariant.3 c.in-Some-comment_in.ensures c.in_ok-push_comment-in-Some-comment_in.ensures
     c.if-not-branch.true
 
+-- one line more
+counted : {A : Type 0} (xs : List A) (x : A) (n : ℕ) → n ≡ length xs → n + 1 ≡ length (xs ++ x ∷ [])
+counted xs x n e = ap (λ k. k + 1) e ∙ sym (length-append xs (x ∷ []))
+
 pub loop-line-preserved : goal.loop-line-preserved
 loop-line-preserved c =
     let ys = c.loop-line.yielded in
-    let n = c.loop-line.number in
     let line = c.in-Some.line in
-    let e : n ≡ length ys = c.loop-line.invariant.2 in (
+    let e = c.loop-line.invariant.2 in (
       tt,
       tt,
-      ap (λ k. k + 1) e ∙ sym (length-append ys (line ∷ [])),
+      counted ys line c.loop-line.number e,
       says_in c.push_comment.new.tests _ _ (map-append (λ p. p.now) ys (line ∷ []))
-          (told_more (map (λ p. p.now) ys) line.now c.in-Some-comment_in.rest.now _ _ n _ c.loop-line.invariant.3
-          (e ∙ sym (length-map ys (λ p. p.now))) c.in-Some-comment_in.ensures
+          (told_more (map (λ p. p.now) ys) line.now c.in-Some-comment_in.rest.now _ _ c.loop-line.number _
+          c.loop-line.invariant.3 (e ∙ sym (length-map ys (λ p. p.now))) c.in-Some-comment_in.ensures
           c.in_ok-push_comment-in-Some-comment_in.ensures c.if-not-branch.false),
     )
 
 pub loop-line-preserved-in-None-comment_in : goal.loop-line-preserved-in-None-comment_in
 loop-line-preserved-in-None-comment_in c =
     let ys = c.loop-line.yielded in
-    let n = c.loop-line.number in
-    let line = c.in-Some.line in
-    let e : n ≡ length ys = c.loop-line.invariant.2 in (
+    let l = c.loop-line in (
       tt,
       tt,
-      ap (λ k. k + 1) e ∙ sym (length-append ys (line ∷ [])),
-      says_in c.loop-line.tests _ _ (map-append (λ p. p.now) ys (line ∷ []))
-          (unsaid (map (λ p. p.now) ys) line.now c.loop-line.tests n c.loop-line.invariant.3
-          (e ∙ sym (length-map ys (λ p. p.now))) c.in-None-comment_in.ensures),
+      counted ys c.in-Some.line l.number l.invariant.2,
+      says_in l.tests _ _ (map-append (λ p. p.now) ys (c.in-Some.line ∷ []))
+          (unsaid (map (λ p. p.now) ys) c.in-Some.line.now l.tests l.number l.invariant.3
+          (l.invariant.2 ∙ sym (length-map ys (λ p. p.now))) c.in-None-comment_in.ensures),
     )
 
 pub returns-clause-tests : goal.returns-clause-tests

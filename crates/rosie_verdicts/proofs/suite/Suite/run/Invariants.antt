@@ -1,10 +1,11 @@
-use Rattle.std.proofs.Common.{◌≡◌, ◌+◌, ◌≤◌, ◌∷◌, [], ◌++◌, drop, length}
+use Rattle.std.proofs.Common.{◌≡◌, ◌+◌, ◌≤◌, drop}
 use Rattle.std.specs.Prelude.{map}
 use Rattle.rosie_run.specs.Outputs.{texts}
 use Rattle.rpl_core.specs.Table.{bodies_of}
 use Rattle.rosie_verdicts.specs.Seen.{bench_of, trials_of}
 use Rattle.rosie_verdicts.specs.Tried.{trial_of}
-use Rattle.rosie_verdicts.specs.Trials.{counts_piece, suite_pieces, trial_piece, unmet}
+use Rattle.rosie_verdicts.specs.Trials.{unmet}
+use Rattle.rosie_verdicts.proofs.Passing.{all_pieces, pieces_from}
 use Rattle.rosie_verdicts.proofs.Written.{Reached}
 use Rattle.rosie_verdicts.proofs.suite.Suite.run.Given as goal
 
@@ -12,9 +13,7 @@ use Rattle.rosie_verdicts.proofs.suite.Suite.run.Given as goal
 abbrev pub invariant-tests : goal.invariant-tests
 invariant-tests g l = record {
   reached : Reached (record { out = g.O.Sink.tells; err = g.E.Sink.tells; counts = g.O.Sink.counts })
-      (suite_pieces (bench_of l.self) (trials_of l.self))
-      (map (λ t. trial_piece (bench_of l.self) (trial_of (bodies_of l.self.rules) t)) (drop l.trial-index l.self.trials.items)
-      ++ counts_piece (bench_of l.self).file (length (trials_of l.self)) (unmet (bench_of l.self) (trials_of l.self)) ∷ [])
+      (all_pieces l.self) (pieces_from l.self l.trial-index)
       (texts g.O.Sink.written g.O.Sink.number g.E.Sink.written l.initial.out l.initial.err l.initial.steps)
       (texts g.O.Sink.written g.O.Sink.number g.E.Sink.written l.out l.err l.steps) l.tally;
   counted : l.unmet + unmet (bench_of l.self) (map (trial_of (bodies_of l.self.rules)) (drop l.trial-index l.self.trials.items))

@@ -14,8 +14,7 @@ use Rattle.rpl_trace.specs.declared.event.Kind.TheVariants as K
 use Rattle.rpl_trace.specs.declared.task.Task.TheVariants as T
 use Rattle.rpl_trace.proofs.Going as G
 use Rattle.rpl_trace.proofs.States as A
-use Rattle.rpl_text.proofs.Walks.{index_le}
-use Rattle.rpl_trace.proofs.Walks.{back_is, back_not}
+use Rattle.rpl_text.proofs.Walks.{index_le, back_is, back_not}
 use Rattle.rpl_trace.proofs.tracer.Tracer.try_length.Goals as goal
 
 pub back-requires : goal.back-requires

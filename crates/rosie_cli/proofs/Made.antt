@@ -1,0 +1,87 @@
+-- From the steps of planning to a plan.
+use Rattle.std.proofs.Common.{◌≡◌, ◌≤◌, ℕ, List, refl, sym, ◌∙◌, ap, subst, arith}
+use Rattle.std.specs.Prelude.{Result, Ok, Err, IfErr, IfOk, IsErrAnd, None, Some, string_bytes}
+use Rattle.rosie_faults.specs.Lines.{compile_line}
+use Rattle.rosie_io.specs.Loading.{NotFewer}
+use Rattle.rosie_io.specs.declared.outside.Source.{Ghosts}
+use Rattle.rosie_prepare.specs.Answers.{Counts, IsAsked, IsDue}
+use Rattle.rosie_prepare.specs.Prepared.{OrLine}
+use Rattle.rosie_prepare.specs.declared.unready.Unready.{Unready}
+use Rattle.rosie_prepare.specs.declared.unready.Unready.TheVariants.{NoMemory, Refused, ReadFault}
+use Rattle.rosie_prepare.specs.inside.Steps.{IsOwn, Tells}
+use Rattle.rosie_run.specs.Sources.{Moment, Still}
+use Rattle.rpl_codegen.specs.declared.whole.CompileFault.{CompileFault}
+use Rattle.rpl_codegen.specs.declared.whole.CompileFault.TheVariants as C
+use Rattle.rosie_cli.specs.Plans as P
+use Rattle.rosie_cli.specs.Plans.{Planned, refusal}
+use Rattle.rosie_cli.specs.Promises.{IsPromised}
+use Rattle.rosie_cli.specs.declared.plan.Plan.{Plan}
+use Rattle.rosie_cli.specs.inside.Planning.{due_of, moment_of, plan_of, IsMade, Leaves, Plans}
+
+-- ---- what is planned
+
+-- where no read failed no path is looked for
+pub made-plans : (r : Result Plan Unready) (p : Planned) → IfErr r IsOwn → IsMade r p.plan → Plans r p
+made-plans (Ok plan) p own h = (h, tt)
+made-plans (Err NoMemory) p own h = (h, tt)
+made-plans (Err (Refused line)) p own h = (h, tt)
+made-plans (Err (ReadFault path)) p own h = absurd own
+
+pub known-plans : (r : Result Plan Unready) (p q : Planned) → p ≡ q → IfErr r IsOwn → IsMade r q.plan → Plans r p
+known-plans r p q e own h = subst (Plans r) (sym e) (made-plans r q own h)
+
+-- a pattern that has no program is refused where its code is too long
+pub told-made : (fault : CompileFault) (u : Unready) (p : P.Plan) → Tells (due_of fault) u
+    → (fault ≡ C.CodeTooLong → p ≡ refusal compile_line) → IsMade (Err u) p
+told-made fault NoMemory p h long = tt
+told-made C.CodeTooLong (Refused line) p h long =
+    let same : compile_line ≡ string_bytes line = cc in long refl ∙ ap refusal same
+told-made C.NoMemory (Refused line) p h long = absurd (cc)
+told-made fault (ReadFault path) p h long = absurd h
+
+-- what isn't ready is refused with the line that is due, or has a path that is asked for
+pub due-plans : {A : Type 0} (u : Unready) (p : Planned) (Meant : OrLine A → P.Plan → Type 0) (ready : OrLine A)
+    → ((line : List ℕ) (plan : P.Plan) → Meant (Err line) plan → plan ≡ refusal line) → IsDue u ready
+    → IsAsked u p.asked → Meant ready p.plan → Plans (Err u) p
+due-plans NoMemory p Meant ready told due asked is = (tt, tt)
+due-plans (Refused line) p Meant ready told due asked is =
+    (told (string_bytes line) p.plan (subst (λ r. Meant r p.plan) due is), tt)
+due-plans (ReadFault path) p Meant ready told due asked is = (tt, asked)
+
+-- and goes out as it is
+pub plans-through : (r : Result Plan Unready) (u : Unready) (p : Planned) → IsErrAnd r (λ e. e ≡ u) → Plans (Err u) p
+    → Plans r p
+plans-through (Ok plan) u p h k = absurd h
+plans-through (Err e) u p h k = subst (λ v. Plans (Err v) p) (sym h) k
+
+-- ---- what planning leaves
+
+same_cause : (u : Unready) (f0 f1 : Moment) → IsOwn u → Still f0 f1 → Counts u f0 f1
+same_cause NoMemory f0 f1 own still =
+    let faults = still.faults in
+    let opens = still.opens in
+    record { faults = omega (arith, faults); opens = omega (arith, opens) }
+same_cause (Refused line) f0 f1 own still = still
+same_cause (ReadFault path) f0 f1 own still = absurd own
+
+-- where the step that comes last reads no file
+pub leaves-own : {F : Type 0} (S : Ghosts F) (r : Result Plan Unready) (old new : F) → NotFewer (S.taken old) (S.taken new)
+    → S.tree new ≡ S.tree old → Still (moment_of S old) (moment_of S new)
+    → IfOk r (λ plan. IsPromised (plan_of plan)) → IfErr r IsOwn → Leaves S r old new
+leaves-own S (Ok plan) old new taken tree still due own =
+    record { due = due; cause = still; taken = taken; tree = tree }
+leaves-own S (Err u) old new taken tree still due own =
+    record { due = tt; cause = same_cause u (moment_of S old) (moment_of S new) own still; taken = taken; tree = tree }
+
+-- and where reading went wrong
+pub leaves-through : {F : Type 0} (S : Ghosts F) (r : Result Plan Unready) (old new : F)
+    → NotFewer (S.taken old) (S.taken new) → S.tree new ≡ S.tree old → (u : Unready) → IsErrAnd r (λ e. e ≡ u)
+    → Counts u (moment_of S old) (moment_of S new) → Leaves S r old new
+leaves-through S (Ok plan) old new taken tree u h cause = absurd h
+leaves-through S (Err e) old new taken tree u h cause =
+    record {
+      due = tt;
+      cause = subst (λ v. Counts v (moment_of S old) (moment_of S new)) (sym h) cause;
+      taken = taken;
+      tree = tree;
+    }

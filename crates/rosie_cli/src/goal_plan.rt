@@ -1,0 +1,121 @@
+//! The plan of a command that runs a pattern on lines.
+
+ghost use Rattle.std.specs.Prelude.{◌≡◌, Ok, IfErr, IfOk, List, encode_utf8_all};
+ghost use Rattle.rosie_jobs.specs.Jobs.{job_of, rule_names};
+ghost use Rattle.rosie_prepare.specs.Views.{ready_seen, wanted_seen};
+ghost use Rattle.rosie_prepare.specs.inside.Steps.{IsOwn};
+ghost use Rattle.rosie_run.specs.Inputs.{names_of};
+ghost use Rattle.rpl_check.specs.Checked.{IsWhole};
+ghost use Rattle.rpl_check.specs.Goal.{peg_of};
+ghost use Rattle.rpl_core.specs.Table.{bodies_of};
+ghost use Rattle.rpl_core.specs.View.{core_of};
+ghost use Rattle.rpl_forms.specs.Rows.{Row};
+ghost use Rattle.rosie_cli.specs.Planned.{full_names, input_names, IsRun, IsRunning};
+ghost use Rattle.rosie_cli.specs.Plans.{Planned};
+ghost use Rattle.rosie_cli.specs.Promises.{IsPromised};
+ghost use Rattle.rosie_cli.specs.inside.Planning.{plan_of, run_of, Leaves, Makes, Plans};
+
+use crate::plan::{Plan, uncompiled};
+use rosie_io::Files;
+use rosie_jobs::{Job, MatchJob, Settings, TraceJob};
+use rosie_prepare::{Prepared, Unready, Wanted, prepare};
+use rosie_run::NoMemory;
+use rosie_sample::SampleRun;
+use rosie_words::Paths;
+use rpl_text::Chars;
+use std::alloc::Global;
+
+/// What a pattern is run for.
+#[derive(Drop)]
+pub(crate) enum Purpose {
+    /// It is matched on each line of the inputs.
+    Match {
+        settings: Settings,
+        inputs: Paths,
+    },
+    /// It is traced on each line of the inputs, with at most so much work a line.
+    Trace {
+        limit: u32,
+        whole: bool,
+        inputs: Paths,
+    },
+    /// It is matched on so many lines of the sample of a seed.
+    Sample {
+        settings: Settings,
+        seed: u32,
+        lines: u32,
+    },
+}
+
+/// The names of the inputs: without any it is the standard input.
+pub(crate) fn input_names(alloc: Global, mut inputs: Paths) -> Result<Paths, NoMemory>
+    ensures { IfOk result (λ names. names_of encode_utf8_all names ≡ input_names inputs) }
+{
+    if !inputs.is_empty() {
+        return Ok(inputs);
+    }
+    inputs.push(Chars::from_str(alloc, "-")?)?;
+    Ok(inputs)
+}
+
+/// The plan of a goal that has its code.
+fn plan_job(alloc: Global, job: Job, purpose: Purpose) -> Result<Plan, NoMemory>
+    ensures plans { IfOk result (λ plan. (rules : List Row) → full_names rules ≡ rule_names job
+        → run_of purpose rules (job_of job) ≡ plan_of plan) }
+    ensures due { IfOk result (λ plan. IsPromised (plan_of plan)) }
+{
+    match purpose {
+        Purpose::Match { settings, inputs } => {
+            let names = input_names(alloc, inputs)?;
+            let job = MatchJob::new(alloc, settings, job)?;
+            let whole = settings.whole;
+            Ok(Plan::Match { job, whole, names })
+        }
+        Purpose::Trace {
+            limit,
+            whole,
+            inputs,
+        } => {
+            let names = input_names(alloc, inputs)?;
+            let job = TraceJob::new(alloc, job, limit);
+            Ok(Plan::Trace { job, whole, names })
+        }
+        Purpose::Sample {
+            settings,
+            seed,
+            lines,
+        } => {
+            let job = MatchJob::new(alloc, settings, job)?;
+            let run = SampleRun::new(alloc, job, seed, lines);
+            Ok(Plan::Sample(run))
+        }
+    }
+}
+
+/// The plan of a goal that is prepared. Its code may be too long.
+fn plan_ready(alloc: Global, ready: Prepared, purpose: Purpose) -> Result<Plan, Unready>
+    requires { IsWhole (bodies_of ready.rules) (core_of (peg_of ready.goal)) }
+    ensures makes { Makes result (IsRun (run_of purpose) (Ok (ready_seen ready))) }
+    ensures due { IfOk result (λ plan. IsPromised (plan_of plan)) }
+    ensures own { IfErr result IsOwn }
+{
+    match Job::new(alloc, ready.rules, ready.goal) {
+        Ok(job) => Ok(plan_job(alloc, job, purpose)?),
+        Err(fault) => Err(uncompiled(alloc, fault)),
+    }
+}
+
+/// The plan of a pattern that is run for some purpose.
+pub(crate) fn plan_goal<F: Files>(
+    alloc: Global,
+    wanted: &Wanted<'_>,
+    purpose: Purpose,
+    files: &mut F,
+) -> Result<Plan, Unready>
+    ensures plans { F.tells → (p : Planned)
+        → IsRunning (run_of purpose) (wanted_seen wanted.now) (F.tree files.old) p → Plans result p }
+    ensures leaves { Leaves F.Source result files.old files.new }
+{
+    let ready = prepare(alloc, files, wanted)?;
+    plan_ready(alloc, ready, purpose)
+}
