@@ -15,8 +15,8 @@ use Rattle.rosie_session.specs.Where.{InSession}
 use Rattle.rosie_verdicts.specs.Trials.{Bench, Trial, suite_pieces}
 
 -- pieces for which no input is read, the bytes of a code file that is the whole answer, the tests of a file, a piece
--- for each line of the inputs with these names, what the lines of a sample come to, or a session over the standard input, by
--- what its texts come to
+-- for each line of the inputs with these names, what the lines of a sample come to, or a session over the standard
+-- input, by what its texts come to
 pub data Plan : Type 0 where
   Says : (pieces : List Piece) → Plan
   Writes : (bytes : List ℕ) → Plan

@@ -215,8 +215,8 @@ pub fn rosie<F: Files, I: Source, O: Sink, E: Sink, L: Ledger>(
         → CameToEnd result → ReadsInput p.plan → I.rest input.new ≡ [] }
     ensures untouched { IsRefused (asked (words_of words.now)) → (files.new ≡ files.old) × (input.new ≡ input.old) }
 
-    // No line is said to pass its budget that the budget pays for, and a code that is written as a file is safe. Where no
-    // read and no write goes wrong, the answer is the report's; and where nothing goes wrong, that tells of a match.
+    // No line is said to pass its budget that the budget pays for, and a code that is written as a file is safe. Where
+    // no read and no write goes wrong, the answer is the report's; and where nothing goes wrong, that tells of a match.
     ensures promised { (p : Planned) → KnowsFiles (asked (words_of words.now)) F.tells
         → IsPlanned (asked (words_of words.now)) (F.tree files.old) p → HasRun result steps.old steps.new
         → IsPromised p.plan }

@@ -18,8 +18,8 @@ use Rattle.rosie_jobs.specs.Lines.{Job, budget_or, is_over, made}
 use Rattle.rosie_verdicts.specs.declared.verdict.Verdict.{Verdict}
 use Rattle.rosie_verdicts.specs.declared.verdict.Verdict.TheVariants.{Met, Unmet, Spent, LongAnswer, LongCode}
 
--- what all tests of a file have in common: the file's name as it is given, the name of its package, which is empty where
--- it has none, and the steps that a test may take, where they are given
+-- what all tests of a file have in common: the file's name as it is given, the name of its package, which is empty
+-- where it has none, and the steps that a test may take, where they are given
 pub record Bench : Type 0 where
   pub file : List ℕ
   pub prefix : List ℕ

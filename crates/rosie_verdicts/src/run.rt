@@ -78,8 +78,8 @@ impl Suite {
         }
     }
 
-    /// Tries the tests in turn, and writes the line of each that isn't met, and the counts at the end. A code that is too
-    /// long ends the run.
+    /// Tries the tests in turn, and writes the line of each that isn't met, and the counts at the end. A code that is
+    /// too long ends the run.
     pub fn run<O: Sink, E: Sink, L: Ledger>(
         &self,
         alloc: Global,

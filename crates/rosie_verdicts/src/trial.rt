@@ -62,8 +62,8 @@ fn subject_of(alloc: Global, rules: &Checked, target: Option<Target>) -> Result<
     }
 }
 
-/// The test itself. No text is longer than its file, since no escape is shorter than what it stands for; where one were,
-/// there would be no answer but want of memory.
+/// The test itself. No text is longer than its file, since no escape is shorter than what it stands for; where one
+/// were, there would be no answer but want of memory.
 fn with_short_text(test: Test) -> Result<Test, NoMemory>
     ensures same { IfOk result (λ t. t ≡ test) }
     ensures short { IfOk result (λ t. IsText t.text) }

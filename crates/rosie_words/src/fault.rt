@@ -11,8 +11,8 @@ use std::fmt;
 
 /// The first fault of the words of a command line.
 ///
-/// Faults of single words come first, in the order of the words; then those of the whole, in the order
-/// of the variants from `NoCommand` on, and at last a `BadValue` of an argument. Its `Display` is the text of the fault.
+/// Faults of single words come first, in the order of the words; then those of the whole, in the order of the variants
+/// from `NoCommand` on, and at last a `BadValue` of an argument. Its `Display` is the text of the fault.
 #[derive(Debug, Drop)]
 pub enum UsageFault {
     /// There is no memory for the reading.

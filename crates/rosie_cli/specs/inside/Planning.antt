@@ -65,8 +65,8 @@ Plans result p = IsMade result p.plan × IfErr result (λ u. IsAsked u p.asked)
 abbrev pub moment_of : {F : Type 0} → Ghosts F → F → Moment
 moment_of S files = moment S.rest S.taken S.faults S.failed_opens files
 
--- What planning leaves: a plan that keeps its promise, and files that were only read. A read failed only where a count of
--- failures rose.
+-- What planning leaves: a plan that keeps its promise, and files that were only read. A read failed only where a count
+-- of failures rose.
 pub record Leaves {F : Type 0} (S : Ghosts F) (result : Result Plan Unready) (old new : F) : Type 0 where
   pub due : IfOk result (λ plan. IsPromised (plan_of plan))
   pub cause : HasCause result (moment_of S old) (moment_of S new)

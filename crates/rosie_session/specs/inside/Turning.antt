@@ -89,8 +89,8 @@ FilesBy (Err halt) f0 f1 = HaltFiles halt f0 f1
 abbrev pub moment_of : {F : Type 0} → Ghosts F → F → Moment
 moment_of S files = moment S.rest S.taken S.faults S.failed_opens files
 
--- What a turn leaves of the files, which are only read: a read failed only where a count of failures rose. Where nothing
--- is said, memory is wanting or a file wasn't read.
+-- What a turn leaves of the files, which are only read: a read failed only where a count of failures rose. Where
+-- nothing is said, memory is wanting or a file wasn't read.
 pub record Leaves {F : Type 0} (S : Ghosts F) (result : Result Said Halt) (old new : F) : Type 0 where
   pub inner : IfErr result IsInner
   pub cause : FilesBy result (moment_of S old) (moment_of S new)
