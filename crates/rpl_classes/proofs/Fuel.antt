@@ -201,22 +201,27 @@ agree_below : (n m : ℕ) (b d : List Placed → Reading) → Agree n b d → m 
 agree_below n m b d h le = λ s k. h s (omega arith)
 
 module _ (b d : List Placed → Reading) (h : Shrinks b) where
+  -- behind the blanks one is read, and then the others
+  first_same : (s : List Placed) (f e : List Range → List Placed → Reading) → Agree (length s) b d
+      → ((c : List Range) (q : List Placed) → length q < length s → f c q ≡ e c q)
+      → and_then (b (past_blanks s)) f ≡ and_then (d (past_blanks s)) e
+  first_same s f e g next =
+      let r = past_blanks s in
+      let le = blanks_le s in
+      then_fewer (length r) (b r) (d r) f e (g r le) (h r) (λ c q less. next c q (omega arith))
+
   more_same : (n k : ℕ) (a : List Range) (s : List Placed) → Agree (length s) b d → length s < n → length s < k → more b n a s ≡ more d k a s
   unfolding more
   more_same zero k a s g lt gt = absurd (omega arith)
   more_same (suc n) zero a s g lt gt = absurd (omega arith)
   more_same (suc n) (suc k) a s g lt gt =
-      let r = past_blanks s in
-      let le = blanks_le s in
-      if_same (begins 91 r) (and_then (b r) (λ c q. more b n (a ++ c) q)) (and_then (d r) (λ c q. more d k (a ++ c) q)) (Ok (norm a, s))
-      (λ _. then_fewer (length r) (b r) (d r) (λ c q. more b n (a ++ c) q) (λ c q. more d k (a ++ c) q) (g r le) (h r)
+      if_same (begins 91 (past_blanks s)) _ _ (Ok (norm a, s))
+      (λ _. first_same s (λ c q. more b n (a ++ c) q) (λ c q. more d k (a ++ c) q) g
       (λ c q less. more_same n k (a ++ c) q (agree_below (length s) (length q) b d g (omega arith)) (omega arith) (omega arith)))
 
   union_same : (n k : ℕ) (s : List Placed) → Agree (length s) b d → length s < n → length s < k → union b n s ≡ union d k s
   union_same n k s g lt gt =
-      let r = past_blanks s in
-      let le = blanks_le s in
-      then_fewer (length r) (b r) (d r) (more b n) (more d k) (g r le) (h r)
+      first_same s (more b n) (more d k) g
       (λ c q less. more_same n k c q (agree_below (length s) (length q) b d g (omega arith)) (omega arith) (omega arith))
 
   joined_same : (n k : ℕ) (a : List Range) (s : List Placed) → Agree (length s) b d → length s < n → length s < k → joined b n a s ≡ joined d k a s
