@@ -82,6 +82,14 @@ module _ (code : List Instr) (s : Search) (h : Known code s.marks.items) (a : �
       let z : None ≡ Some x.0 = sym e ∙ sym (ap (λ o. given_by o a sh) is_i) ∙ x.1 in
       absurd (cc)
 
+  -- the second of two marks is put, before the first
+  second : (n : ℕ) → n + unmarked s.marks.items ≡ bound → (x y : ℕ × Mark) (mid1 mid2 : Search) → (r : Related n (marks_at s.marks.items) (Some (x ∷ y ∷ [])) (next i a sh)) → Places [] s mid1 true → Has y.0 y.1 mid1 mid2 → Known code mid2.marks.items
+  second n e x y mid1 mid2 r start has =
+      let k1 = subst (Known code) (sym start.0) h in
+      let fewer = ap unmarked start.0 in
+      let long = ap length start.0 in
+      has_known code mid1 mid2 y.0 y.1 r.1 k1 (subst (λ l. Is (marks_at l) y.1 r.1) (sym start.0) r.3) (λ shapes kept. (given_there ((x.0, r.0) ∷ (y.0, r.1) ∷ []) r.2 shapes kept).1.0) (omega (arith, e, r.6, fewer, long)) has
+
   -- the marks are put
   placed : (n : ℕ) → n + unmarked s.marks.items ≡ bound → (gs : MarksGiven) (t : Search) → Related n (marks_at s.marks.items) (Some gs) (next i a sh) → Places gs s t true → Known code t.marks.items × Grown s t × AreMarked (marks_at t.marks.items) gs
   placed n e [] t r p = (subst (Known code) (sym p.0) h, same_search s t p.0 p.1, tt)
@@ -93,21 +101,15 @@ module _ (code : List Instr) (s : Search) (h : Known code s.marks.items) (a : �
       let long = ap length start.0 in
       let known = has_known code mid t x.0 x.1 r.0 k1 (subst (λ l. Is (marks_at l) x.1 r.0) (sym start.0) r.2) (λ shapes kept. (given_there ((x.0, r.0) ∷ []) r.1 shapes kept).0) (omega (arith, e, r.3, fewer, long)) p.2 in
       (known, grown_on s mid t (same_search s mid start.0 start.1) (grown_has mid t x.0 x.1 p.2), (has_there mid t x.0 x.1 p.2, tt))
-  placed n e (x ∷ y ∷ []) t r p =
-      let mid2 = p.0 in
-      let mid1 = p.1.0 in
-      let start = p.1.1 in
-      let k1 = subst (Known code) (sym start.0) h in
+  placed n e (x ∷ y ∷ []) t r (mid2, (mid1, start, has), p) =
       let fewer = ap unmarked start.0 in
       let long = ap length start.0 in
-      let k2 = has_known code mid1 mid2 y.0 y.1 r.1 k1 (subst (λ l. Is (marks_at l) y.1 r.1) (sym start.0) r.3) (λ shapes kept. (given_there ((x.0, r.0) ∷ (y.0, r.1) ∷ []) r.2 shapes kept).1.0) (omega (arith, e, r.6, fewer, long)) p.1.2 in
-      let g1 = same_search s mid1 start.0 start.1 in
-      let g2 = grown_on s mid1 mid2 g1 (grown_has mid1 mid2 y.0 y.1 p.1.2) in
-      let f2 = has_fewer mid1 mid2 y.0 y.1 p.1.2 in
-      let there = has_there mid1 mid2 y.0 y.1 p.1.2 in
-      let k3 = has_known code mid2 t x.0 x.1 r.0 k2 (r.4 (marks_at mid2.marks.items) g2.ext there) (λ shapes kept. (given_there ((x.0, r.0) ∷ (y.0, r.1) ∷ []) r.2 shapes kept).0) (omega (arith, e, r.5, fewer, long, f2.0, f2.1)) p.2 in
-      let g3 = grown_has mid2 t x.0 x.1 p.2 in
-      (k3, grown_on s mid2 t g2 g3, (has_there mid2 t x.0 x.1 p.2, (g3.ext y.0 y.1 there, tt)))
+      let g2 = grown_on s mid1 mid2 (same_search s mid1 start.0 start.1) (grown_has mid1 mid2 y.0 y.1 has) in
+      let f2 = has_fewer mid1 mid2 y.0 y.1 has in
+      let there = has_there mid1 mid2 y.0 y.1 has in
+      let k3 = has_known code mid2 t x.0 x.1 r.0 (second n e x y mid1 mid2 r start has) (r.4 (marks_at mid2.marks.items) g2.ext there) (λ shapes kept. (given_there ((x.0, r.0) ∷ (y.0, r.1) ∷ []) r.2 shapes kept).0) (omega (arith, e, r.5, fewer, long, f2.0, f2.1)) p in
+      let g3 = grown_has mid2 t x.0 x.1 p in
+      (k3, grown_on s mid2 t g2 g3, (has_there mid2 t x.0 x.1 p, (g3.ext y.0 y.1 there, tt)))
   placed n e (x ∷ y ∷ z ∷ gs) t r p = absurd r
 
   -- or one can't be
@@ -123,17 +125,10 @@ module _ (code : List Instr) (s : Search) (h : Known code s.marks.items) (a : �
       let start = p.1 in
       let k1 = subst (Known code) (sym start.0) h in
       clash code p.0 y.0 y.1 r.1 k1 (subst (λ l. Is (marks_at l) y.1 r.1) (sym start.0) r.3) (λ sh1 kept1. (given_there ((x.0, r.0) ∷ (y.0, r.1) ∷ []) r.2 sh1 kept1).1.0) p.2 shapes kept
-  not_placed n e (x ∷ y ∷ []) t r (inr p) shapes kept =
-      let mid2 = p.0 in
-      let mid1 = p.1.0 in
-      let start = p.1.1 in
-      let k1 = subst (Known code) (sym start.0) h in
-      let fewer = ap unmarked start.0 in
-      let long = ap length start.0 in
-      let k2 = has_known code mid1 mid2 y.0 y.1 r.1 k1 (subst (λ l. Is (marks_at l) y.1 r.1) (sym start.0) r.3) (λ sh1 kept1. (given_there ((x.0, r.0) ∷ (y.0, r.1) ∷ []) r.2 sh1 kept1).1.0) (omega (arith, e, r.6, fewer, long)) p.1.2 in
-      let g2 = grown_on s mid1 mid2 (same_search s mid1 start.0 start.1) (grown_has mid1 mid2 y.0 y.1 p.1.2) in
-      let there = has_there mid1 mid2 y.0 y.1 p.1.2 in
-      clash code mid2 x.0 x.1 r.0 k2 (r.4 (marks_at mid2.marks.items) g2.ext there) (λ sh1 kept1. (given_there ((x.0, r.0) ∷ (y.0, r.1) ∷ []) r.2 sh1 kept1).0) p.2 shapes kept
+  not_placed n e (x ∷ y ∷ []) t r (inr (mid2, (mid1, start, has), p)) shapes kept =
+      let g2 = grown_on s mid1 mid2 (same_search s mid1 start.0 start.1) (grown_has mid1 mid2 y.0 y.1 has) in
+      let there = has_there mid1 mid2 y.0 y.1 has in
+      clash code mid2 x.0 x.1 r.0 (second n e x y mid1 mid2 r start has) (r.4 (marks_at mid2.marks.items) g2.ext there) (λ sh1 kept1. (given_there ((x.0, r.0) ∷ (y.0, r.1) ∷ []) r.2 sh1 kept1).0) p shapes kept
   not_placed n e (x ∷ y ∷ z ∷ gs) t r p shapes kept = absurd r
 
   trees_left : (n : ℕ) × (n + unmarked s.marks.items ≡ bound)
