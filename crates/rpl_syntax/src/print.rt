@@ -1,6 +1,6 @@
 // The printed text of an expression, which reads back as that expression.
 ghost use Rattle.std.specs.Prelude.{◌≡◌, [], ◌∷◌, ◌++◌, IfOk, OnOk};
-ghost use Rattle.rpl_syntax.specs.Printed.{is_joined, is_compound, printed, items_printed, parts_printed, sign_char};
+ghost use Rattle.rpl_syntax.specs.Printed.{is_joined, is_compound, in_braces, printed, items_printed, parts_printed, sign_char};
 ghost use Rattle.rpl_syntax.specs.inside.Pieces.{item_printed, body_printed, part_of_choice, item_of_group};
 ghost use Rattle.rpl_syntax.specs.View.{expr_of, shown};
 
@@ -95,13 +95,7 @@ impl Printer {
     fn item(&mut self, e: &Expr) -> Result<(), NoMemory>
         ensures { OnOk result (self.new ≡ self.old ++ item_printed (expr_of e.now)) }
     {
-        if is_choice_or_both(e) {
-            self.put('{')?;
-            self.expression(e)?;
-            self.put('}')
-        } else {
-            self.expression(e)
-        }
+        self.braced(e, is_choice_or_both(e))
     }
 
     /// Where it stands under a quantifier: in braces, unless it is an atom.
@@ -109,7 +103,15 @@ impl Printer {
     fn body(&mut self, e: &Expr) -> Result<(), NoMemory>
         ensures { OnOk result (self.new ≡ self.old ++ body_printed (expr_of e.now)) }
     {
-        if needs_braces(e) {
+        self.braced(e, needs_braces(e))
+    }
+
+    /// In braces, where it needs them.
+    #[cycle(print)]
+    fn braced(&mut self, e: &Expr, braces: bool) -> Result<(), NoMemory>
+        ensures { OnOk result (self.new ≡ self.old ++ in_braces braces (printed (expr_of e.now))) }
+    {
+        if braces {
             self.put('{')?;
             self.expression(e)?;
             self.put('}')
