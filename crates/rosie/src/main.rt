@@ -1,5 +1,5 @@
-//! The program: the real streams and files, and one call of `rosie_cli::rosie`. It is the trusted edge: no contract says
-//! what a stream holds.
+//! The program: the real streams and files, and one call of `rosie_cli::rosie`. It is the trusted edge: no contract
+//! says what a stream holds.
 //!
 //! Where a word isn't UTF-8 it writes nothing and ends with status 2, and where there is no memory for the words or the
 //! streams with status 6.
@@ -20,8 +20,9 @@ use std::sync::ledger::{Blank, Ledger};
 const OUTPUT_BUFFER: usize = 65_536;
 
 fn words(rt: &HostRuntime) -> io::Result<Vec<String>> {
-    let mut words = Vec::new(rt.alloc());
-    for word in env::args(rt)?.skip(1) {
+    let all = env::args(rt)?;
+    let mut words = Vec::with_capacity(rt.alloc(), all.len())?;
+    for word in all.skip(1) {
         words.push(word)?;
     }
     Ok(words)
