@@ -1,6 +1,7 @@
 // The printed text of an expression, which reads back as that expression.
 ghost use Rattle.std.specs.Prelude.{◌≡◌, [], ◌∷◌, ◌++◌, IfOk, OnOk};
-ghost use Rattle.rpl_syntax.specs.Printed.{is_joined, is_compound, in_braces, printed, items_printed, parts_printed, sign_char};
+ghost use Rattle.rpl_syntax.specs.Printed.{is_joined, is_compound, in_braces, printed, items_printed, parts_printed};
+ghost use Rattle.rpl_syntax.specs.Printed.{sign_char};
 ghost use Rattle.rpl_syntax.specs.inside.Pieces.{item_printed, body_printed, part_of_choice, item_of_group};
 ghost use Rattle.rpl_syntax.specs.View.{expr_of, shown};
 

@@ -18,8 +18,8 @@ fn are_digits(word: &[u8]) -> bool
     !word.is_empty() && all_digits(word)
 }
 
-/// The number that digits spell, where 64 bits hold it. Each byte counts as its distance from `0`, and one before `0` as
-/// 0: that all are digits is the caller's to see.
+/// The number that digits spell, where 64 bits hold it. Each byte counts as its distance from `0`, and one before `0`
+/// as 0: that all are digits is the caller's to see.
 pub fn value_of_digits(digits: &[u8]) -> Option<u64>
     ensures { result ≡ narrow (value 0 digits.now) }
 {
