@@ -3,14 +3,4 @@
 #![tactic(auto)]
 
 #[cfg(test)]
-mod classes;
-#[cfg(test)]
-mod lists;
-#[cfg(test)]
-mod printed;
-#[cfg(test)]
-mod sets;
-#[cfg(test)]
-mod texts;
-#[cfg(test)]
-mod tokens;
+mod cases;

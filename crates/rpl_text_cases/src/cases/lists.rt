@@ -11,9 +11,7 @@ fn members_come_in_order(rt: HostRuntime) -> Result<(), Fail> {
     more.push(8)?;
     more.push(9)?;
     words.append(more)?;
-    assert_eq!(rt; words.len(), 3);
-    assert_eq!(rt; words.get(1), Some(&8));
-    assert_eq!(rt; words.get(3), None);
+    assert!(rt; words.len() == 3 && words.get(1) == Some(&8) && words.get(3).is_none());
     assert!(rt; words.as_slice() == [7, 8, 9].as_slice());
     words.extend_from_slice(&[1, 2])?;
     let copy = List::from_slice(rt.alloc(), words.as_slice())?;

@@ -1,7 +1,7 @@
 use Rattle.std.proofs.Common.{sym, ap, ◌∙◌}
 use Rattle.std.specs.Option.{option_copied}
 use Rattle.rpl_lexer.proofs.Cuts.{tokens_stand}
-use Rattle.rpl_text_cases.proofs.tokens.first.Goals as goal
+use Rattle.rpl_text_cases.proofs.cases.tokens.first.Goals as goal
 
 pub returns : goal.returns
 returns c =

@@ -1,0 +1,7 @@
+mod classes;
+mod lists;
+mod printed;
+mod rows;
+mod sets;
+mod texts;
+mod tokens;
