@@ -173,14 +173,6 @@ module _ (W : Telling) (makes : Makes) (r : Reading) (file input : List ℕ) whe
       let x = h.reads in let y = stops.2 in omega arith,
     )
 
-abbrev reading : Bool → ℕ → Reading
-reading w m = record { whole = w; most = m }
-
--- the same job, and the same reading
-pub breaks-same : (W : Telling) (e : Trouble) (makes makes' : Makes) (r : Reading) (file : List ℕ) (reader : Reader) (left0 : List ℕ) (b d : Texts) → makes' ≡ makes → reader.whole ≡ r.whole → reader.most ≡ r.most → BreaksLine e W makes' (record { whole = reader.whole; most = reader.most }) file reader left0 b d → BreaksLine e W makes r file reader left0 b d
-breaks-same W e makes makes' r file reader left0 b d j w m h =
-    subst (λ k. BreaksLine e W makes (reading r.whole k) file reader left0 b d) m (subst (λ x. BreaksLine e W makes (reading x reader.most) file reader left0 b d) w (subst (λ f. BreaksLine e W f (reading reader.whole reader.most) file reader left0 b d) j h))
-
 -- counts that stayed, and then
 pub sinks-from : (e : Trouble) (o o' o1 r r' r1 : ℕ) → o' ≡ o → r' ≡ r → SinksEnd e o' o1 r' r1 → SinksEnd e o o1 r r1
 sinks-from e o o' o1 r r' r1 p q h = subst (λ x. SinksEnd e x o1 r r1) p (subst (λ x. SinksEnd e o' o1 x r1) q h)

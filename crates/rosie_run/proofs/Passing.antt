@@ -20,11 +20,11 @@ up_next : (p : Piece) (ps : List Piece) → up_to_stop (p ∷ ps) ≡ p ∷ cond
 unfolding up_to_stop
 up_next p ps = refl
 
-outs_cons : (p : Piece) (ps : List Piece) → outs (p ∷ ps) ≡ p.out ++ outs ps
+pub outs_cons : (p : Piece) (ps : List Piece) → outs (p ∷ ps) ≡ p.out ++ outs ps
 unfolding outs
 outs_cons p ps = refl
 
-errs_cons : (p : Piece) (ps : List Piece) → errs (p ∷ ps) ≡ p.err ++ errs ps
+pub errs_cons : (p : Piece) (ps : List Piece) → errs (p ∷ ps) ≡ p.err ++ errs ps
 unfolding errs
 errs_cons p ps = refl
 

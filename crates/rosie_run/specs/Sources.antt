@@ -1,5 +1,6 @@
 -- What a source tells and counts at one time.
 use Rattle.rosie_io.specs.Counts.{Rose}
+use Rattle.rosie_io.specs.declared.outside.Source.{Ghosts}
 use Rattle.rosie_run.specs.declared.ended.Why.{Why}
 use Rattle.rosie_run.specs.declared.ended.Why.TheVariants.{ReadFault, Spent}
 use Rattle.std.specs.Prelude.{◌+◌, ◌-◌, ◌<◌, ◌^◌, ◌≡◌, ◌≤◌, ◌⊎◌, List, ℕ}
@@ -12,6 +13,9 @@ pub record Moment : Type 0 where
 
 abbrev pub moment : {S : Type 0} → (S → List ℕ) → (S → ℕ) → (S → ℕ) → (S → ℕ) → S → Moment
 moment rest taken faults opens s = record { rest = rest s; taken = taken s; faults = faults s; opens = opens s }
+
+abbrev pub moment_of : {S : Type 0} → Ghosts S → S → Moment
+moment_of S s = moment S.rest S.taken S.faults S.failed_opens s
 
 -- so many bytes were taken, or the number stands at the greatest u64
 abbrev pub TookMany : ℕ → ℕ → Type 0

@@ -10,7 +10,7 @@ ghost use Rattle.rosie_run.specs.Inputs.{reads_standard, names_of};
 ghost use Rattle.rosie_run.specs.Lines.{input_pieces};
 ghost use Rattle.rosie_run.specs.Outputs.{texts};
 ghost use Rattle.rosie_run.specs.Runs.{Runs, GoesOn};
-ghost use Rattle.rosie_run.specs.Sources.{moment};
+ghost use Rattle.rosie_run.specs.Sources.{moment, moment_of};
 ghost use Rattle.rosie_run.specs.Where.{InNamed, InFileNamed, InOne, InInputs};
 ghost use Rattle.rosie_run.specs.inside.Causes.{IsEndedBy};
 
@@ -84,22 +84,20 @@ fn run_file<J: LineJob, F: Files, O: Sink, E: Sink, L: Ledger>(
     err: &mut E,
     steps: &mut Steps<L>,
 ) -> Result<Tally, Ended>
-    ensures keeps { Keeps reader.old reader.new }
-    ensures same { J.makes job.new ≡ J.makes job.old }
     ensures runs { F.tells → Runs result (record { out = O.tells; err = E.tells; counts = O.counts })
         (file_pieces (J.makes job.old) (record { whole = reader.old.whole; most = reader.old.most }) path.now
         (file_of path.now (F.tree files.old)))
         (InFileNamed path.now (F.tree files.old) reader.old.whole
-        (moment F.rest F.taken F.faults F.failed_opens files.old)
-        (moment F.rest F.taken F.faults F.failed_opens files.new))
+        (moment_of F.Source files.old) (moment_of F.Source files.new))
         (texts O.written O.number E.written out.old err.old steps.old)
         (texts O.written O.number E.written out.new err.new steps.new) }
-    ensures cause { FilesCause result (moment F.rest F.taken F.faults F.failed_opens files.old)
-        (moment F.rest F.taken F.faults F.failed_opens files.new) }
+    ensures cause { FilesCause result (moment_of F.Source files.old) (moment_of F.Source files.new) }
     ensures sinks { WritesCause result (O.faults out.old) (O.faults out.new) (E.faults err.old) (E.faults err.new) }
     ensures taken { F.taken files.new < 2 ^ 64 - 1 → F.taken files.old ≤ F.taken files.new }
     ensures closed { IfOk result (λ _. F.is_open files.new ≡ false) }
     ensures tree { F.tree files.new ≡ F.tree files.old }
+    ensures keeps { Keeps reader.old reader.new }
+    ensures same { J.makes job.new ≡ J.makes job.old }
 {
     match files.open_path(path) {
         PathAnswer::Opened => {
@@ -133,31 +131,27 @@ fn run_one<J: LineJob, F: Files, I: Source, O: Sink, E: Sink, L: Ledger>(
     err: &mut E,
     steps: &mut Steps<L>,
 ) -> Result<Tally, Ended>
-    ensures keeps { Keeps reader.old reader.new }
-    ensures same { J.makes job.new ≡ J.makes job.old }
     ensures runs { F.tells → I.tells → (read.old ≡ true → I.rest input.old ≡ []) → Runs result
         (record { out = O.tells; err = E.tells; counts = O.counts })
         (one_pieces (J.makes job.old) (record { whole = reader.old.whole; most = reader.old.most })
         (F.tree files.old) (I.rest input.old) name.now)
         (InOne name.now read.old (F.tree files.old) reader.old.whole
-        (moment I.rest I.taken I.faults I.failed_opens input.old)
-        (moment I.rest I.taken I.faults I.failed_opens input.new)
-        (moment F.rest F.taken F.faults F.failed_opens files.old)
-        (moment F.rest F.taken F.faults F.failed_opens files.new))
+        (moment_of I.Source input.old) (moment_of I.Source input.new)
+        (moment_of F.Source files.old) (moment_of F.Source files.new))
         (texts O.written O.number E.written out.old err.old steps.old)
         (texts O.written O.number E.written out.new err.new steps.new) }
     ensures rest { I.tells → (read.old ≡ true → I.rest input.old ≡ []) → GoesOn result
         (I.rest input.new ≡ left_after name.now (I.rest input.old)) }
-    ensures cause { SourcesCause result (moment I.rest I.taken I.faults I.failed_opens input.old)
-        (moment I.rest I.taken I.faults I.failed_opens input.new)
-        (moment F.rest F.taken F.faults F.failed_opens files.old)
-        (moment F.rest F.taken F.faults F.failed_opens files.new) }
+    ensures cause { SourcesCause result (moment_of I.Source input.old) (moment_of I.Source input.new)
+        (moment_of F.Source files.old) (moment_of F.Source files.new) }
     ensures sinks { WritesCause result (O.faults out.old) (O.faults out.new) (E.faults err.old) (E.faults err.new) }
     ensures input_taken { I.taken input.new < 2 ^ 64 - 1 → I.taken input.old ≤ I.taken input.new }
     ensures files_taken { F.taken files.new < 2 ^ 64 - 1 → F.taken files.old ≤ F.taken files.new }
     ensures tree { F.tree files.new ≡ F.tree files.old }
     ensures reads { is_standard name.now ≡ true → read.new ≡ true }
     ensures stays { is_standard name.now ≡ false → (read.new ≡ read.old) × (input.new ≡ input.old) }
+    ensures keeps { Keeps reader.old reader.new }
+    ensures same { J.makes job.new ≡ J.makes job.old }
 {
     if name == "-" {
         if *read {

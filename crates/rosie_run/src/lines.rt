@@ -8,8 +8,8 @@ ghost use Rattle.rosie_io.specs.Gathering.{left, Reads};
 ghost use Rattle.rosie_run.specs.Lines.{input_pieces};
 ghost use Rattle.rosie_run.specs.Outputs.{texts};
 ghost use Rattle.rosie_run.specs.inside.Causes.{BothCause, SinksCause, SourceCause, SpentCause, IsOfReading};
-ghost use Rattle.rosie_run.specs.inside.Passing.{MakesLine, CountsLine, StopsLine, PassesLine, RunsInput, made_out};
-ghost use Rattle.rosie_run.specs.inside.Passing.{made_err, made_mark};
+ghost use Rattle.rosie_run.specs.inside.Passing.{MakesLine, CountsLine, StopsLine, RunsInput, made_out, made_err};
+ghost use Rattle.rosie_run.specs.inside.Passing.{made_mark};
 
 use crate::line_job::LineJob;
 use crate::write::{flush_before_wait, line_fault, write_both};
@@ -92,25 +92,25 @@ fn make_line<J: LineJob, S: Source, L: Ledger>(
 /// Writes what was made of a line. Where `out` gets some of it, that is pending until it is flushed.
 fn write_made<J: LineJob, O: Sink, E: Sink>(
     job: &J,
-    made: &Made,
+    made: Made,
     pending: &mut bool,
     out: &mut O,
     err: &mut E,
 ) -> Result<Mark, WriteFault>
-    ensures mark { IfOk result (λ mark. mark ≡ made_mark made.now) }
+    ensures mark { IfOk result (λ mark. mark ≡ made_mark made) }
     ensures out { O.tells → Appends result (O.written out.old) (O.written out.new)
-        (made_out made.now (J.out_text job.now)) }
+        (made_out made (J.out_text job.now)) }
     ensures err { E.tells → Appends result (E.written err.old) (E.written err.new)
-        (made_err made.now (J.err_text job.now)) }
+        (made_err made (J.err_text job.now)) }
     ensures number { O.counts → OnOk result (O.number out.new ≡ capped
-        (O.number out.old + length (made_out made.now (J.out_text job.now)))) }
+        (O.number out.old + length (made_out made (J.out_text job.now)))) }
     ensures cause { BothCause result (O.faults out.old) (O.faults out.new) (E.faults err.old) (E.faults err.new) }
 {
     match made {
         Made::Answer(mark) => {
             *pending |= !job.out().is_empty();
             match write_both(out, err, job.out(), job.err()) {
-                Ok(()) => Ok(*mark),
+                Ok(()) => Ok(mark),
                 Err(fault) => Err(fault),
             }
         }
@@ -118,50 +118,6 @@ fn write_made<J: LineJob, O: Sink, E: Sink>(
             Ok(()) => Ok(Mark::Fault),
             Err(fault) => Err(fault),
         },
-    }
-}
-
-/// Goes on to the next line of an input, and writes its piece. `None` where there is no further line.
-fn pass_line<J: LineJob, S: Source, O: Sink, E: Sink, L: Ledger>(
-    alloc: Global,
-    job: &mut J,
-    file: &str,
-    reader: &mut LineReader,
-    source: &mut S,
-    pending: &mut bool,
-    out: &mut O,
-    err: &mut E,
-    steps: &mut Steps<L>,
-) -> Result<Option<Mark>, Trouble>
-    requires { reader.old.done ≡ false }
-    ensures same { J.makes job.new ≡ J.makes job.old }
-    ensures passes { S.tells → PassesLine result (record { out = O.tells; err = E.tells; counts = O.counts })
-        (J.makes job.old) (record { whole = reader.old.whole; most = reader.old.most }) file.now reader.old reader.new
-        (left reader.old.held (S.rest source.old)) (left reader.new.held (S.rest source.new))
-        (texts O.written O.number E.written out.old err.old steps.old)
-        (texts O.written O.number E.written out.new err.new steps.new) }
-    ensures numbers { CountsLine result reader.old reader.new }
-    ensures fits { reader.new.number ≤ 2 ^ 48 }
-    ensures keeps { Keeps reader.old reader.new }
-    ensures stops { StopsLine result S.tells reader.old reader.new (S.rest source.old) (S.rest source.new) }
-    ensures cause { SourceCause result (S.faults source.old) (S.faults source.new) }
-    ensures sinks { SinksCause result (O.faults out.old) (O.faults out.new) (E.faults err.old) (E.faults err.new) }
-    ensures reads { Reads S.tells reader.old.held reader.new.held (S.rest source.old) (S.rest source.new)
-        (S.taken source.old) (S.taken source.new) }
-    ensures at_end { S.tells → reader.old.held.ended ≡ false → reader.new.held.ended ≡ true → S.rest source.new ≡ [] }
-    ensures ended { reader.old.held.ended ≡ true → source.new ≡ source.old }
-    ensures tree { S.tree source.new ≡ S.tree source.old }
-    ensures opens { S.failed_opens source.new ≡ S.failed_opens source.old }
-{
-    match make_line(alloc, job, file, reader, source, steps) {
-        Ok(found) => match found {
-            Some(made) => match write_made(job, &made, pending, out, err) {
-                Ok(mark) => Ok(Some(mark)),
-                Err(_) => Err(Trouble::WriteFault),
-            },
-            None => Ok(None),
-        },
-        Err(trouble) => Err(trouble),
     }
 }
 
@@ -200,14 +156,17 @@ pub(crate) fn run_input<J: LineJob, S: Source, O: Sink, E: Sink, L: Ledger>(
             Ok(()) => {}
             Err(_) => return Err(Trouble::WriteFault),
         }
-        match pass_line(alloc, job, file, reader, source, pending, out, err, steps) {
-            Ok(passed) => match passed {
-                Some(mark) => {
-                    tally = tally.with(mark);
-                    if tally.stop {
-                        return Ok(tally);
+        match make_line(alloc, job, file, reader, source, steps) {
+            Ok(found) => match found {
+                Some(made) => match write_made(job, made, pending, out, err) {
+                    Ok(mark) => {
+                        tally = tally.with(mark);
+                        if tally.stop {
+                            return Ok(tally);
+                        }
                     }
-                }
+                    Err(_) => return Err(Trouble::WriteFault),
+                },
                 None => return Ok(tally),
             },
             Err(trouble) => return Err(trouble),

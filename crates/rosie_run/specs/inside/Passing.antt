@@ -15,7 +15,7 @@ use Rattle.rosie_run.specs.declared.mark.Mark.{Mark}
 use Rattle.rosie_run.specs.declared.mark.Mark.TheVariants.{Fault}
 use Rattle.rosie_run.specs.declared.tally.Tally.{Tally}
 use Rattle.rosie_run.specs.declared.trouble.Trouble.{Trouble}
-use Rattle.std.specs.Prelude.{◌++◌, ◌+◌, ◌^◌, ◌∷◌, ◌≡◌, ◌≤◌, Bool, Err, List, None, Ok, Option, Result, Some, [], false}
+use Rattle.std.specs.Prelude.{◌++◌, ◌+◌, ◌^◌, ◌≡◌, ◌≤◌, Bool, Err, List, None, Ok, Option, Result, Some, [], false}
 use Rattle.std.specs.Prelude.{length, string_bytes, true, ℕ}
 
 -- the texts and the mark that were made of a line: by the job, or of what is wrong with the line
@@ -74,29 +74,16 @@ abbrev pub StopsLine : {A : Type 0} → Result A Trouble → Type 0 → Reader �
 StopsLine (Ok _) tells old now rest0 rest1 = Unit {0}
 StopsLine (Err e) tells old now rest0 rest1 = StopsAt e tells old now rest0 rest1
 
--- the next line was passed, and its piece is written
-pub record Writes (W : Telling) (makes : Makes) (r : Reading) (file : List ℕ) (old now : Reader)
-    (left0 left1 : List ℕ) (mark : Mark) (a b : Texts) : Type 0 where
-  pub line : List ℕ
-  pub splits : Splits r.whole now.held.ended line left0 left1
-  pub marks : mark ≡ (line_piece makes r.most file (old.number + 1) line).mark
-  pub wrote : Wrote W (line_piece makes r.most file (old.number + 1) line ∷ []) a b
-
 -- what is left, as pieces
 abbrev pub to_come : Makes → Reading → List ℕ → Reader → List ℕ → List Piece
 to_come makes r file reader left0 = pieces_from makes r.most file reader.number (lines r.whole left0)
 
+-- what is written where going on to the next line ends the run
 abbrev pub BreaksLine : Trouble → Telling → Makes → Reading → List ℕ → Reader → List ℕ → Texts → Texts → Type 0
 BreaksLine T.NoMemory W makes r file old left0 a b = Fronts W (up_to_stop (to_come makes r file old left0)) a b
 BreaksLine T.WriteFault W makes r file old left0 a b = Fronts W (up_to_stop (to_come makes r file old left0)) a b
 BreaksLine T.ReadFault W makes r file old left0 a b = Wrote W [] a b
 BreaksLine T.Spent W makes r file old left0 a b = Wrote W [] a b
-
-abbrev pub PassesLine : Result (Option Mark) Trouble → Telling → Makes → Reading → List ℕ → Reader → Reader → List ℕ
-    → List ℕ → Texts → Texts → Type 0
-PassesLine (Ok (Some mark)) W makes r file old now left0 left1 a b = Writes W makes r file old now left0 left1 mark a b
-PassesLine (Ok None) W makes r file old now left0 left1 a b = (left0 ≡ []) × (left1 ≡ []) × Wrote W [] a b
-PassesLine (Err e) W makes r file old now left0 left1 a b = BreaksLine e W makes r file old left0 a b
 
 -- n lines of an input were passed; the others are those of the bytes that are left
 pub record Passed (W : Telling) (makes : Makes) (r : Reading) (file input : List ℕ) (n : ℕ) (held : Held)
