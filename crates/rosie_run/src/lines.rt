@@ -156,20 +156,21 @@ pub(crate) fn run_input<J: LineJob, S: Source, O: Sink, E: Sink, L: Ledger>(
             Ok(()) => {}
             Err(_) => return Err(Trouble::WriteFault),
         }
-        match make_line(alloc, job, file, reader, source, steps) {
-            Ok(found) => match found {
-                Some(made) => match write_made(job, made, pending, out, err) {
-                    Ok(mark) => {
-                        tally = tally.with(mark);
-                        if tally.stop {
-                            return Ok(tally);
-                        }
-                    }
-                    Err(_) => return Err(Trouble::WriteFault),
-                },
-                None => return Ok(tally),
-            },
+        let found = match make_line(alloc, job, file, reader, source, steps) {
+            Ok(found) => found,
             Err(trouble) => return Err(trouble),
+        };
+        let made = match found {
+            Some(made) => made,
+            None => return Ok(tally),
+        };
+        let mark = match write_made(job, made, pending, out, err) {
+            Ok(mark) => mark,
+            Err(_) => return Err(Trouble::WriteFault),
+        };
+        tally = tally.with(mark);
+        if tally.stop {
+            return Ok(tally);
         }
     }
 }
