@@ -1,5 +1,5 @@
 -- Reading one item or part after the other, as a loop does.
-use Rattle.std.proofs.Common.{◌≡◌, ℕ, suc, List, [], ◌∷◌, ◌++◌, Option, Some, None, refl, ap}
+use Rattle.std.proofs.Common.{◌≡◌, ℕ, suc, ◌+◌, ◌-◌, ◌<◌, List, [], ◌∷◌, ◌++◌, Option, Some, None, refl, sym, ap, ◌∙◌, arith}
 use Rattle.std.specs.Prelude.{Bool, true, false}
 use Rattle.rpl_syntax.specs.Expression as M
 use Rattle.rpl_syntax.specs.declared.expr.Expr.{Expr}
@@ -7,7 +7,7 @@ use Rattle.rpl_lexer.specs.declared.punct.Punct.TheVariants.{Slash, Ampersand}
 use Rattle.rpl_syntax.specs.declared.token.Token.{Token}
 use Rattle.rpl_syntax.specs.declared.token.Token.TheVariants as T
 use Rattle.rpl_syntax.specs.View.{expr_of, exprs_all}
-use Rattle.rpl_syntax.specs.Reading.{◌>>=◌, begins, joins, items_of, parts_of}
+use Rattle.rpl_syntax.specs.Reading.{◌>>=◌, begins, joins, items_of, parts_of, read_item, read_exp, seq_of}
 
 abbrev pub ahead : List Expr → M.Exprs → M.Exprs
 ahead [] xs = xs
@@ -45,13 +45,13 @@ pub seq_none : (front : List Expr) (item : List Token → Option (M.Expr × List
 seq_none front item n m s e h = rw (e, h) refl
 
 module _ (raw : Bool) (seq exp : List Token → Option (M.Exprs × List Token)) where
-  pub parts_step : (front : List Expr) (n m : ℕ) (xs : M.Exprs) (s : List Token) (p : Expr) (ys : M.Exprs) (r : List Token) → n ≡ suc m → expr_of p ≡ M.joined raw xs → seq s ≡ Some (ys, r) → with_front front (parts_of n raw seq exp xs (T.Sign Slash ∷ s)) ≡ with_front (front ++ p ∷ []) (parts_of m raw seq exp ys r)
+  parts_step : (front : List Expr) (n m : ℕ) (xs : M.Exprs) (s : List Token) (p : Expr) (ys : M.Exprs) (r : List Token) → n ≡ suc m → expr_of p ≡ M.joined raw xs → seq s ≡ Some (ys, r) → with_front front (parts_of n raw seq exp xs (T.Sign Slash ∷ s)) ≡ with_front (front ++ p ∷ []) (parts_of m raw seq exp ys r)
   parts_step front n m xs s p ys r e k h = rw (e, h, ← k) (moved front p (parts_of m raw seq exp ys r))
 
-  pub parts_none : (front : List Expr) (n m : ℕ) (xs : M.Exprs) (s : List Token) → n ≡ suc m → seq s ≡ None → with_front front (parts_of n raw seq exp xs (T.Sign Slash ∷ s)) ≡ None
+  parts_none : (front : List Expr) (n m : ℕ) (xs : M.Exprs) (s : List Token) → n ≡ suc m → seq s ≡ None → with_front front (parts_of n raw seq exp xs (T.Sign Slash ∷ s)) ≡ None
   parts_none front n m xs s e h = rw (e, h) refl
 
-  pub parts_both : (front : List Expr) (n m : ℕ) (xs : M.Exprs) (s : List Token) (p : Expr) (ys : M.Exprs) (r : List Token) → n ≡ suc m → expr_of p ≡ M.Both (M.joined raw xs) (M.joined raw ys) → exp s ≡ Some (ys, r) → with_front front (parts_of n raw seq exp xs (T.Sign Ampersand ∷ s)) ≡ Some (exprs_all (front ++ p ∷ []), r)
+  parts_both : (front : List Expr) (n m : ℕ) (xs : M.Exprs) (s : List Token) (p : Expr) (ys : M.Exprs) (r : List Token) → n ≡ suc m → expr_of p ≡ M.Both (M.joined raw xs) (M.joined raw ys) → exp s ≡ Some (ys, r) → with_front front (parts_of n raw seq exp xs (T.Sign Ampersand ∷ s)) ≡ Some (exprs_all (front ++ p ∷ []), r)
   parts_both front n m xs s p ys r e k h = rw (e, h, ← k) (ap (λ zs. Some (zs, r)) (ahead_last front p))
 
   pub parts_unread : (front : List Expr) (n m : ℕ) (xs : M.Exprs) (s : List Token) → n ≡ suc m → exp s ≡ None → with_front front (parts_of n raw seq exp xs (T.Sign Ampersand ∷ s)) ≡ None
@@ -62,9 +62,38 @@ module _ (raw : Bool) (seq exp : List Token → Option (M.Exprs × List Token)) 
   last_here m xs (T.Sign Ampersand ∷ s) e = absurd cc
   last_here m xs _ e = refl
 
-  pub parts_last : (front : List Expr) (n m : ℕ) (xs : M.Exprs) (s : List Token) (p : Expr) → n ≡ suc m → expr_of p ≡ M.joined raw xs → joins s ≡ false → with_front front (parts_of n raw seq exp xs s) ≡ Some (exprs_all (front ++ p ∷ []), s)
+  parts_last : (front : List Expr) (n m : ℕ) (xs : M.Exprs) (s : List Token) (p : Expr) → n ≡ suc m → expr_of p ≡ M.joined raw xs → joins s ≡ false → with_front front (parts_of n raw seq exp xs s) ≡ Some (exprs_all (front ++ p ∷ []), s)
   parts_last front n m xs s p e k j = rw (e, last_here m xs s j, ← k) (ap (λ zs. Some (zs, s)) (ahead_last front p))
 
 pub front_none : (o : Option (M.Exprs × List Token)) → with_front [] o ≡ o
 front_none None = refl
 front_none (Some x) = refl
+
+-- ---- a choice: the parts in front, and those of what is left, are the whole
+
+abbrev choice_of : ℕ → (raw : Bool) → ℕ → M.Exprs → List Token → Option (M.Exprs × List Token)
+choice_of d raw n xs s = parts_of n raw (seq_of (read_item d)) (read_exp d raw) xs s
+
+module _ (d : ℕ) (raw : Bool) (l i : ℕ) (lt : i < l + 1) (front : List Expr) (xs : M.Exprs) (s : List Token) (whole : Option (M.Exprs × List Token))
+    (here : with_front front (choice_of d raw (l + 1 - i) xs s) ≡ whole) where
+  less : l + 1 - i ≡ suc (l + 1 - (i + 1))
+  less = omega (arith, lt)
+
+  behind : (t : Token) (r : List Token) → s ≡ t ∷ r → with_front front (choice_of d raw (l + 1 - i) xs (t ∷ r)) ≡ whole
+  behind t r e = ap (λ z. with_front front (choice_of d raw (l + 1 - i) xs z)) (sym e) ∙ here
+
+  pub choice_step : (all : List Expr) (p : Expr) (ys : M.Exprs) (r q : List Token) → all ≡ front ++ p ∷ [] → s ≡ T.Sign Slash ∷ r → expr_of p ≡ M.joined raw xs → seq_of (read_item d) r ≡ Some (ys, q) → with_front all (choice_of d raw (l + 1 - (i + 1)) ys q) ≡ whole
+  choice_step all p ys r q f e k h =
+      rw f (sym (parts_step raw (seq_of (read_item d)) (read_exp d raw) front (l + 1 - i) (l + 1 - (i + 1)) xs r p ys q less k h) ∙ behind (T.Sign Slash) r e)
+
+  pub choice_none : (r : List Token) → s ≡ T.Sign Slash ∷ r → seq_of (read_item d) r ≡ None → whole ≡ None
+  choice_none r e h =
+      sym (behind (T.Sign Slash) r e) ∙ parts_none raw (seq_of (read_item d)) (read_exp d raw) front (l + 1 - i) (l + 1 - (i + 1)) xs r less h
+
+  pub choice_both : (all : List Expr) (p : Expr) (ys : M.Exprs) (r q : List Token) → all ≡ front ++ p ∷ [] → s ≡ T.Sign Ampersand ∷ r → expr_of p ≡ M.Both (M.joined raw xs) (M.joined raw ys) → read_exp d raw r ≡ Some (ys, q) → whole ≡ Some (exprs_all all, q)
+  choice_both all p ys r q f e k h =
+      rw f (sym (behind (T.Sign Ampersand) r e) ∙ parts_both raw (seq_of (read_item d)) (read_exp d raw) front (l + 1 - i) (l + 1 - (i + 1)) xs r p ys q less k h)
+
+  pub choice_last : (all : List Expr) (p : Expr) → all ≡ front ++ p ∷ [] → expr_of p ≡ M.joined raw xs → joins s ≡ false → whole ≡ Some (exprs_all all, s)
+  choice_last all p f k j =
+      rw f (sym here ∙ parts_last raw (seq_of (read_item d)) (read_exp d raw) front (l + 1 - i) (l + 1 - (i + 1)) xs s p less k j)

@@ -70,6 +70,10 @@ pub record Split (s : List ℕ) (left piece rest : List Lexeme) (k : ℕ) : Type
   pub some : 0 < k
   pub inside : k ≤ length left
 
+pub split_of : (s : List ℕ) (left piece rest : List Lexeme) (k : ℕ) → 0 < length left → k ≡ piece_len (tokens_of s left) → (0 < length left → 0 < k) → k ≤ length left → piece ≡ take k left → rest ≡ drop k left → Split s left piece rest k
+split_of s left piece rest k more len some inside front back =
+    record { len = len; front = front; back = back; some = some more; inside = inside }
+
 module _ (s : List ℕ) (w : Walk) (left piece rest : List Lexeme) (k : ℕ) (answer : Result Said ParseFault) (h : Split s left piece rest k) (l : Left s w left answer) where
   less : l.steps ≡ suc (l.steps - 1)
   less = let e = l.enough in omega (arith, e)

@@ -43,27 +43,6 @@ fn checked(
     }
 }
 
-/// Behind a piece that is not nested too deep.
-fn shallow(
-    alloc: Global,
-    text: &str,
-    walk: Walk,
-    piece: &[Lexeme],
-    rest: &[Lexeme],
-) -> Result<Walk, ParseFault>
-    requires piece { AllStand text.now piece.now }
-    requires rest { AllStand text.now rest.now }
-    ensures { Answers walk_of result (by_line (first_place piece.now) (first_bad text.now piece.now) (walk_of walk)
-        (closes_later (tokens_of text.now rest.now)) (line_of (tokens_of text.now piece.now))) }
-{
-    let converted = convert_all(alloc, text, piece)?;
-    let at = start_of(piece);
-    match read_line(alloc, &converted.tokens) {
-        Ok(line) => checked(at, converted.bad, walk.place(alloc, at, line, text, rest)),
-        Err(refusal) => Err(refusal.fault_at(at)),
-    }
-}
-
 /// Behind one more piece, with those behind it. Its level is counted before any of its brackets is read.
 fn past(
     alloc: Global,
@@ -77,12 +56,17 @@ fn past(
     ensures { Answers walk_of result
         (step text.now (walk_of walk) (closes_later (tokens_of text.now rest.now)) piece.now) }
 {
-    match first_deep(alloc, text, piece)? {
-        Some(at) => Err(ParseFault {
+    if let Some(at) = first_deep(alloc, text, piece)? {
+        return Err(ParseFault {
             at,
             kind: ParseKind::TooDeep,
-        }),
-        None => shallow(alloc, text, walk, piece, rest),
+        });
+    }
+    let converted = convert_all(alloc, text, piece)?;
+    let at = start_of(piece);
+    match read_line(alloc, &converted.tokens) {
+        Ok(line) => checked(at, converted.bad, walk.place(alloc, at, line, text, rest)),
+        Err(refusal) => Err(refusal.fault_at(at)),
     }
 }
 

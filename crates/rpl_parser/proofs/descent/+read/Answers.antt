@@ -7,7 +7,7 @@ use Rattle.rpl_syntax.specs.Expression as M
 use Rattle.rpl_syntax.specs.View.{shown, expr_of, exprs_all}
 use Rattle.rpl_parser.specs.inside.Gives.{Gives}
 use Rattle.rpl_parser.proofs.Readings.{item_is, exp_is, not_joined, content_some, content_none, fails_by, some_is}
-use Rattle.rpl_parser.proofs.Loops.{with_front, front_none, seq_step, seq_last, parts_step, parts_last, parts_both, parts_none}
+use Rattle.rpl_parser.proofs.Loops.{with_front, front_none, seq_step, seq_last, choice_step, choice_last, choice_both, choice_none}
 use Rattle.rpl_parser.proofs.descent.+read.Goals as goal
 
 pub item-returns-in-Some : goal.item-returns-in-Some
@@ -49,60 +49,28 @@ choice-loop-init t c =
 
 pub choice-loop-preserved : goal.choice-loop-preserved
 choice-loop-preserved t c =
-    let raw = c.args.raw in
-    let seq = seq_of (read_item c.args.depth) in
-    let exp = read_exp c.args.depth raw in
-    let s = c.args.tokens.now in
-    let n = length s + 1 - c.loop.counter in
-    let m = length s + 1 - (c.loop.counter + 1) in
-    let e : n ≡ suc m = omega arith in
-    let r = c.in_ok-next-in-Some.after.now in
-    let ys = shown c.in_ok-next-in-Some.next in
-    let here = ap (λ z. with_front c.loop.parts.items.items (parts_of n raw seq exp (shown c.loop.items) z)) (sym c.in-Some.ensures.some) ∙ c.loop.invariant in
-    subst (λ f. with_front f (parts_of m raw seq exp ys r) ≡ parts_of (suc (length s)) raw seq exp (shown c.args.first) s) (sym c.in_ok-push-in-Some.ensures.ok)
-    (sym (parts_step raw seq exp c.loop.parts.items.items n m (shown c.loop.items) c.in-Some.after.now c.join.result ys r e c.join.ensures c.in_ok-next-in-Some.ensures) ∙ here)
+    choice_step c.args.depth c.args.raw (length c.args.tokens.now) c.loop.counter (omega arith) c.loop.parts.items.items (shown c.loop.items) c.loop.rest.now _ c.loop.invariant
+    _ c.join.result (shown c.in_ok-next-in-Some.next) c.in-Some.after.now c.in_ok-next-in-Some.after.now c.in_ok-push-in-Some.ensures.ok c.in-Some.ensures.some c.join.ensures c.in_ok-next-in-Some.ensures
 
 pub choice-returns-in_err-next-in-Some : goal.choice-returns-in_err-next-in-Some
 choice-returns-in_err-next-in-Some t c =
-    let raw = c.args.raw in
-    let seq = seq_of (read_item c.args.depth) in
-    let exp = read_exp c.args.depth raw in
-    let s = c.args.tokens.now in
-    let n = length s + 1 - c.loop.counter in
-    let m = length s + 1 - (c.loop.counter + 1) in
-    let e : n ≡ suc m = omega arith in
-    let here = ap (λ z. with_front c.loop.parts.items.items (parts_of n raw seq exp (shown c.loop.items) z)) (sym c.in-Some.ensures.some) ∙ c.loop.invariant in
+    let none = choice_none c.args.depth c.args.raw (length c.args.tokens.now) c.loop.counter (omega arith) c.loop.parts.items.items (shown c.loop.items) c.loop.rest.now _ c.loop.invariant in
     let p = err_from_is_err_and c.from_residual-in_err-next-in-Some.result c.from_residual-in_err-next-in-Some.ensures.1 in
-    rw (p.1, p.2) (fails_by c.in_err-next-in-Some.field-0.0 (seq c.in-Some.after.now) _ (λ h. sym here ∙ parts_none raw seq exp c.loop.parts.items.items n m (shown c.loop.items) c.in-Some.after.now e h) c.in_err-next-in-Some.ensures)
+    rw (p.1, p.2) (fails_by c.in_err-next-in-Some.field-0.0 (seq_of (read_item c.args.depth) c.in-Some.after.now) _ (none c.in-Some.after.now c.in-Some.ensures.some) c.in_err-next-in-Some.ensures)
 
 pub choice-returns-in-Some-past_ampersand : goal.choice-returns-in-Some-past_ampersand
 choice-returns-in-Some-past_ampersand t c =
     let raw = c.args.raw in
-    let seq = seq_of (read_item c.args.depth) in
-    let exp = read_exp c.args.depth raw in
-    let s = c.args.tokens.now in
-    let n = length s + 1 - c.loop.counter in
-    let m = length s + 1 - (c.loop.counter + 1) in
-    let e : n ≡ suc m = omega arith in
-    let here = ap (λ z. with_front c.loop.parts.items.items (parts_of n raw seq exp (shown c.loop.items) z)) (sym c.in-Some-past_ampersand.ensures.some) ∙ c.loop.invariant in
-    let r = c.in_ok-last-in-Some-past_ampersand.after.now in
     let ys = shown c.in_ok-last-in-Some-past_ampersand.last in
     let k = sym (some_is _ _ c.in_ok-both-in-Some-past_ampersand.ensures) ∙ (ap (λ y. M.Both y (expr_of c.join-in-Some-past_ampersand-2.result)) c.join-in-Some-past_ampersand.ensures ∙ ap (λ y. M.Both (M.joined raw (shown c.loop.items)) y) c.join-in-Some-past_ampersand-2.ensures) in
-    subst (λ f. parts_of (suc (length s)) raw seq exp (shown c.args.first) s ≡ Some (exprs_all f, r)) (sym c.in_ok-push-in-Some-past_ampersand.ensures.ok)
-    (sym here ∙ parts_both raw seq exp c.loop.parts.items.items n m (shown c.loop.items) c.in-Some-past_ampersand.after.now c.in_ok-both-in-Some-past_ampersand.field-0 ys r e k c.in_ok-last-in-Some-past_ampersand.ensures)
+    choice_both c.args.depth raw (length c.args.tokens.now) c.loop.counter (omega arith) c.loop.parts.items.items (shown c.loop.items) c.loop.rest.now _ c.loop.invariant
+    _ c.in_ok-both-in-Some-past_ampersand.field-0 ys c.in-Some-past_ampersand.after.now c.in_ok-last-in-Some-past_ampersand.after.now c.in_ok-push-in-Some-past_ampersand.ensures.ok c.in-Some-past_ampersand.ensures.some k c.in_ok-last-in-Some-past_ampersand.ensures
 
 pub choice-returns-in-None-past_ampersand : goal.choice-returns-in-None-past_ampersand
 choice-returns-in-None-past_ampersand t c =
-    let raw = c.args.raw in
-    let seq = seq_of (read_item c.args.depth) in
-    let exp = read_exp c.args.depth raw in
-    let s = c.args.tokens.now in
-    let n = length s + 1 - c.loop.counter in
-    let m = length s + 1 - (c.loop.counter + 1) in
-    let e : n ≡ suc m = omega arith in
     let j = not_joined c.loop.rest.now c.in-None.ensures.none c.in-None-past_ampersand.ensures.none in
-    subst (λ f. parts_of (suc (length s)) raw seq exp (shown c.args.first) s ≡ Some (exprs_all f, c.loop.rest.now)) (sym c.in_ok-push-in-None-past_ampersand.ensures.ok)
-    (sym c.loop.invariant ∙ parts_last raw seq exp c.loop.parts.items.items n m (shown c.loop.items) c.loop.rest.now c.join-in-None-past_ampersand.result e c.join-in-None-past_ampersand.ensures j)
+    choice_last c.args.depth c.args.raw (length c.args.tokens.now) c.loop.counter (omega arith) c.loop.parts.items.items (shown c.loop.items) c.loop.rest.now _ c.loop.invariant
+    _ c.join-in-None-past_ampersand.result c.in_ok-push-in-None-past_ampersand.ensures.ok c.join-in-None-past_ampersand.ensures j
 
 pub content-returns-in_err-parts : goal.content-returns-in_err-parts
 content-returns-in_err-parts t c =

@@ -6,7 +6,7 @@ use Rattle.rpl_syntax.specs.Modules.{said}
 use Rattle.rpl_parser.specs.Tokens.{AllStand}
 use Rattle.rpl_parser.specs.inside.Walked.{walk_of}
 use Rattle.rpl_parser.specs.Walks.{walk, module_of, Answers}
-use Rattle.rpl_parser.proofs.Walking.{stands_drop, stands_take, none_left, Split, left_on, left_stop}
+use Rattle.rpl_parser.proofs.Walking.{stands_drop, stands_take, none_left, split_of, left_on, left_stop}
 use Rattle.rpl_parser.proofs.statements.read_all.Goals as goal
 
 pub pieces-init : goal.pieces-init
@@ -31,23 +31,13 @@ past-requires-clause-rest c =
 
 pub returns-in_err-walk : goal.returns-in_err-walk
 returns-in_err-walk c =
-    let s = c.args.text.now in
     let left = c.pieces.left.now in
-    let k = c.first_piece.result in
     let more : 0 < length left = grind (arith, nat_tests) in
-    let h : Split s left c.split_at.result.0.now c.split_at.result.1.now k = record {
-      len = c.first_piece.ensures.value;
-      front = c.split_at.ensures.front;
-      back = c.split_at.ensures.back;
-      some = c.first_piece.ensures.some more;
-      inside = c.first_piece.ensures.inside;
-    } in
-    let w = walk_of c.pieces.walk in
-    let answer = module_of s c.args.lexemes.now in
-    let f = c.in_err-walk.field-0.0 in
+    let e = c.first_piece.ensures in
+    let h = split_of c.args.text.now left _ _ c.first_piece.result more e.value e.some e.inside c.split_at.ensures.front c.split_at.ensures.back in
     let p = err_from_is_err_and c.from_residual.result c.from_residual.ensures.1 in
     rw (p.1, p.2) (
-      λ ne. left_stop s w left c.split_at.result.0.now c.split_at.result.1.now k answer h c.pieces.invariant.walked f (c.in_err-walk.ensures.0 ne),
+      λ ne. left_stop c.args.text.now (walk_of c.pieces.walk) left _ _ c.first_piece.result _ h c.pieces.invariant.walked c.in_err-walk.field-0.0 (c.in_err-walk.ensures.0 ne),
       c.in_err-walk.ensures.1,
     )
 
@@ -57,18 +47,11 @@ pieces-preserved c =
     let left = c.pieces.left.now in
     let k = c.first_piece.result in
     let more : 0 < length left = grind (arith, nat_tests) in
-    let h : Split s left c.split_at.result.0.now c.split_at.result.1.now k = record {
-      len = c.first_piece.ensures.value;
-      front = c.split_at.ensures.front;
-      back = c.split_at.ensures.back;
-      some = c.first_piece.ensures.some more;
-      inside = c.first_piece.ensures.inside;
-    } in
-    let w = walk_of c.pieces.walk in
-    let answer = module_of s c.args.lexemes.now in
+    let e = c.first_piece.ensures in
+    let h = split_of s left _ _ k more e.value e.some e.inside c.split_at.ensures.front c.split_at.ensures.back in
     record {
       stand = subst (AllStand s) (sym c.split_at.ensures.back) (stands_drop s left k c.pieces.invariant.stand);
-      walked = left_on s w left c.split_at.result.0.now c.split_at.result.1.now k answer h c.pieces.invariant.walked (walk_of c.in_ok-walk.walk) c.in_ok-walk.ensures;
+      walked = left_on s (walk_of c.pieces.walk) left _ _ k _ h c.pieces.invariant.walked (walk_of c.in_ok-walk.walk) c.in_ok-walk.ensures;
     }
 
 pub pieces-smaller : goal.pieces-smaller
