@@ -132,18 +132,7 @@ fn enter_rules(
             if let Err(stop) = enter_half(alloc, own, file, text, start, true, hidden.as_slice()) {
                 return Err(stop);
             }
-            if let Err(stop) = enter_half(
-                alloc,
-                own,
-                file,
-                text,
-                start,
-                false,
-                visible.as_slice(),
-            ) {
-                return Err(stop);
-            }
-            Ok(())
+            enter_half(alloc, own, file, text, start, false, visible.as_slice())
         }
     }
 }
