@@ -15,12 +15,6 @@ use Rattle.rpl_scope.proofs.Stops.{stops}
 
 -- ---- one behind the other
 
-pub then_ok : {A B : Type 0} (r : Or A) (x : A) (k : A → Or B) (all : Or B) → r ≡ Ok x → k x ≡ all → (r >>= k) ≡ all
-then_ok r x k all h e = ap (λ y. y >>= k) h ∙ e
-
-pub then_stop : {A B : Type 0} (s : Stop) (r : Or A) (x : A) (k : A → Or B) → r ≡ Ok x → StopIs s (k x) → StopIs s (r >>= k)
-then_stop s r x k h e = subst (λ y. StopIs s (y >>= k)) (sym h) e
-
 pub then_gives : {A B X : Type 0} (see : X → B) (res : Result X Stop) (r : Or A) (x : A) (k : A → Or B) → r ≡ Ok x → Gives see res (k x) → Gives see res (r >>= k)
 then_gives see res r x k h e = subst (λ y. Gives see res (y >>= k)) (sym h) e
 
