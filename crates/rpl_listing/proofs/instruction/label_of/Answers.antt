@@ -1,5 +1,5 @@
 use Rattle.std.proofs.Common.{◌≡◌, ℕ, List, [], Option, None, Some, refl, sym, ap, ◌∙◌}
-use Rattle.std.specs.Prelude.{encode_utf8_all, chars, option_map, unwrap_or, slice_get}
+use Rattle.std.specs.Prelude.{encode_utf8_all, chars, option_map, unwrap_or}
 use Rattle.std.specs.Option.{option_copied}
 use Rattle.std.proofs.lemmas.Str.{encodes-chars, chars-nil}
 use Rattle.std.proofs.lemmas.Option.{unwrap_or-slice_get}
@@ -7,16 +7,13 @@ use Rattle.rpl_core.specs.Program.{labels_of}
 use denote.Ref.{Bor}
 use Rattle.rpl_listing.proofs.instruction.label_of.Goals as goal
 
-chars_or : (o : Option (Bor (List ℕ))) (d : Bor (List ℕ)) →
-    chars (unwrap_or o d).now ≡ unwrap_or (option_map chars (option_copied o)) (chars d.now)
-chars_or None d = refl
-chars_or (Some x) d = refl
+-- the characters of a text that may be missing
+or_none : (o : Option (Bor (List ℕ))) (d : Bor (List ℕ)) → chars d.now ≡ [] → chars (unwrap_or o d).now ≡ unwrap_or (option_map chars (option_copied o)) []
+or_none None d empty = empty
+or_none (Some x) d empty = refl
 
--- the characters of the answer are those of the label
 pub returns : goal.returns
 returns c =
-    let of_label = ap (λ x. chars x.now) c.unwrap_or.ensures ∙ chars_or c.label.result _
-    ∙ ap (λ o. unwrap_or o (chars [])) c.label.ensures
-    ∙ ap (unwrap_or (slice_get (labels_of c.args.program.now) c.args.number)) chars-nil
-    ∙ unwrap_or-slice_get (labels_of c.args.program.now) c.args.number [] in
-    sym (encodes-chars c.unwrap_or.result.now c.unwrap_or.utf8) ∙ ap encode_utf8_all of_label
+    let shown = ap (λ x. chars x.now) c.unwrap_or.ensures ∙ or_none c.label.result _ chars-nil in
+    let found = ap (λ o. unwrap_or o []) c.label.ensures ∙ unwrap_or-slice_get (labels_of c.args.program.now) c.args.number [] in
+    sym (encodes-chars c.unwrap_or.result.now c.unwrap_or.utf8) ∙ ap encode_utf8_all (shown ∙ found)
