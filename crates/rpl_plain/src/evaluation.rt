@@ -187,28 +187,28 @@ fn evaluate_all(
     }
 }
 
-/// The first that succeeds of the parts from the one with this number on.
+/// The first that succeeds of the ways from the one with this number on.
 #[cycle(evaluate)]
 fn evaluate_first(
     over: &Over<'_>,
     depth: u32,
-    parts: &[Peg],
+    ways: &[Peg],
     from: usize,
     place: usize,
 ) -> Result<Outcome, AllocError>
     ensures { IfOk result (IsOutcome
-        (first_at depth (bodies_in over.now.rules.now) over.now.text.now (cores (drop from parts.now)) place)) }
+        (first_at depth (bodies_in over.now.rules.now) over.now.text.now (cores (drop from ways.now)) place)) }
 {
-    if from >= parts.len() {
+    if from >= ways.len() {
         return Ok(Outcome::Fail { work: 1 });
     }
-    let o = evaluate_core(over, depth, &parts[from], place)?;
-    if from + 1 == parts.len() {
+    let o = evaluate_core(over, depth, &ways[from], place)?;
+    if from + 1 == ways.len() {
         return Ok(o);
     }
     match o {
         Outcome::Fail { work } => {
-            let rest = evaluate_first(over, depth, parts, from + 1, place)?;
+            let rest = evaluate_first(over, depth, ways, from + 1, place)?;
             Ok(more(plus(1, work), rest))
         }
         Outcome::Open => Ok(Outcome::Open),

@@ -110,25 +110,25 @@ evaluate_first-returns-in_ok-rest-in-Fail t c =
     let R = bodies_of (rules_of c.args.over.now.rules.now) in
     let text = c.args.over.now.text.now in
     let n = c.args.depth in
-    let here = first_more (below n R text) R text c.args.parts.now c.args.from c.index-parts-from.result c.args.place
-    c.if-from-parts.false c.if-from-parts-2.false c.index-parts-from.is in
+    let here = first_more (below n R text) R text c.args.ways.now c.args.from c.index-ways-from.result c.args.place
+    c.if-from-ways.false c.if-from-ways-2.false c.index-ways-from.is in
     let fails = sym (ap outcome_of c.in-Fail.is) ∙ c.in_ok-o.ensures in
     c.more.ensures ∙ ap (λ w. capped (M.more w (outcome_of c.in_ok-rest-in-Fail.rest))) c.plus.ensures
     ∙ ap (λ x. capped (M.more (min (1 + c.in-Fail.work) (2 ^ 64 - 1)) x)) c.in_ok-rest-in-Fail.ensures
-    ∙ first_fails (core_at n R text (core_of c.index-parts-from.result) c.args.place) c.args.place
-    (first_at n R text (cores (drop (c.args.from + 1) c.args.parts.now))) c.in-Fail.work fails ∙ sym (ap capped here)
+    ∙ first_fails (core_at n R text (core_of c.index-ways-from.result) c.args.place) c.args.place
+    (first_at n R text (cores (drop (c.args.from + 1) c.args.ways.now))) c.in-Fail.work fails ∙ sym (ap capped here)
 
 pub evaluate_first-returns-in-At : goal.evaluate_first-returns-in-At
 evaluate_first-returns-in-At t c =
     let R = bodies_of (rules_of c.args.over.now.rules.now) in
     let text = c.args.over.now.text.now in
     let n = c.args.depth in
-    let here = first_more (below n R text) R text c.args.parts.now c.args.from c.index-parts-from.result c.args.place
-    c.if-from-parts.false c.if-from-parts-2.false c.index-parts-from.is in
+    let here = first_more (below n R text) R text c.args.ways.now c.args.from c.index-ways-from.result c.args.place
+    c.if-from-ways.false c.if-from-ways-2.false c.index-ways-from.is in
     let matches = sym (ap outcome_of c.in-At.is) ∙ c.in_ok-o.ensures in
     ap (λ w. M.At w c.in-At.place (forest_of c.in-At.trees)) c.plus-in-At.ensures
-    ∙ first_matches (core_at n R text (core_of c.index-parts-from.result) c.args.place) c.args.place
-    (first_at n R text (cores (drop (c.args.from + 1) c.args.parts.now))) c.in-At.work c.in-At.place (forest_of c.in-At.trees)
+    ∙ first_matches (core_at n R text (core_of c.index-ways-from.result) c.args.place) c.args.place
+    (first_at n R text (cores (drop (c.args.from + 1) c.args.ways.now))) c.in-At.work c.in-At.place (forest_of c.in-At.trees)
     matches ∙ sym (ap capped here)
 
 pub evaluate_first-returns-in-HaltAt : goal.evaluate_first-returns-in-HaltAt
@@ -136,12 +136,12 @@ evaluate_first-returns-in-HaltAt t c =
     let R = bodies_of (rules_of c.args.over.now.rules.now) in
     let text = c.args.over.now.text.now in
     let n = c.args.depth in
-    let here = first_more (below n R text) R text c.args.parts.now c.args.from c.index-parts-from.result c.args.place
-    c.if-from-parts.false c.if-from-parts-2.false c.index-parts-from.is in
+    let here = first_more (below n R text) R text c.args.ways.now c.args.from c.index-ways-from.result c.args.place
+    c.if-from-ways.false c.if-from-ways-2.false c.index-ways-from.is in
     let halts = sym (ap outcome_of c.in-HaltAt.is) ∙ c.in_ok-o.ensures in
     ap (λ w. M.HaltAt w c.in-HaltAt.place (forest_of c.in-HaltAt.trees)) c.plus-in-HaltAt.ensures
-    ∙ first_halts (core_at n R text (core_of c.index-parts-from.result) c.args.place) c.args.place
-    (first_at n R text (cores (drop (c.args.from + 1) c.args.parts.now))) c.in-HaltAt.work c.in-HaltAt.place
+    ∙ first_halts (core_at n R text (core_of c.index-ways-from.result) c.args.place) c.args.place
+    (first_at n R text (cores (drop (c.args.from + 1) c.args.ways.now))) c.in-HaltAt.work c.in-HaltAt.place
     (forest_of c.in-HaltAt.trees) halts ∙ sym (ap capped here)
 
 pub evaluate_lengths-returns : goal.evaluate_lengths-returns

@@ -17,7 +17,7 @@ decreases-evaluate_all l =
 
 abbrev pub decreases-evaluate_first : goal.decreases-evaluate_first
 decreases-evaluate_first l =
-    reach (bodies_of (rules_of l.over.now.rules.now)) l.depth (weight_all (cores (drop l.from l.parts.now)))
+    reach (bodies_of (rules_of l.over.now.rules.now)) l.depth (weight_all (cores (drop l.from l.ways.now)))
 
 abbrev pub decreases-evaluate_lengths : goal.decreases-evaluate_lengths
 decreases-evaluate_lengths l =
