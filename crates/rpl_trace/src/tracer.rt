@@ -284,20 +284,20 @@ impl<'a> Tracer<'a> {
         &mut self,
         rules: &'a Rules,
         text: Text<'_>,
-        parts: &'a [Peg],
+        ways: &'a [Peg],
         place: usize,
     ) -> Result<End, TraceFault>
         requires place { IsPlace (text_of text) place }
         requires stands { Stands (text_of text) (state_of self.old) }
         ensures goes { Goes (bodies_of (rules_of rules.now)) (text_of text.entry)
-            (due (T.Ways parts.entry place) (state_of self.old)) E.Fails (state_of self.new) result }
+            (due (T.Ways ways.entry place) (state_of self.old)) E.Fails (state_of self.new) result }
         ensures less { OnOk result (left (state_of self.new) ≤ left (state_of self.old)) }
     {
-        if parts.len() == 1 {
-            return self.evaluate(rules, text, &parts[0], place);
+        if ways.len() == 1 {
+            return self.evaluate(rules, text, &ways[0], place);
         }
         self.begin(Kind::Choice, place)?;
-        Ok(self.choose(parts, place)?)
+        Ok(self.choose(ways, place)?)
     }
 
     /// A turn that began at the place has ended: it is one if it matched, and then comes the next.
