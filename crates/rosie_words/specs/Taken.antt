@@ -63,7 +63,8 @@ chosen_from s ns (w ∷ ws) = from_name s ns w ws (command_named w)
 -- the command of what was taken in
 abbrev pub finished : Reader → Result Command UsageFault
 finished r =
-    unless (end_fault (front_of r.front)) (chosen_from r.settings (map seen r.options.items) (map text r.arguments.items))
+    unless (end_fault (front_of r.front))
+    (chosen_from r.settings (map seen r.options.items) (map text r.arguments.items))
 
 -- the record with some more options
 abbrev pub put_all : List Given → Settings → Settings
