@@ -22,6 +22,11 @@ pub(crate) struct Layout {
 impl Layout {
     ghost use Rattle.rpl_codegen.specs.inside.Written.{address_of};
 
+    /// The allocator of what is written by it.
+    pub(crate) fn alloc(&self) -> Global {
+        *self.addresses.allocator()
+    }
+
     /// The addresses of the rules behind the goal. Only marked rules take room. The nodes of the goal and of the
     /// marked rules are added to the plan in the order in which the code is written.
     pub(crate) fn new(

@@ -66,16 +66,15 @@ pub(crate) fn compile_goal(
     }
     let mut draft = Draft::new(alloc);
     let mut nodes = Nodes::new(plan.nodes);
-    emit(alloc, &mut draft, &layout, &mut nodes, goal)?;
+    emit(&mut draft, &layout, &mut nodes, goal)?;
     draft.put(Instr::Finish)?;
-    emit_rules(alloc, &mut draft, &layout, &mut nodes, rules, &marks)?;
+    emit_rules(&mut draft, &layout, &mut nodes, rules, &marks)?;
     let Draft { code, sets, labels } = draft;
     Ok(Program::new(code, sets.sets(alloc)?, labels.labels(alloc)?))
 }
 
 /// Writes the marked rules in the order of the table, each with its return.
 fn emit_rules(
-    alloc: Global,
     draft: &mut Draft,
     layout: &Layout,
     nodes: &mut Nodes,
@@ -89,14 +88,13 @@ fn emit_rules(
         (bodies (marked marks.now) (address_of layout.now) (bodies_of (rules_of rules.now)) 0)) }
 {
     for number in 0..rules.len() {
-        emit_rule(alloc, draft, layout, nodes, rules, marks, number as u32)?;
+        emit_rule(draft, layout, nodes, rules, marks, number as u32)?;
     }
     Ok(())
 }
 
 /// Writes the rule with this number and its return, if it is marked.
 fn emit_rule(
-    alloc: Global,
     draft: &mut Draft,
     layout: &Layout,
     nodes: &mut Nodes,
@@ -118,7 +116,7 @@ fn emit_rule(
         return Ok(());
     }
     if let Some(rule) = rules.get(number) {
-        emit(alloc, draft, layout, nodes, &rule.body)?;
+        emit(draft, layout, nodes, &rule.body)?;
         draft.put(Instr::Return)?;
     }
     Ok(())

@@ -22,7 +22,6 @@ use std::alloc::Global;
 /// Writes the code of the pattern.
 #[cycle(emit)]
 pub(crate) fn emit(
-    alloc: Global,
     draft: &mut Draft,
     layout: &Layout,
     nodes: &mut Nodes,
@@ -34,13 +33,12 @@ pub(crate) fn emit(
     ensures nodes { OnOk result (Takes nodes.old nodes.new (nodes_in (core_of peg.now))) }
 {
     let end = draft.next() + nodes.take();
-    emit_inner(alloc, draft, layout, nodes, peg, end)
+    emit_inner(draft, layout, nodes, peg, end)
 }
 
 /// Writes the code of the pattern up to `end`. Its own node is taken already.
 #[cycle(emit)]
 fn emit_inner(
-    alloc: Global,
     draft: &mut Draft,
     layout: &Layout,
     nodes: &mut Nodes,
@@ -54,18 +52,18 @@ fn emit_inner(
     ensures nodes { OnOk result (Takes nodes.old nodes.new (inner_nodes (core_of peg.now))) }
 {
     match peg {
-        Peg::Set(set) => draft.put_set(alloc, set),
-        Peg::Seq(parts) => emit_all(alloc, draft, layout, nodes, parts),
-        Peg::Choice(parts) => emit_first(alloc, draft, layout, nodes, parts, end),
-        Peg::Many(body) => emit_many(alloc, draft, layout, nodes, body),
-        Peg::Not(body) => emit_not(alloc, draft, layout, nodes, body),
-        Peg::And(body) => emit_and(alloc, draft, layout, nodes, body),
+        Peg::Set(set) => draft.put_set(layout.alloc(), set),
+        Peg::Seq(parts) => emit_all(draft, layout, nodes, parts),
+        Peg::Choice(parts) => emit_first(draft, layout, nodes, parts, end),
+        Peg::Many(body) => emit_many(draft, layout, nodes, body),
+        Peg::Not(body) => emit_not(draft, layout, nodes, body),
+        Peg::And(body) => emit_and(draft, layout, nodes, body),
         Peg::Behind { least, most, body } => {
-            emit_behind(alloc, draft, layout, nodes, *least, *most, body, end)
+            emit_behind(draft, layout, nodes, *least, *most, body, end)
         }
         Peg::Call(rule) => draft.put(Instr::Call(layout.address(*rule))),
-        Peg::Capture(label, body) => emit_capture(alloc, draft, layout, nodes, label, body),
-        Peg::Note(text) => draft.put_note(alloc, text),
+        Peg::Capture(label, body) => emit_capture(draft, layout, nodes, label, body),
+        Peg::Note(text) => draft.put_note(layout.alloc(), text),
         Peg::Start => draft.put(Instr::Start),
         Peg::End => draft.put(Instr::End),
         Peg::Halt => draft.put(Instr::Halt),
@@ -75,7 +73,6 @@ fn emit_inner(
 /// Writes the parts in turn.
 #[cycle(emit)]
 fn emit_all(
-    alloc: Global,
     draft: &mut Draft,
     layout: &Layout,
     nodes: &mut Nodes,
@@ -87,7 +84,7 @@ fn emit_all(
     ensures nodes { OnOk result (Takes nodes.old nodes.new (inner_nodes (core_of (Peg.Seq parts.now)))) }
 {
     for part in parts.as_slice() {
-        emit(alloc, draft, layout, nodes, part)?;
+        emit(draft, layout, nodes, part)?;
     }
     Ok(())
 }
@@ -95,7 +92,6 @@ fn emit_all(
 /// Writes a choice of the parts. Each part but the last goes to the end where it succeeds.
 #[cycle(emit)]
 fn emit_first(
-    alloc: Global,
     draft: &mut Draft,
     layout: &Layout,
     nodes: &mut Nodes,
@@ -114,15 +110,14 @@ fn emit_first(
     }
     let last = parts.len() - 1;
     for number in 0..last {
-        emit_tried(alloc, draft, layout, nodes, &parts[number], end)?;
+        emit_tried(draft, layout, nodes, &parts[number], end)?;
     }
-    emit(alloc, draft, layout, nodes, &parts[last])
+    emit(draft, layout, nodes, &parts[last])
 }
 
 /// Writes a part that others follow, with the test of its head if it has one.
 #[cycle(emit)]
 fn emit_tried(
-    alloc: Global,
     draft: &mut Draft,
     layout: &Layout,
     nodes: &mut Nodes,
@@ -140,11 +135,11 @@ fn emit_tried(
 {
     let size = nodes.size();
     let tested = draft.next() + 2 + size + 1;
-    emit_test(alloc, draft, nodes, tested)?;
+    emit_test(layout.alloc(), draft, nodes, tested)?;
     let other = draft.next() + 1 + size + 1;
     draft.put(Instr::Choice(other))?;
     let behind = draft.next() + nodes.take();
-    emit_inner(alloc, draft, layout, nodes, part, behind)?;
+    emit_inner(draft, layout, nodes, part, behind)?;
     draft.put(Instr::Commit(end))
 }
 
@@ -163,7 +158,6 @@ fn emit_test(alloc: Global, draft: &mut Draft, nodes: &Nodes, other: u32) -> Res
 /// Writes a loop.
 #[cycle(emit)]
 fn emit_many(
-    alloc: Global,
     draft: &mut Draft,
     layout: &Layout,
     nodes: &mut Nodes,
@@ -178,18 +172,17 @@ fn emit_many(
 {
     if let Some(set) = lone_set(body) {
         nodes.take();
-        return draft.put_span(alloc, set);
+        return draft.put_span(layout.alloc(), set);
     }
     let start = draft.next();
     draft.put(Instr::Choice(start + 1 + nodes.size() + 1))?;
-    emit(alloc, draft, layout, nodes, body)?;
+    emit(draft, layout, nodes, body)?;
     draft.put(Instr::PartialCommit(start + 1))
 }
 
 /// Writes a test that the body fails.
 #[cycle(emit)]
 fn emit_not(
-    alloc: Global,
     draft: &mut Draft,
     layout: &Layout,
     nodes: &mut Nodes,
@@ -204,18 +197,17 @@ fn emit_not(
     let start = draft.next();
     if let Some(set) = lone_set(body) {
         nodes.take();
-        draft.put_test(alloc, start + 2, set)?;
+        draft.put_test(layout.alloc(), start + 2, set)?;
         return draft.put(Instr::Fail);
     }
     draft.put(Instr::Choice(start + 1 + nodes.size() + 1))?;
-    emit(alloc, draft, layout, nodes, body)?;
+    emit(draft, layout, nodes, body)?;
     draft.put(Instr::FailTwice)
 }
 
 /// Writes a test that the body succeeds.
 #[cycle(emit)]
 fn emit_and(
-    alloc: Global,
     draft: &mut Draft,
     layout: &Layout,
     nodes: &mut Nodes,
@@ -228,7 +220,7 @@ fn emit_and(
 {
     let fail = draft.next() + 1 + nodes.size() + 1;
     draft.put(Instr::Choice(fail))?;
-    emit(alloc, draft, layout, nodes, body)?;
+    emit(draft, layout, nodes, body)?;
     draft.put(Instr::BackCommit(fail + 1))?;
     draft.put(Instr::Fail)
 }
@@ -237,7 +229,6 @@ fn emit_and(
 /// fits.
 #[cycle(emit)]
 fn emit_behind(
-    alloc: Global,
     draft: &mut Draft,
     layout: &Layout,
     nodes: &mut Nodes,
@@ -257,7 +248,7 @@ fn emit_behind(
     let start = nodes.next;
     for back in least as u64..most as u64 + 1 {
         nodes.next = start;
-        emit_length(alloc, draft, layout, nodes, back as u32, body, end)?;
+        emit_length(draft, layout, nodes, back as u32, body, end)?;
     }
     draft.put(Instr::Fail)
 }
@@ -265,7 +256,6 @@ fn emit_behind(
 /// Writes one length of a look-behind.
 #[cycle(emit)]
 fn emit_length(
-    alloc: Global,
     draft: &mut Draft,
     layout: &Layout,
     nodes: &mut Nodes,
@@ -282,14 +272,13 @@ fn emit_length(
     let next = draft.next() + 2 + nodes.size() + 1;
     draft.put(Instr::Choice(next))?;
     draft.put(Instr::Back(back))?;
-    emit(alloc, draft, layout, nodes, body)?;
+    emit(draft, layout, nodes, body)?;
     draft.put(Instr::Meet(end))
 }
 
 /// Writes a capture.
 #[cycle(emit)]
 fn emit_capture(
-    alloc: Global,
     draft: &mut Draft,
     layout: &Layout,
     nodes: &mut Nodes,
@@ -301,7 +290,7 @@ fn emit_capture(
     ensures code { OnOk result (Writes draft.old draft.new (capture_code label.now (code_in layout.now body.now))) }
     ensures nodes { OnOk result (Takes nodes.old nodes.new (nodes_in (core_of body.now))) }
 {
-    draft.put_open(alloc, label)?;
-    emit(alloc, draft, layout, nodes, body)?;
+    draft.put_open(layout.alloc(), label)?;
+    emit(draft, layout, nodes, body)?;
     draft.put(Instr::Close)
 }
