@@ -6,7 +6,7 @@ ghost use Rattle.rpl_encode.specs.Labels.{answer_text, match_text};
 
 use crate::children::{put_line, put_root_text, put_texts};
 use crate::fault::EncodeFault;
-use crate::prepared::Prepared;
+use crate::prepared::{Prepared, Source};
 use crate::style::Style;
 use crate::tree::put_tree;
 use rosie_io::Bytes;
@@ -156,7 +156,12 @@ fn put_match(
     match style {
         Style::Json => {
             prepared.fill(line, program)?;
-            put_tree(out, pending, line.as_bytes(), prepared, forest, program)
+            let source = Source {
+                line: line.as_bytes(),
+                prepared,
+                program,
+            };
+            put_tree(out, pending, forest, source)
         }
         Style::Line => Ok(put_line(out, line.as_bytes())?),
         Style::Matches => put_hits(out, line.as_bytes(), forest, program),

@@ -10,7 +10,7 @@ ghost use Rattle.rpl_encode.specs.inside.Walk.{text_at, fields_at, comma, ending
 
 use crate::escapes::Escapes;
 use crate::front::{put_escaped, put_front, put_new_front};
-use crate::prepared::Prepared;
+use crate::prepared::Source;
 use itoa::{Buffer, write_digits};
 use rpl_core::{NoMemory, Program};
 use rpl_tree::Node;
@@ -48,15 +48,20 @@ pub(crate) fn put_node(
     node: Node,
     is_first: bool,
     has_subs: bool,
-    line: &[u8],
-    prepared: &Prepared,
-    program: &Program,
+    source: Source<'_>,
 ) -> Result<(), NoMemory>
-    requires { AreOf line.now prepared.now.escapes }
+    requires { AreOf source.line.now source.prepared.now.escapes }
     ensures { OnOk result
         (out.new.items
-        ≡ out.old.items ++ (comma is_first ++ (fields_at (labels_of program.now) line.now node ++ ending has_subs))) }
+        ≡ out.old.items
+        ++ (comma is_first
+        ++ (fields_at (labels_of source.entry.program.now) source.entry.line.now node ++ ending has_subs))) }
 {
+    let Source {
+        line,
+        prepared,
+        program,
+    } = source;
     match node.note {
         Some(text) => {
             let text = label_of(program, text);

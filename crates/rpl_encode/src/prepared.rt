@@ -15,6 +15,15 @@ pub(crate) struct Prepared {
     pub(crate) escapes: Escapes,
 }
 
+/// What the objects of a line's nodes are written from: the line, what is prepared for it, and the program that it was
+/// matched with.
+#[derive(Clone, Copy)]
+pub(crate) struct Source<'a> {
+    pub(crate) line: &'a [u8],
+    pub(crate) prepared: &'a Prepared,
+    pub(crate) program: &'a Program,
+}
+
 impl Prepared {
     /// Nothing yet. Takes no memory.
     pub(crate) fn new(alloc: Global) -> Prepared {

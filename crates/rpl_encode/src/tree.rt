@@ -9,9 +9,9 @@ ghost use Rattle.rpl_encode.specs.inside.Walk.{rest_of};
 use crate::answer::MOST_BYTES;
 use crate::fault::EncodeFault;
 use crate::node_text::put_node;
-use crate::prepared::Prepared;
+use crate::prepared::Source;
 use crate::style::Style;
-use rpl_core::{NoMemory, Program};
+use rpl_core::NoMemory;
 use rpl_tree::{Forest, Node};
 
 /// Writes the object of the first tree and a line feed, or nothing where there is no tree. `pending` is room for the
@@ -19,26 +19,25 @@ use rpl_tree::{Forest, Node};
 pub(crate) fn put_tree(
     out: &mut Vec<u8>,
     pending: &mut Vec<usize>,
-    line: &[u8],
-    prepared: &Prepared,
     forest: &Forest,
-    program: &Program,
+    source: Source<'_>,
 ) -> Result<(), EncodeFault>
-    requires { AreOf line.now prepared.now.escapes }
-    ensures text { OnOk result
-        (out.new.items ≡ out.old.items ++ match_text Style.Json line.now program.now forest.now) }
-    ensures too_long { IsTooLong result (out.old.items ++ match_text Style.Json line.now program.now forest.now) }
+    requires { AreOf source.line.now source.prepared.now.escapes }
+    ensures text { OnOk result (out.new.items
+        ≡ out.old.items ++ match_text Style.Json source.entry.line.now source.entry.program.now forest.now) }
+    ensures too_long { IsTooLong result
+        (out.old.items ++ match_text Style.Json source.entry.line.now source.entry.program.now forest.now) }
 {
     let Some(root) = forest.get(0) else {
         return Ok(());
     };
     let has_subs = has_subs(root, root.below, 1, forest.len());
-    put_node(out, root, true, has_subs, line, prepared, program)?;
+    put_node(out, root, true, has_subs, source)?;
     pending.clear();
     if has_subs {
         open_list(pending, root.below)?;
     }
-    put_below(out, pending, line, prepared, forest, program)?;
+    put_below(out, pending, forest, source)?;
     Ok(out.extend_from_slice(b"\n")?)
 }
 
@@ -59,29 +58,29 @@ fn has_subs(node: Node, below: usize, next: usize, count: usize) -> bool
     node.note.is_none() && below > 0 && next < count
 }
 
-/// Writes the nodes from the second on, and closes the lists that are open. `pending` has the number of nodes that are
+/// Writes the nodes from the second on, and closes the lists that are open. `open` has the number of nodes that are
 /// still to come in each of them, the innermost last.
 fn put_below(
     out: &mut Vec<u8>,
-    pending: &mut Vec<usize>,
-    line: &[u8],
-    prepared: &Prepared,
+    open: &mut Vec<usize>,
     forest: &Forest,
-    program: &Program,
+    source: Source<'_>,
 ) -> Result<(), EncodeFault>
-    requires { AreOf line.now prepared.now.escapes }
+    requires { AreOf source.line.now source.prepared.now.escapes }
     ensures text { OnOk result
         (out.new.items
         ≡ out.old.items
-        ++ rest_of (labels_of program.now) line.now (drop 1 forest.now) (reverse pending.old.items) true) }
+        ++ rest_of (labels_of source.entry.program.now) source.entry.line.now
+        (drop 1 forest.now) (reverse open.old.items) true) }
     ensures too_long { IsTooLong result
         (out.old.items
-        ++ rest_of (labels_of program.now) line.now (drop 1 forest.now) (reverse pending.old.items) true) }
+        ++ rest_of (labels_of source.entry.program.now) source.entry.line.now
+        (drop 1 forest.now) (reverse open.old.items) true) }
 {
     let count = forest.len();
     let mut index = 1;
     let mut is_first = true;
-    while let Some(left) = pending.pop() {
+    while let Some(left) = open.pop() {
         if out.len() > MOST_BYTES {
             return Err(EncodeFault::AnswerTooLong);
         }
@@ -89,12 +88,12 @@ fn put_below(
             Some(node) if left > 0 => {
                 // A node's nodes end at the latest where those of its parent do.
                 let below = node.below.min(left - 1);
-                open_list(pending, left - 1 - below)?;
+                open_list(open, left - 1 - below)?;
                 index += 1;
                 let has_subs = has_subs(node, below, index, count);
-                put_node(out, node, is_first, has_subs, line, prepared, program)?;
+                put_node(out, node, is_first, has_subs, source)?;
                 if has_subs {
-                    open_list(pending, below)?;
+                    open_list(open, below)?;
                 } else {
                     index = index.saturating_add(below);
                 }

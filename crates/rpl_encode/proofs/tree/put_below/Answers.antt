@@ -9,11 +9,11 @@ use Rattle.rpl_encode.proofs.tree.put_below.Goals.{in_default-get-via-in-Some-ge
 
 pub loop-left-preserved-in_ok-open_list-in-Some-get-2 : goal.loop-left-preserved-in_ok-open_list-in-Some-get-2
 loop-left-preserved-in_ok-open_list-in-Some-get-2 c =
-    let labels = labels_of c.args.program.now in
+    let labels = labels_of c.args.source.program.now in
     let has = c.has_subs-has_subs.ensures.0 c.if-has_subs.true in
     let was = ap reverse c.in-Some.ensures.items ∙ reverse_last c.pop.new.self.items c.in-Some.left in
     let now = ap reverse c.in_ok-open_list-in-Some-get-2.ensures.items ∙ reverse_last c.open_list.new.pending.items c.min-below.result ∙ ap (λ q. c.min-below.result ∷ q) (ap reverse c.in_ok-open_list-in-Some-get.ensures.items ∙ reverse_last c.pop.new.self.items _) in
-    let step = subs_step labels c.args.line.now c.args.forest.now c.loop-left.index c.in-Some.left c.min-below.result c.in-Some-get.node _ _ _ c.loop-left.is_first c.has_subs-has_subs.result (sym c.in-Some-get.ensures) (omega arith) c.min-below.ensures was now c.if-has_subs.true has.0 has.1 (omega (arith, has.2, c.len-count.ensures)) in
+    let step = subs_step labels c.args.source.line.now c.args.forest.now c.loop-left.index c.in-Some.left c.min-below.result c.in-Some-get.node _ _ _ c.loop-left.is_first c.has_subs-has_subs.result (sym c.in-Some-get.ensures) (omega arith) c.min-below.ensures was now c.if-has_subs.true has.0 has.1 (omega (arith, has.2, c.len-count.ensures)) in
     stepped ◌++◌ append_assoc c.loop-left.out.items c.put_node.new.out.items _ _ _ _ c.in_ok-put_node-in-Some-get.ensures step c.loop-left.invariant
 
 pub loop-left-smaller-else-has_subs : goal.loop-left-smaller-else-has_subs
@@ -22,12 +22,12 @@ loop-left-smaller-else-has_subs c =
 
 pub loop-left-preserved-else-has_subs : goal.loop-left-preserved-else-has_subs
 loop-left-preserved-else-has_subs c =
-    let labels = labels_of c.args.program.now in
+    let labels = labels_of c.args.source.program.now in
     let was = ap reverse c.in-Some.ensures.items ∙ reverse_last c.pop.new.self.items c.in-Some.left in
     let now = ap reverse c.in_ok-open_list-in-Some-get.ensures.items ∙ reverse_last c.pop.new.self.items (c.in-Some.left - 1 - c.min-below.result) in
     let has : (c.in-Some-get.node.note ≡ None) × (0 < c.min-below.result) × (c.loop-left.index + 1 < length c.args.forest.now) → ⊥ =
     λ h. false≢true (sym c.if-has_subs.false ∙ c.has_subs-has_subs.ensures.1 (h.0, h.1, omega (arith, h.2, c.len-count.ensures))) in
-    let step = leaf_step labels c.args.line.now c.args.forest.now c.loop-left.index c.saturating_add-index.result c.in-Some.left c.min-below.result c.in-Some-get.node _ _ _ c.loop-left.is_first c.has_subs-has_subs.result (sym c.in-Some-get.ensures) (omega arith) (omega (arith, c.len-count.ensures)) c.min-below.ensures c.saturating_add-index.ensures was now c.if-has_subs.false has in
+    let step = leaf_step labels c.args.source.line.now c.args.forest.now c.loop-left.index c.saturating_add-index.result c.in-Some.left c.min-below.result c.in-Some-get.node _ _ _ c.loop-left.is_first c.has_subs-has_subs.result (sym c.in-Some-get.ensures) (omega arith) (omega (arith, c.len-count.ensures)) c.min-below.ensures c.saturating_add-index.ensures was now c.if-has_subs.false has in
     stepped ◌++◌ append_assoc c.loop-left.out.items c.put_node.new.out.items _ _ _ _ c.in_ok-put_node-in-Some-get.ensures step c.loop-left.invariant
 
 pub loop-left-preserved : goal.loop-left-preserved
@@ -38,5 +38,5 @@ loop-left-preserved c =
       | in_default-get-via-in-Some-get+else-left-gt0 w ↦ inl (omega (arith, w.if-left-gt0.false))
       | in_default-get-via-in_default-get w ↦ inr (sym c.get.ensures ∙ w.in_default-get.is)
     ] in
-    let step = close_step (labels_of c.args.program.now) c.args.line.now c.args.forest.now c.loop-left.index c.in-Some.left _ _ c.loop-left.is_first was done in
+    let step = close_step (labels_of c.args.source.program.now) c.args.source.line.now c.args.forest.now c.loop-left.index c.in-Some.left _ _ c.loop-left.is_first was done in
     stepped ◌++◌ append_assoc c.loop-left.out.items c.extend_from_slice.new.self.items _ _ _ _ c.in_ok-extend_from_slice-in_default-get.ensures.items step c.loop-left.invariant

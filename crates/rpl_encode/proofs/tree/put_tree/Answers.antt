@@ -14,7 +14,7 @@ returns-clause-text c =
       | then-has_subs+in_ok-open_list w ↦ rw (w.if-has_subs.true, w.pending-is, w.in_ok-open_list.ensures.items, c.clear.ensures.items)
       | else-has_subs w ↦ rw (w.if-has_subs.false, w.pending-is, c.clear.ensures.items)
     ] in
-    let whole = tree_whole (labels_of c.args.program.now) c.args.line.now c.args.forest.now c.in-Some.root c.has_subs-has_subs.result (reverse c.if-has_subs.pending.items) (sym c.in-Some.ensures) (rw c.len.ensures at c.has_subs-has_subs.ensures) opened in
+    let whole = tree_whole (labels_of c.args.source.program.now) c.args.source.line.now c.args.forest.now c.in-Some.root c.has_subs-has_subs.result (reverse c.if-has_subs.pending.items) (sym c.in-Some.ensures) (rw c.len.ensures at c.has_subs-has_subs.ensures) opened in
     written_three ◌++◌ append_assoc c.args.out.now.items c.put_node.new.out.items c.put_below.new.out.items c.extend_from_slice.new.self.items _ _ (10 ∷ []) c.in_ok-put_node.ensures c.in_ok-put_below.ensures.text c.in_ok-extend_from_slice.ensures.items ∙ ap (◌++◌ c.args.out.now.items) (sym whole)
 
 pub returns-in_err-put_below-clause-too_long : goal.returns-in_err-put_below-clause-too_long
@@ -24,6 +24,6 @@ returns-in_err-put_below-clause-too_long c =
       | then-has_subs+in_ok-open_list w ↦ rw (w.if-has_subs.true, w.pending-is, w.in_ok-open_list.ensures.items, c.clear.ensures.items)
       | else-has_subs w ↦ rw (w.if-has_subs.false, w.pending-is, c.clear.ensures.items)
     ] in
-    let whole = tree_whole (labels_of c.args.program.now) c.args.line.now c.args.forest.now c.in-Some.root c.has_subs-has_subs.result (reverse c.if-has_subs.pending.items) (sym c.in-Some.ensures) (rw c.len.ensures at c.has_subs-has_subs.ensures) opened in
+    let whole = tree_whole (labels_of c.args.source.program.now) c.args.source.line.now c.args.forest.now c.in-Some.root c.has_subs-has_subs.result (reverse c.if-has_subs.pending.items) (sym c.in-Some.ensures) (rw c.len.ensures at c.has_subs-has_subs.ensures) opened in
     let more = longer most_bytes c.args.out.now.items c.put_node.new.out.items _ _ _ c.in_ok-put_node.ensures whole in
     search rules
