@@ -41,9 +41,6 @@ seq_step front item n m s p r e h b = rw (e, h, b) (moved front p (items_of m it
 pub seq_last : (front : List Expr) (item : List Token → Option (M.Expr × List Token)) (n m : ℕ) (s : List Token) (p : Expr) (r : List Token) → n ≡ suc m → item s ≡ Some (expr_of p, r) → begins r ≡ false → with_front front (items_of n item s) ≡ Some (exprs_all (front ++ p ∷ []), r)
 seq_last front item n m s p r e h b = rw (e, h, b) (ap (λ xs. Some (xs, r)) (ahead_last front p))
 
-pub seq_none : (front : List Expr) (item : List Token → Option (M.Expr × List Token)) (n m : ℕ) (s : List Token) → n ≡ suc m → item s ≡ None → with_front front (items_of n item s) ≡ None
-seq_none front item n m s e h = rw (e, h) refl
-
 module _ (raw : Bool) (seq exp : List Token → Option (M.Exprs × List Token)) where
   parts_step : (front : List Expr) (n m : ℕ) (xs : M.Exprs) (s : List Token) (p : Expr) (ys : M.Exprs) (r : List Token) → n ≡ suc m → expr_of p ≡ M.joined raw xs → seq s ≡ Some (ys, r) → with_front front (parts_of n raw seq exp xs (T.Sign Slash ∷ s)) ≡ with_front (front ++ p ∷ []) (parts_of m raw seq exp ys r)
   parts_step front n m xs s p ys r e k h = rw (e, h, ← k) (moved front p (parts_of m raw seq exp ys r))
@@ -53,9 +50,6 @@ module _ (raw : Bool) (seq exp : List Token → Option (M.Exprs × List Token)) 
 
   parts_both : (front : List Expr) (n m : ℕ) (xs : M.Exprs) (s : List Token) (p : Expr) (ys : M.Exprs) (r : List Token) → n ≡ suc m → expr_of p ≡ M.Both (M.joined raw xs) (M.joined raw ys) → exp s ≡ Some (ys, r) → with_front front (parts_of n raw seq exp xs (T.Sign Ampersand ∷ s)) ≡ Some (exprs_all (front ++ p ∷ []), r)
   parts_both front n m xs s p ys r e k h = rw (e, h, ← k) (ap (λ zs. Some (zs, r)) (ahead_last front p))
-
-  pub parts_unread : (front : List Expr) (n m : ℕ) (xs : M.Exprs) (s : List Token) → n ≡ suc m → exp s ≡ None → with_front front (parts_of n raw seq exp xs (T.Sign Ampersand ∷ s)) ≡ None
-  parts_unread front n m xs s e h = rw (e, h) refl
 
   last_here : (m : ℕ) (xs : M.Exprs) (s : List Token) → joins s ≡ false → parts_of (suc m) raw seq exp xs s ≡ Some (M.one (M.joined raw xs), s)
   last_here m xs (T.Sign Slash ∷ s) e = absurd cc
