@@ -1,6 +1,14 @@
 mod classes;
+mod copies;
+mod faults;
+mod form;
 mod lists;
+mod macros;
+mod made;
+mod made_up;
+mod modules;
 mod printed;
+mod readings;
 mod rows;
 mod sets;
 mod texts;

@@ -6,24 +6,8 @@ use std::test::Fail;
 /// One character of each length at each border of the lengths.
 const BORDERS: &str = "a\u{7f}\u{80}\u{7ff}\u{800}\u{d7ff}\u{e000}\u{ffff}\u{10000}\u{10ffff}";
 
-/// The characters of that text: the number of each, its place, its code, and the place behind it.
-const STEPS: &str = "\
-0 0 61 1
-1 1 7f 2
-2 2 80 4
-3 4 7ff 6
-4 6 800 9
-5 9 d7ff 12
-6 12 e000 15
-7 15 ffff 18
-8 18 10000 22
-9 22 10ffff 26";
-
-/// Places behind the last one of that text, and within its characters.
-const NO_PLACES: &str = "3 5 7 8 10 21 25 27";
-
-/// The character with a number as the table has it, once where the text is gone over and once where it is gone back.
-fn step_of(alloc: Global, text: Text<'_>, number: usize) -> Result<(String, String), Fail> {
+/// The place of the character with a number, its code, and the place behind it. The text is gone over and back.
+fn step_of(alloc: Global, text: Text<'_>, number: usize) -> Result<String, Fail> {
     let place = text.place_of(number).ok_or("no place")?;
     if !text.is_place(place) {
         Err("a character at no place")?;
@@ -32,44 +16,29 @@ fn step_of(alloc: Global, text: Text<'_>, number: usize) -> Result<(String, Stri
     if !text.is_place(next) || next <= place {
         Err("a step to no place")?;
     }
-    let before = text.back(next, 1).ok_or("no step back")?;
-    let first = text.slice(place, next).chars().next().ok_or("no text")?;
-    Ok((
-        format!(in alloc; "{number} {place} {:x} {next}", c as u32)?,
-        format!(in alloc; "{number} {before} {:x} {next}", first as u32)?,
-    ))
+    let first = text.slice(place, next).chars().next();
+    if text.back(next, 1) != Some(place) || first != Some(c) {
+        Err("another step back")?;
+    }
+    Ok(format!(in alloc; "{place} {:x} {next}", c as u32)?)
 }
 
-/// Is there no place behind the last one, or within a character, and do the steps from the end go so?
-fn ends_so(text: Text<'_>) -> Result<bool, Fail> {
-    for word in NO_PLACES.split(' ') {
-        if text.is_place(word.parse::<usize>()?) {
-            return Ok(false);
-        }
-    }
-    if !text.is_place(26) {
-        return Ok(false);
-    }
-    Ok(
-        text.place_of(10) == Some(26)
-            && text.place_of(11).is_none()
-            && text.step(26).is_none()
-            && text.back(26, 0) == Some(26)
-            && text.back(26, 9) == Some(1)
-            && text.back(26, 10) == Some(0)
-            && text.back(26, 11).is_none(),
-    )
-}
-
-#[test]
-fn walks(rt: HostRuntime) -> Result<(), Fail> {
+/// What a call answers about a number of that text. Steps go back from its end.
+pub(crate) fn border(alloc: Global, asked: &str) -> Result<String, Fail> {
     let text = Text::new(BORDERS);
-    for (number, row) in STEPS.split('\n').enumerate() {
-        let (over, back) = step_of(rt.alloc(), text, number)?;
-        assert!(rt; over.as_str() == row && back.as_str() == row, "{row}");
+    let (call, number) = asked.split_once(' ').ok_or("a number")?;
+    let number = number.parse::<usize>()?;
+    if !text.is_place(26) {
+        Err("the end is a place")?;
     }
-    assert!(rt; text.len() == 26 && ends_so(text)?);
-    Ok(())
+    match call {
+        "is_place" => Ok(format!(in alloc; "{}", text.is_place(number))?),
+        "step" => step_of(alloc, text, number),
+        "end" => Ok(format!(in alloc; "{} {:?}", text.len(), text.step(26))?),
+        "place_of" => Ok(format!(in alloc; "{:?}", text.place_of(number))?),
+        "back" => Ok(format!(in alloc; "{:?}", text.back(26, u32::try_from(number)?))?),
+        _ => Err("a call")?,
+    }
 }
 
 /// The code of the character that an escape means, and how many bytes mean it, or nothing.

@@ -1,6 +1,6 @@
 // Twenty thousand made-up texts: each is refused, or read; and what is read reads back from its printed text.
-use crate::form::form_of;
-use crate::made::{generator, make};
+use crate::cases::form::form_of;
+use crate::cases::made::{generator, make};
 use rpl_lexer::lex;
 use rpl_parser::parse_pattern;
 use rpl_syntax::{Expr, print_expr};

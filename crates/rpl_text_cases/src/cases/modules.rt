@@ -1,30 +1,10 @@
-// Modules and what they say, worked by hand.
-use crate::form::form_of;
+// Modules and what they say.
+use crate::cases::form::form_of;
 use rpl_lexer::lex;
 use rpl_parser::parse_module;
 use rpl_syntax::{Binding, Bindings, Import, ImportAs, Item, Module};
 use std::alloc::Global;
 use std::test::Fail;
-
-/// Modules, and the form of what each says: its package, its imports, its rules and its blocks, each with its byte place
-/// and behind a space. The hidden rules of a block stand before the `|`.
-const MODULES: &str = r#" =>
-rpl 1.0 =>
-rpl 01.04 a = f:b => a@10 = (macro f b);
-a = b => a@0 = b;
-a = b / c d = e => a@0 = (choice b c); d@10 = e;
-package p a = b c = d => package p@0; a@10 = b; c@16 = d;
-import x, a/b as c, d as . e = f => import x@7; import a/b@10 as c; import d@20 as .; e@27 = f;
-import a import b/c/d => import a@7; import b/c/d@16;
-local a = b alias c = d local alias e = f => local a@0 = b; alias c@12 = d; local alias e@24 = f;
-~ = "-" a = b => local alias ~@0 = '-'; a@8 = b;
-a = b ~ = c => a@0 = b; local alias ~@6 = c;
-a = b ~ c = d => a@0 = (cooked b ~); c@8 = d;
-grammar a = b end => { | a@8 = b; }
-grammar a = b in c = a end d = c => { a@8 = b; | c@17 = a; } d@27 = c;
-grammar end grammar in end => { | } { | }
-grammar alias a = b c = d in alias e = f end => { alias a@8 = b; c@20 = d; | alias e@29 = f; }
-rpl 01.4 package p import x, a/b as c, d as . ~ = "-" alias e = f grammar g = h in i = g end => package p@9; import x@26; import a/b@29 as c; import d@39 as .; local alias ~@46 = '-'; alias e@54 = f; { g@74 = h; | i@83 = g; }"#;
 
 fn put_import(alloc: Global, form: &mut String, import: &Import) -> Result<(), Fail> {
     let path = import.path.as_str();
@@ -88,14 +68,11 @@ fn form_of_module(alloc: Global, module: &Module) -> Result<String, Fail> {
     Ok(form)
 }
 
-#[test]
-fn modules_say_this(rt: HostRuntime) -> Result<(), Fail> {
-    for row in MODULES.split('\n') {
-        let (text, want) = row.split_once(" =>").ok_or("a row")?;
-        let tokens = lex(rt.alloc(), text)?;
-        let module = parse_module(rt.alloc(), text, &tokens)?;
-        let found = form_of_module(rt.alloc(), &module)?;
-        assert_eq!(rt; found.as_str(), want, "{text}");
-    }
-    Ok(())
+/// What the module of a text says.
+pub(crate) fn items(alloc: Global, text: &str) -> Result<String, Fail> {
+    let tokens = lex(alloc, text)?;
+    let module = parse_module(alloc, text, &tokens)?;
+    let form = form_of_module(alloc, &module)?;
+    let said = form.as_str().strip_prefix(' ').unwrap_or("");
+    Ok(String::from_str(alloc, said)?)
 }

@@ -72,57 +72,58 @@ fn is_copied(alloc: Global, e: &Expr, want: &str) -> Result<bool, Fail> {
     Ok(printed.as_str() == want && again.as_str() == want)
 }
 
-#[test]
-fn copies_of_expressions(rt: HostRuntime) -> Result<(), Fail> {
-    let alloc = rt.alloc();
-    let want = "(\"a\\\"\" [^[\\U00000061-\\U0000007A]]) / {!. & {^ $}{2,3}} / f:net.ip";
-    assert!(rt; is_copied(alloc, &sample(alloc)?, want)?);
-    assert!(rt; is_copied(alloc, &Expr::Boundary, "~")?);
-    Ok(())
-}
-
-#[test]
-fn copies_of_what_macros_make(rt: HostRuntime) -> Result<(), Fail> {
-    let alloc = rt.alloc();
+/// Is the mark of what a macro makes kept in a copy?
+fn is_marked_copied(alloc: Global) -> Result<bool, Fail> {
     let note = Expr::Note(Chars::from_str(alloc, "no")?);
     let marked = Expr::Marked(Mark::Skip, Box::new(alloc, note)?);
     let copy = marked.copy(alloc)?;
     let Expr::Marked(Mark::Skip, body) = &copy else {
-        return Err(Fail::from("the mark is kept"));
+        return Ok(false);
     };
-    assert!(rt; matches!(&**body, Expr::Note(_)));
-    assert!(rt; is_copied(alloc, &copy, "\"no\"")?);
-    Ok(())
+    Ok(matches!(&**body, Expr::Note(_)) && is_copied(alloc, &copy, "\"no\"")?)
 }
 
-#[test]
-fn copies_of_lists(rt: HostRuntime) -> Result<(), Fail> {
-    let alloc = rt.alloc();
+/// Are both parts of a list copied?
+fn is_list_copied(alloc: Global) -> Result<bool, Fail> {
     let list = two(alloc, sample(alloc)?, Expr::Any)?;
     let copy = list.copy(alloc)?;
-    assert!(rt; copy.len() == 2);
     let last = copy.get(1).ok_or("the second")?;
-    assert!(rt; print_expr(alloc, last)?.as_str() == ".");
+    if copy.len() != 2 || print_expr(alloc, last)?.as_str() != "." {
+        return Ok(false);
+    }
     let group = Expr::Raw(copy);
     let want = "{{(\"a\\\"\" [^[\\U00000061-\\U0000007A]]) / {!. & {^ $}{2,3}} / f:net.ip} .}";
-    assert!(rt; print_expr(alloc, &group)?.as_str() == want);
-    Ok(())
+    Ok(print_expr(alloc, &group)?.as_str() == want)
 }
 
 /// Is this the copy of a name with such parts at such a place?
-fn is_name(copy: &QName, prefix: &str, name: &str, at: usize) -> bool {
+fn is_name(copy: &QName, prefix: Option<&str>, name: &str, at: usize) -> bool {
     let found = match &copy.prefix {
-        Some(prefix) => prefix.as_str(),
-        None => "",
+        Some(prefix) => Some(prefix.as_str()),
+        None => None,
     };
     found == prefix && copy.name.as_str() == name && copy.at == at
 }
 
+/// Is a name copied?
+fn is_name_copied(
+    alloc: Global,
+    prefix: Option<&str>,
+    text: &str,
+    at: usize,
+) -> Result<bool, Fail> {
+    let copy = name(alloc, prefix, text, at)?.copy(alloc)?;
+    Ok(is_name(&copy, prefix, text, at))
+}
+
 #[test]
-fn copies_of_names(rt: HostRuntime) -> Result<(), Fail> {
-    let copy = name(rt.alloc(), Some("net"), "ip", 9)?.copy(rt.alloc())?;
-    assert!(rt; is_name(&copy, "net", "ip", 9));
-    let copy = name(rt.alloc(), None, "f", 0)?.copy(rt.alloc())?;
-    assert!(rt; copy.prefix.is_none());
+fn copies_are_the_same(rt: HostRuntime) -> Result<(), Fail> {
+    let alloc = rt.alloc();
+    let want = "(\"a\\\"\" [^[\\U00000061-\\U0000007A]]) / {!. & {^ $}{2,3}} / f:net.ip";
+    assert!(rt; is_copied(alloc, &sample(alloc)?, want)?);
+    assert!(rt; is_copied(alloc, &Expr::Boundary, "~")?);
+    assert!(rt; is_marked_copied(alloc)? && is_list_copied(alloc)?);
+    assert!(rt; is_name_copied(alloc, Some("net"), "ip", 9)?);
+    assert!(rt; is_name_copied(alloc, None, "f", 0)?);
     Ok(())
 }
