@@ -1,5 +1,7 @@
 // What no clause says: that the words of specs/ mean what a reader of bytes expects, that calls succeed, and what the
 // system answers.
+ghost use Rattle.std.specs.Prelude.{◌≤◌, ◌^◌};
+
 use rosie_io::{
     Bytes, Calls, CountSink, Files, FlushAnswer, Line, LineFault, LineReader, MemoryFiles,
     MemorySink, MemorySource, NoMemory, ReadAnswer, Sink, Source, StdFiles, StdSink, StdSource,
@@ -10,6 +12,9 @@ use std::io::{Read, Write};
 use std::os::unix::fs::PermissionsExt;
 use std::test::Fail;
 use std::{fs, io, process};
+
+/// How many bytes a line may have in the tables.
+const MOST: usize = 4;
 
 /// Bytes, and behind `=>` what a reader of lines of at most 4 bytes answers: each line in brackets, and each fault. In
 /// these tables a `¶` stands for a line feed, and before `=>` any other character for the byte of its number.
@@ -37,6 +42,16 @@ const WHOLE: &str = "\
 a¶¶b => [a¶¶b]end
 a¶bcd¶ => <line 1 is too long>end
 ¶\u{ff} => <line 1 is not UTF-8>end";
+
+/// How many bytes a read gives at the most.
+const PIECES: &str = "1 2 3 7 65536";
+
+/// Two files of the path `f`, one without a name, and one that is no text.
+const TREE: &str = "\
+f => ab¶cd
+f => second
+ => no name
+bin => a\u{ff}";
 
 /// Paths, how many bytes a file may have, and its text.
 const FILES: &str = "\
@@ -88,9 +103,16 @@ fn bytes_of(alloc: Global, text: &str) -> Result<Bytes, NoMemory> {
     Ok(bytes)
 }
 
-/// What a reader of lines of at most 4 bytes answers until it ends: each line in brackets, and each fault.
-fn answers<S: Source>(alloc: Global, source: &mut S, whole: bool) -> Result<String, NoMemory> {
-    let mut reader = LineReader::new(alloc, whole, 4)?;
+/// What a reader of lines of at most so many bytes answers until it ends: each line in brackets, and each fault.
+fn answers<S: Source>(
+    alloc: Global,
+    source: &mut S,
+    whole: bool,
+    most: usize,
+) -> Result<String, NoMemory>
+    requires { most ≤ 2 ^ 30 }
+{
+    let mut reader = LineReader::new(alloc, whole, most)?;
     let mut said = String::new(alloc);
     'lines: for _ in 0..100 {
         match reader.next(source) {
@@ -131,9 +153,9 @@ fn source_of(alloc: Global, text: &str, most: usize, fails: u64) -> Result<Memor
 fn is_read_so(alloc: Global, row: &str, whole: bool) -> Result<bool, Fail> {
     let (text, want) = row.split_once(" => ").ok_or("a row")?;
     let want = unfolded(alloc, want)?;
-    for most in [1, 2, 3, 7, 65_536] {
-        let mut source = source_of(alloc, text, most, 0)?;
-        let said = answers(alloc, &mut source, whole)?;
+    for piece in PIECES.split(' ') {
+        let mut source = source_of(alloc, text, piece.parse::<usize>()?, 0)?;
+        let said = answers(alloc, &mut source, whole, MOST)?;
         if said.as_str() != want.as_str() {
             return Ok(false);
         }
@@ -155,7 +177,7 @@ fn lines_are_the_same_in_any_pieces(rt: HostRuntime) -> Result<(), Fail> {
 #[test]
 fn a_reader_knows_whether_it_will_read(rt: HostRuntime) -> Result<(), Fail> {
     let mut source = source_of(rt.alloc(), "ab¶cd¶ef", 65_536, 0)?;
-    let mut reader = LineReader::new(rt.alloc(), false, 4)?;
+    let mut reader = LineReader::new(rt.alloc(), false, MOST)?;
     assert!(rt; !reader.is_ready());
     assert!(rt; reader.next(&mut source) == Ok(Line::Text));
     assert!(rt; reader.is_ready() && reader.held() == 7);
@@ -168,37 +190,37 @@ fn a_reader_knows_whether_it_will_read(rt: HostRuntime) -> Result<(), Fail> {
     Ok(())
 }
 
+/// So many of a letter.
+fn repeated(alloc: Global, letter: char, count: u32) -> Result<String, AllocError> {
+    let mut text = String::new(alloc);
+    for _ in 0..count {
+        text.push(letter)?;
+    }
+    Ok(text)
+}
+
 #[test]
 fn a_line_may_come_in_many_reads(rt: HostRuntime) -> Result<(), Fail> {
     let alloc = rt.alloc();
-    let mut bytes = Bytes::from_vec(vec![in alloc; b'x'; 150_000]?);
-    bytes.push(b'\n')?;
-    bytes.extend_from_slice(vec![in alloc; b'y'; 49_998]?.as_slice())?;
-    bytes.push(b'\n')?;
-    let mut source = SureSource::new(bytes);
-    let mut reader = LineReader::new(alloc, false, 150_000)?;
-    assert!(rt; reader.next(&mut source) == Ok(Line::Text));
-    assert!(rt; reader.line().len() == 150_000);
-    assert!(rt; reader.next(&mut source) == Ok(Line::Text));
-    assert!(rt; reader.line().len() == 49_998);
-    assert!(rt; reader.next(&mut source) == Ok(Line::End));
+    let first = repeated(alloc, 'x', 150_000)?;
+    let second = repeated(alloc, 'y', 49_998)?;
+    let text = format!(in alloc; "{first}¶{second}¶")?;
+    let mut source = SureSource::new(bytes_of(alloc, &text)?);
+    let said = answers(alloc, &mut source, false, 150_000)?;
+    let want = format!(in alloc; "[{first}][{second}]end")?;
+    assert!(rt; said.as_str() == want.as_str());
     Ok(())
 }
 
-/// A file of a tree.
-fn file(alloc: Global, path: &str, text: &str) -> Result<TreeFile, NoMemory> {
-    let path = bytes_of(alloc, path)?;
-    let bytes = bytes_of(alloc, text)?;
-    Ok(TreeFile { path, bytes })
-}
-
-/// Two files of the path `f`, one without a name, and one that is no text.
+/// The files of `TREE`.
 fn tree(alloc: Global) -> Result<Tree, NoMemory> {
     let mut tree = Tree::new(alloc);
-    tree.push(file(alloc, "f", "ab¶cd")?)?;
-    tree.push(file(alloc, "f", "second")?)?;
-    tree.push(file(alloc, "", "no name")?)?;
-    tree.push(file(alloc, "bin", "a\u{ff}")?)?;
+    for row in TREE.split('\n') {
+        let (path, text) = row.split_once(" => ").unwrap_or((row, ""));
+        let path = bytes_of(alloc, path)?;
+        let bytes = bytes_of(alloc, text)?;
+        tree.push(TreeFile { path, bytes })?;
+    }
     Ok(tree)
 }
 
@@ -238,7 +260,7 @@ fn files_are_read_whole(rt: HostRuntime) -> Result<(), Fail> {
 /// What is answered of lines in reads of two bytes, of which that of this number fails.
 fn read_lines(alloc: Global, call: u64) -> Result<String, NoMemory> {
     let mut source = source_of(alloc, "ab¶cd¶ef", 2, call)?;
-    answers(alloc, &mut source, false)
+    answers(alloc, &mut source, false, MOST)
 }
 
 /// What a sink has when five bytes are written to it, two at a time, and this call fails, and whether a fault came of
@@ -323,7 +345,7 @@ impl Write for Interrupted {
 #[test]
 fn std_streams_are_sources(rt: HostRuntime) -> Result<(), Fail> {
     let mut source = StdSource::new(b"ab\ncd".as_slice());
-    assert!(rt; answers(rt.alloc(), &mut source, false)?.as_str() == "[ab][cd]end");
+    assert!(rt; answers(rt.alloc(), &mut source, false, MOST)?.as_str() == "[ab][cd]end");
     let mut source = StdSource::new(Interrupted(3));
     assert!(rt; source.read(&mut [0; 4]) == ReadAnswer::Failed);
     Ok(())
