@@ -58,11 +58,11 @@ fn has_subs(node: Node, below: usize, next: usize, count: usize) -> bool
     node.note.is_none() && below > 0 && next < count
 }
 
-/// Writes the nodes from the second on, and closes the lists that are open. `open` has the number of nodes that are
+/// Writes the nodes from the second on, and closes the lists that are open. `lists` has the number of nodes that are
 /// still to come in each of them, the innermost last.
 fn put_below(
     out: &mut Vec<u8>,
-    open: &mut Vec<usize>,
+    lists: &mut Vec<usize>,
     forest: &Forest,
     source: Source<'_>,
 ) -> Result<(), EncodeFault>
@@ -71,16 +71,16 @@ fn put_below(
         (out.new.items
         ≡ out.old.items
         ++ rest_of (labels_of source.entry.program.now) source.entry.line.now
-        (drop 1 forest.now) (reverse open.old.items) true) }
+        (drop 1 forest.now) (reverse lists.old.items) true) }
     ensures too_long { IsTooLong result
         (out.old.items
         ++ rest_of (labels_of source.entry.program.now) source.entry.line.now
-        (drop 1 forest.now) (reverse open.old.items) true) }
+        (drop 1 forest.now) (reverse lists.old.items) true) }
 {
     let count = forest.len();
     let mut index = 1;
     let mut is_first = true;
-    while let Some(left) = open.pop() {
+    while let Some(left) = lists.pop() {
         if out.len() > MOST_BYTES {
             return Err(EncodeFault::AnswerTooLong);
         }
@@ -88,12 +88,12 @@ fn put_below(
             Some(node) if left > 0 => {
                 // A node's nodes end at the latest where those of its parent do.
                 let below = node.below.min(left - 1);
-                open_list(open, left - 1 - below)?;
+                open_list(lists, left - 1 - below)?;
                 index += 1;
                 let has_subs = has_subs(node, below, index, count);
                 put_node(out, node, is_first, has_subs, source)?;
                 if has_subs {
-                    open_list(open, below)?;
+                    open_list(lists, below)?;
                 } else {
                     index = index.saturating_add(below);
                 }
