@@ -4,6 +4,7 @@
 //! import, expands them to a rule table and the pattern's core, and checks both. What comes of it is said by one
 //! relation, `specs/Prepared.antt`, over the tree of files; a read fault comes only where a read or an open failed, and
 //! every file is closed on the way out. [`load_set`] and [`prepare_rules`] are the same for commands without a pattern.
+//! [`over_rules`] and [`with_root`] look at a core before it is checked, here and where a command makes one of its own.
 #![tactic(auto)]
 
 mod edge;
@@ -16,6 +17,7 @@ mod wanted;
 
 pub use edge::{load_set, prepare, prepare_rules};
 pub use laws::one_preparation;
+pub use order::{over_rules, with_root};
 pub use prepared::{Prepared, PreparedRules};
 pub use unready::Unready;
 pub use wanted::Wanted;

@@ -26,7 +26,7 @@ pub(crate) fn in_order(rules: Rules) -> Result<Rules, NoMemory>
 
 /// The pattern's core, which calls rules of the table alone: the check needs it. It always does, since each name of a
 /// pattern is bound to a rule.
-pub(crate) fn over_rules(rules: &Rules, goal: Peg) -> Result<Peg, NoMemory>
+pub fn over_rules(rules: &Rules, goal: Peg) -> Result<Peg, NoMemory>
     ensures same { IfOk result (λ peg. peg ≡ goal) }
     ensures calls { IfOk result (λ peg. (r : ℕ) → calls (core_of peg) r ≡ true → r < length (rules_of rules.now)) }
 {
@@ -52,7 +52,7 @@ fn makes_tree(rules: &Rules, goal: &Peg) -> bool
 
 /// The pattern's core, which makes one tree of a whole match: what is run needs it. It always does, since it has its
 /// root capture, or is the name of a rule that makes a node.
-pub(crate) fn with_root(rules: &Rules, goal: Peg) -> Result<Peg, NoMemory>
+pub fn with_root(rules: &Rules, goal: Peg) -> Result<Peg, NoMemory>
     ensures same { IfOk result (λ peg. peg ≡ goal) }
     ensures root { IfOk result (λ peg. (label : List ℕ) × IsCapture (bodies_in rules.now) label (core_of peg)) }
 {

@@ -1,16 +1,16 @@
 // The goal that a rule is tried by.
-ghost use Rattle.std.specs.Prelude.{◌≡◌, ℕ, List, IfOk, IsTrue};
+ghost use Rattle.std.specs.Prelude.{◌≡◌, ℕ, List, IfOk};
 ghost use Rattle.rpl_check.specs.Checked.{IsWhole};
 ghost use Rattle.rpl_check.specs.Goal.{peg_of};
-ghost use Rattle.rpl_core.specs.Listed.{bodies_in};
 ghost use Rattle.rpl_core.specs.Table.{bodies_of};
 ghost use Rattle.rpl_core.specs.View.{core_of};
 ghost use Rattle.rpl_simulation.specs.Laws.{IsCapture};
 ghost use Rattle.rosie_verdicts.specs.Suites.{goal_of};
 
+use rosie_prepare::{over_rules, with_root};
 use rosie_run::NoMemory;
 use rpl_check::{Checked, CheckedPeg, check_pattern};
-use rpl_core::{Peg, Rules, calls_are_rules};
+use rpl_core::Peg;
 use rpl_package::Target;
 use rpl_text::Chars;
 use std::alloc::{AllocError, Global};
@@ -25,20 +25,6 @@ fn goal_of(alloc: Global, target: Target) -> Result<Peg, NoMemory>
     }
     let root = Chars::from_str(alloc, "*")?;
     Ok(Peg::Capture(root, Box::new(alloc, call)?))
-}
-
-/// Whether a match of a goal is one tree: the goal is a capture, or a call of a rule whose body is one.
-fn makes_tree(rules: &Rules, goal: &Peg) -> bool
-    ensures { IsTrue result → (label : List ℕ) × IsCapture (bodies_in rules.now) label (core_of goal.now) }
-{
-    match goal {
-        Peg::Capture(_, _) => true,
-        Peg::Call(number) => match rules.get(*number) {
-            Some(rule) => matches!(&rule.body, Peg::Capture(_, _)),
-            None => false,
-        },
-        _ => false,
-    }
 }
 
 /// The goal that a rule is tried by, which can be compiled as it is.
@@ -56,12 +42,8 @@ pub(crate) fn checked_goal(
         × IsCapture (bodies_of rules.now) label (core_of (peg_of goal))) }
 {
     let goal = goal_of(alloc, target)?;
-    if !calls_are_rules(rules.rules(), &goal) {
-        return Err(AllocError);
-    }
-    if !makes_tree(rules.rules(), &goal) {
-        return Err(AllocError);
-    }
+    let goal = over_rules(rules.rules(), goal)?;
+    let goal = with_root(rules.rules(), goal)?;
     match check_pattern(alloc, rules, goal) {
         Ok(goal) => Ok(goal),
         Err(_) => Err(AllocError),
