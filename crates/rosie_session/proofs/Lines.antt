@@ -10,11 +10,11 @@ use Rattle.rosie_repl.specs.Edits.{edit_of}
 use Rattle.rosie_repl.specs.Session.{Session}
 use Rattle.rosie_run.specs.Made.{IsMade}
 use Rattle.rosie_run.specs.Outputs.{Fronts, IsFront, Telling, Texts}
-use Rattle.rosie_run.specs.Report.{Piece, errs, fault_piece, outs}
+use Rattle.rosie_run.specs.Report.{errs, fault_piece, outs}
 use Rattle.rosie_run.specs.declared.mark.Mark.{Mark}
 use Rattle.rosie_run.specs.declared.trouble.Trouble.TheVariants as T
 use Rattle.rosie_run.specs.inside.Passing.{ReadsOn}
-use Rattle.rosie_run.proofs.Passing.{fronts-same, wrote-same}
+use Rattle.rosie_run.proofs.Passing.{errs_cons, fronts-same, outs_cons, wrote-same}
 use Rattle.rosie_run.proofs.Pieces.{longer}
 use Rattle.rosie_session.specs.Loading.{Loading}
 use Rattle.rosie_session.specs.Replay.{Turn, edit_turn, pieces_of, refused, session_fault, turn, turns_from}
@@ -105,14 +105,6 @@ module _ (w : Loading) (n m : ℕ) (s0 s1 : Session) (ended : Bool) (left0 left1
       wrong_made line (codes "not UTF-8") said steps0 steps1 sp (turn-no-text w (n + 1) s0 line h u)
 
 -- ---- what is written of it
-
-outs_cons : (p : Piece) (ps : List Piece) → outs (p ∷ ps) ≡ p.out ++ outs ps
-unfolding outs
-outs_cons p ps = refl
-
-errs_cons : (p : Piece) (ps : List Piece) → errs (p ∷ ps) ≡ p.err ++ errs ps
-unfolding errs
-errs_cons p ps = refl
 
 module _ (W : Telling) (w : Loading) (n : ℕ) (s : Session) (left0 : List ℕ) (a b : Texts) where
   -- a write of the next piece failed

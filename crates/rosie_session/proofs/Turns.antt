@@ -30,7 +30,7 @@ use Rattle.rosie_repl.specs.declared.edit.Edit.TheVariants as C
 use Rattle.rosie_run.specs.Made.{IsMade}
 use Rattle.rosie_run.specs.Outputs.{Telling, Texts}
 use Rattle.rosie_run.specs.Report.{Piece, fault_piece}
-use Rattle.rosie_run.specs.Sources.{Moment, NoFewer, RoseIn, Still}
+use Rattle.rosie_run.specs.Sources.{Moment, NoFewer, RoseIn, Still, moment_of}
 use Rattle.rosie_run.specs.declared.mark.Mark.{Mark}
 use Rattle.rosie_run.specs.declared.mark.Mark.TheVariants.{Hit, Miss, Fault, Stop}
 use Rattle.rosie_run.specs.declared.tally.Tally.{Tally}
@@ -50,7 +50,7 @@ use Rattle.rosie_session.specs.declared.halt.Halt.{Halt}
 use Rattle.rosie_session.specs.declared.halt.Halt.TheVariants as H
 use Rattle.rosie_session.specs.declared.said.Said.{Said}
 use Rattle.rosie_session.specs.inside.Passing.{Halts, InputEnds, IsOfReading, RunsLines, SpentBy, StopsBy}
-use Rattle.rosie_session.specs.inside.Turning.{HaltFiles, IsInner, IsOwn, IsSaid, JudgesEnd, Leaves, Says, StepsBy, moment_of}
+use Rattle.rosie_session.specs.inside.Turning.{HaltFiles, IsInner, IsOwn, IsSaid, JudgesEnd, Leaves, Says, StepsBy}
 
 -- ---- the texts as roots
 

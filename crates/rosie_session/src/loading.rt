@@ -7,7 +7,7 @@ ghost use Rattle.rosie_prepare.specs.Prepared.{OrLine};
 ghost use Rattle.rosie_prepare.specs.Views.{ready_seen};
 ghost use Rattle.rosie_repl.specs.Session.{Session};
 ghost use Rattle.rosie_repl.specs.States.{session_of};
-ghost use Rattle.rosie_run.specs.Sources.{moment};
+ghost use Rattle.rosie_run.specs.Sources.{moment_of};
 ghost use Rattle.rosie_session.specs.Loading.{Compiles, IsLoading, Loading, given};
 ghost use Rattle.rosie_session.specs.Replay.{judged};
 ghost use Rattle.rosie_session.specs.inside.Turning.{GivesJob, IsOwn, Judges};
@@ -59,8 +59,7 @@ pub(crate) fn load_texts<F: Files>(
 ) -> Result<(), Unready>
     ensures judges { F.tells → (w : Loading) → IsLoading (F.tree files.old) folders.now w → (before after : Session)
         → Judges result (judged before after (w.texts (session_of state.now).now.texts)) before after }
-    ensures cause { HasCause result (moment F.rest F.taken F.faults F.failed_opens files.old)
-        (moment F.rest F.taken F.faults F.failed_opens files.new) }
+    ensures cause { HasCause result (moment_of F.Source files.old) (moment_of F.Source files.new) }
     ensures taken { NotFewer (F.taken files.old) (F.taken files.new) }
     ensures tree { F.tree files.new ≡ F.tree files.old }
 {
@@ -104,8 +103,7 @@ pub(crate) fn load_goal<F: Files>(
         → GivesJob result (w.goal (session_of state.now).now.texts (chars pattern.now)).answer }
     ensures asked { F.tells → (w : Loading) → IsLoading (F.tree files.old) folders.now w
         → IfErr result (λ u. IsAsked u (w.goal (session_of state.now).now.texts (chars pattern.now)).asked) }
-    ensures cause { HasCause result (moment F.rest F.taken F.faults F.failed_opens files.old)
-        (moment F.rest F.taken F.faults F.failed_opens files.new) }
+    ensures cause { HasCause result (moment_of F.Source files.old) (moment_of F.Source files.new) }
     ensures taken { NotFewer (F.taken files.old) (F.taken files.new) }
     ensures tree { F.tree files.new ≡ F.tree files.old }
 {

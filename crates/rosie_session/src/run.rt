@@ -9,12 +9,12 @@ ghost use Rattle.rosie_repl.specs.States.{session_of};
 ghost use Rattle.rosie_run.specs.Causes.{SourcesCause, WritesCause};
 ghost use Rattle.rosie_run.specs.Outputs.{texts};
 ghost use Rattle.rosie_run.specs.Runs.{GoesOn, Runs};
-ghost use Rattle.rosie_run.specs.Sources.{moment};
+ghost use Rattle.rosie_run.specs.Sources.{moment, moment_of};
 ghost use Rattle.rosie_run.specs.inside.Causes.{BothCause};
 ghost use Rattle.rosie_session.specs.Loading.{IsLoading, Loading};
 ghost use Rattle.rosie_session.specs.Replay.{replay};
 ghost use Rattle.rosie_session.specs.Where.{InSession};
-ghost use Rattle.rosie_session.specs.inside.Passing.{Counts, InputCause, IsOfReading, Makes, Passes};
+ghost use Rattle.rosie_session.specs.inside.Passing.{Counts, InputCause, IsOfReading, Makes};
 ghost use Rattle.rosie_session.specs.inside.Passing.{RunsLines, SinksCause, SpentCause, Stops};
 ghost use Rattle.rosie_session.specs.inside.Turning.{FilesBy};
 
@@ -25,7 +25,7 @@ use rosie_io::{
     Files, FlushAnswer, Line, LineFault, LineReader, Sink, Source, WriteFault, write_all,
 };
 use rosie_repl::State;
-use rosie_run::{Ended, Mark, Tally, Trouble};
+use rosie_run::{Ended, Tally, Trouble};
 use rpl_machine::Steps;
 use rpl_package::LibPath;
 use std::alloc::Global;
@@ -56,8 +56,7 @@ fn next_turn<F: Files, I: Source, L: Ledger>(
     ensures stops { Stops result I.tells reader.old reader.new (I.rest input.old) (I.rest input.new) }
     ensures of_reading { IfErr result IsOfReading }
     ensures cause { InputCause result (I.faults input.old) (I.faults input.new) }
-    ensures files { FilesBy result (moment F.rest F.taken F.faults F.failed_opens files.old)
-        (moment F.rest F.taken F.faults F.failed_opens files.new) }
+    ensures files { FilesBy result (moment_of F.Source files.old) (moment_of F.Source files.new) }
     ensures reads { Reads I.tells reader.old.held reader.new.held (I.rest input.old) (I.rest input.new)
         (I.taken input.old) (I.taken input.new) }
     ensures at_end { I.tells → reader.old.held.ended ≡ false → reader.new.held.ended ≡ true → I.rest input.new ≡ [] }
@@ -99,54 +98,6 @@ fn write_said<O: Sink, E: Sink>(said: &Said, out: &mut O, err: &mut E) -> Result
     }
 }
 
-/// Goes on to the next line, and writes what is said to it. `None` where there is no further line.
-fn pass_line<F: Files, I: Source, O: Sink, E: Sink, L: Ledger>(
-    alloc: Global,
-    folders: &LibPath,
-    state: &mut State,
-    reader: &mut LineReader,
-    files: &mut F,
-    input: &mut I,
-    out: &mut O,
-    err: &mut E,
-    steps: &mut Steps<L>,
-) -> Result<Option<Mark>, Halt>
-    requires open { reader.old.done ≡ false }
-    requires lines { reader.old.whole ≡ false }
-    requires most { reader.old.most ≡ 1048576 }
-    ensures passes { F.tells → I.tells → (w : Loading) → IsLoading (F.tree files.old) folders.now w
-        → Passes result (record { out = O.tells; err = E.tells; counts = O.counts })
-        w reader.old.number (session_of state.old) (session_of state.new) reader.new.held.ended
-        (left reader.old.held (I.rest input.old)) (left reader.new.held (I.rest input.new))
-        (texts O.written O.number E.written out.old err.old steps.old)
-        (texts O.written O.number E.written out.new err.new steps.new) }
-    ensures numbers { Counts result reader.old reader.new }
-    ensures fits { reader.new.number ≤ 2 ^ 48 }
-    ensures keeps { Keeps reader.old reader.new }
-    ensures stops { Stops result I.tells reader.old reader.new (I.rest input.old) (I.rest input.new) }
-    ensures cause { InputCause result (I.faults input.old) (I.faults input.new) }
-    ensures files { FilesBy result (moment F.rest F.taken F.faults F.failed_opens files.old)
-        (moment F.rest F.taken F.faults F.failed_opens files.new) }
-    ensures sinks { SinksCause result (O.faults out.old) (O.faults out.new) (E.faults err.old) (E.faults err.new) }
-    ensures reads { Reads I.tells reader.old.held reader.new.held (I.rest input.old) (I.rest input.new)
-        (I.taken input.old) (I.taken input.new) }
-    ensures at_end { I.tells → reader.old.held.ended ≡ false → reader.new.held.ended ≡ true → I.rest input.new ≡ [] }
-    ensures ended { reader.old.held.ended ≡ true → input.new ≡ input.old }
-    ensures opens { I.failed_opens input.new ≡ I.failed_opens input.old }
-    ensures tree { F.tree files.new ≡ F.tree files.old }
-{
-    match next_turn(alloc, folders, state, reader, files, input, steps) {
-        Ok(found) => match found {
-            Some(said) => match write_said(&said, out, err) {
-                Ok(()) => Ok(Some(said.mark)),
-                Err(_) => Err(Halt::Run(Trouble::WriteFault)),
-            },
-            None => Ok(None),
-        },
-        Err(halt) => Err(halt),
-    }
-}
-
 /// Flushes what was said, unless the next line is held already.
 fn flush_said<O: Sink>(ready: bool, out: &mut O) -> Result<(), WriteFault>
     ensures bytes { O.tells → O.written out.new ≡ O.written out.old }
@@ -179,8 +130,7 @@ fn run_lines<F: Files, I: Source, O: Sink, E: Sink, L: Ledger>(
         (texts O.written O.number E.written out.new err.new steps.new) }
     ensures cause { InputCause result (I.faults input.old) (I.faults input.new) }
     ensures spent { SpentCause result (I.taken input.old) (I.taken input.new) }
-    ensures files { FilesBy result (moment F.rest F.taken F.faults F.failed_opens files.old)
-        (moment F.rest F.taken F.faults F.failed_opens files.new) }
+    ensures files { FilesBy result (moment_of F.Source files.old) (moment_of F.Source files.new) }
     ensures rest { I.tells → IfOk result (λ _. I.rest input.new ≡ []) }
     ensures sinks { SinksCause result (O.faults out.old) (O.faults out.new) (E.faults err.old) (E.faults err.new) }
     ensures opens { I.failed_opens input.new ≡ I.failed_opens input.old }
@@ -194,19 +144,12 @@ fn run_lines<F: Files, I: Source, O: Sink, E: Sink, L: Ledger>(
             Ok(()) => {}
             Err(_) => return Err(Halt::Run(Trouble::WriteFault)),
         }
-        match pass_line(
-            alloc,
-            folders,
-            &mut state,
-            &mut reader,
-            files,
-            input,
-            out,
-            err,
-            steps,
-        ) {
-            Ok(passed) => match passed {
-                Some(mark) => tally = tally.with(mark),
+        match next_turn(alloc, folders, &mut state, &mut reader, files, input, steps) {
+            Ok(found) => match found {
+                Some(said) => match write_said(&said, out, err) {
+                    Ok(()) => tally = tally.with(said.mark),
+                    Err(_) => return Err(Halt::Run(Trouble::WriteFault)),
+                },
                 None => return Ok(tally),
             },
             Err(halt) => return Err(halt),

@@ -11,7 +11,7 @@ ghost use Rattle.rosie_repl.specs.Session as S;
 ghost use Rattle.rosie_repl.specs.Session.{Session};
 ghost use Rattle.rosie_repl.specs.States.{session_of};
 ghost use Rattle.rosie_run.specs.Report.{Piece};
-ghost use Rattle.rosie_run.specs.Sources.{moment};
+ghost use Rattle.rosie_run.specs.Sources.{moment_of};
 ghost use Rattle.rosie_session.specs.Loading.{IsLoading, Loading};
 ghost use Rattle.rosie_session.specs.Replay.{change_turn, edit_turn, job_piece, loaded, or_no, plain, try_turn};
 ghost use Rattle.rosie_session.specs.Replay.{undo_turn};
@@ -41,8 +41,7 @@ fn load_change<F: Files>(
     ensures judges { F.tells → (w : Loading) → IsLoading (F.tree files.old) folders.now w → (before : Session)
         → Judges result (loaded w (in_chars (edit_seen edit.now)) before (session_of state.now)) before
         (session_of state.now) }
-    ensures cause { HasCause result (moment F.rest F.taken F.faults F.failed_opens files.old)
-        (moment F.rest F.taken F.faults F.failed_opens files.new) }
+    ensures cause { HasCause result (moment_of F.Source files.old) (moment_of F.Source files.new) }
     ensures taken { NotFewer (F.taken files.old) (F.taken files.new) }
     ensures tree { F.tree files.new ≡ F.tree files.old }
 {

@@ -13,7 +13,6 @@ use Rattle.rosie_run.specs.Runs.{IsCutOf}
 use Rattle.rosie_run.specs.declared.ended.Ended.{Ended}
 use Rattle.rosie_run.specs.declared.ended.Ended.TheVariants as E
 use Rattle.rosie_run.specs.declared.ended.Why.TheVariants as Y
-use Rattle.rosie_run.specs.declared.mark.Mark.{Mark}
 use Rattle.rosie_run.specs.declared.tally.Tally.{Tally}
 use Rattle.rosie_run.specs.declared.trouble.Trouble.TheVariants as T
 use Rattle.rosie_run.specs.inside.Causes.{SinksEnd, SourceEnds, SpentEnds}
@@ -105,28 +104,13 @@ IsOfReading (H.Run T.ReadFault) = Unit {0}
 IsOfReading (H.Run T.Spent) = Unit {0}
 IsOfReading (H.Unread path) = Unit {0}
 
--- ---- and it is written
-
-pub record Writes (W : Telling) (w : Loading) (n : ℕ) (s0 s1 : Session) (ended : Bool) (left0 left1 : List ℕ)
-    (mark : Mark) (a b : Texts) : Type 0 where
-  pub line : List ℕ
-  pub splits : Splits false ended line left0 left1
-  pub marks : mark ≡ (turn w (n + 1) s0 line).piece.mark
-  pub session : s1 ≡ (turn w (n + 1) s0 line).session
-  pub wrote : Wrote W ((turn w (n + 1) s0 line).piece ∷ []) a b
-
+-- what is written where going on to the next line ends the session
 abbrev pub Breaks : Halt → Telling → Loading → ℕ → Session → List ℕ → Texts → Texts → Type 0
 Breaks (H.Run T.NoMemory) W w n s left0 a b = Fronts W (pieces_of (to_come w n s left0)) a b
 Breaks (H.Run T.WriteFault) W w n s left0 a b = Fronts W (pieces_of (to_come w n s left0)) a b
 Breaks (H.Run T.ReadFault) W w n s left0 a b = Wrote W [] a b
 Breaks (H.Run T.Spent) W w n s left0 a b = Wrote W [] a b
 Breaks (H.Unread path) W w n s left0 a b = IsUnread w n s left0 (encode_utf8_all path) × Wrote W [] a b
-
-abbrev pub Passes : Result (Option Mark) Halt → Telling → Loading → ℕ → Session → Session → Bool → List ℕ → List ℕ
-    → Texts → Texts → Type 0
-Passes (Ok (Some mark)) W w n s0 s1 ended left0 left1 a b = Writes W w n s0 s1 ended left0 left1 mark a b
-Passes (Ok None) W w n s0 s1 ended left0 left1 a b = (left0 ≡ []) × (left1 ≡ []) × Wrote W [] a b
-Passes (Err halt) W w n s0 s1 ended left0 left1 a b = Breaks halt W w n s0 left0 a b
 
 -- ---- the lines so far
 

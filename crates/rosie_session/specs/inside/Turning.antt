@@ -14,7 +14,7 @@ use Rattle.rosie_prepare.specs.declared.unready.Unready.TheVariants as U
 use Rattle.rosie_repl.specs.Session.{Session}
 use Rattle.rosie_run.specs.Made.{IsMade}
 use Rattle.rosie_run.specs.Report.{Piece, fault_piece}
-use Rattle.rosie_run.specs.Sources.{Moment, NoFewer, RoseIn, Still, moment}
+use Rattle.rosie_run.specs.Sources.{Moment, NoFewer, RoseIn, Still, moment_of}
 use Rattle.rosie_run.specs.declared.trouble.Trouble.TheVariants as T
 use Rattle.rosie_session.specs.Replay.{Turn, ok_piece, plain}
 use Rattle.rosie_session.specs.declared.halt.Halt.{Halt}
@@ -84,10 +84,6 @@ HaltFiles (H.Unread path) f0 f1 = NoFewer f0 f1 × RoseIn f0 f1
 abbrev pub FilesBy : {A : Type 0} → Result A Halt → Moment → Moment → Type 0
 FilesBy (Ok a) f0 f1 = Still f0 f1
 FilesBy (Err halt) f0 f1 = HaltFiles halt f0 f1
-
--- what a source tells and counts at one time
-abbrev pub moment_of : {F : Type 0} → Ghosts F → F → Moment
-moment_of S files = moment S.rest S.taken S.faults S.failed_opens files
 
 -- What a turn leaves of the files, which are only read: a read failed only where a count of failures rose. Where
 -- nothing is said, memory is wanting or a file wasn't read.

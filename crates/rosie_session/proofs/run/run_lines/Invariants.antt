@@ -1,7 +1,7 @@
 use Rattle.std.proofs.Common.{◌≡◌, ◌+◌, ◌-◌, ◌^◌, ◌≤◌, ◌<◌, true, false, []}
 use Rattle.rosie_repl.specs.States.{session_of}
 use Rattle.rosie_run.specs.Outputs.{texts}
-use Rattle.rosie_run.specs.Sources.{Still, moment}
+use Rattle.rosie_run.specs.Sources.{Still, moment_of}
 use Rattle.rosie_session.specs.Loading.{IsLoading, Loading}
 use Rattle.rosie_session.specs.inside.Passing.{Passed}
 use Rattle.rosie_session.proofs.run.run_lines.Given as goal
@@ -19,8 +19,7 @@ invariant-lines g l = record {
       l.tally (texts g.O.Sink.written g.O.Sink.number g.E.Sink.written l.initial.out l.initial.err l.initial.steps)
       (texts g.O.Sink.written g.O.Sink.number g.E.Sink.written l.out l.err l.steps);
   input_faults : g.I.Source.faults l.input ≡ g.I.Source.faults l.initial.input;
-  files_still : Still (moment g.F.Source.rest g.F.Source.taken g.F.Source.faults g.F.Source.failed_opens l.initial.files)
-      (moment g.F.Source.rest g.F.Source.taken g.F.Source.faults g.F.Source.failed_opens l.files);
+  files_still : Still (moment_of g.F.Source l.initial.files) (moment_of g.F.Source l.files);
   out_faults : g.O.Sink.faults l.out ≡ g.O.Sink.faults l.initial.out;
   err_faults : g.E.Sink.faults l.err ≡ g.E.Sink.faults l.initial.err;
   few : l.reader.number ≤ 2 ^ 48;

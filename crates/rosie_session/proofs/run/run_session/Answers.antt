@@ -1,4 +1,4 @@
-use Rattle.rosie_run.specs.Sources.{moment}
+use Rattle.rosie_run.specs.Sources.{moment_of}
 use Rattle.rosie_session.proofs.Ending.{breaks-halt, runs-all, sources-halt, writes-halt}
 use Rattle.rosie_session.proofs.run.run_session.Goals as goal
 
@@ -14,15 +14,15 @@ returns-in-Ok-clause-cause g c =
 
 pub returns-in-Err-clause-runs : goal.returns-in-Err-clause-runs
 returns-in-Err-clause-runs g c = λ ft it w is.
-    let i0 = moment g.I.Source.rest g.I.Source.taken g.I.Source.faults g.I.Source.failed_opens c.args.input.now in
-    let i1 = moment g.I.Source.rest g.I.Source.taken g.I.Source.faults g.I.Source.failed_opens c.run_lines.new.input in
+    let i0 = moment_of g.I.Source c.args.input.now in
+    let i1 = moment_of g.I.Source c.run_lines.new.input in
     breaks-halt _ w i0 i1 _ _ _ _ c.in-Err.halt c.ended_by.result c.ended_by.ensures c.in-Err.ensures.cause
     c.in-Err.ensures.spent c.in-Err.ensures.files (c.in-Err.ensures.runs ft it w is)
 
 pub returns-in-Err-clause-cause : goal.returns-in-Err-clause-cause
 returns-in-Err-clause-cause g c =
-    let i0 = moment g.I.Source.rest g.I.Source.taken g.I.Source.faults g.I.Source.failed_opens c.args.input.now in
-    let i1 = moment g.I.Source.rest g.I.Source.taken g.I.Source.faults g.I.Source.failed_opens c.run_lines.new.input in
+    let i0 = moment_of g.I.Source c.args.input.now in
+    let i1 = moment_of g.I.Source c.run_lines.new.input in
     sources-halt i0 i1 _ _ c.in-Err.ensures.opens c.in-Err.halt c.ended_by.result c.ended_by.ensures
     c.in-Err.ensures.cause c.in-Err.ensures.spent c.in-Err.ensures.files
 
