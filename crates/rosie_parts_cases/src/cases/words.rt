@@ -1,5 +1,5 @@
 // What each list of words is read as, and the texts of usage faults.
-use crate::word_rows;
+use crate::cases::word_rows;
 use rosie_words::{Command, Paths, UsageFault, What, fault_line, read_words, usage};
 use rpl_package::{LibPath, Root, Roots};
 use std::alloc::{AllocError, Global};

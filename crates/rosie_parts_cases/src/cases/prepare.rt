@@ -1,5 +1,5 @@
 // Each call over a tree in memory: what is ready, and the line of each kind of fault.
-use crate::rows::unfolded;
+use crate::cases::rows::unfolded;
 use rosie_io::{Bytes, SureFiles, Tree, TreeFile};
 use rosie_prepare::{Unready, Wanted, load_set, prepare, prepare_rules};
 use rpl_package::{LibPath, Root, Roots};

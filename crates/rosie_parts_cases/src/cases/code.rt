@@ -1,5 +1,5 @@
 // Files that were written out by hand from the format.
-use crate::rows::unfolded;
+use crate::cases::rows::unfolded;
 use rosie_code::{Unloaded, load_code};
 use rosie_io::{Bytes, NoMemory, SureFiles, Tree, TreeFile};
 use rpl_core::Program;
