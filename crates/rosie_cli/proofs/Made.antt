@@ -9,14 +9,14 @@ use Rattle.rosie_prepare.specs.Prepared.{OrLine}
 use Rattle.rosie_prepare.specs.declared.unready.Unready.{Unready}
 use Rattle.rosie_prepare.specs.declared.unready.Unready.TheVariants.{NoMemory, Refused, ReadFault}
 use Rattle.rosie_prepare.specs.inside.Steps.{IsOwn, Tells}
-use Rattle.rosie_run.specs.Sources.{Moment, Still}
+use Rattle.rosie_run.specs.Sources.{Moment, Still, moment_of}
 use Rattle.rpl_codegen.specs.declared.whole.CompileFault.{CompileFault}
 use Rattle.rpl_codegen.specs.declared.whole.CompileFault.TheVariants as C
 use Rattle.rosie_cli.specs.Plans as P
 use Rattle.rosie_cli.specs.Plans.{Planned, refusal}
 use Rattle.rosie_cli.specs.Promises.{IsPromised}
 use Rattle.rosie_cli.specs.declared.plan.Plan.{Plan}
-use Rattle.rosie_cli.specs.inside.Planning.{due_of, moment_of, plan_of, IsMade, Leaves, Plans}
+use Rattle.rosie_cli.specs.inside.Planning.{due_of, plan_of, IsMade, Leaves, Plans}
 
 -- ---- what is planned
 

@@ -3,14 +3,10 @@
 ghost use Rattle.std.specs.Prelude.{Ok, IfErr, IfOk};
 ghost use Rattle.rosie_prepare.specs.Views.{ready_seen, wanted_seen};
 ghost use Rattle.rosie_prepare.specs.inside.Steps.{IsOwn};
-ghost use Rattle.rpl_check.specs.Checked.{IsWhole};
-ghost use Rattle.rpl_check.specs.Goal.{peg_of};
-ghost use Rattle.rpl_core.specs.Table.{bodies_of};
-ghost use Rattle.rpl_core.specs.View.{core_of};
 ghost use Rattle.rosie_cli.specs.Expanding.{IsExpanded, Expands};
 ghost use Rattle.rosie_cli.specs.Plans.{Planned};
 ghost use Rattle.rosie_cli.specs.Promises.{IsPromised};
-ghost use Rattle.rosie_cli.specs.inside.Planning.{plan_of, Leaves, Makes, Plans};
+ghost use Rattle.rosie_cli.specs.inside.Planning.{plan_of, IsReady, Leaves, Makes, Plans};
 
 use crate::plan::{Plan, uncompiled};
 use rosie_io::Files;
@@ -22,7 +18,7 @@ use std::alloc::Global;
 
 /// The plan of a pattern that is ready: what it stands for, and its program, if that is wanted.
 fn plan_text(alloc: Global, ready: &Prepared, wants_code: bool) -> Result<Plan, Unready>
-    requires { IsWhole (bodies_of ready.now.rules) (core_of (peg_of ready.now.goal)) }
+    requires { IsReady ready.now }
     ensures makes { Makes result (Expands wants_code (Ok (ready_seen ready.now))) }
     ensures due { IfOk result (λ plan. IsPromised (plan_of plan)) }
     ensures own { IfErr result IsOwn }

@@ -5,15 +5,11 @@ ghost use Rattle.rosie_jobs.specs.Jobs.{job_of, rule_names};
 ghost use Rattle.rosie_prepare.specs.Views.{ready_seen, wanted_seen};
 ghost use Rattle.rosie_prepare.specs.inside.Steps.{IsOwn};
 ghost use Rattle.rosie_run.specs.Inputs.{names_of};
-ghost use Rattle.rpl_check.specs.Checked.{IsWhole};
-ghost use Rattle.rpl_check.specs.Goal.{peg_of};
-ghost use Rattle.rpl_core.specs.Table.{bodies_of};
-ghost use Rattle.rpl_core.specs.View.{core_of};
 ghost use Rattle.rpl_forms.specs.Rows.{Row};
 ghost use Rattle.rosie_cli.specs.Planned.{full_names, input_names, IsRun, IsRunning};
 ghost use Rattle.rosie_cli.specs.Plans.{Planned};
 ghost use Rattle.rosie_cli.specs.Promises.{IsPromised};
-ghost use Rattle.rosie_cli.specs.inside.Planning.{plan_of, run_of, Leaves, Makes, Plans};
+ghost use Rattle.rosie_cli.specs.inside.Planning.{plan_of, run_of, IsReady, Leaves, Makes, Plans};
 
 use crate::plan::{Plan, uncompiled};
 use rosie_io::Files;
@@ -94,7 +90,7 @@ fn plan_job(alloc: Global, job: Job, purpose: Purpose) -> Result<Plan, NoMemory>
 
 /// The plan of a goal that is prepared. Its code may be too long.
 fn plan_ready(alloc: Global, ready: Prepared, purpose: Purpose) -> Result<Plan, Unready>
-    requires { IsWhole (bodies_of ready.rules) (core_of (peg_of ready.goal)) }
+    requires { IsReady ready }
     ensures makes { Makes result (IsRun (run_of purpose) (Ok (ready_seen ready))) }
     ensures due { IfOk result (λ plan. IsPromised (plan_of plan)) }
     ensures own { IfErr result IsOwn }

@@ -7,17 +7,23 @@ use Rattle.rosie_io.specs.declared.outside.Source.{Ghosts}
 use Rattle.rosie_jobs.specs.Jobs.{matcher_of, runner_of, tracer_of}
 use Rattle.rosie_jobs.specs.Lines.{Job}
 use Rattle.rosie_prepare.specs.Answers.{HasCause, IsAsked}
+use Rattle.rosie_prepare.specs.declared.prepared.Prepared.{Prepared}
 use Rattle.rosie_prepare.specs.declared.unready.Unready.{Unready}
 use Rattle.rosie_prepare.specs.declared.unready.Unready.TheVariants as U
 use Rattle.rosie_run.specs.Inputs.{names_of}
-use Rattle.rosie_run.specs.Sources.{Moment, moment}
+use Rattle.rosie_run.specs.Sources.{moment_of}
 use Rattle.rosie_run.specs.declared.ended.Ended.{Ended}
 use Rattle.rosie_run.specs.declared.tally.Tally.{Tally}
 use Rattle.rosie_sample.specs.Runs.{sampled_of}
 use Rattle.rosie_verdicts.specs.Seen.{bench_of, trials_of}
+use Rattle.rpl_check.specs.Checked.{IsWhole}
+use Rattle.rpl_check.specs.Goal.{peg_of}
 use Rattle.rpl_codegen.specs.declared.whole.CompileFault.{CompileFault}
 use Rattle.rpl_codegen.specs.declared.whole.CompileFault.TheVariants as C
+use Rattle.rpl_core.specs.Table.{bodies_of}
+use Rattle.rpl_core.specs.View.{core_of}
 use Rattle.rpl_forms.specs.Rows.{Row}
+use Rattle.rpl_simulation.specs.Laws.{IsCapture}
 use Rattle.rosie_cli.specs.Planned.{matching, sampling, tracing}
 use Rattle.rosie_cli.specs.Plans as P
 use Rattle.rosie_cli.specs.Promises.{IsPromised}
@@ -41,6 +47,11 @@ run_of (R.Match settings inputs) = matching settings inputs
 run_of (R.Trace limit whole inputs) = tracing limit whole inputs
 run_of (R.Sample settings seed lines) = sampling settings seed lines
 
+-- a pattern that is ready is whole, and makes one tree of a whole match
+pub record IsReady (p : Prepared) : Type 0 where
+  pub whole : IsWhole (bodies_of p.rules) (core_of (peg_of p.goal))
+  pub root : (label : List ℕ) × IsCapture (bodies_of p.rules) label (core_of (peg_of p.goal))
+
 -- the line of a pattern that has no program, where there is one
 abbrev pub due_of : CompileFault → Option Line
 due_of C.CodeTooLong = Some compile_line
@@ -60,10 +71,6 @@ Makes result IsMeant = (p : P.Plan) → IsMeant p → IsMade result p
 -- and a path that wasn't read is one of those that are asked for
 abbrev pub Plans : Result Plan Unready → P.Planned → Type 0
 Plans result p = IsMade result p.plan × IfErr result (λ u. IsAsked u p.asked)
-
--- what a source tells and counts at one time
-abbrev pub moment_of : {F : Type 0} → Ghosts F → F → Moment
-moment_of S files = moment S.rest S.taken S.faults S.failed_opens files
 
 -- What planning leaves: a plan that keeps its promise, and files that were only read. A read failed only where a count
 -- of failures rose.
