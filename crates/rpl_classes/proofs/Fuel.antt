@@ -185,6 +185,12 @@ else_same : (t : Bool) (x y z : Reading) → y ≡ z → (if t then x else y) �
 else_same true x y z h = refl
 else_same false x y z h = h
 
+-- the three ways on behind a set: its end, and the two operators, each where it reads alike
+operators_same : (e b w : Bool) (d n x y u v : Reading) → (b ≡ true → x ≡ y) → (w ≡ true → u ≡ v) → (if e then d else if b then x else if w then u else n) ≡ (if e then d else if b then y else if w then v else n)
+operators_same e b w d n x y u v h k =
+    else_same e d (if b then x else if w then u else n) (if b then y else if w then v else n)
+    (if_same b x y (if w then u else n) h ∙ else_same b y (if w then u else n) (if w then v else n) (if_same w u v n k))
+
 then_same : (n : ℕ) (r q : Reading) (f g : List Range → List Placed → Reading) → r ≡ q → Most n r → ((a : List Range) (s : List Placed) → length s ≤ n → f a s ≡ g a s) → and_then r f ≡ and_then q g
 then_same n (Ok p) q f g e m h = h p.0 p.1 m ∙ ap (λ (x : Reading). and_then x g) e
 then_same n (Err k) q f g e m h = ap (λ (x : Reading). and_then x g) e
@@ -240,12 +246,8 @@ module _ (b d : List Placed → Reading) (h : Shrinks b) where
       (union_same n k far (agree_below (length s) (length far) b d g (omega arith)) (omega arith) (omega arith))
       (union_most b h n far)
       (λ c q most. joined_same n k (f c) q (agree_below (length s) (length q) b d g (omega arith)) (omega arith) (omega arith)) in
-      let none : Reading = Err (BadSet (place r)) in
-      let take : Reading = if begins 45 r && begins 45 (rest r) then go (without a) else none in
-      else_same (begins 93 r) (Ok (a, rest r)) (if begins 38 r && begins 38 (rest r) then go (both a) else take) _
-      (if_same (begins 38 r && begins 38 (rest r)) (go (both a)) (own (both a)) take (by 38 (both a))
-      ∙ else_same (begins 38 r && begins 38 (rest r)) (own (both a)) take (if begins 45 r && begins 45 (rest r) then own (without a) else none)
-      (if_same (begins 45 r && begins 45 (rest r)) (go (without a)) (own (without a)) none (by 45 (without a))))
+      operators_same (begins 93 r) (begins 38 r && begins 38 (rest r)) (begins 45 r && begins 45 (rest r)) (Ok (a, rest r)) (Err (BadSet (place r)))
+      (go (both a)) (own (both a)) (go (without a)) (own (without a)) (by 38 (both a)) (by 45 (without a))
 
   body_same : (n k : ℕ) (s : List Placed) → Agree (length s) b d → length s < n → length s < k → body b n s ≡ body d k s
   body_same n k s g lt gt =
@@ -361,12 +363,8 @@ operators_law a s =
     then_same (length far) (union reading n far) (side far) (λ c q. joined reading n (f c) q) (λ c q. joins (f c) q)
     (side_same n far (omega arith)) (union_most reading reading_fewer n far)
     (λ c q most. joined_same reading reading reading_fewer n (suc (length q)) (f c) q (λ _ _. refl) (omega arith) (omega arith)) in
-    let none : Reading = Err (BadSet (place r)) in
-    let take : Reading = if begins 45 r && begins 45 (rest r) then go (without a) else none in
-    else_same (begins 93 r) (Ok (a, rest r)) (if begins 38 r && begins 38 (rest r) then go (both a) else take) _
-    (if_same (begins 38 r && begins 38 (rest r)) (go (both a)) (own (both a)) take (by 38 (both a))
-    ∙ else_same (begins 38 r && begins 38 (rest r)) (own (both a)) take (if begins 45 r && begins 45 (rest r) then own (without a) else none)
-    (if_same (begins 45 r && begins 45 (rest r)) (go (without a)) (own (without a)) none (by 45 (without a))))
+    operators_same (begins 93 r) (begins 38 r && begins 38 (rest r)) (begins 45 r && begins 45 (rest r)) (Ok (a, rest r)) (Err (BadSet (place r)))
+    (go (both a)) (own (both a)) (go (without a)) (own (without a)) (by 38 (both a)) (by 45 (without a))
 
 abbrev Read : Type 0
 Read = Result (List Range × Bool) SetFault

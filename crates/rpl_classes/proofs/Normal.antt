@@ -8,11 +8,11 @@ use Rattle.regex_class.proofs.RangesLemmas.{in_range_tells, in_ranges-nil, in_ra
 use Rattle.rpl_classes.specs.Sets.{is_char, IsNormal, HasJust}
 use Rattle.rpl_classes.specs.Norm.{join, add, norm}
 
-rises-cons : (n : ℕ) (r : Range) (rs : List Range) → rises_from n (r ∷ rs) ≡ (fits_from n r && rises_from (r.1 + 2) rs)
+pub rises-cons : (n : ℕ) (r : Range) (rs : List Range) → rises_from n (r ∷ rs) ≡ (fits_from n r && rises_from (r.1 + 2) rs)
 unfolding rises_from
 rises-cons n r rs = refl
 
-rises-nil : (n : ℕ) → rises_from n [] ≡ true
+pub rises-nil : (n : ℕ) → rises_from n [] ≡ true
 unfolding rises_from
 rises-nil n = refl
 

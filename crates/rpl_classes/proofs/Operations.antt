@@ -2,20 +2,13 @@
 use Rattle.std.proofs.Common.{◌≡◌, ℕ, zero, suc, ◌+◌, ◌≤◌, List, [], ◌∷◌, ◌++◌, min, max, refl, sym, ap, ap₂, ◌∙◌, arith, subst}
 use Rattle.std.specs.Prelude.{Result, Ok, Err, IfOk, Bool, true, false, nat_eq, nat_le, ◌||◌, ◌&&◌, not}
 use Rattle.std.proofs.lemmas.Bool.Decides.{nat_tests}
+use Rattle.std.proofs.Math.Bool.{and-false, and-or_distrib_left}
 use Rattle.regex_class.specs.Ranges.{Range, in_range, in_ranges, IsCanonical, HasExactly}
 use Rattle.regex_class.proofs.RangesLemmas.{in_ranges-push, in_range_tells, in_ranges-nil, in_ranges-cons, in_ranges-append, or-false, same_members-same}
 use Rattle.rpl_classes.specs.Sets.{is_char, IsNormal, HasJust}
 use Rattle.rpl_classes.specs.Norm.{norm}
 use Rattle.rpl_classes.specs.Algebra.{shares, all_shares, both, outside, others, without}
 use Rattle.rpl_classes.proofs.Normal.{norm-nil, norm_whole, norm_members, norm_normal, norm_just}
-
-spread : (x y z : Bool) → ((x && y) || (x && z)) ≡ (x && (y || z))
-spread true y z = refl
-spread false y z = refl
-
-nothing : (x : Bool) → false ≡ (x && false)
-nothing true = refl
-nothing false = refl
 
 tells : (x y : Bool) → (y ≡ true → x ≡ true) → y ≡ (x && y)
 tells x true h = sym (ap (λ b. b && true) (h refl))
@@ -46,7 +39,7 @@ only_chars s c n = tells (is_char c) (in_ranges s c) (n.chars c)
 -- a class with the members of two normal lists is their union
 pub union_from_class : (a b all u : List Range) → IsNormal a → IsNormal b → all ≡ a ++ b → IsCanonical u → HasExactly u (in_ranges all) → u ≡ norm (a ++ b)
 union_from_class a b all u n m e k h = norm_from_class u (a ++ b) k (λ c le. h c le ∙ ap (λ l. in_ranges l c) e ∙ in_ranges-append a b c
-    ∙ ap₂ ◌||◌ (only_chars a c n) (only_chars b c m) ∙ spread (is_char c) (in_ranges a c) (in_ranges b c)
+    ∙ ap₂ ◌||◌ (only_chars a c n) (only_chars b c m) ∙ sym (and-or_distrib_left (is_char c) (in_ranges a c) (in_ranges b c))
     ∙ ap (λ x. is_char c && x) (sym (in_ranges-append a b c)))
 
 and_assoc : (x y z : Bool) → ((x && y) && z) ≡ (x && (y && z))
@@ -87,10 +80,10 @@ again false y z = refl
 
 shares_members : (r : Range) (ss : List Range) (c : ℕ) → in_ranges (shares r ss) c ≡ (in_range r c && in_ranges ss c)
 unfolding shares
-shares_members r [] c = in_ranges-nil c ∙ nothing (in_range r c) ∙ ap (λ b. in_range r c && b) (sym (in_ranges-nil c))
+shares_members r [] c = in_ranges-nil c ∙ sym (and-false (in_range r c)) ∙ ap (λ b. in_range r c && b) (sym (in_ranges-nil c))
 shares_members r (s ∷ ss) c =
     in_ranges-cons (max r.0 s.0, min r.1 s.1) (shares r ss) c
-    ∙ ap₂ ◌||◌ (meet r s c) (shares_members r ss c) ∙ spread (in_range r c) (in_range s c) (in_ranges ss c)
+    ∙ ap₂ ◌||◌ (meet r s c) (shares_members r ss c) ∙ sym (and-or_distrib_left (in_range r c) (in_range s c) (in_ranges ss c))
     ∙ ap (λ b. in_range r c && b) (sym (in_ranges-cons s ss c))
 
 all_shares_members : (rs ss : List Range) (c : ℕ) → in_ranges (all_shares rs ss) c ≡ (in_ranges rs c && in_ranges ss c)

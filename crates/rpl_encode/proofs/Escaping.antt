@@ -1,6 +1,6 @@
 -- What stands for the bytes of a line in a string of JSON.
-use Rattle.std.proofs.Common.{ap₂, inl, inr, ◌⊎◌, ◌≡◌, ◌≢◌, ℕ, zero, suc, true, ◌+◌, ◌-◌, ◌/◌, ◌%◌, ◌<◌, ◌≤◌, List, [], ◌∷◌, ◌++◌, length, get_or, take, drop, refl, sym, ap, ◌∙◌, arith, append_assoc, length-append}
-use Rattle.std.specs.Prelude.{slice_range, flat_map, nat_lt}
+use Rattle.std.proofs.Common.{ap₂, inl, inr, ◌⊎◌, ◌≡◌, ◌≢◌, ℕ, suc, true, ◌+◌, ◌-◌, ◌/◌, ◌%◌, ◌<◌, ◌≤◌, List, [], ◌∷◌, ◌++◌, length, get_or, take, drop, refl, sym, ap, ◌∙◌, arith, append_assoc, length-append}
+use Rattle.std.specs.Prelude.{slice_range}
 use Rattle.std.specs.Char.{digit_char}
 use Rattle.std.proofs.lemmas.Bool.{cases_eq, cases_lt, ne_eqb, lt-ltb}
 use Rattle.std.proofs.lemmas.List.{take_more, append-nil, take-append-drop, take-take, take_rest, length-drop, get_or_append_left}
@@ -8,7 +8,7 @@ use Rattle.std.proofs.lemmas.List.Folds.{length-flat_map-take}
 use Rattle.std.proofs.lemmas.Slice.{between_is}
 use Rattle.std.proofs.lemmas.Grind.{flat_map-append}
 use Rattle.std.proofs.Math.Seq.{drop-cons, take-append_seam, drop-append_seam, get_or-append_seam}
-use Rattle.json.specs.Print.{escape, escape_byte, escape_letter}
+use Rattle.json.specs.Print.{escape, escape_byte}
 use Rattle.json.proofs.Printed.Strings.{escape_byte_plain}
 use Rattle.rpl_print.specs.Quoted.{quoted, is_plain}
 use Rattle.rpl_print.proofs.Plain.{escape_plain, plain_take, plain_drop}

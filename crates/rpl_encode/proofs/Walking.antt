@@ -9,7 +9,7 @@ use Rattle.rpl_encode.specs.Texts.{objects, subs}
 use Rattle.rpl_encode.specs.inside.Walk.{fields_by, fields_at, comma, ending, joined, rest_of}
 use Rattle.std.proofs.lemmas.List.{append-nil, drop-drop, drop_all, take_all, reverse-append, length-drop}
 use Rattle.std.proofs.lemmas.Bool.{false≢true}
-use Rattle.std.specs.Prelude.{slice_get, reverse, IsTrue, ◌↔◌}
+use Rattle.std.specs.Prelude.{slice_get, reverse, IsTrue, ◌↔◌, if◌then◌else◌}
 use Rattle.rpl_encode.specs.Answer.{line_by_line}
 use Rattle.rpl_encode.proofs.Nodes.{forest_of-cons, take_within, drop_within, drop_behind, drop_got, drop_capped, got_none}
 
@@ -140,6 +140,10 @@ root_group b s o f = simp (append_assoc, append-nil)
 abbrev pub Opened : Bool → ℕ → List ℕ → Type 0
 Opened true below pending = pending ≡ below ∷ []
 Opened false below pending = pending ≡ []
+
+pub opened : (sub : Bool) (below : ℕ) (lists : List ℕ) → lists ≡ (if sub then below ∷ [] else []) → Opened sub below (reverse lists)
+opened true below lists e = ap reverse e
+opened false below lists e = ap reverse e
 
 root_objects : (labels : List (List ℕ)) (line : List ℕ) (nodes : List Node) (root : Node) → slice_get nodes 0 ≡ Some root → take 1 (objects_of labels line nodes) ≡ (fields_at labels line root ++ (subs (below_of root.note (objects_of labels line (take root.below (drop 1 nodes)))) ++ codes "}")) ∷ []
 root_objects labels line nodes root got =

@@ -1,5 +1,20 @@
 // A tree as JSON.
-ghost use Rattle.std.specs.Prelude.{◌≡◌, ◌+◌, ◌<◌, ◌++◌, ◌∷◌, [], ◌↔◌, true, drop, reverse, vec_len, OnOk, IsTrue};
+ghost use Rattle.std.specs.Prelude.{
+  ◌≡◌,
+  ◌+◌,
+  ◌<◌,
+  ◌++◌,
+  ◌∷◌,
+  [],
+  ◌↔◌,
+  true,
+  drop,
+  reverse,
+  vec_len,
+  OnOk,
+  IsTrue,
+  if◌then◌else◌,
+};
 ghost use Rattle.rpl_core.specs.Program.{labels_of};
 ghost use Rattle.rpl_encode.specs.Labels.{match_text};
 ghost use Rattle.rpl_encode.specs.Answer.{IsTooLong};
@@ -33,12 +48,20 @@ pub(crate) fn put_tree(
     };
     let has_subs = has_subs(root, root.below, 1, forest.len());
     put_node(out, root, true, has_subs, source)?;
-    pending.clear();
-    if has_subs {
-        open_list(pending, root.below)?;
-    }
+    open_root(pending, has_subs, root.below)?;
     put_below(out, pending, forest, source)?;
     Ok(out.extend_from_slice(b"\n")?)
+}
+
+/// Of the lists, just that of the nodes below the root is open, where any are printed there.
+fn open_root(lists: &mut Vec<usize>, has_subs: bool, below: usize) -> Result<(), NoMemory>
+    ensures { OnOk result (lists.new.items ≡ (if has_subs then below ∷ [] else [])) }
+{
+    lists.clear();
+    if has_subs {
+        open_list(lists, below)?;
+    }
+    Ok(())
 }
 
 /// A list begins in which so many nodes are still to come.

@@ -15,8 +15,12 @@ use Rattle.rpl_lexer.specs.Cut.{End, Done, Fails, start, IsFault, IsToken, Next,
 pub start_is : (s bs : List ℕ) (at g : ℕ) (r : List ℕ) → bs ≡ s → r ≡ drop at bs → g ≡ gap false r → at + g ≡ start s at
 start_is s bs at g r e f h = ap (λ x. at + x) (h ∙ ap (gap false) (f ∙ ap (drop at) e))
 
-pub start_inside : (s bs : List ℕ) (at g : ℕ) (r : List ℕ) → bs ≡ s → r ≡ drop at bs → g ≤ length r → at ≤ length s → at + g ≤ length s
+start_inside : (s bs : List ℕ) (at g : ℕ) (r : List ℕ) → bs ≡ s → r ≡ drop at bs → g ≤ length r → at ≤ length s → at + g ≤ length s
 start_inside s bs at g r e f le k = omega (arith, ap length f, ap length e, length-drop at bs)
+
+-- where the next token starts: the one place, and within the text
+pub starts : (s bs : List ℕ) (at g : ℕ) (r : List ℕ) → bs ≡ s → r ≡ drop at bs → g ≡ gap false r → g ≤ length r → at ≤ length s → (at + g ≡ start s at) × (at + g ≤ length s)
+starts s bs at g r e f h le k = (start_is s bs at g r e f h, start_inside s bs at g r e f le k)
 
 pub stands_is : (s bs : List ℕ) (st : ℕ) (r : List ℕ) (x y : Stand) → bs ≡ s → r ≡ drop st bs → x ≡ stands r → x ≡ y → stands (drop st s) ≡ y
 stands_is s bs st r x y e f h k = sym (h ∙ ap stands (f ∙ ap (drop st) e)) ∙ k

@@ -13,11 +13,11 @@ use Rattle.rpl_text.proofs.Stepped.{stepped}
 use Rattle.rpl_lexer.specs.Payloads.{unescaped, decoded}
 use Rattle.rpl_lexer.specs.inside.Decoding.{Decodes}
 
-decoded-nil : (k : ℕ) → decoded k [] ≡ []
+pub decoded-nil : (k : ℕ) → decoded k [] ≡ []
 unfolding decoded
 decoded-nil k = refl
 
-decoded-skip : (k c : ℕ) (cs : List ℕ) → decoded (suc k) (c ∷ cs) ≡ decoded k cs
+pub decoded-skip : (k c : ℕ) (cs : List ℕ) → decoded (suc k) (c ∷ cs) ≡ decoded k cs
 unfolding decoded
 decoded-skip k c cs = refl
 

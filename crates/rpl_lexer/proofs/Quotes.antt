@@ -96,22 +96,17 @@ empty (d ∷ ds) h = absurd (omega (arith, h))
 second : (p : ℕ × ℕ) (c n : ℕ) → Some p ≡ Some (c, n) → p.1 ≡ n
 second p c n e = let k : ◌≡◌ {A = ℕ × ℕ} p (c, n) = cc in ap (λ (x : ℕ × ℕ). x.1) k
 
+-- an escape of a letter and what is said of its digits
+escape_shape : (c d : ℕ) (ds : List ℕ) → d < 128 → nat_eq d 10 ≡ false → each is_bare ds ≡ true → each is_inner ds ≡ true → each (λ b. nat_lt b 128) ds ≡ true → ((y : List ℕ) → escape (d ∷ ds ++ y) ≡ Some (c, length (d ∷ ds))) → Shape c (d ∷ ds)
+escape_shape c d ds lt l plain inner low stays =
+    record { letter = d; digits = ds; is = refl; ascii = lt; line = l; plain = plain; inner = inner; low = low; stays = stays }
+
 -- an escape of one letter
 one_letter : (c d v : ℕ) (ds : List ℕ) → d < 128 → nat_eq d 10 ≡ false → ◌≡◌ {A = Option (ℕ × ℕ)} (Some (v, 1)) (Some (c, length (d ∷ ds))) → ((y : List ℕ) → escape (d ∷ y) ≡ Some (v, 1)) → Shape c (d ∷ ds)
 one_letter c d v ds lt l e f =
     let n : length ds ≡ 0 = omega (arith, second (v, 1) c (length (d ∷ ds)) e) in
     let z = empty ds n in
-    record {
-      letter = d;
-      digits = ds;
-      is = refl;
-      ascii = lt;
-      line = l;
-      plain = ap (each is_bare) z;
-      inner = ap (each is_inner) z;
-      low = ap (each (λ b. nat_lt b 128)) z;
-      stays = λ y. f (ds ++ y) ∙ e;
-    }
+    escape_shape c d ds lt l (ap (each is_bare) z) (ap (each is_inner) z) (ap (each (λ b. nat_lt b 128)) z) (λ y. f (ds ++ y) ∙ e)
 
 -- an escape of n digits
 record Counted (c n last : ℕ) (ds : List ℕ) : Type 0 where
@@ -131,17 +126,7 @@ more_digits : (c d n last : ℕ) (ds : List ℕ) → d < 128 → nat_eq d 10 ≡
 more_digits c d n last ds lt l e f =
     let k = counted c n last ds (hex n 0 ds) refl e in
     let g = hex_digits n 0 k.value ds k.read k.size in
-    record {
-      letter = d;
-      digits = ds;
-      is = refl;
-      ascii = lt;
-      line = l;
-      plain = g.plain;
-      inner = g.inner;
-      low = g.low;
-      stays = λ y. f (ds ++ y) ∙ ap (numbered n last) (g.stays y) ∙ k.gives;
-    }
+    escape_shape c d ds lt l g.plain g.inner g.low (λ y. f (ds ++ y) ∙ ap (numbered n last) (g.stays y) ∙ k.gives)
 
 not_line : (d k : ℕ) → nat_eq d k ≡ true → nat_eq k 10 ≡ false → nat_eq d 10 ≡ false
 not_line d k h g = grind (arith, nat_tests)

@@ -172,11 +172,8 @@ pub(crate) fn recase(alloc: Global, casing: Casing, e: &Expr) -> Result<Expr, No
             set: casing.set(alloc, set)?,
             negated: *negated,
         }),
-        Expr::Any => Ok(Expr::Any),
-        Expr::Start => Ok(Expr::Start),
-        Expr::End => Ok(Expr::End),
-        Expr::Boundary => Ok(Expr::Boundary),
-        Expr::Name(name) => Ok(Expr::Name(name.copy(alloc)?)),
+        // These say no characters of their own.
+        Expr::Any | Expr::Start | Expr::End | Expr::Boundary | Expr::Name(_) => e.copy(alloc),
         Expr::Cooked(items) => {
             let items = recase_all(alloc, casing, items.as_slice())?;
             Ok(wrap(false, items))

@@ -1,5 +1,5 @@
 -- What a run answers.
-use Rattle.std.specs.Prelude.{◌≡◌, ℕ, Option, Some, None, map}
+use Rattle.std.specs.Prelude.{◌≡◌, Option, Some, None, map}
 use Rattle.rpl_core.specs.Forest as F
 use Rattle.rpl_core.specs.Run as R
 use Rattle.rpl_plain.specs.declared.machine.Answer as A

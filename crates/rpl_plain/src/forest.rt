@@ -36,15 +36,12 @@ pub fn tree(
 ) -> Result<Forest, AllocError>
     ensures { IfOk result (λ f. forest_of f ≡ F.Tree label.now start end (forest_of subs) F.NoTree) }
 {
-    let label = label.copy(alloc)?;
-    let subs = Box::new(alloc, subs)?;
-    let rest = Box::new(alloc, Forest::NoTree)?;
     Ok(Forest::Tree {
-        label,
+        label: label.copy(alloc)?,
         start,
         end,
-        subs,
-        rest,
+        subs: Box::new(alloc, subs)?,
+        rest: Box::new(alloc, Forest::NoTree)?,
     })
 }
 
@@ -52,9 +49,11 @@ pub fn tree(
 pub fn noted(alloc: Global, text: &Chars, place: usize) -> Result<Forest, AllocError>
     ensures { IfOk result (λ f. forest_of f ≡ F.Noted text.now place F.NoTree) }
 {
-    let text = text.copy(alloc)?;
-    let rest = Box::new(alloc, Forest::NoTree)?;
-    Ok(Forest::Noted { text, place, rest })
+    Ok(Forest::Noted {
+        text: text.copy(alloc)?,
+        place,
+        rest: Box::new(alloc, Forest::NoTree)?,
+    })
 }
 
 /// The trees of the first, then those of the second.

@@ -1,10 +1,10 @@
 -- Stops, and what follows them.
-use Rattle.std.proofs.Common.{arith, ◌≡◌, ◌≤◌, ℕ, ap, sym, subst, false, true≢false, ◌∙◌, ◌⊎◌}
-use Rattle.std.specs.Prelude.{Result, Ok, Err, IfErr}
+use Rattle.std.proofs.Common.{◌≡◌, ap, sym, false, ◌∙◌}
+use Rattle.std.specs.Prelude.{Err}
 use Rattle.rpl_scope.specs.declared.fault.LoadFault.{LoadFault}
 use Rattle.rpl_scope.specs.declared.fault.Stop.{Stop}
 use Rattle.rpl_scope.specs.declared.fault.Stop.TheVariants.{Memory, Fault}
-use Rattle.rpl_scope.specs.Faults.{Or, ◌>>=◌, is_silent, StopIs, IsStop, Gives}
+use Rattle.rpl_scope.specs.Faults.{Or, ◌>>=◌, is_silent, StopIs, IsStop}
 
 -- a stop with a fault, where that fault is what is defined
 pub told : (A : Type 0) (s : Stop) (f : LoadFault) → IsStop s f → is_silent f.kind ≡ false → StopIs {A = A} s (Err f)

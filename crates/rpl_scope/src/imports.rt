@@ -29,6 +29,18 @@ pub fn last_part(alloc: Global, path: &Chars) -> Result<Chars, NoMemory>
     Chars::from_str(alloc, &last)
 }
 
+/// How many rules the module has by now: just those behind them see what is added next.
+fn rules_so_far(own: &Module) -> Result<u32, Stop>
+    ensures ok { IfOk result (λ since. since ≡ length (module_seen own.now).rules) }
+    ensures err { IfErr result (λ s. s ≡ OutOfMemory) }
+{
+    let count = own.rules.len();
+    if count > 4_294_967_295 {
+        return Err(Stop::Memory);
+    }
+    Ok(count as u32)
+}
+
 /// One prefix more, for the module with this number.
 pub fn put_prefix(alloc: Global, own: &mut Module, prefix: &Chars, number: u32) -> Result<(), Stop>
     requires { first_of prefix.now own.old.prefixes ≡ None }
@@ -37,11 +49,7 @@ pub fn put_prefix(alloc: Global, own: &mut Module, prefix: &Chars, number: u32) 
         (record { since = length (module_seen own.old).rules; number = number })) }
     ensures err { IfErr result (λ s. s ≡ OutOfMemory) }
 {
-    let count = own.rules.len();
-    if count > 4_294_967_295 {
-        return Err(Stop::Memory);
-    }
-    let since = count as u32;
+    let since = rules_so_far(own)?;
     own.prefixes.put(alloc, prefix, Prefix { since, number })?;
     Ok(())
 }
@@ -71,13 +79,8 @@ pub fn add_prefix(
             Err(fault_at(alloc, file, at, kind))
         }
         None => {
-            let count = own.rules.len();
-            if count > 4_294_967_295 {
-                return Err(Stop::Memory);
-            }
-            let since = count as u32;
-            let entry = Prefix { since, number };
-            own.prefixes.put(alloc, prefix, entry)?;
+            let since = rules_so_far(own)?;
+            own.prefixes.put(alloc, prefix, Prefix { since, number })?;
             Ok(())
         }
     }
@@ -124,13 +127,8 @@ fn add_name(
             Err(fault_at(alloc, file, at, kind))
         }
         None => {
-            let count = own.rules.len();
-            if count > 4_294_967_295 {
-                return Err(Stop::Memory);
-            }
-            let since = count as u32;
             let entry = Entry {
-                since,
+                since: rules_so_far(own)?,
                 local: false,
                 hidden: false,
                 referent: Referent::Of {

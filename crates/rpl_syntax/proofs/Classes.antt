@@ -18,7 +18,7 @@ use Rattle.rpl_classes.specs.Algebra.{others}
 use Rattle.rpl_classes.specs.Symbols.{Placed, escaped, symbols, size, first, past_blanks}
 use Rattle.rpl_classes.specs.Lists.{Reading, and_then, changed}
 use Rattle.rpl_classes.specs.Brackets.{more, joined, body, inside, bracket, marked, outermost, bracket_of}
-use Rattle.rpl_classes.proofs.Normal.{norm-nil, norm_normal, norm_whole, norm_normal_same, normal_same}
+use Rattle.rpl_classes.proofs.Normal.{rises-cons, rises-nil, norm-nil, norm_normal, norm_whole, norm_normal_same, normal_same}
 use Rattle.rpl_classes.proofs.Operations.{others_members, others_normal, nil_normal}
 use Rattle.rpl_lexer.specs.Written.{is_inner}
 use Rattle.rpl_lexer.proofs.Stood.{Bracketed, nothing, inner, hidden, nested}
@@ -31,14 +31,6 @@ use Rattle.rpl_syntax.proofs.Hexes.{point_digits, point_read}
 abbrev pub Fine : List Range → Type 0
 Fine [] = Unit {0}
 Fine (r ∷ rs) = IsNormal (r ∷ []) × (is_char r.0 ≡ true) × (is_char r.1 ≡ true) × (r.0 ≤ r.1) × Fine rs
-
-rises-cons : (n : ℕ) (r : Range) (rs : List Range) → rises_from n (r ∷ rs) ≡ (fits_from n r && rises_from (r.1 + 2) rs)
-unfolding rises_from
-rises-cons n r rs = refl
-
-rises-nil : (n : ℕ) → rises_from n [] ≡ true
-unfolding rises_from
-rises-nil n = refl
 
 low_end : (r : Range) → r.0 ≤ r.1 → in_range r r.0 ≡ true
 unfolding in_range

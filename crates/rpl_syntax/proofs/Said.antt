@@ -19,7 +19,7 @@ use Rattle.rpl_lexer.specs.Fronts.{first_name}
 use Rattle.rpl_lexer.specs.Payloads.{Payload, payload, span, inner, unescaped, decoded}
 use Rattle.rpl_lexer.specs.Payloads as P
 use Rattle.rpl_lexer.proofs.Cuts.{one_cut}
-use Rattle.rpl_lexer.proofs.Decoding.{decoded-cons}
+use Rattle.rpl_lexer.proofs.Decoding.{decoded-cons, decoded-nil, decoded-skip}
 use Rattle.rpl_lexer.proofs.Edges.{token_cuttable}
 use Rattle.rpl_lexer.proofs.Longest.{longest}
 use Rattle.rpl_syntax.specs.declared.token.Token.{Token}
@@ -102,14 +102,6 @@ escape_given (c ∷ cs) =
     (if_given (nat_eq c 120) (numbered 2 0x7f (hex 2 0 cs)) _ (λ e. numbered_given 2 0x7f (hex 2 0 cs))
     (if_given (nat_eq c 117) (numbered 4 0x10_ffff (hex 4 0 cs)) _ (λ e. numbered_given 4 0x10_ffff (hex 4 0 cs))
     (if_given (nat_eq c 85) (numbered 8 0x10_ffff (hex 8 0 cs)) None (λ e. numbered_given 8 0x10_ffff (hex 8 0 cs)) tt))))))
-
-decoded-nil : (k : ℕ) → decoded k [] ≡ []
-unfolding decoded
-decoded-nil k = refl
-
-decoded-skip : (k c : ℕ) (cs : List ℕ) → decoded (suc k) (c ∷ cs) ≡ decoded k cs
-unfolding decoded
-decoded-skip k c cs = refl
 
 unescaped_scalars : (o : Option (ℕ × ℕ)) (rest : ℕ → List ℕ) → Given o → ((k : ℕ) → all_scalars (rest k) ≡ true) → all_scalars (unescaped o rest) ≡ true
 unescaped_scalars None rest g h = refl

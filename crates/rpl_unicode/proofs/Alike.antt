@@ -1,5 +1,5 @@
 -- Characters that fold alike, by the table of pairs.
-use Rattle.std.proofs.Common.{◌≡◌, ◌≢◌, ℕ, zero, suc, ◌+◌, ◌<◌, ◌≤◌, List, [], ◌∷◌, Contains, refl, sym, ap, ap₂, ◌∙◌, arith, inl, inr, zero-lt-suc, suc-le-suc, le_of_suc-le-suc, not-suc-le-zero}
+use Rattle.std.proofs.Common.{◌≡◌, ℕ, zero, suc, ◌<◌, List, [], ◌∷◌, Contains, refl, sym, ap, ap₂, ◌∙◌, arith, inl, inr, zero-lt-suc, suc-le-suc, le_of_suc-le-suc, not-suc-le-zero}
 use Rattle.std.specs.Prelude.{Bool, true, false, ◌||◌, ◌&&◌, ◌==◌, nat_le, Result, Ok, Err, IfOk}
 use Rattle.std.proofs.lemmas.Bool.{and_parts, and_from, or_cases, both_ways, cases_order, eqb-true, eq-eqb}
 use Rattle.regex_class.specs.Ranges.{Range, in_range, in_ranges, in_image, KeysRise}
@@ -7,7 +7,7 @@ use Rattle.regex_class.proofs.RangesLemmas.{or-false, keys_rise_from, KeysRise-f
 use Rattle.ucd_case.specs.CaseFolding.{simple_fold, fold_pairs, IsFoldPairs}
 use Rattle.ucd_case.specs.FoldOtherRows.{fold_other_rows}
 use Rattle.rpl_text.specs.Characters.{is_char}
-use Rattle.rpl_unicode.specs.Ranges.{IsNormal, HasJust, IsListOf}
+use Rattle.rpl_unicode.specs.Ranges.{IsListOf}
 use Rattle.rpl_unicode.specs.Folding.{some_below, folds_with}
 use Rattle.rpl_unicode.proofs.Cutting.{char_below}
 

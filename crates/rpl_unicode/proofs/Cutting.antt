@@ -4,24 +4,17 @@ use Rattle.std.specs.Prelude.{Bool, true, false, ◌||◌, ◌&&◌, Result, Ok,
 use Rattle.regex_class.specs.declared.Class.{Class}
 use Rattle.std.proofs.lemmas.Bool.{cases_lt, and_parts, both_ways}
 use Rattle.std.proofs.lemmas.Bool.Decides.{nat_tests}
+use Rattle.std.proofs.Math.Bool.{and-false, and-or_distrib_left}
 use Rattle.regex_class.specs.Ranges.{Range, in_range, in_ranges, range_at, IsCanonical, HasExactly}
 use Rattle.regex_class.proofs.RangesLemmas.{or_assoc, in_range_tells, in_ranges-nil, in_ranges-push, in_ranges-more, in_ranges-above_max}
 use Rattle.rpl_text.specs.Characters.{is_char}
-use Rattle.rpl_unicode.specs.Ranges.{IsNormal, HasJust, IsListOf}
-
-spread : (x y z : Bool) → ((x && y) || (x && z)) ≡ (x && (y || z))
-spread true y z = refl
-spread false y z = refl
-
-nothing : (x : Bool) → false ≡ (x && false)
-nothing true = refl
-nothing false = refl
+use Rattle.rpl_unicode.specs.Ranges.{IsListOf}
 
 pub char_below : (c : ℕ) → is_char c ≡ true → c ≤ 0x10_ffff
 char_below c h = grind (arith, nat_tests)
 
 pub cut_none : (ps : List Range) → ps ≡ [] → HasExactly ps (λ c. is_char c && in_ranges [] c)
-cut_none ps e c le = ap (λ l. in_ranges l c) e ∙ in_ranges-nil c ∙ nothing (is_char c) ∙ ap (λ b. is_char c && b) (sym (in_ranges-nil c))
+cut_none ps e c le = ap (λ l. in_ranges l c) e ∙ in_ranges-nil c ∙ sym (and-false (is_char c)) ∙ ap (λ b. is_char c && b) (sym (in_ranges-nil c))
 
 parted : (r : Range) (c : ℕ) → c ≤ 0x10_ffff → (in_range (r.0, min r.1 0xd7ff) c || in_range (max r.0 0xe000, r.1) c) ≡ (is_char c && in_range r c)
 parted r c le = grind (arith, nat_tests, in_range_tells (r.0, min r.1 0xd7ff) c, in_range_tells (max r.0 0xe000, r.1) c, in_range_tells r c)
@@ -33,7 +26,7 @@ cut_more old ps rs i r lt s h e c le =
     ∙ ap (λ b. b || in_range (max r.0 0xe000, r.1) c) (in_ranges-push old (r.0, min r.1 0xd7ff) c)
     ∙ sym (or_assoc (in_ranges old c) (in_range (r.0, min r.1 0xd7ff) c) (in_range (max r.0 0xe000, r.1) c))
     ∙ ap₂ ◌||◌ (h c le) (parted r c le)
-    ∙ spread (is_char c) (in_ranges (take i rs) c) (in_range r c)
+    ∙ sym (and-or_distrib_left (is_char c) (in_ranges (take i rs) c) (in_range r c))
     ∙ ap (λ (x : Range). is_char c && (in_ranges (take i rs) c || in_range x c)) s
     ∙ ap (λ b. is_char c && b) (sym (in_ranges-more rs i c lt))
 

@@ -1,12 +1,12 @@
 -- What the tables answer, as lists of ranges.
 use Rattle.std.proofs.Common.{◌≡◌, ℕ, List, [], ◌∷◌, refl, sym, ap, ◌∙◌, subst}
-use Rattle.std.specs.Prelude.{Bool, ◌||◌, Option, Some, None, Result, Ok, Err}
+use Rattle.std.specs.Prelude.{Bool, ◌||◌, Option, Some, None, Ok, Err}
 use Rattle.std.specs.Option.{option_map}
 use Rattle.rpl_unicode.specs.Faults.{IsClass}
 use Rattle.rpl_unicode.specs.declared.fault.ClassFault.TheVariants.{UnknownClass}
-use Rattle.regex_class.specs.Ranges.{Range, in_range, in_ranges, HasExactly}
+use Rattle.regex_class.specs.Ranges.{Range, in_range, in_ranges}
 use Rattle.unicode.specs.Rows as table
-use Rattle.rpl_unicode.specs.Ranges.{HasJust, IsListOf}
+use Rattle.rpl_unicode.specs.Ranges.{IsListOf}
 use Rattle.rpl_unicode.proofs.Cutting.{char_below}
 
 -- the tables read ranges as `regex_class` does

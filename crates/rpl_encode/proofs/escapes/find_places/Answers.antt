@@ -1,4 +1,4 @@
-use Rattle.std.proofs.Common.{rules, ◌≡◌, ◌≤◌, ℕ, ◌+◌, take, length, get_or, suc, sym, ap, ◌∙◌, arith, length-append}
+use Rattle.std.proofs.Common.{rules, ◌≤◌, ◌+◌, take, length, get_or, ap, ◌∙◌, arith, length-append}
 use Rattle.json.specs.Print.{escape, escape_byte}
 use Rattle.rpl_encode.proofs.Escaping.{escape_more, more_places, inside, rest_from, long_enough}
 use Rattle.rpl_encode.proofs.escapes.find_places.Goals as goal

@@ -1,5 +1,4 @@
-use Rattle.std.proofs.Common.{◌≡◌, ◌+◌, ◌<◌, ◌≤◌, ◌^◌, rules, arith, length}
-use Rattle.std.specs.Prelude.{decimal}
+use Rattle.std.proofs.Common.{rules}
 use Rattle.std.proofs.lemmas.Fmt.{length-decimal-le}
 use Rattle.rpl_encode.proofs.node_text.put_places.Goals as goal
 

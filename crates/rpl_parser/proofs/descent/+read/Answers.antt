@@ -76,20 +76,16 @@ pub content-returns-in_err-parts : goal.content-returns-in_err-parts
 content-returns-in_err-parts t c =
     let raw = c.args.raw in
     let d = c.args.depth - 1 in
-    let seq = seq_of (read_item d) in
-    let exp = read_exp d raw in
     let h : c.args.depth ≢ 0 = grind (arith, nat_tests) in
     let j : joins c.in_ok-items.rest.now ≡ true = sym c.goes_on.ensures ∙ c.if-not-goes_on.false in
     let p = err_from_is_err_and c.from_residual-in_err-parts.result c.from_residual-in_err-parts.ensures.1 in
-    rw (p.1, p.2) (fails_by c.in_err-parts.field-0.0 _ _ (λ k. exp_is c.args.depth raw c.args.tokens.now h ∙ content_none raw seq exp c.args.tokens.now (shown c.in_ok-items.items) c.in_ok-items.rest.now c.in_ok-items.ensures j k) c.in_err-parts.ensures)
+    rw (p.1, p.2) (fails_by c.in_err-parts.field-0.0 _ _ (λ k. exp_is c.args.depth raw c.args.tokens.now h ∙ content_none raw (seq_of (read_item d)) (read_exp d raw) c.args.tokens.now (shown c.in_ok-items.items) c.in_ok-items.rest.now c.in_ok-items.ensures j k) c.in_err-parts.ensures)
 
 pub content-returns : goal.content-returns
 content-returns t c =
     let raw = c.args.raw in
     let d = c.args.depth - 1 in
-    let seq = seq_of (read_item d) in
-    let exp = read_exp d raw in
     let h : c.args.depth ≢ 0 = grind (arith, nat_tests) in
     let j : joins c.in_ok-items.rest.now ≡ true = sym c.goes_on.ensures ∙ c.if-not-goes_on.false in
-    exp_is c.args.depth raw c.args.tokens.now h ∙ content_some raw seq exp c.args.tokens.now (shown c.in_ok-items.items) c.in_ok-items.rest.now (shown c.in_ok-parts.parts) c.in_ok-parts.rest.now c.in_ok-items.ensures j c.in_ok-parts.ensures
+    exp_is c.args.depth raw c.args.tokens.now h ∙ content_some raw (seq_of (read_item d)) (read_exp d raw) c.args.tokens.now (shown c.in_ok-items.items) c.in_ok-items.rest.now (shown c.in_ok-parts.parts) c.in_ok-parts.rest.now c.in_ok-items.ensures j c.in_ok-parts.ensures
     ∙ ap (λ y. Some (y, c.in_ok-parts.rest.now)) (some_is _ _ c.in_ok-alone.ensures)

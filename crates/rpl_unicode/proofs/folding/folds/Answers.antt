@@ -1,4 +1,3 @@
-use Rattle.std.proofs.Common.{◌≡◌}
 use Rattle.rpl_unicode.proofs.Alike.{one_range_made}
 use Rattle.rpl_unicode.proofs.folding.folds.Goals as goal
 

@@ -1,4 +1,4 @@
-use Rattle.std.proofs.Common.{◌≡◌, ◌||◌, sym, ap₂, subst, ◌∙◌}
+use Rattle.std.proofs.Common.{◌||◌, sym, ap₂, subst, ◌∙◌}
 use Rattle.regex_class.specs.Ranges.{in_ranges, in_image, KeysRise}
 use Rattle.std.specs.Prelude.{IfOk}
 use Rattle.rpl_unicode.specs.Ranges.{IsListOf}

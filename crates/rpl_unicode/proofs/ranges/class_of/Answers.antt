@@ -1,5 +1,3 @@
-use Rattle.std.proofs.Common.{◌≡◌}
-use Rattle.regex_class.specs.Ranges.{in_ranges}
 use Rattle.rpl_unicode.proofs.Cutting.{cut_made}
 use Rattle.rpl_unicode.proofs.ranges.class_of.Goals as goal
 

@@ -1,4 +1,4 @@
-use Rattle.std.proofs.Common.{◌≡◌, Some, None, sym, ap, ◌∙◌}
+use Rattle.std.proofs.Common.{Some, sym, ap, ◌∙◌}
 use Rattle.std.specs.Prelude.{chars, string_bytes}
 use Rattle.std.specs.Option.{option_map}
 use Rattle.rpl_scope.specs.Packages.{nth}
