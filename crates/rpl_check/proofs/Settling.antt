@@ -49,28 +49,35 @@ round_begins fact T a b old u = record {
   found = λ e. absurd (cc);
 }
 
+-- a rule that passes is marked
+pub hit_grows : (a r : ℕ) (old now : List Bool) → a ≤ r → r < length now → Grows a old now → Grows a old (slice_set now r true)
+hit_grows a r old now le fit g = record {
+  long = length-set now r true ∙ g.long;
+  more = λ q e. set_keeps now r q fit (g.more q e);
+  before = λ q l. before q l (set_cases now r q fit);
+}
+  where
+    before : (q : ℕ) → q < a → SetCases now r q → marked (slice_set now r true) q ≡ marked old q
+    before q l s = ⊎_elim (λ x. absurd (let e = x.0 in omega arith)) (λ x. x.1 ∙ g.before q l) s
+
+pub hit_under : (fact : F.Fact) (T : List Core) (r : ℕ) (now : List Bool) → r < length now → passes (test_of fact (marked now)) (slice_get T r) ≡ true → IsUnder (test_of fact) T (marked now) → IsUnder (test_of fact) T (marked (slice_set now r true))
+hit_under fact T r now fit on u = λ k s q e. under k s q e (set_cases now r q fit)
+  where
+    under : (k : ℕ → Bool) → Solves (test_of fact) T k → (q : ℕ) → marked (slice_set now r true) q ≡ true → SetCases now r q → k q ≡ true
+    under k s q e cs =
+        let x = passing (test_of fact (marked now)) T r on in
+        let up = test_grows fact (marked now) k x.0 (λ i c1 m. u k s i m) x.2 in
+        let here = s r (pass_at (test_of fact k) T r x.0 x.1 up) in
+        ⊎_elim (λ y. subst (λ z. k z ≡ true) (sym y.0) here) (λ y. u k s q (sym y.1 ∙ e)) cs
+
 pub round_hits : (fact : F.Fact) (T : List Core) (a n r b : ℕ) (old now : List Bool) (c : Bool) → a ≤ r → r < length now → marked now r ≡ false → passes (test_of fact (marked now)) (slice_get T r) ≡ true → RoundTo fact T a n b old now c → RoundTo fact T a r b old (slice_set now r true) true
 round_hits fact T a n r b old now c le fit off on h = record {
-  grows = record {
-    long = length-set now r true ∙ h.grows.long;
-    more = λ q e. set_keeps now r q fit (h.grows.more q e);
-    before = λ q l. before q l (set_cases now r q fit);
-  };
-  under = λ k s q e. under k s q e (set_cases now r q fit);
+  grows = hit_grows a r old now le fit h.grows;
+  under = hit_under fact T r now fit on h.under;
   quiet = λ e. absurd (cc);
   found = λ e. found;
 }
   where
-    before : (q : ℕ) → q < a → SetCases now r q → marked (slice_set now r true) q ≡ marked old q
-    before q l s = ⊎_elim (λ x. absurd (let e = x.0 in omega arith)) (λ x. x.1 ∙ h.grows.before q l) s
-
-    under : (k : ℕ → Bool) → Solves (test_of fact) T k → (q : ℕ) → marked (slice_set now r true) q ≡ true → SetCases now r q → k q ≡ true
-    under k s q e cs =
-        let x = passing (test_of fact (marked now)) T r on in
-        let up = test_grows fact (marked now) k x.0 (λ i c1 m. h.under k s i m) x.2 in
-        let here = s r (pass_at (test_of fact k) T r x.0 x.1 up) in
-        ⊎_elim (λ y. subst (λ z. k z ≡ true) (sym y.0) here) (λ y. h.under k s q (sym y.1 ∙ e)) cs
-
     found : count (marked old) (length old) < count (marked (slice_set now r true)) (length old)
     found =
         let le1 = count_le (marked old) (marked now) (length old) h.grows.more in
@@ -111,3 +118,10 @@ grows_none a x = record { long = refl; more = λ r e. e; before = λ r l. refl }
 
 pub room_less : (x y : List Bool) → length y ≡ length x → count (marked x) (length x) < count (marked y) (length x) → length y - count (marked y) (length y) < length x - count (marked x) (length x)
 room_less x y e lt = let h = count_all_le (marked y) (length x) in rw e (omega arith)
+
+-- where more is marked beyond y, there is less room still
+pub room_lesser : (a : ℕ) (x y z : List Bool) → Grows a x y → Grows a y z → count (marked x) (length x) < count (marked y) (length x) → length z - count (marked z) (length z) < length x - count (marked x) (length x)
+room_lesser a x y z g h lt =
+    let e = h.long ∙ g.long in
+    let le = count_le (marked y) (marked z) (length x) h.more in
+    room_less x z e (omega arith)

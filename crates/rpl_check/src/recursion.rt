@@ -312,9 +312,8 @@ impl Block<'_> {
         Ok(true)
     }
 
-    /// Marks rules of a block that don't reach themselves, without a search: the last first, each rule that calls only
-    /// such rules and earlier ones before a character. Most blocks are marked whole.
-    fn mark_clean(&self, clean: &mut [bool])
+    /// Marks rules of a block, the last first: each that calls only marked rules and earlier blocks before a character.
+    fn mark_down(&self, clean: &mut [bool])
         requires block { Stands self.now }
         requires long { IsLong self.now clean.old }
         requires none { (r : ℕ) → marked clean.old r ≡ false }
@@ -328,6 +327,34 @@ impl Block<'_> {
                 clean[(number - self.start) as usize] = true;
             }
         }
+    }
+
+    /// Marks more of them, the first first.
+    fn mark_up(&self, clean: &mut [bool])
+        requires block { Stands self.now }
+        requires long { IsLong self.now clean.old }
+        requires clean { AreClean (table_of self.now) (empty_in self.now) self.now.start clean.old }
+        ensures long { IsLong self.now clean.new }
+        ensures clean { AreClean (table_of self.now) (empty_in self.now) self.now.start clean.new }
+    {
+        for place in 0..self.end - self.start {
+            if !clean[place as usize] && self.calls_clean(self.start + place, clean) {
+                clean[place as usize] = true;
+            }
+        }
+    }
+
+    /// Marks rules of a block that don't reach themselves, without a search. Where its rules call later ones, and where
+    /// they call earlier ones, all of them are marked.
+    fn mark_clean(&self, clean: &mut [bool])
+        requires block { Stands self.now }
+        requires long { IsLong self.now clean.old }
+        requires none { (r : ℕ) → marked clean.old r ≡ false }
+        ensures long { IsLong self.now clean.new }
+        ensures clean { AreClean (table_of self.now) (empty_in self.now) self.now.start clean.new }
+    {
+        self.mark_down(clean);
+        self.mark_up(clean);
     }
 
     /// A list of such marks.

@@ -27,8 +27,7 @@ fn is_new(rules: &Rules, number: u32, fact: Fact, marks: &[bool]) -> bool
     }
 }
 
-/// One round over the rules of a block, and whether it marked a rule. The last comes first, since most rules call
-/// later ones.
+/// One round over the rules of a block, the last first, and whether it marked a rule.
 fn round(rules: &Rules, start: u32, end: u32, fact: Fact, marks: &mut [bool]) -> bool
     requires within { (start ≤ end) × (end ≤ length (rules_of rules.now)) }
     requires long { length marks.old ≡ length (rules_of rules.now) }
@@ -52,14 +51,32 @@ fn round(rules: &Rules, start: u32, end: u32, fact: Fact, marks: &mut [bool]) ->
     found
 }
 
-/// Marks the rules of a block that have the fact: rounds, until one marks nothing.
+/// Marks rules of a block that have the fact, the first first.
+fn mark_up(rules: &Rules, start: u32, end: u32, fact: Fact, marks: &mut [bool])
+    requires within { (start ≤ end) × (end ≤ length (rules_of rules.now)) }
+    requires long { length marks.old ≡ length (rules_of rules.now) }
+    requires under { IsUnder (test_of fact) (bodies_in rules.now) (marked marks.old) }
+    ensures grows { Grows start marks.old marks.new }
+    ensures under { IsUnder (test_of fact) (bodies_in rules.now) (marked marks.new) }
+{
+    for number in start..end {
+        if is_new(rules, number, fact, marks) {
+            marks[number as usize] = true;
+        }
+    }
+}
+
+/// Marks the rules of a block that have the fact: rounds down and up, until one down marks nothing. Three are enough
+/// where all rules call later ones, and where all call earlier ones.
 fn close(rules: &Rules, start: u32, end: u32, fact: Fact, marks: &mut [bool])
     requires within { (start ≤ end) × (end ≤ length (rules_of rules.now)) }
     requires earlier { CallsBefore (bodies_in rules.now) start }
     requires known { AreKnown (test_of fact) (bodies_in rules.now) marks.old start }
     ensures { AreKnown (test_of fact) (bodies_in rules.now) marks.new end }
 {
-    while round(rules, start, end, fact, marks) {}
+    while round(rules, start, end, fact, marks) {
+        mark_up(rules, start, end, fact, marks);
+    }
 }
 
 /// Marks all rules that have the fact.

@@ -3,7 +3,7 @@ use Rattle.std.specs.Prelude.{false}
 use Rattle.rpl_core.specs.inside.Marks.{marked}
 use Rattle.rpl_check.proofs.Clean.{clean_more, open_still}
 use Rattle.rpl_check.specs.inside.Within.{table_of, empty_in}
-use Rattle.rpl_check.proofs.recursion.Block.mark_clean.Goals as goal
+use Rattle.rpl_check.proofs.recursion.Block.mark_down.Goals as goal
 
 pub loop-number-preserved : goal.loop-number-preserved
 loop-number-preserved c = (omega arith, omega arith, λ i lt. c.loop-number.invariant.2 i (omega arith), c.loop-number.invariant.3)

@@ -3,7 +3,7 @@ use Rattle.std.specs.Prelude.{false}
 use Rattle.rpl_core.specs.inside.Marks.{marked}
 use Rattle.rpl_check.specs.inside.Search.{AreClean}
 use Rattle.rpl_check.specs.inside.Within.{table_of, empty_in}
-use Rattle.rpl_check.proofs.recursion.Block.mark_clean.Given as goal
+use Rattle.rpl_check.proofs.recursion.Block.mark_down.Given as goal
 
 abbrev pub invariant-loop-number : goal.invariant-loop-number
 invariant-loop-number l =
