@@ -3,18 +3,4 @@
 #![tactic(auto)]
 
 #[cfg(test)]
-mod captures;
-#[cfg(test)]
-mod codefile;
-#[cfg(test)]
-mod encode;
-#[cfg(test)]
-mod listing;
-#[cfg(test)]
-mod machine;
-#[cfg(test)]
-mod trace;
-#[cfg(test)]
-mod tree;
-#[cfg(test)]
-mod unittest;
+mod cases;

@@ -7,6 +7,53 @@ use rpl_trace::{Trace, TraceFault, trace};
 use std::alloc::Global;
 use std::test::Fail;
 
+/// What is traced, and how many evaluations there may be; and then the lines that are printed, and where the match ends.
+const TRACES: &str = r#"predicate 5
+0 capture * 1 2
+1 seq 1 2
+2 set 61 1 2
+2 not 2 2
+3 set 62 2 fail
+Some(1)
+
+predicate 4
+too long
+
+turns 7
+0 capture * 1 3
+1 many 1 3
+2 turn 1 2
+3 set 61 1 2
+2 turn 2 3
+3 set 61 2 3
+2 set 61 3 fail
+Some(2)
+
+turns 6
+too long
+
+halt 10000
+0 capture * 1 halt
+1 seq 1 halt
+2 set 61 1 2
+2 call halt 2 halt
+3 halt 2 halt
+Some(1)
+
+look-behind 10000
+0 capture * 1 3
+1 seq 1 3
+2 set e9 1 3
+2 behind 1 1 3 3
+3 length 1 3 3
+4 choice 1 3
+5 set 78 1 fail
+5 choice 1 3
+6 set 79 1 fail
+6 set e9 1 3
+2 note "\"" 3 3
+Some(2)"#;
+
 fn letter(alloc: Global, c: char) -> Result<Peg, Fail> {
     Ok(Peg::Set(Set::range(alloc, c, c)?))
 }
@@ -48,22 +95,6 @@ fn traced(
     Ok(trace(alloc, &rules, &goal, Text::new(text), limit))
 }
 
-/// Whether this text was printed, and the match ended at this place.
-fn is_printed(found: &Result<Trace, TraceFault>, text: &str, end: Option<usize>) -> bool {
-    match found {
-        Ok(trace) => trace.printed.as_str() == text && trace.end == end,
-        Err(_) => false,
-    }
-}
-
-fn is_too_long(found: &Result<Trace, TraceFault>) -> bool {
-    match found {
-        Err(TraceFault::TraceTooLong) => true,
-        Err(TraceFault::NoMemory) => false,
-        Ok(_) => false,
-    }
-}
-
 /// `{"a" !"b"}` on `ac`
 fn predicate(alloc: Global, limit: u32) -> Result<Result<Trace, TraceFault>, Fail> {
     let no_b = Peg::Not(boxed(alloc, letter(alloc, 'b')?)?);
@@ -75,14 +106,6 @@ fn predicate(alloc: Global, limit: u32) -> Result<Result<Trace, TraceFault>, Fai
         "ac",
         limit,
     )
-}
-
-#[test]
-fn takes_five(rt: HostRuntime) -> Result<(), Fail> {
-    let text = "0 capture * 1 2\n1 seq 1 2\n2 set 61 1 2\n2 not 2 2\n3 set 62 2 fail\n";
-    assert!(rt; is_printed(&predicate(rt.alloc(), 5)?, text, Some(1)));
-    assert!(rt; is_too_long(&predicate(rt.alloc(), 4)?));
-    Ok(())
 }
 
 /// `"a"*` on `aa`
@@ -97,19 +120,8 @@ fn turns(alloc: Global, limit: u32) -> Result<Result<Trace, TraceFault>, Fail> {
     )
 }
 
-#[test]
-fn last_body_stands_alone(rt: HostRuntime) -> Result<(), Fail> {
-    let text =
-        "0 capture * 1 3\n1 many 1 3\n2 turn 1 2\n3 set 61 1 2\n2 turn 2 3\n3 set 61 2 3\n2 set 61 3 fail\n";
-    assert!(rt; is_printed(&turns(rt.alloc(), 7)?, text, Some(2)));
-    assert!(rt; is_too_long(&turns(rt.alloc(), 6)?));
-    Ok(())
-}
-
 /// `{"a" halt}` on `ab`
-#[test]
-fn halts(rt: HostRuntime) -> Result<(), Fail> {
-    let alloc = rt.alloc();
+fn halts(alloc: Global, limit: u32) -> Result<Result<Trace, TraceFault>, Fail> {
     let mut rules = Rules::new(alloc);
     rules.push(Rule {
         name: Chars::from_str(alloc, "halt")?,
@@ -117,17 +129,11 @@ fn halts(rt: HostRuntime) -> Result<(), Fail> {
         body: Peg::Halt,
     })?;
     let both = Peg::Seq(two(alloc, letter(alloc, 'a')?, Peg::Call(0))?);
-    let found = traced(alloc, rules, captured(alloc, both)?, "ab", 10_000)?;
-    let text =
-        "0 capture * 1 halt\n1 seq 1 halt\n2 set 61 1 2\n2 call halt 2 halt\n3 halt 2 halt\n";
-    assert!(rt; is_printed(&found, text, Some(1)));
-    Ok(())
+    traced(alloc, rules, captured(alloc, both)?, "ab", limit)
 }
 
 /// `{"é" <{"x" / "y" / "é"} message:"\""}` on `é`
-#[test]
-fn looks_back(rt: HostRuntime) -> Result<(), Fail> {
-    let alloc = rt.alloc();
+fn looks_back(alloc: Global, limit: u32) -> Result<Result<Trace, TraceFault>, Fail> {
     let ways = three(
         alloc,
         letter(alloc, 'x')?,
@@ -141,12 +147,7 @@ fn looks_back(rt: HostRuntime) -> Result<(), Fail> {
     };
     let note = Peg::Note(Chars::from_str(alloc, "\"")?);
     let all = Peg::Seq(three(alloc, letter(alloc, 'é')?, behind, note)?);
-    let found = traced(alloc, Rules::new(alloc), captured(alloc, all)?, "é", 10_000)?;
-    let text =
-        "0 capture * 1 3\n1 seq 1 3\n2 set e9 1 3\n2 behind 1 1 3 3\n3 length 1 3 3\n4 choice 1 3\n\
-        5 set 78 1 fail\n5 choice 1 3\n6 set 79 1 fail\n6 set e9 1 3\n2 note \"\\\"\" 3 3\n";
-    assert!(rt; is_printed(&found, text, Some(2)));
-    Ok(())
+    traced(alloc, Rules::new(alloc), captured(alloc, all)?, "é", limit)
 }
 
 /// `g = {"a" g} / "b"`, which goes one deeper for each `a`
@@ -162,15 +163,46 @@ fn nested(alloc: Global) -> Result<Rules, Fail> {
 }
 
 /// As deep as the limit of the command allows: four evaluations for each `a`.
-#[test]
-fn needs_no_stack(rt: HostRuntime) -> Result<(), Fail> {
-    let alloc = rt.alloc();
+fn is_deep_traced(alloc: Global) -> Result<bool, Fail> {
     let mut text = String::new(alloc);
     for _ in 0..2_498 {
         text.push('a')?;
     }
     text.push('b')?;
     let found = traced(alloc, nested(alloc)?, Peg::Call(0), &text, 10_000)?;
-    assert!(rt; found.is_ok());
+    Ok(found.is_ok())
+}
+
+/// The trace of the pattern of this name.
+fn found(alloc: Global, name: &str, limit: u32) -> Result<Result<Trace, TraceFault>, Fail> {
+    match name {
+        "predicate" => predicate(alloc, limit),
+        "turns" => turns(alloc, limit),
+        "halt" => halts(alloc, limit),
+        "look-behind" => looks_back(alloc, limit),
+        _ => Err("a pattern")?,
+    }
+}
+
+/// Is the trace of a section printed so?
+fn is_printed_so(alloc: Global, section: &str) -> Result<bool, Fail> {
+    let (head, want) = section.split_once('\n').ok_or("a trace")?;
+    let (name, limit) = head.split_once(' ').ok_or("a limit")?;
+    match found(alloc, name, limit.parse::<u32>()?)? {
+        Ok(Trace { printed, end }) => {
+            let said = format!(in alloc; "{}{end:?}", printed.as_str())?;
+            Ok(said.as_str() == want)
+        }
+        Err(TraceFault::TraceTooLong) => Ok(want == "too long"),
+        Err(TraceFault::NoMemory) => Err("memory")?,
+    }
+}
+
+#[test]
+fn traces_are_printed_as_worked_by_hand(rt: HostRuntime) -> Result<(), Fail> {
+    for section in TRACES.split("\n\n") {
+        assert!(rt; is_printed_so(rt.alloc(), section)?, "{section}");
+    }
+    assert!(rt; is_deep_traced(rt.alloc())?);
     Ok(())
 }

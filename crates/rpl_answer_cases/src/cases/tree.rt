@@ -1,5 +1,5 @@
 // Trees worked by hand: each node stands before those below it.
-use crate::captures::captures_of;
+use crate::cases::captures::captures_of;
 use rpl_tree::{Forest, Node, build};
 use std::alloc::Global;
 use std::test::Fail;
@@ -25,23 +25,21 @@ fn node(alloc: Global, forest: &Forest, number: usize) -> Result<String, Fail> {
     Ok(format!(in alloc; "{number}: {label} {note:?} {start}-{end} {below}")?)
 }
 
-#[test]
-fn nodes_come_before_those_below_them(rt: HostRuntime) -> Result<(), Fail> {
-    let forest = build(rt.alloc(), &captures_of(rt.alloc(), NESTED)?)?;
-    assert_eq!(rt; forest.len(), 3);
-    for (number, row) in NODES.split('\n').enumerate() {
-        assert_eq!(rt; node(rt.alloc(), &forest, number)?.as_str(), row);
-    }
-    assert!(rt; forest.get(3).is_none());
-    Ok(())
+/// Has a forest that is filled again just its new nodes?
+fn is_filled_again(alloc: Global) -> Result<bool, Fail> {
+    let mut forest = Forest::new(alloc);
+    forest.fill(&captures_of(alloc, NESTED)?)?;
+    forest.fill(&captures_of(alloc, "1@0,@1")?)?;
+    Ok(forest.len() == 1 && node(alloc, &forest, 0)?.as_str() == "0: 1 None 0-1 0")
 }
 
 #[test]
-fn a_forest_is_filled_again(rt: HostRuntime) -> Result<(), Fail> {
-    let mut forest = Forest::new(rt.alloc());
-    forest.fill(&captures_of(rt.alloc(), NESTED)?)?;
-    forest.fill(&captures_of(rt.alloc(), "1@0,@1")?)?;
-    assert_eq!(rt; forest.len(), 1);
-    assert_eq!(rt; node(rt.alloc(), &forest, 0)?.as_str(), "0: 1 None 0-1 0");
+fn nodes_come_before_those_below_them(rt: HostRuntime) -> Result<(), Fail> {
+    let forest = build(rt.alloc(), &captures_of(rt.alloc(), NESTED)?)?;
+    for (number, row) in NODES.split('\n').enumerate() {
+        assert_eq!(rt; node(rt.alloc(), &forest, number)?.as_str(), row);
+    }
+    assert!(rt; forest.len() == 3 && forest.get(3).is_none());
+    assert!(rt; is_filled_again(rt.alloc())?);
     Ok(())
 }

@@ -1,7 +1,7 @@
 // One program, whose steps were counted by hand.
 ghost use Rattle.std.specs.Prelude.{◌≡◌, ◌<◌};
 
-use crate::captures::captures_of;
+use crate::cases::captures::captures_of;
 use rpl_classes::Set;
 use rpl_core::{Instr, Instrs, Labels, NoMemory, Program, Sets};
 use rpl_machine::{Answer, RunFault, Scratch, Steps, run};
@@ -47,12 +47,13 @@ fn parts(alloc: Global) -> Result<(Instrs, Sets, Labels), NoMemory> {
     Ok((code, sets, labels))
 }
 
-fn answer_on<L: Ledger>(
+/// What the machine answers, where its steps are counted on the ledger of the blank.
+fn counted<L: Ledger>(
+    blank: Blank,
     program: &Program,
     line: Text<'_>,
     budget: u64,
     scratch: &mut Scratch,
-    blank: Blank,
 ) -> Result<Answer, RunFault>
     requires name { blank.name ≡ L.name }
     requires parts { blank.parts ≡ L.parts }
@@ -62,13 +63,14 @@ fn answer_on<L: Ledger>(
     run(program, line, budget, scratch, &mut steps)
 }
 
+/// What the machine answers.
 fn answer(
     program: &Program,
     line: &str,
     budget: u64,
     scratch: &mut Scratch,
 ) -> Result<Answer, RunFault> {
-    answer_on::<Brand>(program, Text::new(line), budget, scratch, Blank::new(1))
+    counted::<Brand>(Blank::new(1), program, Text::new(line), budget, scratch)
 }
 
 /// Does the run of a row end so?

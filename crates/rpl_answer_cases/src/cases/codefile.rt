@@ -1,4 +1,4 @@
-// Files that were written out by hand from the format.
+// Files that were written out by hand from the format. Each character stands for the byte of its number.
 use rpl_classes::Set;
 use rpl_codefile::{Bytes, CodeFault, read_code, write_code};
 use rpl_core::{Instr, Instrs, Labels, NoMemory, Program, Sets};
@@ -7,24 +7,19 @@ use std::alloc::Global;
 use std::test::Fail;
 
 /// The code of `"ab"`: `open *`, `set a`, `set b`, `close`, `finish`.
-const LETTERS: [u8; 70] = [
-    0x52, 0x50, 0x4c, 0x43, 0x4f, 0x44, 0x45, 0x31, 0, 0, 0, 2, 0, 0, 0, 1, 0, 0, 0, 0x61, 0, 0, 0,
-    0x61, 0, 0, 0, 1, 0, 0, 0, 0x62, 0, 0, 0, 0x62, 0, 0, 0, 1, 0, 0, 0, 0, 0, 0, 0, 1, 0x2a, 0, 0,
-    0, 5, 0x0d, 0, 0, 0, 0, 0x01, 0, 0, 0, 0, 0x01, 0, 0, 0, 1, 0x0e, 0x10,
-];
+const LETTERS: &str =
+    "RPLCODE1\0\0\0\u{2}\0\0\0\u{1}\0\0\0a\0\0\0a\0\0\0\u{1}\0\0\0b\0\0\0b\0\0\0\u{1}\0\0\0\0\0\0\0\u{1}*\
+    \0\0\0\u{5}\r\0\0\0\0\u{1}\0\0\0\0\u{1}\0\0\0\u{1}\u{e}\u{10}";
 
 /// `open *`, `choice 3`, `commit 1`, `close`, `finish`, which turns for ever and is safe.
-const TURNS: [u8; 46] = [
-    0x52, 0x50, 0x4c, 0x43, 0x4f, 0x44, 0x45, 0x31, 0, 0, 0, 0, 0, 0, 0, 1, 0, 0, 0, 0, 0, 0, 0, 1,
-    0x2a, 0, 0, 0, 5, 0x0d, 0, 0, 0, 0, 0x04, 0, 0, 0, 3, 0x05, 0, 0, 0, 1, 0x0e, 0x10,
-];
+const TURNS: &str =
+    "RPLCODE1\0\0\0\0\0\0\0\u{1}\0\0\0\0\0\0\0\u{1}*\0\0\0\u{5}\r\0\0\0\0\u{4}\0\0\0\u{3}\u{5}\0\0\0\u{1}\
+    \u{e}\u{10}";
 
 /// `open *`, `choice 5`, `set a`, `call 0`, `commit 5`, `close`, `finish`, which calls the first address.
-const CALLS: [u8; 68] = [
-    0x52, 0x50, 0x4c, 0x43, 0x4f, 0x44, 0x45, 0x31, 0, 0, 0, 1, 0, 0, 0, 1, 0, 0, 0, 0x61, 0, 0, 0,
-    0x61, 0, 0, 0, 1, 0, 0, 0, 0, 0, 0, 0, 1, 0x2a, 0, 0, 0, 7, 0x0d, 0, 0, 0, 0, 0x04, 0, 0, 0, 5,
-    0x01, 0, 0, 0, 0, 0x0b, 0, 0, 0, 0, 0x05, 0, 0, 0, 5, 0x0e, 0x10,
-];
+const CALLS: &str =
+    "RPLCODE1\0\0\0\u{1}\0\0\0\u{1}\0\0\0a\0\0\0a\0\0\0\u{1}\0\0\0\0\0\0\0\u{1}*\0\0\0\u{7}\r\0\0\0\0\
+    \u{4}\0\0\0\u{5}\u{1}\0\0\0\0\u{b}\0\0\0\0\u{5}\0\0\0\u{5}\u{e}\u{10}";
 
 /// A place among the bytes of `LETTERS`, another byte there, and behind `=>` why the file is refused.
 const CHANGES: &str = "\
@@ -79,26 +74,37 @@ fn again(alloc: Global, bytes: &[u8]) -> Result<Result<Bytes, CodeFault>, NoMemo
     }
 }
 
-#[test]
-fn code_has_the_bytes_that_the_format_says(rt: HostRuntime) -> Result<(), Fail> {
-    let alloc = rt.alloc();
+/// Has the code of `LETTERS` its bytes?
+fn is_written_so(alloc: Global) -> Result<bool, Fail> {
     let program = letters(alloc)?;
     let code = program.code();
-    assert!(rt; code.len() == 5);
+    if code.len() != 5 {
+        return Ok(false);
+    }
     let written = write_code(alloc, &program)?;
-    assert_eq!(rt; written.as_slice(), LETTERS.as_slice());
-    for file in [LETTERS.as_slice(), TURNS.as_slice()] {
-        match again(alloc, file)? {
-            Ok(written) => assert_eq!(rt; written.as_slice(), file),
-            Err(_) => Err("not read")?,
-        }
+    Ok(written.as_slice() == LETTERS.as_bytes())
+}
+
+/// Has what is read of a file just its bytes?
+fn is_read_again(alloc: Global, file: &str) -> Result<bool, Fail> {
+    match again(alloc, file.as_bytes())? {
+        Ok(written) => Ok(written.as_slice() == file.as_bytes()),
+        Err(_) => Ok(false),
+    }
+}
+
+#[test]
+fn code_has_the_bytes_that_the_format_says(rt: HostRuntime) -> Result<(), Fail> {
+    assert!(rt; is_written_so(rt.alloc())?);
+    for file in [LETTERS, TURNS] {
+        assert!(rt; is_read_again(rt.alloc(), file)?);
     }
     Ok(())
 }
 
 /// Why the bytes of `LETTERS` are refused with another byte at a place.
 fn refusal(alloc: Global, place: usize, byte: u8) -> Result<String, Fail> {
-    let mut bytes = Vec::from_slice(alloc, &LETTERS)?;
+    let mut bytes = Vec::from_slice(alloc, LETTERS.as_bytes())?;
     if let Some(changed) = bytes.get_mut(place) {
         *changed = byte;
     }
@@ -119,34 +125,49 @@ fn is_refused_so(alloc: Global, row: &str) -> Result<bool, Fail> {
 #[test]
 fn other_bytes_are_refused(rt: HostRuntime) -> Result<(), Fail> {
     let alloc = rt.alloc();
-    assert!(rt; matches!(read_code(alloc, &CALLS), Err(CodeFault::NotSafe)));
+    assert!(rt; matches!(read_code(alloc, CALLS.as_bytes()), Err(CodeFault::NotSafe)));
     for row in CHANGES.split('\n') {
         assert!(rt; is_refused_so(alloc, row)?, "{row}");
     }
-    let mut longer = Vec::from_slice(alloc, &LETTERS)?;
+    let mut longer = Vec::from_slice(alloc, LETTERS.as_bytes())?;
     longer.push(0x10)?;
     assert!(rt; matches!(read_code(alloc, &longer), Err(CodeFault::NotCode)));
     Ok(())
 }
 
-/// Each truncation of a file, and each change of one byte: it is refused, or its code has just this spelling.
+/// Are all truncations of a file refused?
+fn are_cuts_refused(alloc: Global, file: &[u8]) -> bool {
+    for end in 0..file.len() {
+        if !matches!(read_code(alloc, &file[..end]), Err(CodeFault::NotCode)) {
+            return false;
+        }
+    }
+    true
+}
+
+/// Is each file with another byte at this place refused, or does its code have just this spelling?
+fn are_changes_told(alloc: Global, file: &[u8], place: usize) -> Result<bool, Fail> {
+    let mut bytes = Vec::from_slice(alloc, file)?;
+    for byte in 0..=255u8 {
+        if let Some(changed) = bytes.get_mut(place) {
+            *changed = byte;
+        }
+        if let Ok(written) = again(alloc, &bytes)? {
+            if written.as_slice() != bytes.as_slice() {
+                return Ok(false);
+            }
+        }
+    }
+    Ok(true)
+}
+
 #[test]
 fn a_changed_file_is_refused_or_says_what_it_spells(rt: HostRuntime) -> Result<(), Fail> {
-    let alloc = rt.alloc();
-    for file in [LETTERS.as_slice(), TURNS.as_slice(), CALLS.as_slice()] {
-        for end in 0..file.len() {
-            assert!(rt; matches!(read_code(alloc, &file[..end]), Err(CodeFault::NotCode)));
-        }
-        let mut bytes = Vec::from_slice(alloc, file)?;
-        for place in 0..bytes.len() {
-            let was = bytes[place];
-            for byte in 0..=255u8 {
-                bytes[place] = byte;
-                if let Ok(written) = again(alloc, &bytes)? {
-                    assert!(rt; written.as_slice() == bytes.as_slice());
-                }
-            }
-            bytes[place] = was;
+    for file in [LETTERS, TURNS, CALLS] {
+        let file = file.as_bytes();
+        assert!(rt; are_cuts_refused(rt.alloc(), file));
+        for place in 0..file.len() {
+            assert!(rt; are_changes_told(rt.alloc(), file, place)?, "{place}");
         }
     }
     Ok(())

@@ -53,26 +53,22 @@ fn program(alloc: Global) -> Result<Option<Program>, NoMemory> {
     }
 }
 
-#[test]
-fn each_instruction_has_its_text(rt: HostRuntime) -> Result<(), Fail> {
-    match program(rt.alloc())? {
-        Some(program) => {
-            let text = print_program(rt.alloc(), &program)?;
-            assert!(rt; text.as_str() == TEXT);
-        }
-        None => assert!(rt; false, "the numbers are in range"),
-    }
-    Ok(())
+/// A line for each range of a class, and one for a class of none.
+fn classes(alloc: Global) -> Result<String, NoMemory> {
+    let mut text = String::new(alloc);
+    push_class(
+        &mut text,
+        &Set::from_ranges(alloc, &[(0x30, 0x39), (0x5f, 0x5f)])?,
+    )?;
+    push_class(&mut text, &Set::empty(alloc)?)?;
+    Ok(text)
 }
 
 #[test]
-fn a_class_has_a_line_for_each_range(rt: HostRuntime) -> Result<(), Fail> {
-    let mut text = String::new(rt.alloc());
-    push_class(
-        &mut text,
-        &Set::from_ranges(rt.alloc(), &[(0x30, 0x39), (0x5f, 0x5f)])?,
-    )?;
-    push_class(&mut text, &Set::empty(rt.alloc())?)?;
-    assert_eq!(rt; text.as_str(), "30-39\n5f\nnone\n");
+fn instructions_and_ranges_have_their_texts(rt: HostRuntime) -> Result<(), Fail> {
+    let program = program(rt.alloc())?.ok_or("the numbers are in range")?;
+    let text = print_program(rt.alloc(), &program)?;
+    assert!(rt; text.as_str() == TEXT);
+    assert!(rt; classes(rt.alloc())?.as_str() == "30-39\n5f\nnone\n");
     Ok(())
 }

@@ -1,5 +1,5 @@
 // Answers worked by hand, and one that serde_json reads back.
-use crate::captures::{captures_of, unfolded};
+use crate::cases::captures::{captures_of, unfolded};
 use rpl_core::{Caught, Instrs, Labels, NoMemory, Program, Sets};
 use rpl_encode::{AnswerText, EncodeFault, Style, encode};
 use rpl_text::Chars;
@@ -94,6 +94,14 @@ fn is_printed_so(
     Ok(answer.as_slice() == want.as_bytes())
 }
 
+/// Is a line without a match printed as its row says?
+fn is_none_printed_so(alloc: Global, program: &Program, row: &str) -> Result<bool, Fail> {
+    let row = unfolded(alloc, row)?;
+    let (style, want) = halves(&row)?;
+    let printed = encode(alloc, style_of(style)?, "abc", None, program)?;
+    Ok(printed.as_slice() == want.as_bytes())
+}
+
 #[test]
 fn matches_have_the_texts_that_were_worked_by_hand(rt: HostRuntime) -> Result<(), Fail> {
     let program = labelled(rt.alloc())?;
@@ -106,20 +114,6 @@ fn matches_have_the_texts_that_were_worked_by_hand(rt: HostRuntime) -> Result<()
             );
         }
     }
-    Ok(())
-}
-
-/// Is a line without a match printed as its row says?
-fn is_none_printed_so(alloc: Global, program: &Program, row: &str) -> Result<bool, Fail> {
-    let row = unfolded(alloc, row)?;
-    let (style, want) = halves(&row)?;
-    let printed = encode(alloc, style_of(style)?, "abc", None, program)?;
-    Ok(printed.as_slice() == want.as_bytes())
-}
-
-#[test]
-fn a_line_without_a_match_prints_nothing_or_false(rt: HostRuntime) -> Result<(), Fail> {
-    let program = labelled(rt.alloc())?;
     for row in NO_MATCH.split('\n') {
         assert!(rt; is_none_printed_so(rt.alloc(), &program, row)?, "{row}");
     }
@@ -138,20 +132,26 @@ fn wide(alloc: Global, count: usize) -> Result<Vec<Caught>, NoMemory> {
     Ok(caught)
 }
 
+/// How long the text of all those nodes is; none where it is too long.
+fn length(alloc: Global, line: &str, count: usize) -> Result<Option<usize>, Fail> {
+    let program = labelled(alloc)?;
+    let mut answer = AnswerText::new(alloc);
+    let forest = build(alloc, &wide(alloc, count)?)?;
+    match answer.fill(Style::Subs, line, Some(&forest), &program) {
+        Ok(()) => Ok(Some(answer.as_slice().len())),
+        Err(EncodeFault::AnswerTooLong) => Ok(None),
+        Err(EncodeFault::NoMemory) => Err("memory")?,
+    }
+}
+
 #[test]
 fn an_answer_has_at_most_64_mebibytes(rt: HostRuntime) -> Result<(), Fail> {
-    let program = labelled(rt.alloc())?;
     let mut line = String::new(rt.alloc());
     for _ in 0..8_191 {
         line.push('a')?;
     }
-    let mut answer = AnswerText::new(rt.alloc());
-    let forest = build(rt.alloc(), &wide(rt.alloc(), 8_192)?)?;
-    answer.fill(Style::Subs, &line, Some(&forest), &program)?;
-    assert_eq!(rt; answer.as_slice().len(), 67_108_864);
-    let forest = build(rt.alloc(), &wide(rt.alloc(), 8_193)?)?;
-    let refused = answer.fill(Style::Subs, &line, Some(&forest), &program);
-    assert!(rt; refused == Err(EncodeFault::AnswerTooLong));
+    assert!(rt; length(rt.alloc(), &line, 8_192)? == Some(67_108_864));
+    assert!(rt; length(rt.alloc(), &line, 8_193)?.is_none());
     Ok(())
 }
 
@@ -171,12 +171,17 @@ fn nested(alloc: Global, depth: usize) -> Result<Vec<Caught>, NoMemory> {
 
 /// The number of a member of an object.
 fn number_of(object: &Value, key: &str) -> Option<u64> {
-    object.get(key).and_then(Value::as_u64)
+    object.get(key)?.as_u64()
 }
 
 /// The string of a member of an object.
 fn string_of<'a>(object: &'a Value, key: &str) -> Option<&'a str> {
-    object.get(key).and_then(Value::as_str)
+    object.get(key)?.as_str()
+}
+
+/// The array of a member of an object.
+fn array_of<'a>(object: &'a Value, key: &str) -> Option<&'a Vec<Value>> {
+    object.get(key)?.as_array()
 }
 
 /// The line of so many pairs of parentheses, one inside the other.
@@ -211,7 +216,7 @@ fn serde_json_reads_back_the_object_that_was_meant(rt: HostRuntime) -> Result<()
     let mut object = &value;
     for outer in 0..DEPTH {
         assert!(rt; is_object(object, outer), "{outer}");
-        match object.get("subs").and_then(Value::as_array) {
+        match array_of(object, "subs") {
             Some(subs) => {
                 assert!(rt; outer + 1 < DEPTH && subs.len() == 1);
                 object = &subs[0];

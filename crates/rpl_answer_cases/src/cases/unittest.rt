@@ -27,6 +27,13 @@ const BAD: &str = r#"-- test p accepts
 -- test p.q accepts "a"
 -- test local accepts "a""#;
 
+/// The lines of the second and the third test of the file, and of the counts.
+const LINES: &str = "\
+t.rpl:2: p accepts \"\\\"b\"
+t.rpl:3: q includes n.r \"x\"
+t.rpl: 2 tests, 1 failed
+";
+
 /// A test as the table has it.
 fn described(alloc: Global, test: &Test) -> Result<String, AllocError> {
     let part = match &test.part {
@@ -37,26 +44,11 @@ fn described(alloc: Global, test: &Test) -> Result<String, AllocError> {
     format!(in alloc; "{} {name} {:?} {part} <{text}>", test.line, test.verb)
 }
 
-#[test]
-fn tests_of_a_file(rt: HostRuntime) -> Result<(), Fail> {
-    let tests = read_tests(rt.alloc(), FILE)?;
-    assert_eq!(rt; tests.len(), 5);
-    for (index, row) in TESTS.split('\n').enumerate() {
-        let test = tests.get(index).ok_or("a test")?;
-        assert_eq!(rt; described(rt.alloc(), test)?.as_str(), row);
-    }
-    Ok(())
-}
-
-#[test]
-fn bad_tests(rt: HostRuntime) -> Result<(), Fail> {
-    for line in BAD.split('\n') {
-        let mut text = String::from_str(rt.alloc(), "-- test p rejects \"a\"\n\n")?;
-        text.push_str(line)?;
-        let fault = read_tests(rt.alloc(), &text).err();
-        assert_eq!(rt; fault, Some(TestFault::BadTest { line: 3 }), "{line}");
-    }
-    Ok(())
+/// Is a comment, in the third line of a file, told as one that is no test?
+fn is_told(alloc: Global, line: &str) -> Result<bool, AllocError> {
+    let mut text = String::from_str(alloc, "-- test p rejects \"a\"\n\n")?;
+    text.push_str(line)?;
+    Ok(read_tests(alloc, &text).err() == Some(TestFault::BadTest { line: 3 }))
 }
 
 /// Is a test with this verb met where nothing was found?
@@ -72,13 +64,14 @@ fn is_met(alloc: Global, verb: Verb) -> Result<bool, AllocError> {
     Ok(judge(&test, "", None, &program))
 }
 
-#[test]
-fn nothing_was_found(rt: HostRuntime) -> Result<(), Fail> {
-    assert!(rt; !is_met(rt.alloc(), Verb::Accepts)?);
-    assert!(rt; is_met(rt.alloc(), Verb::Rejects)?);
-    assert!(rt; !is_met(rt.alloc(), Verb::Includes)?);
-    assert!(rt; !is_met(rt.alloc(), Verb::Excludes)?);
-    Ok(())
+/// Is just the test that rejects met where nothing was found?
+fn is_only_rejecting_met(alloc: Global) -> Result<bool, AllocError> {
+    Ok(
+        is_met(alloc, Verb::Rejects)?
+            && !is_met(alloc, Verb::Accepts)?
+            && !is_met(alloc, Verb::Includes)?
+            && !is_met(alloc, Verb::Excludes)?,
+    )
 }
 
 /// The line of a test of the file that isn't met.
@@ -88,13 +81,25 @@ fn failed(alloc: Global, index: usize) -> Result<String, Fail> {
     Ok(failed_line(alloc, "t.rpl", test)?)
 }
 
+/// The lines of two tests that aren't met, and of the counts.
+fn lines(alloc: Global) -> Result<String, Fail> {
+    let (first, second) = (failed(alloc, 1)?, failed(alloc, 2)?);
+    let counts = counts_line(alloc, "t.rpl", 2, 1)?;
+    Ok(format!(in alloc; "{first}{second}{counts}")?)
+}
+
 #[test]
-fn printed_lines(rt: HostRuntime) -> Result<(), Fail> {
-    let line = failed(rt.alloc(), 1)?;
-    assert_eq!(rt; line.as_str(), "t.rpl:2: p accepts \"\\\"b\"\n");
-    let line = failed(rt.alloc(), 2)?;
-    assert_eq!(rt; line.as_str(), "t.rpl:3: q includes n.r \"x\"\n");
-    let counts = counts_line(rt.alloc(), "t.rpl", 2, 1)?;
-    assert_eq!(rt; counts.as_str(), "t.rpl: 2 tests, 1 failed\n");
+fn tests_of_a_file(rt: HostRuntime) -> Result<(), Fail> {
+    let tests = read_tests(rt.alloc(), FILE)?;
+    for (index, row) in TESTS.split('\n').enumerate() {
+        let test = tests.get(index).ok_or("a test")?;
+        assert_eq!(rt; described(rt.alloc(), test)?.as_str(), row);
+    }
+    assert_eq!(rt; tests.len(), 5);
+    for line in BAD.split('\n') {
+        assert!(rt; is_told(rt.alloc(), line)?, "{line}");
+    }
+    assert!(rt; is_only_rejecting_met(rt.alloc())?);
+    assert_eq!(rt; lines(rt.alloc())?.as_str(), LINES);
     Ok(())
 }

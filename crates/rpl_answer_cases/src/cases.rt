@@ -1,0 +1,8 @@
+mod captures;
+mod codefile;
+mod encode;
+mod listing;
+mod machine;
+mod trace;
+mod tree;
+mod unittest;
