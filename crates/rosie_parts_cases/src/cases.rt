@@ -1,7 +1,12 @@
 mod code;
 mod faults;
+mod files;
+mod packages;
 mod prepare;
 mod rows;
+mod sample;
+mod session;
 mod show;
+mod streams;
 mod word_rows;
 mod words;

@@ -8,8 +8,6 @@
 mod line;
 mod run;
 mod sample;
-#[cfg(test)]
-mod tests;
 mod text;
 
 pub use rpl_text::NoMemory;

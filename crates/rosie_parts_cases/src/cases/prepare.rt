@@ -1,26 +1,20 @@
-// Each call over a tree in memory: what is ready, and the line of each kind of fault.
-use crate::cases::rows::unfolded;
-use rosie_io::{Bytes, SureFiles, Tree, TreeFile};
+// What roots and patterns come to over a tree in memory: that they are ready, or the line of a fault.
+use crate::cases::files::{folders_of, roots_of, tree_of};
+use rosie_io::SureFiles;
 use rosie_prepare::{Unready, Wanted, load_set, prepare, prepare_rules};
-use rpl_package::{LibPath, Root, Roots};
-use rpl_text::Chars;
 use std::alloc::{AllocError, Global};
-use std::test::Fail;
 
-static FILES: [(&str, &[u8]); 4] = [
-    ("./a.rpl", b"import b\nx = \"1\"\n"),
-    ("./b.rpl", b"import a\ny = \"2\"\n"),
-    (
-        "./num.rpl",
-        b"package num\nlocal alias d = [:digit:]\nint = d+\n",
-    ),
-    ("./bin.rpl", b"x = \"\xff\"\n"),
-];
+/// The files.
+const FILES: &str = "\
+./a.rpl import b¶x = \"1\"¶
+./b.rpl import a¶y = \"2\"¶
+./num.rpl package num¶local alias d = [:digit:]¶int = d+¶
+./bin.rpl x = \"\u{ff}\"¶";
 
 /// Roots and patterns, and behind `=>` the line that comes of them, or that they are ready. A root stands before `|`, and an
-/// `@` before its path; a `¶` stands for a line feed. They are worked by hand, and a second reading of the rules says the
-/// same of each. These are ready or refused for a root.
-const ROOTS: &str = r#"@./num.rpl | num.int => ready
+/// `@` before its path. They are worked by hand, and a second reading of the rules says the same of each.
+pub(crate) const PREPARED: &str = r#"pattern: over a root, for which some are refused
+@./num.rpl | num.int => ready
 x = "a" r = x* | {"x" r} => ready
 grammar x = {x "a"} / "a" end | x => rosie: (rpl 1):8: left recursion in x¶
 rpl 2.0 | x => rosie: (rpl 1):0: version¶
@@ -34,10 +28,10 @@ y = "a" r = !{halt "b"} | y => rosie: (rpl 1):8: halt under a predicate in r¶
 y = "a" r = {"b"?}* | y => rosie: (rpl 1):8: empty loop in r¶
 y = "a"  r = {"b" <{"c"*}} | y => rosie: (rpl 1):9: look-behind in r: repetition¶
 y = "a" r = {"b"?}* | q => rosie: (pattern):0: unknown name: q¶
-y = "a" r = {"b"?}* | {"ab"{255}}{255} => rosie: (pattern):0: too large: *¶"#;
+y = "a" r = {"b"?}* | {"ab"{255}}{255} => rosie: (pattern):0: too large: *¶
 
-/// These have no root.
-const PATTERNS: &str = r#""ab" => ready
+pattern: without a root
+"ab" => ready
 {"a"*}* => rosie: (pattern):0: empty loop in *¶
 {"a" <"a"*} => rosie: (pattern):0: look-behind in *: repetition¶
 a.x => rosie: ./b.rpl:7: import cycle: a¶
@@ -56,43 +50,25 @@ foo:"a" => rosie: (pattern):0: unknown macro: foo¶
 [z-a] => rosie: (pattern):2: bad range¶
 [] => rosie: (pattern):1: bad set¶
 none.x => rosie: (pattern):0: import not found: none¶
-message:[a] => rosie: (pattern):0: bad arguments: message¶"#;
+message:[a] => rosie: (pattern):0: bad arguments: message¶
 
-/// These are looked for everywhere.
-const SOUGHT: &str = r#"num.int => ready
+sought: patterns that are looked for everywhere
+num.int => ready
 "x"* => rosie: (pattern):0: empty loop in *¶
-halt => rosie: (pattern):0: halt under a predicate in *¶"#;
+halt => rosie: (pattern):0: halt under a predicate in *¶
 
-fn push_file(alloc: Global, tree: &mut Tree, path: &str, bytes: &[u8]) -> Result<(), AllocError> {
-    let path = Bytes::from_slice(alloc, path.as_bytes())?;
-    let bytes = Bytes::from_slice(alloc, bytes)?;
-    tree.push(TreeFile { path, bytes })
-}
+packages of roots: without a look at their rules
+@./num.rpl => ready
+y = "a" r = {"b"?}* => ready
+@none.rpl => rosie: none.rpl: no such file¶
+
+rules of roots: with a look at each
+@./num.rpl => ready
+y = "a" r = {"b"?}* => rosie: (rpl 1):8: empty loop in r¶
+@none.rpl => rosie: none.rpl: no such file¶"#;
 
 fn files(alloc: Global) -> Result<SureFiles, AllocError> {
-    let mut tree = Tree::new(alloc);
-    for (path, bytes) in &FILES {
-        push_file(alloc, &mut tree, path, bytes)?;
-    }
-    Ok(SureFiles::new(tree))
-}
-
-fn folders(alloc: Global) -> Result<LibPath, AllocError> {
-    let mut folders = LibPath::new(alloc);
-    folders.push(Chars::from_str(alloc, ".")?)?;
-    Ok(folders)
-}
-
-fn roots(alloc: Global, text: &str) -> Result<Roots, AllocError> {
-    let mut roots = Roots::new(alloc);
-    if text.is_empty() {
-        return Ok(roots);
-    }
-    match text.strip_prefix('@') {
-        Some(path) => roots.push(Root::File(Chars::from_str(alloc, path)?))?,
-        None => roots.push(Root::Given(Chars::from_str(alloc, text)?))?,
-    }
-    Ok(roots)
+    Ok(SureFiles::new(tree_of(alloc, FILES)?))
 }
 
 /// What an answer comes to, as text.
@@ -107,69 +83,30 @@ fn told<T: Drop>(alloc: Global, answer: Result<T, Unready>) -> Result<String, Al
     }
 }
 
-/// What comes of a root and a pattern.
-fn come_to(alloc: Global, root: &str, text: &str, find: bool) -> Result<String, AllocError> {
-    let mut files = files(alloc)?;
-    let folders = folders(alloc)?;
-    let roots = roots(alloc, root)?;
+/// What comes of roots and a pattern, which may be looked for everywhere.
+pub(crate) fn prepared(alloc: Global, asked: &str, find: bool) -> Result<String, AllocError> {
+    let (root, text) = asked.split_once(" | ").unwrap_or(("", asked));
     let wanted = Wanted {
-        roots: &roots,
-        folders: &folders,
+        roots: &roots_of(alloc, root)?,
+        folders: &folders_of(alloc, ".")?,
         text,
         fixed: false,
         find,
     };
-    told(alloc, prepare(alloc, &mut files, &wanted))
+    told(alloc, prepare(alloc, &mut files(alloc)?, &wanted))
 }
 
-/// Does a row come to what it says?
-fn comes_to(alloc: Global, row: &str, find: bool) -> Result<bool, Fail> {
-    let row = unfolded(alloc, row)?;
-    let (wanted, want) = row.as_str().split_once(" => ").ok_or("a row")?;
-    let (root, pattern) = wanted.split_once(" | ").unwrap_or(("", wanted));
-    let line = come_to(alloc, root, pattern, find)?;
-    Ok(line.as_str() == want)
+/// What comes of the packages of roots.
+pub(crate) fn packages(alloc: Global, roots: &str) -> Result<String, AllocError> {
+    let (folders, roots) = (folders_of(alloc, ".")?, roots_of(alloc, roots)?);
+    told(alloc, load_set(alloc, &mut files(alloc)?, &folders, &roots))
 }
 
-/// The first row that comes to something else, or nothing.
-fn first_wrong(alloc: Global, table: &'static str, find: bool) -> Result<&'static str, Fail> {
-    for row in table.split('\n') {
-        if !comes_to(alloc, row, find)? {
-            return Ok(row);
-        }
-    }
-    Ok("")
-}
-
-#[test]
-fn patterns_are_ready_or_refused(rt: HostRuntime) -> Result<(), Fail> {
-    assert_eq!(rt; first_wrong(rt.alloc(), ROOTS, false)?, "");
-    assert_eq!(rt; first_wrong(rt.alloc(), PATTERNS, false)?, "");
-    assert_eq!(rt; first_wrong(rt.alloc(), SOUGHT, true)?, "");
-    Ok(())
-}
-
-/// What comes of a root alone: its packages, and its rules.
-fn root_comes_to(alloc: Global, root: &str) -> Result<(String, String), AllocError> {
-    let mut files = files(alloc)?;
-    let folders = folders(alloc)?;
-    let roots = roots(alloc, root)?;
-    let set = told(alloc, load_set(alloc, &mut files, &folders, &roots))?;
-    let rules = told(alloc, prepare_rules(alloc, &mut files, &folders, &roots))?;
-    Ok((set, rules))
-}
-
-#[test]
-fn roots_are_ready_or_refused(rt: HostRuntime) -> Result<(), Fail> {
-    let alloc = rt.alloc();
-    let (set, rules) = root_comes_to(alloc, "@./num.rpl")?;
-    assert_eq!(rt; set.as_str(), "ready");
-    assert_eq!(rt; rules.as_str(), "ready");
-    let (set, rules) = root_comes_to(alloc, "y = \"a\" r = {\"b\"?}*")?;
-    assert_eq!(rt; set.as_str(), "ready");
-    assert_eq!(rt; rules.as_str(), "rosie: (rpl 1):8: empty loop in r\n");
-    let (set, rules) = root_comes_to(alloc, "@none.rpl")?;
-    assert_eq!(rt; set.as_str(), "rosie: none.rpl: no such file\n");
-    assert_eq!(rt; rules.as_str(), "rosie: none.rpl: no such file\n");
-    Ok(())
+/// What comes of the rules of roots.
+pub(crate) fn rules(alloc: Global, roots: &str) -> Result<String, AllocError> {
+    let (folders, roots) = (folders_of(alloc, ".")?, roots_of(alloc, roots)?);
+    told(
+        alloc,
+        prepare_rules(alloc, &mut files(alloc)?, &folders, &roots),
+    )
 }

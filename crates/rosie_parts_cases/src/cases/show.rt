@@ -1,10 +1,11 @@
-// Printed texts worked by hand.
+// Printed names and expansions.
+use crate::cases::files::roots_of;
 use rosie_io::{SureFiles, Tree};
 use rosie_show::{expansion_text, names_text};
 use rpl_check::{check, check_pattern};
 use rpl_classes::Set;
 use rpl_core::{Peg, Rule, Rules, calls_are_rules, is_in_order};
-use rpl_package::{LibPath, Root, Roots, load};
+use rpl_package::{LibPath, load};
 use rpl_syntax::{Expr, QName};
 use rpl_text::Chars;
 use std::alloc::{AllocError, Global};
@@ -32,39 +33,23 @@ fn name(alloc: Global, name: &str) -> Result<Expr, AllocError> {
     }))
 }
 
-/// The text of the pattern `x` and of the rule that it calls.
-fn expansion(alloc: Global) -> Result<String, Fail> {
+/// The text of the pattern that names a rule, and of that rule.
+pub(crate) fn expanded(alloc: Global, rule: &str) -> Result<String, Fail> {
     let mut rules = Rules::new(alloc);
-    rules.push(letter(alloc, "x", 'a')?)?;
+    rules.push(letter(alloc, rule, 'a')?)?;
     let goal = Peg::Call(0);
     if !is_in_order(&rules) || !calls_are_rules(&rules, &goal) {
         Err("rules out of order")?;
     }
     let rules = check(alloc, rules)?;
     let goal = check_pattern(alloc, &rules, goal)?;
-    Ok(expansion_text(alloc, &name(alloc, "x")?, &rules, &goal)?)
-}
-
-#[test]
-fn a_pattern_with_the_rules_that_it_reaches(rt: HostRuntime) -> Result<(), Fail> {
-    let text = expansion(rt.alloc())?;
-    let want = "pattern x\n* = (call x)\nx = (capture x (set 61))\n";
-    assert_eq!(rt; text.as_str(), want);
-    Ok(())
+    Ok(expansion_text(alloc, &name(alloc, rule)?, &rules, &goal)?)
 }
 
 /// The text of the names of these rules.
-fn names(alloc: Global, text: &str) -> Result<String, Fail> {
-    let mut roots = Roots::new(alloc);
-    roots.push(Root::Given(Chars::from_str(alloc, text)?))?;
+pub(crate) fn listed(alloc: Global, rules: &str) -> Result<String, Fail> {
     let mut files = SureFiles::new(Tree::new(alloc));
+    let roots = roots_of(alloc, rules)?;
     let set = load(alloc, &mut files, &LibPath::new(alloc), &roots)?;
     Ok(names_text(alloc, &set)?)
-}
-
-#[test]
-fn names_with_and_without_nodes(rt: HostRuntime) -> Result<(), Fail> {
-    let text = names(rt.alloc(), "alias d = [:digit:] n = d+")?;
-    assert_eq!(rt; text.as_str(), "d alias -\nn capture n\n");
-    Ok(())
 }

@@ -1,8 +1,9 @@
 // Command lines, each with its reading by hand: the words with `|` between them, then the command in words, or the text
 // of the first fault.
 
-/// Commands over patterns and files of rules, with their arguments.
-pub(crate) const COMMANDS: &str = "\
+/// Sections of rows: a section begins with what is asked of the rows behind it, and what they show.
+pub(crate) const WORDS: &str = "\
+words: commands over patterns and files of rules, with their arguments
 match => missing argument
 match|p => match [p] path:. Json
 match|p|a|-|b => match [p] [a] [-] [b] path:. Json
@@ -20,10 +21,9 @@ expand => missing argument
 expand|p => expand [p] path:. Json
 expand|p|q => too many arguments
 trace => missing argument
-trace|p|a => trace [p] [a] path:. Json";
+trace|p|a => trace [p] [a] path:. Json
 
-/// Commands without patterns and files of rules, and words that are no command.
-pub(crate) const OTHER_COMMANDS: &str = "\
+words: commands without patterns and files of rules, and words that are no command
 sample => missing argument
 sample|1 => missing argument
 sample|1|2 => sample 1 2 path:. Json
@@ -40,10 +40,9 @@ class|a|b => too many arguments
 Match|p => unknown command: Match
 matches|p => unknown command: matches
 -|p => unknown command: -
-größe => unknown command: größe";
+größe => unknown command: größe
 
-/// The options of rules, packages and styles, long and short, with `=` and without.
-pub(crate) const SPELLINGS: &str = "\
+words: the options of rules, packages and styles, long and short, with `=` and without
 match|p|-f|a => match [p] file [a] path:. Json
 match|p|--file|a => match [p] file [a] path:. Json
 match|p|--file=a => match [p] file [a] path:. Json
@@ -58,10 +57,9 @@ match|p|--output=subs => match [p] path:. Subs
 match|p|-o|data => match [p] path:. Plain
 grep|p|-o|json => grep [p] path:. Json
 grep|p|-o|bool => grep [p] path:. Bool
-match|p|-o=json => unknown option: -o=json";
+match|p|-o=json => unknown option: -o=json
 
-/// The options that are on or off, and those with a number or a file.
-pub(crate) const SWITCHES: &str = "\
+words: the options that are on or off, and those with a number or a file
 match|p|-w => match [p] path:. Json whole
 match|p|--wholefile => match [p] path:. Json whole
 match|p|--wholefile=yes => unexpected value: --wholefile=yes
@@ -78,17 +76,15 @@ expand|p|--code => expand [p] path:. Json code
 trace|p|--limit|1 => trace [p] path:. Json limit 1
 trace|p|--limit=10000 => trace [p] path:. Json
 match|--code-file|c => match [] path:. Json code_file [c]
-match|--code-file=c|a|b => match [] [a] [b] path:. Json code_file [c]";
+match|--code-file=c|a|b => match [] [a] [b] path:. Json code_file [c]
 
-/// Options before and after the command and between arguments.
-pub(crate) const PLACES: &str = "\
+words: options before and after the command and between arguments
 -w|match|p => match [p] path:. Json whole
 match|-w|p|-a|x => match [p] [x] path:. Json whole all
 -o|line|match|--budget=5|p|x|-F => match [p] [x] path:. Line fixed budget 5
---code-file|c|match => match [] path:. Json code_file [c]";
+--code-file|c|match => match [] path:. Json code_file [c]
 
-/// Repeated options: the last counts, but each root is added.
-pub(crate) const REPEATED: &str = "\
+words: repeated options: the last counts, but each root is added
 match|p|-o|line|-o|json => match [p] path:. Json
 match|p|--budget=5|--budget=6 => match [p] path:. Json budget 6
 match|p|--libpath=a|--libpath=b:c => match [p] path:b:c Json
@@ -96,10 +92,9 @@ trace|p|--limit=5|--limit=10000 => trace [p] path:. Json
 match|--code-file=c|--code-file=d => match [] path:. Json code_file [d]
 match|p|-w|-w => match [p] path:. Json whole
 match|p|--rpl|a|-f|b|--rpl=c|--file|d => match [p] rpl [a] file [b] rpl [c] file [d] path:. Json
-match|p|--rpl|a|--rpl|a => match [p] rpl [a] rpl [a] path:. Json";
+match|p|--rpl|a|--rpl|a => match [p] rpl [a] rpl [a] path:. Json
 
-/// A value is the next word, whatever it is.
-pub(crate) const VALUES: &str = "\
+words: a value is the next word, whatever it is
 match|p|-f|- => match [p] file [-] path:. Json
 match|p|-f|-- => match [p] file [--] path:. Json
 match|p|--rpl|-w|x => match [p] [x] rpl [-w] path:. Json
@@ -108,20 +103,18 @@ match|p|-f| => match [p] file [] path:. Json
 match|p|--file= => match [p] file [] path:. Json
 match|p|--rpl=a=b => match [p] rpl [a=b] path:. Json
 match|p|--rpl==|-w => match [p] rpl [=] path:. Json whole
---file|match|p => unknown command: p";
+--file|match|p => unknown command: p
 
-/// The end of the options.
-pub(crate) const ENDED: &str = "\
+words: the end of the options
 match|--|-w => match [-w] path:. Json
 --|match|--|x => match [--] [x] path:. Json
 match|p|--|-o|--bad => match [p] [-o] [--bad] path:. Json
 -w|--|match|p => match [p] path:. Json whole
 match|--file=--|--|-- => match [--] file [--] path:. Json
 -- => no command
---|-w => unknown command: -w";
+--|-w => unknown command: -w
 
-/// Words that are no option.
-pub(crate) const WORD_FAULTS: &str = "\
+words: words that are no option
 --bad => unknown option: --bad
 --bad=1=2 => unknown option: --bad=1=2
 --- => unknown option: ---
@@ -132,10 +125,9 @@ pub(crate) const WORD_FAULTS: &str = "\
 -é => unknown option: -é
 --Output|line => unknown option: --Output
 -W => unknown option: -W
--rpl|x => unknown option: -rpl";
+-rpl|x => unknown option: -rpl
 
-/// Values that are missing or none, and one that isn't ASCII.
-pub(crate) const VALUE_FAULTS: &str = "\
+words: values that are missing or none, and one that isn't ASCII
 -f => missing value: -f
 match|p|--libpath => missing value: --libpath
 match|p|-o|jso => bad value: jso
@@ -146,10 +138,9 @@ match|p|--libpath= => bad value:\x20
 match|p|--libpath=a: => bad value: a:
 match|p|--libpath|:a => bad value: :a
 match|p|--libpath|a::b => bad value: a::b
-match|p|--libpath|ä:b c => match [p] path:ä:b c Json";
+match|p|--libpath|ä:b c => match [p] path:ä:b c Json
 
-/// Budgets.
-pub(crate) const NUMBERS: &str = "\
+words: budgets
 match|p|--budget=0 => bad value: 0
 match|p|--budget=000 => bad value: 000
 match|p|--budget=1000000000001 => bad value: 1000000000001
@@ -162,10 +153,9 @@ match|p|--budget|-1 => bad value: -1
 match|p|--budget=1  => bad value: 1\x20
 match|p|--budget=1_000 => bad value: 1_000
 match|p|--budget=0x10 => bad value: 0x10
-match|p|--budget=٣ => bad value: ٣";
+match|p|--budget=٣ => bad value: ٣
 
-/// The numbers of traces and samples.
-pub(crate) const LIMITS: &str = "\
+words: the numbers of traces and samples
 trace|p|--limit=0 => bad value: 0
 trace|p|--limit=10001 => bad value: 10001
 sample|2147483647|1000000 => sample 2147483647 1000000 path:. Json
@@ -173,10 +163,9 @@ sample|2147483648|1 => bad value: 2147483648
 sample|0|1000001 => bad value: 1000001
 sample|x|y => bad value: x
 sample|00|000 => sample 0 0 path:. Json
-sample||1 => bad value:\x20";
+sample||1 => bad value:\x20
 
-/// Options for other commands.
-pub(crate) const OTHERS: &str = "\
+words: options for other commands
 test|a|-f|b => not for this command: -f
 list|--output=line => not for this command: --output=line
 sample|1|2|--libpath|a => not for this command: --libpath
@@ -196,10 +185,9 @@ match|--code-file|c|-f|a => not for this command: -f
 -F|match|--rpl=x|--code-file|c => not for this command: -F
 match|--libpath|a|--code-file=c => not for this command: --libpath
 match|--code-file=c|-w|-a|-o|line|--budget=2|--steps => match [] path:. Line whole all budget 2 steps code_file [c]
-trace|p|-f|a|--code-file|c => not for this command: --code-file";
+trace|p|-f|a|--code-file|c => not for this command: --code-file
 
-/// Which fault is the first.
-pub(crate) const FIRST: &str = "\
+words: which fault is the first
 --bad|--worse => unknown option: --bad
 match|p|--budget=0|--bad => bad value: 0
 match|p|--bad|--budget=0 => unknown option: --bad
@@ -210,4 +198,7 @@ list|x|-w => not for this command: -w
 list|-a|-w => not for this command: -a
 sample|x|-w => not for this command: -w
 sample|x => missing argument
-sample|x|1|2 => too many arguments";
+sample|x|1|2 => too many arguments
+
+fault line: of words
+--limit=0 => rosie: usage: bad value: 0¶";

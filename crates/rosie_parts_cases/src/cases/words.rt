@@ -1,5 +1,4 @@
-// What each list of words is read as, and the texts of usage faults.
-use crate::cases::word_rows;
+// What lists of words are read as, and the texts of usage faults.
 use rosie_words::{Command, Paths, UsageFault, What, fault_line, read_words, usage};
 use rpl_package::{LibPath, Root, Roots};
 use std::alloc::{AllocError, Global};
@@ -102,7 +101,7 @@ fn described(alloc: Global, command: &Command) -> Result<String, AllocError> {
 }
 
 /// What a line of words is read as: the command in words, or the fault.
-fn read(alloc: Global, line: &str) -> Result<String, AllocError> {
+pub(crate) fn read(alloc: Global, line: &str) -> Result<String, AllocError> {
     let words = words_of(alloc, line)?;
     match read_words(alloc, &words) {
         Ok(command) => described(alloc, &command),
@@ -110,92 +109,18 @@ fn read(alloc: Global, line: &str) -> Result<String, AllocError> {
     }
 }
 
-/// The first row whose words are read otherwise, or nothing.
-fn first_wrong(alloc: Global, table: &'static str) -> Result<&'static str, Fail> {
-    for row in table.split('\n') {
-        let (line, reading) = row.split_once(" => ").ok_or("a case has a reading")?;
-        if read(alloc, line)?.as_str() != reading {
-            return Ok(row);
-        }
+/// The line of the fault of a line of words.
+pub(crate) fn refusal(alloc: Global, line: &str) -> Result<String, Fail> {
+    match read_words(alloc, &words_of(alloc, line)?) {
+        Ok(_command) => Err("words that are refused")?,
+        Err(fault) => Ok(fault_line(alloc, &fault)?),
     }
-    Ok("")
 }
 
 #[test]
-fn commands(rt: HostRuntime) -> Result<(), Fail> {
-    assert_eq!(rt; first_wrong(rt.alloc(), word_rows::COMMANDS)?, "");
-    assert_eq!(rt; first_wrong(rt.alloc(), word_rows::OTHER_COMMANDS)?, "");
-    Ok(())
-}
-
-#[test]
-fn spellings(rt: HostRuntime) -> Result<(), Fail> {
-    assert_eq!(rt; first_wrong(rt.alloc(), word_rows::SPELLINGS)?, "");
-    assert_eq!(rt; first_wrong(rt.alloc(), word_rows::SWITCHES)?, "");
-    Ok(())
-}
-
-#[test]
-fn places(rt: HostRuntime) -> Result<(), Fail> {
-    assert_eq!(rt; first_wrong(rt.alloc(), word_rows::PLACES)?, "");
-    Ok(())
-}
-
-#[test]
-fn repeated(rt: HostRuntime) -> Result<(), Fail> {
-    assert_eq!(rt; first_wrong(rt.alloc(), word_rows::REPEATED)?, "");
-    Ok(())
-}
-
-#[test]
-fn values(rt: HostRuntime) -> Result<(), Fail> {
-    assert_eq!(rt; first_wrong(rt.alloc(), word_rows::VALUES)?, "");
-    Ok(())
-}
-
-#[test]
-fn ended(rt: HostRuntime) -> Result<(), Fail> {
-    assert_eq!(rt; first_wrong(rt.alloc(), word_rows::ENDED)?, "");
-    Ok(())
-}
-
-#[test]
-fn word_faults(rt: HostRuntime) -> Result<(), Fail> {
-    assert_eq!(rt; first_wrong(rt.alloc(), word_rows::WORD_FAULTS)?, "");
-    assert_eq!(rt; first_wrong(rt.alloc(), word_rows::VALUE_FAULTS)?, "");
-    Ok(())
-}
-
-#[test]
-fn numbers(rt: HostRuntime) -> Result<(), Fail> {
-    assert_eq!(rt; first_wrong(rt.alloc(), word_rows::NUMBERS)?, "");
-    assert_eq!(rt; first_wrong(rt.alloc(), word_rows::LIMITS)?, "");
-    Ok(())
-}
-
-#[test]
-fn others(rt: HostRuntime) -> Result<(), Fail> {
-    assert_eq!(rt; first_wrong(rt.alloc(), word_rows::OTHERS)?, "");
-    Ok(())
-}
-
-#[test]
-fn first(rt: HostRuntime) -> Result<(), Fail> {
-    assert_eq!(rt; first_wrong(rt.alloc(), word_rows::FIRST)?, "");
-    Ok(())
-}
-
-#[test]
-fn a_fault_is_a_line(rt: HostRuntime) -> Result<(), Fail> {
-    let words = words_of(rt.alloc(), "--limit=0")?;
-    let Err(fault) = read_words(rt.alloc(), &words) else {
-        return Err("a limit of 0 is refused".into());
-    };
-    let line = fault_line(rt.alloc(), &fault)?;
-    assert_eq!(rt; line.as_str(), "rosie: usage: bad value: 0\n");
+fn no_words_have_no_command(rt: HostRuntime) {
     assert!(rt; matches!(read_words(rt.alloc(), &[]), Err(UsageFault::NoCommand)));
     assert!(rt; usage().starts_with("usage: rosie [options] match PATTERN [FILE ...]\n"));
     assert!(rt; usage().ends_with("\n       rosie [options] class NAME\n"));
     assert_eq!(rt; usage().len(), 442);
-    Ok(())
 }

@@ -2,10 +2,12 @@
 // system answers.
 ghost use Rattle.std.specs.Prelude.{◌≤◌, ◌^◌};
 
+use crate::cases::files::{bytes_of, tree_of};
+use crate::cases::rows::unfolded;
 use rosie_io::{
-    Bytes, Calls, CountSink, Files, FlushAnswer, Line, LineFault, LineReader, MemoryFiles,
-    MemorySink, MemorySource, NoMemory, ReadAnswer, Sink, Source, StdFiles, StdSink, StdSource,
-    SureFiles, SureSource, Tree, TreeFile, WriteFault, read_bytes, read_file, write_all,
+    Calls, CountSink, Files, FlushAnswer, Line, LineFault, LineReader, MemoryFiles, MemorySink,
+    MemorySource, NoMemory, ReadAnswer, Sink, Source, StdFiles, StdSink, StdSource, SureFiles,
+    SureSource, WriteFault, read_bytes, read_file, write_all,
 };
 use std::alloc::{AllocError, Global};
 use std::io::{Read, Write};
@@ -16,9 +18,12 @@ use std::{fs, io, process};
 /// How many bytes a line may have in the tables.
 const MOST: usize = 4;
 
-/// Bytes, and behind `=>` what a reader of lines of at most 4 bytes answers: each line in brackets, and each fault. In
-/// these tables a `¶` stands for a line feed, and before `=>` any other character for the byte of its number.
-const LINES: &str = "\
+/// Bytes, and behind `=>` what a reader of lines of at most 4 bytes answers: each line in brackets, and each fault. Before
+/// `=>` any character but a `¶` stands for the byte of its number. Then calls that fail, by their numbers, and what comes
+/// of them. The reads of lines give `ab`, `¶c`, `d¶`, `ef` and the end; the writes take two bytes, two and one, and the
+/// flush comes behind them; the file is opened, and its reads give `ab`, `¶c`, `d` and the end.
+pub(crate) const STREAMS: &str = "\
+lines: in whatever pieces they come
 ¶ => []end
  => end
 ¶¶¶ => [][][]end
@@ -33,39 +38,16 @@ abcde¶x¶ => <line 1 is too long>[x]end
 \u{f4}\u{90}\u{80}\u{80}¶x => <line 1 is not UTF-8>[x]end
 \u{f4}\u{8f}\u{bf}\u{bf}¶x => [\u{10ffff}][x]end
 x¶a\u{e2}\u{82} => [x]<line 2 is not UTF-8>end
-\u{ff}\u{ff}\u{ff}\u{ff}\u{ff}¶x => <line 1 is too long>[x]end";
+\u{ff}\u{ff}\u{ff}\u{ff}\u{ff}¶x => <line 1 is too long>[x]end
 
-/// The same where the whole input is one line.
-const WHOLE: &str = "\
+whole: the same where the whole input is one line
 ¶ => [¶]end
  => end
 a¶¶b => [a¶¶b]end
 a¶bcd¶ => <line 1 is too long>end
-¶\u{ff} => <line 1 is not UTF-8>end";
+¶\u{ff} => <line 1 is not UTF-8>end
 
-/// How many bytes a read gives at the most.
-const PIECES: &str = "1 2 3 7 65536";
-
-/// Two files of the path `f`, one without a name, and one that is no text.
-const TREE: &str = "\
-f => ab¶cd
-f => second
- => no name
-bin => a\u{ff}";
-
-/// Paths, how many bytes a file may have, and its text.
-const FILES: &str = "\
-f 5 => ab¶cd
-f 4 => <file too long>
- 9 => no name
-F 9 => <no such file>
-bin 2 => <file is not UTF-8>
-bin 1 => <file too long>";
-
-/// Calls that fail, by their numbers, and what comes of them. The reads of lines give `ab`, `¶c`, `d¶`, `ef` and the end;
-/// the writes take two bytes, two and one, and the flush comes behind them; the file is opened, and its reads give `ab`,
-/// `¶c`, `d` and the end.
-const CALLS: &str = "\
+failing stream: each call in turn
 lines 1 => <read failed>
 lines 2 => <read failed>
 lines 3 => [ab]<read failed>
@@ -84,24 +66,21 @@ file 4 => <read failed>
 file 5 => <read failed>
 file 6 => ab¶cd";
 
-/// The text with its line feeds.
-fn unfolded(alloc: Global, text: &str) -> Result<String, AllocError> {
-    let mut unfolded = String::new(alloc);
-    for c in text.chars() {
-        unfolded.push(if c == '¶' { '\n' } else { c })?;
-    }
-    Ok(unfolded)
-}
+/// Two files of the path `f`, one without a name, and one that is no text.
+const TREE: &str = "\
+f ab¶cd
+f second
+ no name
+bin a\u{ff}";
 
-/// The bytes that a text stands for.
-fn bytes_of(alloc: Global, text: &str) -> Result<Bytes, NoMemory> {
-    let mut bytes = Bytes::new(alloc);
-    for c in text.chars() {
-        let byte = u8::try_from(c as u32).unwrap_or(b'?');
-        bytes.push(if c == '¶' { b'\n' } else { byte })?;
-    }
-    Ok(bytes)
-}
+/// Paths, how many bytes a file may have, and its text.
+const FILES: &str = "\
+f 5 => ab¶cd
+f 4 => <file too long>
+ 9 => no name
+F 9 => <no such file>
+bin 2 => <file is not UTF-8>
+bin 1 => <file too long>";
 
 /// What a reader of lines of at most so many bytes answers until it ends: each line in brackets, and each fault.
 fn answers<S: Source>(
@@ -149,29 +128,22 @@ fn source_of(alloc: Global, text: &str, most: usize, fails: u64) -> Result<Memor
     Ok(MemorySource::new(bytes, most.max(1), fails))
 }
 
-/// Is a row read so, in whatever pieces?
-fn is_read_so(alloc: Global, row: &str, whole: bool) -> Result<bool, Fail> {
-    let (text, want) = row.split_once(" => ").ok_or("a row")?;
-    let want = unfolded(alloc, want)?;
-    for piece in PIECES.split(' ') {
-        let mut source = source_of(alloc, text, piece.parse::<usize>()?, 0)?;
-        let said = answers(alloc, &mut source, whole, MOST)?;
-        if said.as_str() != want.as_str() {
-            return Ok(false);
-        }
-    }
-    Ok(true)
+/// What a reader answers of a text, in reads of at most so many bytes.
+fn in_pieces(alloc: Global, text: &str, whole: bool, most: usize) -> Result<String, NoMemory> {
+    let mut source = source_of(alloc, text, most, 0)?;
+    answers(alloc, &mut source, whole, MOST)
 }
 
-#[test]
-fn lines_are_the_same_in_any_pieces(rt: HostRuntime) -> Result<(), Fail> {
-    for row in LINES.split('\n') {
-        assert!(rt; is_read_so(rt.alloc(), row, false)?, "{row}");
+/// What a reader answers of a text in whatever pieces it comes; where the pieces matter, what it answers in those.
+pub(crate) fn lines(alloc: Global, text: &str, whole: bool) -> Result<String, Fail> {
+    let said = in_pieces(alloc, text, whole, 65_536)?;
+    for most in [1, 2, 3, 7] {
+        let other = in_pieces(alloc, text, whole, most)?;
+        if other.as_str() != said.as_str() {
+            return Ok(format!(in alloc; "in pieces of {most}: {other}")?);
+        }
     }
-    for row in WHOLE.split('\n') {
-        assert!(rt; is_read_so(rt.alloc(), row, true)?, "{row}");
-    }
-    Ok(())
+    Ok(said)
 }
 
 #[test]
@@ -212,18 +184,6 @@ fn a_line_may_come_in_many_reads(rt: HostRuntime) -> Result<(), Fail> {
     Ok(())
 }
 
-/// The files of `TREE`.
-fn tree(alloc: Global) -> Result<Tree, NoMemory> {
-    let mut tree = Tree::new(alloc);
-    for row in TREE.split('\n') {
-        let (path, text) = row.split_once(" => ").unwrap_or((row, ""));
-        let path = bytes_of(alloc, path)?;
-        let bytes = bytes_of(alloc, text)?;
-        tree.push(TreeFile { path, bytes })?;
-    }
-    Ok(tree)
-}
-
 /// The text of a file, or why it isn't read.
 fn text_of<F: Files>(
     alloc: Global,
@@ -248,7 +208,7 @@ fn is_file_so<F: Files>(alloc: Global, files: &mut F, row: &str) -> Result<bool,
 
 #[test]
 fn files_are_read_whole(rt: HostRuntime) -> Result<(), Fail> {
-    let mut files = SureFiles::new(tree(rt.alloc())?);
+    let mut files = SureFiles::new(tree_of(rt.alloc(), TREE)?);
     for row in FILES.split('\n') {
         assert!(rt; is_file_so(rt.alloc(), &mut files, row)?, "{row}");
     }
@@ -281,7 +241,7 @@ fn written(alloc: Global, call: u64) -> Result<String, NoMemory> {
 
 /// The text of `f` in pieces of two bytes where this call fails, or why it isn't read, and whether it is still open.
 fn read_with_fault(alloc: Global, call: u64) -> Result<String, NoMemory> {
-    let mut files = MemoryFiles::new(tree(alloc)?, 2, Calls::from_slice(alloc, &[call])?);
+    let mut files = MemoryFiles::new(tree_of(alloc, TREE)?, 2, Calls::from_slice(alloc, &[call])?);
     let mut said = text_of(alloc, &mut files, "f", 9)?;
     match files.read(&mut [0; 8]) {
         ReadAnswer::Took(_) => said.push_str(" and more")?,
@@ -292,26 +252,15 @@ fn read_with_fault(alloc: Global, call: u64) -> Result<String, NoMemory> {
 }
 
 /// What comes of a call that fails.
-fn failing(alloc: Global, case: &str) -> Result<String, Fail> {
+pub(crate) fn failing(alloc: Global, case: &str) -> Result<String, Fail> {
     let (kind, call) = case.split_once(' ').ok_or("a call and a number")?;
     let call = call.parse::<u64>()?;
-    let said = match kind {
-        "lines" => read_lines(alloc, call)?,
-        "write" => written(alloc, call)?,
-        _ => read_with_fault(alloc, call)?,
-    };
-    Ok(said)
-}
-
-#[test]
-fn each_call_fails_in_turn(rt: HostRuntime) -> Result<(), Fail> {
-    for row in CALLS.split('\n') {
-        let (case, want) = row.split_once(" => ").ok_or("a row")?;
-        let said = failing(rt.alloc(), case)?;
-        let want = unfolded(rt.alloc(), want)?;
-        assert_eq!(rt; said.as_str(), want.as_str(), "{case}");
+    match kind {
+        "lines" => Ok(read_lines(alloc, call)?),
+        "write" => Ok(written(alloc, call)?),
+        "file" => Ok(read_with_fault(alloc, call)?),
+        _ => Err("a call")?,
     }
-    Ok(())
 }
 
 /// It is interrupted so often, then it fails.
@@ -343,16 +292,12 @@ impl Write for Interrupted {
 }
 
 #[test]
-fn std_streams_are_sources(rt: HostRuntime) -> Result<(), Fail> {
+fn std_streams_are_sources_and_sinks(rt: HostRuntime) -> Result<(), Fail> {
     let mut source = StdSource::new(b"ab\ncd".as_slice());
     assert!(rt; answers(rt.alloc(), &mut source, false, MOST)?.as_str() == "[ab][cd]end");
     let mut source = StdSource::new(Interrupted(3));
     assert!(rt; source.read(&mut [0; 4]) == ReadAnswer::Failed);
-    Ok(())
-}
 
-#[test]
-fn std_streams_are_sinks(rt: HostRuntime) {
     let mut sink = StdSink::new(Interrupted(3));
     assert!(rt; write_all(&mut sink, b"abc") == Ok(()));
     assert!(rt; sink.flush() == FlushAnswer::Failed);
@@ -366,6 +311,7 @@ fn std_streams_are_sinks(rt: HostRuntime) {
     let mut counted = CountSink::new();
     assert!(rt; write_all(&mut counted, b"abcd") == Ok(()));
     assert!(rt; counted.number() == 4);
+    Ok(())
 }
 
 /// What the system answers of a file of this path, which has two lines.

@@ -1,6 +1,6 @@
 // Sessions worked by hand.
 use rosie_repl::{Edit, State, read_edit};
-use std::alloc::Global;
+use std::alloc::{AllocError, Global};
 use std::test::Fail;
 
 /// The lines of a session; and behind `=>` whether each changes something, and what is kept then: the pattern, or `-`
@@ -23,23 +23,6 @@ u => true (-) <a = "x"> <>
 u => true (-) <a = "x">
 u => true (-)
 u => false (-)"#;
-
-/// Lines, and the command that each is, its text in `<>`.
-const LINES: &str = r#"= 1 x = "b" => = 1 <x = "b">
-- 007 => - 7
-- 18446744073709551615 => - 18446744073709551615
-> a b => > <a b>
- => none
-+ => none
-= 1 => none
-- 18446744073709551616 => none
-- 1  => none
-- -1 => none
-u  => none
-x y => none
- u => none
-++ a => none
-+x a => none"#;
 
 /// Makes the change of a line, or goes back, and tells whether that was one.
 fn enter(state: &mut State, line: &str) -> Result<bool, Fail> {
@@ -71,30 +54,19 @@ fn changes_and_goes_back(rt: HostRuntime) -> Result<(), Fail> {
         let said = entered(rt.alloc(), &mut state, line)?;
         assert_eq!(rt; said.as_str(), want, "{line}");
     }
+    assert!(rt; read_edit("u\r").is_none());
     Ok(())
 }
 
 /// The command that a line is, with its text in brackets.
-fn command(alloc: Global, line: &str) -> Result<String, Fail> {
-    let said = match read_edit(line) {
-        None => String::from_str(alloc, "none")?,
-        Some(Edit::Add(text)) => format!(in alloc; "+ <{text}>")?,
-        Some(Edit::Replace(number, text)) => format!(in alloc; "= {number} <{text}>")?,
-        Some(Edit::Remove(number)) => format!(in alloc; "- {number}")?,
-        Some(Edit::Pattern(text)) => format!(in alloc; "? <{text}>")?,
-        Some(Edit::Try(text)) => format!(in alloc; "> <{text}>")?,
-        Some(Edit::Undo) => String::from_str(alloc, "u")?,
-    };
-    Ok(said)
-}
-
-#[test]
-fn reads(rt: HostRuntime) -> Result<(), Fail> {
-    for row in LINES.split('\n') {
-        let (line, want) = row.split_once(" => ").ok_or("a row")?;
-        let said = command(rt.alloc(), line)?;
-        assert_eq!(rt; said.as_str(), want, "{line}");
+pub(crate) fn edit(alloc: Global, line: &str) -> Result<String, AllocError> {
+    match read_edit(line) {
+        None => String::from_str(alloc, "none"),
+        Some(Edit::Add(text)) => format!(in alloc; "+ <{text}>"),
+        Some(Edit::Replace(number, text)) => format!(in alloc; "= {number} <{text}>"),
+        Some(Edit::Remove(number)) => format!(in alloc; "- {number}"),
+        Some(Edit::Pattern(text)) => format!(in alloc; "? <{text}>"),
+        Some(Edit::Try(text)) => format!(in alloc; "> <{text}>"),
+        Some(Edit::Undo) => String::from_str(alloc, "u"),
     }
-    assert!(rt; read_edit("u\r").is_none());
-    Ok(())
 }
