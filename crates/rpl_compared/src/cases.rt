@@ -136,15 +136,6 @@ fn case_of(row: &str) -> Result<Case<'_>, Fail> {
     })
 }
 
-/// How a case is looked at: what its pattern means, what the code that was written by hand does in the plain machine,
-/// and what the compiled code does in the machine.
-#[derive(Clone, Copy)]
-enum Way {
-    Meant,
-    Written,
-    Compiled,
-}
-
 /// Does the pattern mean what was worked out, with that work?
 fn is_meant_so(alloc: Global, case: Case<'_>) -> Result<bool, Fail> {
     let rules = read_rules(alloc, case.rules)?;
@@ -174,27 +165,21 @@ fn is_compiled_so(alloc: Global, scratch: &mut Scratch, case: Case<'_>) -> Resul
     Ok(case.want != "open" && shown.as_str() == case.want && cost == case.steps)
 }
 
-/// Is a row as it was worked out, looked at so?
-fn is_so(alloc: Global, scratch: &mut Scratch, row: &str, way: Way) -> Result<bool, Fail> {
+/// What of a row is otherwise, or nothing: what its pattern means, what the code that was written by hand does in the
+/// plain machine, or what the compiled code does in the machine.
+fn what_is_wrong(alloc: Global, scratch: &mut Scratch, row: &str) -> Result<&'static str, Fail> {
     let case = case_of(row)?;
-    match way {
-        Way::Meant => is_meant_so(alloc, case),
-        Way::Written => Ok(case.code.is_empty() || ends_so(alloc, case)?),
-        Way::Compiled => Ok(case.code.is_empty() || is_compiled_so(alloc, scratch, case)?),
+    if !is_meant_so(alloc, case)? {
+        return Ok("the meaning");
     }
-}
-
-/// The first row that is otherwise, or nothing.
-fn first_wrong(
-    alloc: Global,
-    scratch: &mut Scratch,
-    table: &'static str,
-    way: Way,
-) -> Result<&'static str, Fail> {
-    for row in table.split('\n') {
-        if !is_so(alloc, scratch, row, way)? {
-            return Ok(row);
-        }
+    if case.code.is_empty() {
+        return Ok("");
+    }
+    if !ends_so(alloc, case)? {
+        return Ok("the code that was written");
+    }
+    if !is_compiled_so(alloc, scratch, case)? {
+        return Ok("the compiled code");
     }
     Ok("")
 }
@@ -203,45 +188,40 @@ fn first_wrong(
 fn cases_are_as_worked_out(rt: HostRuntime) -> Result<(), Fail> {
     let mut scratch = Scratch::new(rt.alloc());
     for table in TABLES {
-        assert_eq!(rt;
-            first_wrong(rt.alloc(), &mut scratch, table, Way::Meant)?,
-            ""
-        );
-        assert_eq!(rt;
-            first_wrong(rt.alloc(), &mut scratch, table, Way::Written)?,
-            ""
-        );
-        assert_eq!(rt;
-            first_wrong(rt.alloc(), &mut scratch, table, Way::Compiled)?,
-            ""
-        );
+        for row in table.split('\n') {
+            let wrong = what_is_wrong(rt.alloc(), &mut scratch, row)?;
+            assert_eq!(rt; wrong, "", "{row}");
+        }
     }
     Ok(())
 }
 
+/// Depths, patterns, and behind `=>` what each means on three letters, of so many further turns.
+const DEPTHS: &str = "\
+0 a many => open
+2 a many => open
+3 a many => @3
+9 a many => @3
+0 seq0 many => open
+2 seq0 many => open
+3 seq0 many => open
+9 seq0 many => open";
+
 /// What a pattern means on three letters, of so many further turns.
-fn at_depth(alloc: Global, depth: u32, pattern: &str) -> Result<String, Fail> {
+fn at_depth(alloc: Global, asked: &str) -> Result<String, Fail> {
+    let (depth, pattern) = asked.split_once(' ').ok_or("a pattern")?;
     let none = Rules::new(alloc);
     let chars = characters(alloc, "aaa")?;
     let goal = read_pattern(alloc, pattern)?;
-    let outcome = evaluate(alloc, depth, &none, &chars, &goal, 0)?;
+    let outcome = evaluate(alloc, depth.parse::<u32>()?, &none, &chars, &goal, 0)?;
     Ok(show_outcome(alloc, &outcome)?)
 }
 
-/// How many further turns a depth allows.
 #[test]
-fn depths(rt: HostRuntime) -> Result<(), Fail> {
-    for (depth, want) in [(0, "open"), (2, "open"), (3, "@3"), (9, "@3")] {
-        assert_eq!(rt;
-            at_depth(rt.alloc(), depth, "a many")?.as_str(),
-            want,
-            "{depth}"
-        );
-        assert_eq!(rt;
-            at_depth(rt.alloc(), depth, "seq0 many")?.as_str(),
-            "open",
-            "{depth}"
-        );
+fn a_depth_allows_so_many_further_turns(rt: HostRuntime) -> Result<(), Fail> {
+    for row in DEPTHS.split('\n') {
+        let (asked, want) = row.split_once(" => ").ok_or("a row")?;
+        assert_eq!(rt; at_depth(rt.alloc(), asked)?.as_str(), want, "{row}");
     }
     Ok(())
 }

@@ -24,8 +24,8 @@ fn show_trees(alloc: Global, shown: &mut String, trees: &Forest) -> Result<(), A
         Forest::Tree {
             label,
             start,
-            end,
             subs,
+            end,
             rest,
         } => {
             push_capture(alloc, shown, '<', label.as_str(), *start)?;

@@ -92,25 +92,18 @@ pub(crate) fn read_pattern(alloc: Global, words: &str) -> Result<Peg, Fail> {
 
 /// Adds a rule: the number of its block and `|`, if it stands in one, and its body.
 fn push_rule(alloc: Global, rules: &mut Rules, line: &str) -> Result<(), Fail> {
+    let (block, words) = match line.split_once('|') {
+        Some((block, words)) => (Some(block.trim().parse::<u32>()?), words),
+        None => (None, line),
+    };
+    let body = read_pattern(alloc, words)?;
     let number = rules.len();
     let name = format!(in alloc; "r{number}")?;
     let name = Chars::from_str(alloc, name.as_str())?;
-    let rule = match line.split_once('|') {
-        Some((block, words)) => Rule {
-            name,
-            block: Some(block.trim().parse::<u32>()?),
-            body: read_pattern(alloc, words)?,
-        },
-        None => Rule {
-            name,
-            block: None,
-            body: read_pattern(alloc, line)?,
-        },
-    };
-    if number > 99 || !is_new(rules, &rule.name) {
+    if number > 99 || !is_new(rules, &name) {
         Err("a new rule")?;
     }
-    rules.push(rule)?;
+    rules.push(Rule { name, block, body })?;
     Ok(())
 }
 
