@@ -32,9 +32,10 @@ pub(crate) struct Outcome {
     pub(crate) err: Vec<u8>,
 }
 
-/// What there is outside: the files and the standard input, as texts, and what each device does. In a text of bytes a `¶`
-/// stands for a line feed, and any other character for the byte of its number; between two `×` stands a character, and how
-/// often it is repeated. A file is its path, a space and its bytes, and `@` stands before each file but the first.
+/// What there is outside: the files and the standard input, as texts, and what each device does. In a text of bytes a
+/// `¶` stands for a line feed, and any other character for the byte of its number; between two `×` stands a character,
+/// and how often it is repeated. A file is its path, a space and its bytes, and `@` stands before each file but the
+/// first.
 #[derive(Clone, Copy)]
 pub(crate) struct Outside<'a> {
     pub(crate) tree: &'a str,

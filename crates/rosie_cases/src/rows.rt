@@ -1,8 +1,8 @@
 // Cases of the whole command: what each shows, its words, its files, the input, what is written to the two outputs, and
 // the status. They were worked by hand.
 
-/// Each command, and what its options do. In these tables a `·` stands for a space within a word, a `¶` for a line feed, a `§`
-/// for the usage text, and in files and the input any other character for the byte of its number.
+/// Each command, and what its options do. In these tables a `·` stands for a space within a word, a `¶` for a line
+/// feed, a `§` for the usage text, and in files and the input any other character for the byte of its number.
 pub(crate) const ANSWERS: &str = r#"one literal
 $match "ab"
 <abc¶
@@ -940,8 +940,8 @@ $match -f a.rpl "a"
 !rosie: a.rpl:0: text too long¶
 =Refused"#;
 
-/// The same where one call of a device fails: the device, how many bytes a call of it moves at the most, and the number of
-/// that call.
+/// The same where one call of a device fails: the device, how many bytes a call of it moves at the most, and the number
+/// of that call.
 pub(crate) const FAULTS: &str = r#"out 10 6
 $match "a"
 <a¶a¶a¶

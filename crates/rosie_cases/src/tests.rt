@@ -237,8 +237,8 @@ fn a_call_that_fails_ends_the_run(rt: HostRuntime) -> Result<(), Fail> {
     Ok(())
 }
 
-/// Two files, and the standard input between them, with a rule of an imported package. The input has a line that matches,
-/// one that is no text, and one that matches.
+/// Two files, and the standard input between them, with a rule of an imported package. The input has a line that
+/// matches, one that is no text, and one that matches.
 const IN_TURN: &str = "\
 two files in turn
 $match -a --rpl import·p --libpath lib p.ab f - g

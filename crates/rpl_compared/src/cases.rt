@@ -10,10 +10,10 @@ use rpl_plain::evaluate;
 use std::alloc::Global;
 use std::test::Fail;
 
-/// Cases: a pattern and a table of one rule, both in words with the parts first; the pattern's code, where it has one; a
-/// text; the captures and the place; the work and the steps. What is empty is written `_`. A sequence takes its parts in
-/// turn; of a choice the first part that succeeds is taken, for good, and the trees of one that failed are gone. A choice
-/// of one part is that part, and one of none fails; neither is ever made.
+/// Cases: a pattern and a table of one rule, both in words with the parts first; the pattern's code, where it has one;
+/// a text; the captures and the place; the work and the steps. What is empty is written `_`. A sequence takes its parts
+/// in turn; of a choice the first part that succeeds is taken, for good, and the trees of one that failed are gone. A
+/// choice of one part is that part, and one of none fails; neither is ever made.
 const SEQUENCES: &str = "\
 a | _ | set:a finish | a | @1 | 1 | 2
 a | _ | set:a finish | b | fail | 1 | 1
@@ -81,8 +81,8 @@ a start seq2 | _ | set:a start finish | a | fail | 3 | 2
 a end seq2 | _ | set:a end finish | a | @1 | 3 | 3
 end | _ | end finish | a | fail | 1 | 1";
 
-/// Calls, one of them of no rule, which says nothing; and halts. A predicate that meets a halt fails; no checked pattern
-/// has one there, so none of these has a run.
+/// Calls, one of them of no rule, which says nothing; and halts. A predicate that meets a halt fails; no checked
+/// pattern has one there, so none of these has a run.
 const RULES_AND_HALTS: &str = "\
 call:0 | 0| ( call:0 many ) seq3 cap:p | call:2 finish open:p set:( choice:7 call:2 partialcommit:5 set:) \
 close return | (()()) | <p0 <p1 >3 <p3 >5 >6 @6 | 32 | 39
@@ -153,8 +153,8 @@ fn ends_so(alloc: Global, case: Case<'_>) -> Result<bool, Fail> {
     Ok(shown.as_str() == case.want && cost == case.steps && is_cheap)
 }
 
-/// Does the compiled code end so in the machine, in the same steps? What has no ending isn't compiled: the check refuses
-/// it.
+/// Does the compiled code end so in the machine, in the same steps? What has no ending isn't compiled: the check
+/// refuses it.
 fn is_compiled_so(alloc: Global, scratch: &mut Scratch, case: Case<'_>) -> Result<bool, Fail> {
     let rules = read_rules(alloc, case.rules)?;
     let goal = read_pattern(alloc, case.pattern)?;

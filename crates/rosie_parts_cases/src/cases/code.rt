@@ -5,8 +5,8 @@ use rosie_io::{SureFiles, Tree, TreeFile};
 use std::alloc::{AllocError, Global};
 use std::test::Fail;
 
-/// The code of `"ab"`, `open *`, `set a`, `set b`, `close`, `finish`, but for its last byte: written out by hand from the
-/// format. Each character stands for the byte of its number.
+/// The code of `"ab"`, `open *`, `set a`, `set b`, `close`, `finish`, but for its last byte: written out by hand from
+/// the format. Each character stands for the byte of its number.
 const LETTERS: &str =
     "RPLCODE1\0\0\0\u{2}\0\0\0\u{1}\0\0\0a\0\0\0a\0\0\0\u{1}\0\0\0b\0\0\0b\0\0\0\u{1}\0\0\0\0\0\0\0\u{1}*\
     \0\0\0\u{5}\r\0\0\0\0\u{1}\0\0\0\0\u{1}\0\0\0\u{1}\u{e}";

@@ -30,11 +30,11 @@ const FOLDERS: &str = "l m";
 /// A file that is cut off in the tests.
 const CUT: &str = "alias d = [:digit:]\ndate = {d{4} \"-\" d{2} \"-\" d{2}}\nlevel = [:upper:]+\n";
 
-/// Roots, behind `|` a pattern, and behind `=>` what comes of them: the first fault, or the full name of the rule that the
-/// pattern names. They are worked by hand, and a second reading of the rules says the same of each. Then of how many
-/// bytes of `CUT`, and a pattern that names both of its rules, what comes. And then of which call that fails what comes,
-/// where `own.rpl` and all that it imports are loaded, and then `far` for a pattern: an open each, and a read for each 16
-/// bytes that are left and for the end; `l/far.rpl` isn't there.
+/// Roots, behind `|` a pattern, and behind `=>` what comes of them: the first fault, or the full name of the rule that
+/// the pattern names. They are worked by hand, and a second reading of the rules says the same of each. Then of how
+/// many bytes of `CUT`, and a pattern that names both of its rules, what comes. And then of which call that fails what
+/// comes, where `own.rpl` and all that it imports are loaded, and then `far` for a pattern: an open each, and a read
+/// for each 16 bytes that are left and for the end; `l/far.rpl` isn't there.
 pub(crate) const LOADED: &str = r#"loaded: texts, and what they import
 x = "a" x = "b" | x => (rpl 1):8: duplicate name: x
 y = x | y => (rpl 1):4: unknown name: x

@@ -11,8 +11,8 @@ const FILES: &str = "\
 ./num.rpl package num¶local alias d = [:digit:]¶int = d+¶
 ./bin.rpl x = \"\u{ff}\"¶";
 
-/// Roots and patterns, and behind `=>` the line that comes of them, or that they are ready. A root stands before `|`, and an
-/// `@` before its path. They are worked by hand, and a second reading of the rules says the same of each.
+/// Roots and patterns, and behind `=>` the line that comes of them, or that they are ready. A root stands before `|`,
+/// and an `@` before its path. They are worked by hand, and a second reading of the rules says the same of each.
 pub(crate) const PREPARED: &str = r#"pattern: over a root, for which some are refused
 @./num.rpl | num.int => ready
 x = "a" r = x* | {"x" r} => ready

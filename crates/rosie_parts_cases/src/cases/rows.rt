@@ -1,13 +1,14 @@
-// Tables of texts, which one function goes through. A section begins with the call that is asked, and what it shows; behind
-// it each row has a text and, behind `=>`, what is said of it. A `¶` stands for a line feed.
+// Tables of texts, which one function goes through. A section begins with the call that is asked, and what it shows;
+// behind it each row has a text and, behind `=>`, what is said of it. A `¶` stands for a line feed.
 use crate::cases::{
     code, faults, packages, prepare, sample, session, show, streams, word_rows, words,
 };
 use std::alloc::{AllocError, Global};
 use std::test::Fail;
 
-/// Lines and files of code, what is printed, and faults. Behind the path of a file of code stands the last byte of `c.bin`;
-/// `listed` are the names of rules, and `expanded` is a rule that takes an `a`; the lines are the first of a sample.
+/// Lines and files of code, what is printed, and faults. Behind the path of a file of code stands the last byte of
+/// `c.bin`; `listed` are the names of rules, and `expanded` is a rule that takes an `a`; the lines are the first of a
+/// sample.
 const PARTS: &str = r#"edit: lines of a session, and the command that each is, its text in `<>`
 = 1 x = "b" => = 1 <x = "b">
 - 007 => - 7

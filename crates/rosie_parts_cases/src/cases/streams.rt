@@ -18,10 +18,10 @@ use std::{fs, io, process};
 /// How many bytes a line may have in the tables.
 const MOST: usize = 4;
 
-/// Bytes, and behind `=>` what a reader of lines of at most 4 bytes answers: each line in brackets, and each fault. Before
-/// `=>` any character but a `¶` stands for the byte of its number. Then calls that fail, by their numbers, and what comes
-/// of them. The reads of lines give `ab`, `¶c`, `d¶`, `ef` and the end; the writes take two bytes, two and one, and the
-/// flush comes behind them; the file is opened, and its reads give `ab`, `¶c`, `d` and the end.
+/// Bytes, and behind `=>` what a reader of lines of at most 4 bytes answers: each line in brackets, and each fault.
+/// Before `=>` any character but a `¶` stands for the byte of its number. Then calls that fail, by their numbers, and
+/// what comes of them. The reads of lines give `ab`, `¶c`, `d¶`, `ef` and the end; the writes take two bytes, two and
+/// one, and the flush comes behind them; the file is opened, and its reads give `ab`, `¶c`, `d` and the end.
 pub(crate) const STREAMS: &str = "\
 lines: in whatever pieces they come
 ¶ => []end

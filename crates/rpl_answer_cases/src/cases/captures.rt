@@ -12,8 +12,8 @@ pub(crate) fn unfolded(alloc: Global, row: &str) -> Result<String, AllocError> {
     Ok(text)
 }
 
-/// The capture of a word at a place: nothing where a tree ends, the number of its label where one begins, and `note` with
-/// the number of a text.
+/// The capture of a word at a place: nothing where a tree ends, the number of its label where one begins, and `note`
+/// with the number of a text.
 fn capture_of(word: &str, place: usize) -> Result<Caught, Fail> {
     if word.is_empty() {
         return Ok(Caught::Finish { place });

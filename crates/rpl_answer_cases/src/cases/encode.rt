@@ -12,8 +12,9 @@ use std::test::Fail;
 static LABELS: [&str; 6] = ["*", "p", "find.*", "find.<search>", "say \"é\"", "x"];
 
 /// A style, the captures of a match, its line, and behind `=>` the text. A `¶` stands for a line feed. One tree of the
-/// first two bytes; the parentheses of `(()())`; both hits in `xaya`; what was skipped and what was found in `ab;`; a note
-/// behind the first byte, with a hit below another node; and a tree that ends before it starts, inside an empty one.
+/// first two bytes; the parentheses of `(()())`; both hits in `xaya`; what was skipped and what was found in `ab;`; a
+/// note behind the first byte, with a hit below another node; and a tree that ends before it starts, inside an empty
+/// one.
 const MATCHES: &str = r#"Json 0@0,@2 abc => {"type":"*","s":1,"e":3,"data":"ab"}¶
 Line 0@0,@2 abc => abc¶
 Matches 0@0,@2 abc => ab¶

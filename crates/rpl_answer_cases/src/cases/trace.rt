@@ -7,7 +7,8 @@ use rpl_trace::{Trace, TraceFault, trace};
 use std::alloc::Global;
 use std::test::Fail;
 
-/// What is traced, and how many evaluations there may be; and then the lines that are printed, and where the match ends.
+/// What is traced, and how many evaluations there may be; and then the lines that are printed, and where the match
+/// ends.
 const TRACES: &str = r#"predicate 5
 0 capture * 1 2
 1 seq 1 2

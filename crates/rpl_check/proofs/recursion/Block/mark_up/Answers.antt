@@ -1,4 +1,4 @@
-use Rattle.std.proofs.Common.{◌≡◌, ℕ, ◌+◌, ◌-◌, ◌<◌, length, sym, subst, arith}
+use Rattle.std.proofs.Common.{◌≡◌, ◌+◌, ◌-◌, ◌<◌, length, sym, subst, arith}
 use Rattle.std.specs.Prelude.{false, true, slice_set}
 use Rattle.rpl_core.specs.inside.Marks.{marked}
 use Rattle.rpl_check.specs.inside.Search.{AreClean}
