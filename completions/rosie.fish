@@ -1,15 +1,30 @@
-# Completion of rosie for fish: commands, options, styles and files.
-set -l commands match grep test list expand trace sample repl compile class
-complete -c rosie -n "not __fish_seen_subcommand_from $commands" -f -a "$commands"
-complete -c rosie -s f -l file -r -F -d 'Load an RPL file'
-complete -c rosie -l rpl -x -d 'Load an RPL text'
-complete -c rosie -l libpath -x -a '(__fish_complete_directories)' -d 'Folders in which imports are looked for'
-complete -c rosie -s o -l output -x -a 'json line matches subs data bool' -d 'Output style'
-complete -c rosie -s w -l wholefile -d 'Each input is one line'
-complete -c rosie -s a -l all -d 'Write the lines that did not match to standard error'
-complete -c rosie -s F -l fixed-strings -d 'The pattern is a text'
-complete -c rosie -l budget -x -d 'Machine steps that a line may take'
-complete -c rosie -l steps -d 'Write the steps of each line'
-complete -c rosie -l code -d 'Print the program too'
-complete -c rosie -l limit -x -d 'Evaluations that a trace may have'
-complete -c rosie -l code-file -r -F -d 'Take the program from a code file'
+# Completion of rosie for fish: commands, options, styles, classes and files.
+# `-o` tells of the short options as fish doesn't join them: rosie refuses `-wa`.
+set -g __rosie_commands match grep test list expand trace sample repl compile class
+
+# Whether one of these commands stands on the line, or none yet, since options may stand before the command.
+function __rosie_for
+    __fish_seen_subcommand_from $argv
+    or not __fish_seen_subcommand_from $__rosie_commands
+end
+
+complete -c rosie -f
+complete -c rosie -n 'not __fish_seen_subcommand_from $__rosie_commands' -a "$__rosie_commands"
+complete -c rosie -n '__fish_seen_subcommand_from match grep trace test' -F
+complete -c rosie -n '__fish_seen_subcommand_from class' -a 'alnum alpha blank cntrl digit graph lower print punct space upper xdigit'
+
+set -l roots '__rosie_for match grep list expand trace compile'
+set -l lines '__rosie_for match grep'
+complete -c rosie -n $roots -o f -l file -r -F -d 'Load an RPL file'
+complete -c rosie -n $roots -l rpl -x -d 'Load an RPL text'
+complete -c rosie -n '__rosie_for match grep test list expand trace repl compile' -l libpath -x -a '(__fish_complete_directories)' \
+    -d 'Folders in which imports are looked for'
+complete -c rosie -n '__rosie_for match grep expand trace compile' -o F -l fixed-strings -d 'The pattern is a text'
+complete -c rosie -n $lines -o o -l output -x -a 'json line matches subs data bool' -d 'Output style'
+complete -c rosie -n '__rosie_for match grep trace' -o w -l wholefile -d 'Each input is one line'
+complete -c rosie -n $lines -o a -l all -d 'Write the lines that did not match to standard error'
+complete -c rosie -n '__rosie_for match grep test sample' -l budget -x -d 'Machine steps that a line may take'
+complete -c rosie -n $lines -l steps -d 'Write the steps of each line'
+complete -c rosie -n '__rosie_for expand' -l code -d 'Print the program too'
+complete -c rosie -n '__rosie_for trace' -l limit -x -d 'Evaluations that a trace may have'
+complete -c rosie -n '__rosie_for match' -l code-file -r -F -d 'Take the program from a code file'
