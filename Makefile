@@ -3,6 +3,7 @@ PREFIX ?= /usr/local
 BIN = $(DESTDIR)$(PREFIX)/bin
 SHARE = $(DESTDIR)$(PREFIX)/share
 PROGRAM = crates/rosie/out/rosie
+DOCUMENTS = docs/COMMAND.md docs/LANGUAGE.md docs/TUTORIAL.md
 
 .PHONY: build check try test install uninstall clean
 
@@ -30,12 +31,13 @@ test:
 	tests/manual
 	tests/install
 
-# The program, its man page, the examples, and completions for three shells.
+# The program, its man page, the documents for users, the examples, and completions for three shells.
 install: build
-	install -d $(BIN) $(SHARE)/man/man1 $(SHARE)/rosie/examples $(SHARE)/bash-completion/completions $(SHARE)/zsh/site-functions \
-		$(SHARE)/fish/vendor_completions.d
+	install -d $(BIN) $(SHARE)/man/man1 $(SHARE)/doc/rosie $(SHARE)/rosie/examples $(SHARE)/bash-completion/completions \
+		$(SHARE)/zsh/site-functions $(SHARE)/fish/vendor_completions.d
 	install -m 755 $(PROGRAM) $(BIN)/rosie
 	tools/manual_page > $(SHARE)/man/man1/rosie.1
+	install -m 644 $(DOCUMENTS) $(SHARE)/doc/rosie
 	install -m 644 examples/* $(SHARE)/rosie/examples
 	install -m 644 completions/rosie.bash $(SHARE)/bash-completion/completions/rosie
 	install -m 644 completions/_rosie $(SHARE)/zsh/site-functions/_rosie
@@ -44,7 +46,7 @@ install: build
 uninstall:
 	rm -f $(BIN)/rosie $(SHARE)/man/man1/rosie.1 $(SHARE)/bash-completion/completions/rosie
 	rm -f $(SHARE)/zsh/site-functions/_rosie $(SHARE)/fish/vendor_completions.d/rosie.fish
-	rm -rf $(SHARE)/rosie
+	rm -rf $(SHARE)/rosie $(SHARE)/doc/rosie
 
 clean:
 	rm -rf crates/*/out tests/.work
