@@ -4,26 +4,4 @@
 #![tactic(auto)]
 
 #[cfg(test)]
-mod cases;
-#[cfg(test)]
-mod code_words;
-#[cfg(test)]
-mod codes;
-#[cfg(test)]
-mod endings;
-#[cfg(test)]
-mod faults;
-#[cfg(test)]
-mod generated;
-#[cfg(test)]
-mod made;
-#[cfg(test)]
-mod names;
-#[cfg(test)]
-mod plain_check;
-#[cfg(test)]
-mod safe_code;
-#[cfg(test)]
-mod shown;
-#[cfg(test)]
-mod words;
+mod tests;

@@ -1,5 +1,5 @@
 // Patterns and tables in words: the parts of a pattern stand before it.
-use crate::names::is_new;
+use crate::tests::names::is_new;
 use rpl_classes::Set;
 use rpl_core::{Peg, Pegs, Rule, Rules};
 use rpl_text::Chars;

@@ -1,5 +1,5 @@
 // Code in words: an instruction each, with its operands behind colons.
-use crate::words::read_set;
+use crate::tests::words::read_set;
 use rpl_core::{Instr, Instrs, Labels, Program, Sets};
 use rpl_text::Chars;
 use std::alloc::Global;

@@ -1,5 +1,5 @@
 // Codes that are safe, and codes that are not.
-use crate::code_words::read_code;
+use crate::tests::code_words::read_code;
 use rpl_safe::is_safe;
 use std::alloc::Global;
 use std::test::Fail;

@@ -1,9 +1,9 @@
 // Cases worked by hand: what a pattern means, what its code does in the plain machine, and what the compiled code does
 // in the machine.
-use crate::code_words::read_code;
-use crate::endings::{Ending, characters, compiled, meant, plain, real};
-use crate::shown::show_outcome;
-use crate::words::{read_pattern, read_rules};
+use crate::tests::code_words::read_code;
+use crate::tests::endings::{Ending, characters, compiled, meant, plain, real};
+use crate::tests::shown::show_outcome;
+use crate::tests::words::{read_pattern, read_rules};
 use rpl_core::Rules;
 use rpl_machine::Scratch;
 use rpl_plain::evaluate;

@@ -2,7 +2,7 @@ use Rattle.std.proofs.Common.{◌∙◌, sym, ap}
 use Rattle.std.specs.Prelude.{chars, encode_utf8_all}
 use Rattle.std.proofs.lemmas.Slice.Eq.{bytes_eq-Decides}
 use Rattle.std.proofs.lemmas.Str.{encodes-chars}
-use Rattle.rpl_compared.proofs.names.same_text.Goals as goal
+use Rattle.rpl_compared.proofs.tests.names.same_text.Goals as goal
 
 pub returns : goal.returns
 returns c =

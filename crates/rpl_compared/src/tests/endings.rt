@@ -1,7 +1,7 @@
 // How a pattern ends on a line, by its meaning and by both machines.
 ghost use Rattle.std.specs.Prelude.{◌≡◌, ◌<◌};
 
-use crate::shown::{show_match, show_outcome, show_plain};
+use crate::tests::shown::{show_match, show_outcome, show_plain};
 use rpl_check::{check, check_pattern};
 use rpl_codegen::compile;
 use rpl_core::{Peg, Program, Rules, calls_are_rules, is_in_order};

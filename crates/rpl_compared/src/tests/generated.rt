@@ -1,7 +1,7 @@
 // Two thousand generated patterns and texts, by their meaning, by the plain machine and by the machine.
-use crate::endings::{Ending, compiled, meant, plain, real};
-use crate::made::{Made, generator, make};
-use crate::words::{read_pattern, read_rules};
+use crate::tests::endings::{Ending, compiled, meant, plain, real};
+use crate::tests::made::{Made, generator, make};
+use crate::tests::words::{read_pattern, read_rules};
 use rpl_machine::Scratch;
 use std::alloc::Global;
 use std::test::Fail;

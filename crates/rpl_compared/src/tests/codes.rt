@@ -1,5 +1,5 @@
 // Codes that were worked out by hand.
-use crate::words::{read_pattern, read_rules};
+use crate::tests::words::{read_pattern, read_rules};
 use rpl_check::{check, check_pattern};
 use rpl_codegen::{CompileFault, compile};
 use rpl_core::{Instr, Program, calls_are_rules, is_in_order};

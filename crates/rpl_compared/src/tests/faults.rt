@@ -1,7 +1,7 @@
 // Tables and patterns with their faults.
-use crate::made::{Made, generator, make_wild};
-use crate::plain_check;
-use crate::words::{read_pattern, read_rules};
+use crate::tests::made::{Made, generator, make_wild};
+use crate::tests::plain_check;
+use crate::tests::words::{read_pattern, read_rules};
 use rpl_check::{BehindCause, CheckFault, check, check_pattern};
 use rpl_core::{Rules, calls_are_rules, is_in_order};
 use std::alloc::{AllocError, Global};
