@@ -7,3 +7,4 @@ pub mod Paid
 pub mod Once
 pub mod Some
 pub mod Loads
+pub mod Entries

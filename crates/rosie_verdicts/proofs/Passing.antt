@@ -1,5 +1,5 @@
 -- From test to test of a suite, and to the counts at the end.
-use Rattle.std.proofs.Common.{◌≡◌, ◌+◌, ◌<◌, ◌≤◌, ℕ, true, false, List, [], ◌∷◌, ◌++◌, get_or, drop, length, sym, ◌∙◌, ap, subst}
+use Rattle.std.proofs.Common.{◌≡◌, ◌+◌, ◌<◌, ◌≤◌, ℕ, true, false, List, [], ◌∷◌, ◌++◌, get_or, drop, length, subst}
 use Rattle.std.specs.Prelude.{Result, Ok, Err, IsErrAnd, map}
 use Rattle.rosie_run.specs.Outputs.{Telling, Texts, Wrote}
 use Rattle.rosie_run.specs.Report.{Piece, added, tally_of, up_to_stop}
@@ -20,7 +20,7 @@ use Rattle.rosie_verdicts.proofs.Written.{reached-front, reached-last, reached-o
 
 -- the piece of a test, that of the counts, all of them, and those from the test with a number on
 abbrev pub test_piece : Suite → Trial → Piece
-test_piece s t = trial_piece (bench_of s) (trial_of (bodies_of s.rules) t)
+test_piece s t = trial_piece (bench_of s) (trial_of (bodies_of s.rules) s.subjects.items t)
 
 abbrev pub last_piece : Suite → Piece
 last_piece s = counts_piece (bench_of s).file (length (trials_of s)) (unmet (bench_of s) (trials_of s))
@@ -38,8 +38,8 @@ pub record Told (r : Result Tally Ended) (W : Telling) (s : Suite) (i : ℕ) (x 
 
 pub told-test : (r : Result Tally Ended) (W : Telling) (s : Suite) (i : ℕ) (x : Trial) (xs : List Trial) (file : List ℕ)
     (v : Verdict) (a d : Texts) → xs ≡ s.trials.items → i < length xs → x ≡ get_or xs i x → file ≡ (bench_of s).file
-    → v ≡ verdict_in (bench_of s) (trial_of (bodies_of s.rules) x)
-    → d.steps ≡ a.steps + cost_of (bench_of s) x.test (trial_of (bodies_of s.rules) x).subject
+    → v ≡ verdict_in (bench_of s) (trial_of (bodies_of s.rules) s.subjects.items x)
+    → d.steps ≡ a.steps + cost_of (bench_of s) x.test (trial_of (bodies_of s.rules) s.subjects.items x).subject
     → Runs r W (piece_of file x.test v 0 ∷ []) Nowhere a (record d { steps = a.steps }) → Told r W s i x a d
 told-test r W s i x xs file v a d items lt found named verdict cost h =
     let all = s.trials.items in
@@ -48,7 +48,7 @@ told-test r W s i x xs file v a d items lt found named verdict cost h =
           come-next (test_piece s) (last_piece s) all i x (subst (λ ys. i < length ys) items lt)
           (subst (λ ys. x ≡ get_or ys i x) items found);
       runs =
-          told-runs r W (bench_of s) (trial_of (bodies_of s.rules) x) file v a.out d.out a.err d.err a.number d.number
+          told-runs r W (bench_of s) (trial_of (bodies_of s.rules) s.subjects.items x) file v a.out d.out a.err d.err a.number d.number
           a.steps d.steps named verdict cost h;
     }
 
@@ -60,7 +60,7 @@ pub record Counted (r : Result Tally Ended) (W : Telling) (s : Suite) (i : ℕ) 
 pub told-counts : (r : Result Tally Ended) (W : Telling) (s : Suite) (i : ℕ) (xs : List Trial) (file : List ℕ)
     (tests failed : ℕ) (a d : Texts) → xs ≡ s.trials.items → length xs ≤ i → file ≡ (bench_of s).file
     → tests ≡ length (trials_of s)
-    → failed + unmet (bench_of s) (map (trial_of (bodies_of s.rules)) (drop i s.trials.items))
+    → failed + unmet (bench_of s) (map (trial_of (bodies_of s.rules) s.subjects.items) (drop i s.trials.items))
     ≡ unmet (bench_of s) (trials_of s)
     → Runs r W (counts_piece file tests failed ∷ []) Nowhere a d → Counted r W s i a d
 told-counts r W s i xs file tests failed a d items done named many counted h =
@@ -71,7 +71,7 @@ told-counts r W s i xs file tests failed a d items done named many counted h =
       next = come-last (test_piece s) (last_piece s) all i past;
       runs =
           counts-runs r W file b.file tests (length (trials_of s)) failed (unmet b (trials_of s)) a d named many
-          (unmet-last (trial_of (bodies_of s.rules)) b all i failed (unmet b (trials_of s)) past counted) h;
+          (unmet-last (trial_of (bodies_of s.rules) s.subjects.items) b all i failed (unmet b (trials_of s)) past counted) h;
     }
 
 -- a run that stands before the test with the number i

@@ -11,6 +11,7 @@ mod laws;
 mod loading;
 mod reading;
 mod run;
+mod subject;
 mod suite;
 mod telling;
 mod tester;

@@ -15,7 +15,7 @@ ghost use Rattle.rosie_verdicts.specs.inside.Steps.{IsOwn};
 
 use crate::reading::read_again;
 use crate::suite::Suite;
-use crate::trial::trials_of;
+use crate::trial::{Trials, trials_of};
 use rosie_io::Files;
 use rosie_prepare::{PreparedRules, Unready, prepare_rules};
 use rosie_run::{NoMemory, line_fault};
@@ -57,12 +57,13 @@ fn suite_over(
     let prefix = Chars::from_str(alloc, name)?;
     match read_tests(alloc, text) {
         Ok(tests) => {
-            let trials = trials_of(alloc, &set, &rules, number, tests)?;
+            let Trials { subjects, trials } = trials_of(alloc, &set, &rules, number, tests)?;
             Ok(Suite {
                 file,
                 prefix,
                 budget,
                 rules,
+                subjects,
                 trials,
             })
         }

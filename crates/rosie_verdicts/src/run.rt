@@ -1,5 +1,5 @@
 // The run of the tests.
-ghost use Rattle.std.specs.Prelude.{◌≡◌, ◌+◌, IfErr, IfOk, OnOk};
+ghost use Rattle.std.specs.Prelude.{◌≡◌, ◌+◌, ◌<◌, length, IfErr, IfOk, OnOk};
 ghost use Rattle.rosie_run.specs.Causes.{WritesCause};
 ghost use Rattle.rosie_run.specs.Outputs.{texts};
 ghost use Rattle.rosie_run.specs.Runs.{Runs, IsNoCut};
@@ -8,10 +8,11 @@ ghost use Rattle.rpl_core.specs.Table.{bodies_of};
 ghost use Rattle.rosie_verdicts.specs.Trials as T;
 ghost use Rattle.rosie_verdicts.specs.inside.Ready.{IsReadyJob, IsReadyTrial, IsText};
 
+use crate::subject::{Compiled, Subject};
 use crate::suite::Suite;
 use crate::telling::{tell_counts, tell_test};
 use crate::tester::{Tester, judge_none};
-use crate::trial::{Compiled, Subject, Trial};
+use crate::trial::Trial;
 use crate::verdict::Verdict;
 use rosie_io::Sink;
 use rosie_jobs::budget_or;
@@ -25,7 +26,7 @@ use std::sync::ledger::Ledger;
 
 impl Suite {
     ghost use Rattle.rosie_verdicts.specs.Seen.{bench_of, trials_of};
-    ghost use Rattle.rosie_verdicts.specs.Tried.{job_of, subject_of, trial_of};
+    ghost use Rattle.rosie_verdicts.specs.Tried.{job_of, trial_of};
 
     /// How a test comes out whose goal has its code.
     fn try_goal<L: Ledger>(
@@ -65,13 +66,14 @@ impl Suite {
         tester: &mut Tester,
         steps: &mut Steps<L>,
     ) -> Result<Verdict, NoMemory>
-        requires { ∥ IsReadyTrial (trial_of (bodies_of self.now.rules) trial.now) ∥₁ }
-        ensures verdict { IfOk result (λ verdict. verdict ≡ T.verdict_of (bench_of self.now) trial.now.test
-            (subject_of (bodies_of self.now.rules) trial.now.subject)) }
+        requires placed { trial.now.subject < length self.now.subjects.items }
+        requires ready { ∥ IsReadyTrial (trial_of (bodies_of self.now.rules) self.now.subjects.items trial.now) ∥₁ }
+        ensures verdict { IfOk result (λ verdict. verdict ≡ T.verdict_in (bench_of self.now)
+            (trial_of (bodies_of self.now.rules) self.now.subjects.items trial.now)) }
         ensures steps { OnOk result (steps.new ≡ steps.old + T.cost_of (bench_of self.now) trial.now.test
-            (subject_of (bodies_of self.now.rules) trial.now.subject)) }
+            (trial_of (bodies_of self.now.rules) self.now.subjects.items trial.now).subject) }
     {
-        match &trial.subject {
+        match &self.subjects[trial.subject].subject {
             Subject::Unbound => Ok(Verdict::Unmet),
             Subject::TooLong => Ok(Verdict::LongCode),
             Subject::Runs(compiled) => self.try_goal(&trial.test, compiled, tester, steps),

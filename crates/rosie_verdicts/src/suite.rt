@@ -1,9 +1,11 @@
 // The tests of a file, each with what it is tried with.
-ghost use Rattle.std.specs.Prelude.{map};
+ghost use Rattle.std.specs.Prelude.{◌<◌, length, map};
+ghost use Rattle.std.specs.List.{All};
 ghost use Rattle.rpl_core.specs.Table.{bodies_of};
 ghost use Rattle.rosie_verdicts.specs.Tried.{trial_of};
 ghost use Rattle.rosie_verdicts.specs.inside.Ready.{AreReady};
 
+use crate::subject::Entry;
 use crate::trial::Trial;
 use rpl_check::Checked;
 use rpl_text::Chars;
@@ -19,6 +21,9 @@ pub struct Suite {
     pub(crate) budget: Option<u64>,
     /// The rules of all that is loaded.
     pub(crate) rules: Checked,
+    /// What the tests are tried with.
+    pub(crate) subjects: Vec<Entry>,
     pub(crate) trials: Vec<Trial>,
-    ghost ready: { ∥ AreReady (map (trial_of (bodies_of rules)) trials.items) ∥₁ },
+    ghost ready: { ∥ AreReady (map (trial_of (bodies_of rules) subjects.items) trials.items) ∥₁ },
+    ghost placed: { All (λ t. t.subject < length subjects.items) trials.items },
 }

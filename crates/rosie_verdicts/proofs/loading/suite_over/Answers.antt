@@ -18,13 +18,14 @@ returns-in-Ok-clause-prepares c = λ r h.
     let rules = c.args.ready.rules in
     let m = c.in-Some.number in
     let name = chars c.in-Some-package.name.now in
-    let trials = map (trial_of (bodies_of rules)) c.in_ok-trials-in-Ok.trials.items in
+    let made = c.in_ok-subjects-in-Ok.field-0 in
+    let trials = map (trial_of (bodies_of rules) made.subjects.items) made.trials.items in
     let same : bodies (table_of p) ≡ bodies_of rules = sym (ap bodies c.requires) ∙ bodies-rows_of rules in
     let tells =
     again-tells p c.args.file c.args.budget c.args.text.now r m name (sym c.in-Some.ensures)
     (sym c.in-Some-package.ensures) h in
     tests-due p m (bench_with c.args.file c.args.budget name) c.args.text.now r c.in-Ok.tests trials c.in-Ok.ensures.tests
-    (λ due is. c.in_ok-trials-in-Ok.ensures.trials due (subst (λ R. AreTrials R (own p m) c.in-Ok.tests due) same is)) tells
+    (λ due is. c.in_ok-subjects-in-Ok.ensures.trials due (subst (λ R. AreTrials R (own p m) c.in-Ok.tests due) same is)) tells
     ∙ ap (λ x. Ok (record { bench = bench_with c.args.file c.args.budget x; trials = trials })) (sym c.in_ok-prefix.ensures)
 
 pub returns-clause-prepares : goal.returns-clause-prepares

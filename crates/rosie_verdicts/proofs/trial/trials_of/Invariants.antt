@@ -7,7 +7,9 @@ use Rattle.rpl_package.specs.Sets.{set_seen}
 use Rattle.rosie_verdicts.specs.Suites.{AreTrials}
 use Rattle.rosie_verdicts.specs.Tried.{trial_of}
 use Rattle.rosie_verdicts.specs.Trials.{Trial}
+use Rattle.rosie_verdicts.specs.inside.Entries.{AreSound}
 use Rattle.rosie_verdicts.specs.inside.Ready.{AreReady}
+use Rattle.rosie_verdicts.proofs.Entries.{ArePlaced}
 use Rattle.rosie_verdicts.proofs.Tried.{Passed}
 use Rattle.rosie_verdicts.proofs.trial.trials_of.Given as goal
 
@@ -15,8 +17,10 @@ use Rattle.rosie_verdicts.proofs.trial.trials_of.Given as goal
 abbrev pub invariant-loop-test : goal.invariant-loop-test
 invariant-loop-test l = record {
   passed : (due : List Trial) → AreTrials (bodies_of l.rules) (own (set_seen l.set) l.number) l.fn.tests due
-      → Passed (bodies_of l.rules) (own (set_seen l.set) l.number) due (map (trial_of (bodies_of l.rules)) l.trials.items)
-      (into_iter_items l.test-iterator);
-  ready : ∥ AreReady (map (trial_of (bodies_of l.rules)) l.trials.items) ∥₁;
+      → Passed (bodies_of l.rules) (own (set_seen l.set) l.number) due
+      (map (trial_of (bodies_of l.rules) l.subjects.entries.items) l.trials.items) (into_iter_items l.test-iterator);
+  ready : ∥ AreReady (map (trial_of (bodies_of l.rules) l.subjects.entries.items) l.trials.items) ∥₁;
+  placed : ArePlaced l.subjects.entries.items l.trials.items;
+  sound : AreSound (bodies_of l.rules) l.subjects.entries.items;
   left : into_iter_len l.test-iterator ≡ length (into_iter_items l.test-iterator);
 }

@@ -1,5 +1,5 @@
-use Rattle.std.proofs.Common.{◌≡◌, ◌+◌, ◌<◌, ◌∷◌, [], ◌++◌, get_or, length, refl, sym, ap, subst, zero-add, ◌∙◌, arith}
-use Rattle.std.specs.Prelude.{Ok, Err, map}
+use Rattle.std.proofs.Common.{◌≡◌, ◌<◌, ◌∷◌, [], ◌++◌, get_or, length, refl, sym, ap, subst, zero-add, ◌∙◌, arith}
+use Rattle.std.specs.Prelude.{Ok, Err}
 use Rattle.std.proofs.lemmas.List.{length-map}
 use Rattle.std.proofs.lemmas.Simd.{map-map}
 use Rattle.rosie_run.specs.Outputs.{Telling, texts}
@@ -20,7 +20,7 @@ tests-init g c =
     let b = bench_of s in
     let first = texts g.O.Sink.written g.O.Sink.number g.E.Sink.written c.args.out.now c.args.err.now c.args.steps.now in
     let same =
-    ap (λ ps. ps ++ last_piece s ∷ []) (map-map (trial_piece b) (trial_of (bodies_of s.rules)) s.trials.items) in
+    ap (λ ps. ps ++ last_piece s ∷ []) (map-map (trial_piece b) (trial_of (bodies_of s.rules) s.subjects.items) s.trials.items) in
     record {
       reached =
           reached-first W (all_pieces s) (pieces_from s 0) first first c.new-tally.result same refl
@@ -31,11 +31,20 @@ tests-init g c =
       err_faults = refl;
     }
 
-pub try_test-requires : goal.try_test-requires
-try_test-requires g c =
+pub try_test-requires-clause-placed : goal.try_test-requires-clause-placed
+try_test-requires-clause-placed g c =
+    let s = c.args.self.now in
+    let i = c.tests.trial-index in
+    let x = c.trial-item.result in
+    let lt = subst (λ xs. i < length xs) c.deref-trial-items.ensures.value c.tests-test.true in
+    let found = subst (λ xs. x ≡ get_or xs i x) c.deref-trial-items.ensures.value c.trial-item.is in
+    subst (λ y. y.subject < length s.subjects.items) (sym found) (s.placed i x lt)
+
+pub try_test-requires-clause-ready : goal.try_test-requires-clause-ready
+try_test-requires-clause-ready g c =
     let s = c.args.self.now in
     let x = c.trial-item.result in
-    ready-at (trial_of (bodies_of s.rules)) s.trials.items c.tests.trial-index x
+    ready-at (trial_of (bodies_of s.rules) s.subjects.items) s.trials.items c.tests.trial-index x
     (subst (λ xs. c.tests.trial-index < length xs) c.deref-trial-items.ensures.value c.tests-test.true)
     (subst (λ xs. x ≡ get_or xs c.tests.trial-index x) c.deref-trial-items.ensures.value c.trial-item.is) s.ready
 
@@ -80,7 +89,7 @@ tests-preserved g c =
           c.text_of-file.ensures verdict c.in_ok-verdict.ensures.steps (c.in_ok-told.ensures.runs c.tests.steps))
           c.and-tally.ensures c.if-tally.false;
       counted =
-          unmet-next (trial_of (bodies_of s.rules)) (bench_of s) s.trials.items i x c.tests.unmet
+          unmet-next (trial_of (bodies_of s.rules) s.subjects.items) (bench_of s) s.trials.items i x c.tests.unmet
           c.one_if_unmet-unmet.result (unmet (bench_of s) (trials_of s))
           (subst (λ ys. i < length ys) items c.tests-test.true)
           (subst (λ ys. x ≡ get_or ys i x) items c.trial-item.is) (is ∙ ap one_if_unmet verdict)
@@ -95,7 +104,7 @@ returns-in_err-told-2-clause-runs g c =
     let s = c.args.self.now in
     let e = c.in_err-told-2.field-0.0 in
     let many : c.len.result ≡ length (trials_of s) =
-    c.len.ensures ∙ s.trials.ok.0 ∙ sym (length-map s.trials.items (trial_of (bodies_of s.rules))) in
+    c.len.ensures ∙ s.trials.ok.0 ∙ sym (length-map s.trials.items (trial_of (bodies_of s.rules) s.subjects.items)) in
     let counted =
     told-counts (Err e) _ s c.tests.trial-index _ _ _ _ _ _ c.deref-trial-items.ensures.value c.tests-test.false
     c.text_of-file.ensures many c.tests.invariant.counted (c.in_err-told-2.ensures.runs c.tests.steps) in
@@ -106,7 +115,7 @@ pub returns-clause-runs : goal.returns-clause-runs
 returns-clause-runs g c =
     let s = c.args.self.now in
     let many : c.len.result ≡ length (trials_of s) =
-    c.len.ensures ∙ s.trials.ok.0 ∙ sym (length-map s.trials.items (trial_of (bodies_of s.rules))) in
+    c.len.ensures ∙ s.trials.ok.0 ∙ sym (length-map s.trials.items (trial_of (bodies_of s.rules) s.subjects.items)) in
     let counted =
     told-counts (Ok c.in_ok-told-2.told) _ s c.tests.trial-index _ _ _ _ _ _ c.deref-trial-items.ensures.value
     c.tests-test.false c.text_of-file.ensures many c.tests.invariant.counted

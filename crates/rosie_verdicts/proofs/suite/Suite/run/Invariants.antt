@@ -16,7 +16,7 @@ invariant-tests g l = record {
       (all_pieces l.self) (pieces_from l.self l.trial-index)
       (texts g.O.Sink.written g.O.Sink.number g.E.Sink.written l.initial.out l.initial.err l.initial.steps)
       (texts g.O.Sink.written g.O.Sink.number g.E.Sink.written l.out l.err l.steps) l.tally;
-  counted : l.unmet + unmet (bench_of l.self) (map (trial_of (bodies_of l.self.rules)) (drop l.trial-index l.self.trials.items))
+  counted : l.unmet + unmet (bench_of l.self) (map (trial_of (bodies_of l.self.rules) l.self.subjects.items) (drop l.trial-index l.self.trials.items))
       ≡ unmet (bench_of l.self) (trials_of l.self);
   few : l.unmet ≤ l.trial-index;
   out_faults : g.O.Sink.faults l.out ≡ g.O.Sink.faults l.initial.out;

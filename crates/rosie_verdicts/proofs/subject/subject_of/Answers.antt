@@ -7,7 +7,7 @@ use Rattle.rpl_core.specs.Program.{instructions}
 use Rattle.rpl_core.specs.Table.{bodies_of}
 use Rattle.rosie_verdicts.specs.Suites.{IsSubject}
 use Rattle.rosie_verdicts.proofs.Tried.{runs-due, long-due}
-use Rattle.rosie_verdicts.proofs.trial.subject_of.Goals as goal
+use Rattle.rosie_verdicts.proofs.subject.subject_of.Goals as goal
 
 pub returns-in-Ok-clause-subject : goal.returns-in-Ok-clause-subject
 returns-in-Ok-clause-subject c = λ due is.
