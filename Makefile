@@ -27,6 +27,7 @@ test:
 	./rosie --build
 	tests/run
 	tests/expand
+	tests/rows
 	tests/examples
 	tests/manual
 	tests/install

@@ -1,4 +1,4 @@
-// One run of the command over files and streams in memory.
+// One run of the command over files and streams in memory, of which one call fails.
 ghost use Rattle.std.specs.Prelude.{◌≡◌, ◌<◌};
 
 use rosie_cli::{Status, rosie};
@@ -8,23 +8,31 @@ use std::alloc::Global;
 use std::marker::Brand;
 use std::sync::ledger::{Blank, Ledger};
 
-/// What a stream in memory does: how many bytes a call moves at the most, and which of its calls fail, counted from 1.
-#[derive(Clone, Copy)]
-pub(crate) struct Device<'a> {
-    pub(crate) most: usize,
-    pub(crate) fails: &'a [u64],
-}
-
-/// A stream that moves what it is given, and never fails.
-pub(crate) const SURE: Device<'static> = Device {
-    most: 1_000_000,
-    fails: &[],
-};
+/// The words of the run: two files, and the standard input between them, with a rule of an imported package.
+const WORDS: &str = "match --steps -o line --libpath lib p.ab f - g";
 
 /// How much each sink has room for, in bytes.
-const ROOM: usize = 100_000;
+const ROOM: usize = 200;
 
-/// How a run ended, and what it wrote.
+/// What the command calls.
+#[derive(Clone, Copy)]
+pub(crate) enum Device {
+    Files,
+    Input,
+    Out,
+    Err,
+}
+
+/// The number of the call that fails of each device, counted from 1; with 0 none does.
+#[derive(Clone, Copy)]
+struct Fails {
+    files: u64,
+    input: u64,
+    out: u64,
+    err: u64,
+}
+
+/// How the run ended, and what it wrote.
 #[derive(Drop)]
 pub(crate) struct Outcome {
     pub(crate) status: Status,
@@ -32,135 +40,85 @@ pub(crate) struct Outcome {
     pub(crate) err: Vec<u8>,
 }
 
-/// What there is outside: the files and the standard input, as texts, and what each device does. In a text of bytes a
-/// `¶` stands for a line feed, and any other character for the byte of its number; between two `×` stands a character,
-/// and how often it is repeated. A file is its path, a space and its bytes, and `@` stands before each file but the
-/// first.
-#[derive(Clone, Copy)]
-pub(crate) struct Outside<'a> {
-    pub(crate) tree: &'a str,
-    pub(crate) bytes: &'a str,
-    pub(crate) files: Device<'a>,
-    pub(crate) input: Device<'a>,
-    pub(crate) out: Device<'a>,
-    pub(crate) err: Device<'a>,
-}
-
-impl<'a> Outside<'a> {
-    /// Files and an input whose devices never fail.
-    pub(crate) fn new(tree: &'a str, bytes: &'a str) -> Outside<'a> {
-        Outside {
-            tree,
-            bytes,
-            files: SURE,
-            input: SURE,
-            out: SURE,
-            err: SURE,
-        }
+/// This call of this device fails, and no other.
+fn fails_of(device: Device, call: u64) -> Fails {
+    let none = Fails {
+        files: 0,
+        input: 0,
+        out: 0,
+        err: 0,
+    };
+    match device {
+        Device::Files => Fails {
+            files: call,
+            ..none
+        },
+        Device::Input => Fails {
+            input: call,
+            ..none
+        },
+        Device::Out => Fails { out: call, ..none },
+        Device::Err => Fails { err: call, ..none },
     }
 }
 
-/// The character that is repeated, and how often.
-pub(crate) fn repeat_of(piece: &str) -> Option<(char, usize)> {
-    let c = piece.chars().next()?;
-    let count = piece.strip_prefix(c)?;
-    Some((c, count.parse::<usize>().ok()?))
-}
-
-/// The byte of a character.
-fn byte_of(c: char) -> u8 {
-    if c == '¶' {
-        b'\n'
-    } else {
-        u8::try_from(c as u32).unwrap_or(b'?')
+fn words(alloc: Global) -> Result<Vec<String>, NoMemory> {
+    let mut words = Vec::new(alloc);
+    for word in WORDS.split(' ') {
+        words.push(String::from_str(alloc, word)?)?;
     }
+    Ok(words)
 }
 
-/// The bytes that a text stands for.
-fn bytes_of(alloc: Global, text: &str) -> Result<Bytes, NoMemory> {
-    let mut bytes = Vec::new(alloc);
-    for (index, piece) in text.split('×').enumerate() {
-        if index % 2 == 0 {
-            for c in piece.chars() {
-                bytes.push(byte_of(c))?;
-            }
-        } else if let Some((c, count)) = repeat_of(piece) {
-            bytes.resize(bytes.len().saturating_add(count), byte_of(c))?;
-        }
-    }
-    Ok(Bytes::from_vec(bytes))
+fn file(alloc: Global, path: &[u8], bytes: &[u8]) -> Result<TreeFile, NoMemory> {
+    Ok(TreeFile {
+        path: Bytes::from_slice(alloc, path)?,
+        bytes: Bytes::from_slice(alloc, bytes)?,
+    })
 }
 
-/// The files of a text.
-fn tree_of(alloc: Global, files: &str) -> Result<Tree, NoMemory> {
+/// The files: one has a line that matches and one that doesn't, one a line that is no text and one that matches, and
+/// the package has the rule.
+fn tree(alloc: Global) -> Result<Tree, NoMemory> {
     let mut tree = Tree::new(alloc);
-    if files.is_empty() {
-        return Ok(tree);
-    }
-    for file in files.split("\n@") {
-        let (path, bytes) = file.split_once(' ').unwrap_or((file, ""));
-        tree.push(TreeFile {
-            path: Bytes::from_slice(alloc, path.as_bytes())?,
-            bytes: bytes_of(alloc, bytes)?,
-        })?;
-    }
+    tree.push(file(alloc, b"f".as_slice(), b"ab1\nx\n".as_slice())?)?;
+    tree.push(file(alloc, b"g".as_slice(), b"\xff\nab4".as_slice())?)?;
+    let package = b"package p ab = \"ab\"".as_slice();
+    tree.push(file(alloc, b"lib/p.rpl".as_slice(), package)?)?;
     Ok(tree)
 }
 
-/// Runs the command with these words.
-pub(crate) fn run_on(
-    alloc: Global,
-    words: &[String],
-    outside: Outside<'_>,
-) -> Result<Outcome, NoMemory> {
-    run_counted::<Brand>(alloc, words, outside, Blank::new(1))
+/// Runs the command where this call of this device fails.
+pub(crate) fn run_on(alloc: Global, device: Device, call: u64) -> Result<Outcome, NoMemory> {
+    run_counted::<Brand>(alloc, fails_of(device, call), Blank::new(1))
 }
 
-fn run_counted<L: Ledger>(
-    alloc: Global,
-    words: &[String],
-    outside: Outside<'_>,
-    blank: Blank,
-) -> Result<Outcome, NoMemory>
+/// The standard input has a line that matches, one that is no text, and one that matches. A call moves so many bytes at
+/// the most: 8 of a file, 3 of the input and of `out`, and 20 of `err`.
+fn run_counted<L: Ledger>(alloc: Global, fails: Fails, blank: Blank) -> Result<Outcome, NoMemory>
     requires name { blank.name ≡ L.name }
     requires parts { blank.parts ≡ L.parts }
     requires some { 0 < blank.parts }
 {
-    let mut files = MemoryFiles::new(
-        tree_of(alloc, outside.tree)?,
-        outside.files.most.max(1),
-        Calls::from_slice(alloc, outside.files.fails)?,
-    );
-    let mut source = MemorySource::new(
-        bytes_of(alloc, outside.bytes)?,
-        outside.input.most.max(1),
-        Calls::from_slice(alloc, outside.input.fails)?,
-    );
-    let mut sink = MemorySink::new(
-        alloc,
-        ROOM,
-        outside.out.most.max(1),
-        Calls::from_slice(alloc, outside.out.fails)?,
-    )?;
-    let mut fault_sink = MemorySink::new(
-        alloc,
-        ROOM,
-        outside.err.most.max(1),
-        Calls::from_slice(alloc, outside.err.fails)?,
-    )?;
+    let words = words(alloc)?;
+    let input = Bytes::from_slice(alloc, b"ab2\n\xff\nab3\n".as_slice())?;
+    let mut files = MemoryFiles::new(tree(alloc)?, 8, Calls::from_slice(alloc, &[fails.files])?);
+    let mut source = MemorySource::new(input, 3, Calls::from_slice(alloc, &[fails.input])?);
+    let mut out = MemorySink::new(alloc, ROOM, 3, Calls::from_slice(alloc, &[fails.out])?)?;
+    let mut err = MemorySink::new(alloc, ROOM, 20, Calls::from_slice(alloc, &[fails.err])?)?;
     let mut steps = Steps::<L>::new(blank);
     let status = rosie(
         alloc,
-        words,
+        &words,
         &mut files,
         &mut source,
-        &mut sink,
-        &mut fault_sink,
+        &mut out,
+        &mut err,
         &mut steps,
     );
     Ok(Outcome {
         status,
-        out: sink.written().to_vec(alloc)?,
-        err: fault_sink.written().to_vec(alloc)?,
+        out: out.written().to_vec(alloc)?,
+        err: err.written().to_vec(alloc)?,
     })
 }

@@ -1,11 +1,13 @@
-//! Tests of the whole command over streams in memory, as tables: what is written, byte for byte, and the status, also
-//! where a stream fails at any call. Nothing stands on this crate. The expected texts were worked by hand from the
-//! language's rules.
+//! Tests of what a process doesn't show. One run of the whole command over files and streams in memory, in which each
+//! call of each device fails in turn: what is written, byte for byte, and the status, worked by hand. Calls of the
+//! system that a signal interrupts. The calls of a list. Nothing stands on this crate.
 #![tactic(auto)]
 
 #[cfg(test)]
 mod command;
 #[cfg(test)]
-mod rows;
+mod lists;
+#[cfg(test)]
+mod streams;
 #[cfg(test)]
 mod tests;

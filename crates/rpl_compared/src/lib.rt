@@ -1,6 +1,6 @@
-//! Tests of the check, the compiler and the machine on patterns in words: faults, meanings and runs that were worked by
-//! hand, and thousands of generated patterns and texts, on which the plain programs that compute the definitions answer
-//! the same; codes that were worked by hand, and codes that are safe or not. Nothing stands on this crate.
+//! Tests of the check, the compiler and the machine on thousands of generated patterns and texts, on which the plain
+//! programs that compute the definitions answer the same. What was worked by hand stands in the tables that are asked
+//! of the built program (`tests/tables`). Nothing stands on this crate.
 #![tactic(auto)]
 
 #[cfg(test)]

@@ -1,12 +1,7 @@
-mod cases;
-mod code_words;
-mod codes;
 mod endings;
 mod faults;
 mod generated;
 mod made;
 mod names;
 mod plain_check;
-mod safe_code;
 mod shown;
-mod words;

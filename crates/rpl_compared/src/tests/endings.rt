@@ -1,8 +1,9 @@
-// How a pattern ends on a line, by its meaning and by both machines.
+// What comes of a goal: what the check and the compiler make of it, and how it ends on a line by its meaning and by both
+// machines.
 ghost use Rattle.std.specs.Prelude.{◌≡◌, ◌<◌};
 
 use crate::tests::shown::{show_match, show_outcome, show_plain};
-use rpl_check::{check, check_pattern};
+use rpl_check::{CheckFault, check, check_pattern};
 use rpl_codegen::compile;
 use rpl_core::{Peg, Program, Rules, calls_are_rules, is_in_order};
 use rpl_machine::{Answer, RunFault, Scratch, Steps, run};
@@ -11,7 +12,6 @@ use rpl_text::Text;
 use std::alloc::{AllocError, Global};
 use std::marker::Brand;
 use std::sync::ledger::{Blank, Ledger};
-use std::test::Fail;
 
 /// The steps that a run may make.
 const BUDGET: u64 = 100_000;
@@ -34,7 +34,7 @@ fn open(alloc: Global) -> Result<Ending, AllocError> {
 }
 
 /// The line's characters.
-pub(crate) fn characters(alloc: Global, line: &str) -> Result<Vec<char>, AllocError> {
+fn characters(alloc: Global, line: &str) -> Result<Vec<char>, AllocError> {
     let mut chars = Vec::new(alloc);
     for c in line.chars() {
         chars.push(c)?;
@@ -59,19 +59,36 @@ pub(crate) fn meant(
     Ok(Ending { shown, cost })
 }
 
-/// The goal's code; none where the check refuses the goal.
-pub(crate) fn compiled(alloc: Global, rules: Rules, goal: Peg) -> Result<Option<Program>, Fail> {
+/// What comes of a goal over a table: code, or that calls or blocks are out of order, or the first fault, or nothing
+/// where memory is wanting or the code is too long.
+#[derive(Drop)]
+pub(crate) enum Judged {
+    Code(Program),
+    Unordered,
+    Fault(CheckFault),
+    NoCode,
+}
+
+/// What the check and the compiler make of a goal.
+pub(crate) fn judge(alloc: Global, rules: Rules, goal: Peg) -> Judged {
     if !is_in_order(&rules) {
-        Err("rules out of order")?;
+        return Judged::Unordered;
     }
-    let checked = check(alloc, rules)?;
-    if !calls_are_rules(checked.rules(), &goal) {
-        Err("a call of no rule")?;
-    }
-    let Ok(goal) = check_pattern(alloc, &checked, goal) else {
-        return Ok(None);
+    let checked = match check(alloc, rules) {
+        Ok(checked) => checked,
+        Err(fault) => return Judged::Fault(fault),
     };
-    Ok(Some(compile(alloc, &checked, &goal)?))
+    if !calls_are_rules(checked.rules(), &goal) {
+        return Judged::Unordered;
+    }
+    let goal = match check_pattern(alloc, &checked, goal) {
+        Ok(goal) => goal,
+        Err(fault) => return Judged::Fault(fault),
+    };
+    match compile(alloc, &checked, &goal) {
+        Ok(program) => Judged::Code(program),
+        Err(_) => Judged::NoCode,
+    }
 }
 
 /// The ending of the plain machine, with its steps.
@@ -105,13 +122,13 @@ fn answer(program: &Program, line: Text<'_>, scratch: &mut Scratch) -> Result<An
     answer_on::<Brand>(program, line, scratch, Blank::new(1))
 }
 
-/// The ending of the machine, with its steps.
+/// The ending of the machine, with its steps. Where it has no answer, that is `open` too.
 pub(crate) fn real(
     alloc: Global,
     program: &Program,
     line: &str,
     scratch: &mut Scratch,
-) -> Result<Ending, Fail> {
+) -> Result<Ending, AllocError> {
     match answer(program, Text::new(line), scratch) {
         Ok(Answer::At { place, steps }) => {
             let shown = show_match(alloc, program, line, scratch.captures(), place)?;
@@ -121,7 +138,6 @@ pub(crate) fn real(
             let shown = String::from_str(alloc, "fail")?;
             Ok(Ending { shown, cost: steps })
         }
-        Err(RunFault::Budget) => Ok(open(alloc)?),
-        Err(fault) => Err(fault)?,
+        Err(_) => open(alloc),
     }
 }

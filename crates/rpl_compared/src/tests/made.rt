@@ -1,16 +1,30 @@
-// Made-up goals, rules and texts. A pattern is made of templates in words: `S` stands for a set, `P` for the pattern
-// made last, and `C` for a call of a rule. What stands twice in a table is taken more often.
+// Made-up goals, rules and texts. A pattern is made of templates, whose words stand behind their parts: `S` stands for a
+// set, `P` for the pattern made last, and `C` for a call of a rule. What stands twice in a table is taken more often.
 //
 // What `make` makes has a meaning on every text: a repeated body begins with a set, so that each turn takes a
 // character, and so does a rule, so that calls end; no halt stands under a predicate, since where there are halts, all
 // predicates are leaves. In what `make_wild` makes anything may be wrong, the order of the table too.
+use crate::tests::names::is_new;
 use rand::RngExt;
 use rand::seq::IndexedRandom;
 use rand_pcg::Pcg32;
+use rpl_classes::Set;
+use rpl_core::{Peg, Pegs, Rule, Rules};
+use rpl_text::Chars;
 use std::alloc::{AllocError, Global};
 
-/// The sets.
-static SETS: [&str; 9] = ["a", "a", "b", "b", "c", "\u{e9}", "a-b", "b-c", "a-\u{e9}"];
+/// The sets: the first character of each, and the last.
+static SETS: [[char; 2]; 9] = [
+    ['a', 'a'],
+    ['a', 'a'],
+    ['b', 'b'],
+    ['b', 'b'],
+    ['c', 'c'],
+    ['\u{e9}', '\u{e9}'],
+    ['a', 'b'],
+    ['b', 'c'],
+    ['a', '\u{e9}'],
+];
 
 /// The letters of the texts.
 static LETTERS: [&str; 5] = ["a", "a", "b", "c", "\u{e9}"];
@@ -26,7 +40,7 @@ static LEAVES: [&str; 16] = [
     "start",
     "end",
     "seq0",
-    "note:n",
+    "note",
     "S many",
     "S not",
     "S S choice2 and",
@@ -93,17 +107,17 @@ static WILD: [&str; 14] = [
     "S P seq2 cap:x",
 ];
 
-/// What stands before each of three rules: the number of its block, or nothing outside blocks. In the last two rows
-/// the rules of one block don't stand side by side.
-static BLOCKS: [[&str; 3]; 8] = [
-    ["", "", ""],
-    ["0|", "0|", "0|"],
-    ["0|", "0|", "0|"],
-    ["0|", "0|", ""],
-    ["", "0|", "0|"],
-    ["0|", "1|", "1|"],
-    ["0|", "", "0|"],
-    ["0|", "1|", "0|"],
+/// The block of each of three rules, from 1, or 0 outside blocks. In the last two rows the rules of one block don't stand
+/// side by side.
+static BLOCKS: [[u32; 3]; 8] = [
+    [0, 0, 0],
+    [1, 1, 1],
+    [1, 1, 1],
+    [1, 1, 0],
+    [0, 1, 1],
+    [1, 2, 2],
+    [1, 0, 1],
+    [1, 2, 1],
 ];
 
 /// The generator of the made-up goals: begun with a made-up number, so that each run makes the same.
@@ -123,23 +137,85 @@ struct Limits {
     may_halt: bool,
 }
 
-/// A goal with its rules, in words, and a text.
+/// A goal with its rules, and a text.
 #[derive(Drop)]
 pub(crate) struct Made {
-    pub(crate) rules: String,
-    pub(crate) goal: String,
+    pub(crate) rules: Rules,
+    pub(crate) goal: Peg,
     pub(crate) text: String,
 }
 
-/// A call of a rule, or a set where there is none.
-fn call(random: &mut Pcg32, limits: Limits) -> &'static str {
-    if limits.rules == 0 {
-        return pick(random, &SETS);
+/// One of the sets.
+fn set(alloc: Global, random: &mut Pcg32) -> Result<Peg, AllocError> {
+    let ends = SETS.choose(random).unwrap_or(&SETS[0]);
+    let low = ends[0];
+    let high = ends[1];
+    if high < low {
+        return Ok(Peg::Start);
     }
-    match random.random_range(0..limits.rules) {
-        0 => "call:0",
-        1 => "call:1",
-        _ => "call:2",
+    Ok(Peg::Set(Set::range(alloc, low, high)?))
+}
+
+/// A call of a rule, or a set where there is none.
+fn call(alloc: Global, random: &mut Pcg32, limits: Limits) -> Result<Peg, AllocError> {
+    if limits.rules == 0 {
+        return set(alloc, random);
+    }
+    Ok(Peg::Call(random.random_range(0..limits.rules)))
+}
+
+/// The last pattern, or the empty one where none is left.
+fn last(alloc: Global, stack: &mut Vec<Peg>) -> Peg {
+    match stack.pop() {
+        Some(peg) => peg,
+        None => Peg::Seq(Pegs::new(alloc)),
+    }
+}
+
+/// The last so many patterns, in order.
+fn last_of(alloc: Global, stack: &mut Vec<Peg>, count: u32) -> Result<Pegs, AllocError> {
+    let mut taken = Vec::new(alloc);
+    for _ in 0..count {
+        taken.push(last(alloc, stack))?;
+    }
+    let mut parts = Pegs::new(alloc);
+    for _ in 0..count {
+        parts.push(last(alloc, &mut taken))?;
+    }
+    Ok(parts)
+}
+
+/// The pattern of a word around the last one.
+fn around(alloc: Global, stack: &mut Vec<Peg>, word: &str) -> Result<Peg, AllocError> {
+    let body = Box::new(alloc, last(alloc, stack))?;
+    if let Some(label) = word.strip_prefix("cap:") {
+        return Ok(Peg::Capture(Chars::from_str(alloc, label)?, body));
+    }
+    let (least, most) = match word {
+        "many" => return Ok(Peg::Many(body)),
+        "not" => return Ok(Peg::Not(body)),
+        "and" => return Ok(Peg::And(body)),
+        "behind:1:1" => (1, 1),
+        "behind:1:2" => (1, 2),
+        "behind:0:2" => (0, 2),
+        _ => (0, 3),
+    };
+    Ok(Peg::Behind { least, most, body })
+}
+
+/// The pattern of a word, made of those before it.
+fn join(alloc: Global, stack: &mut Vec<Peg>, word: &str) -> Result<Peg, AllocError> {
+    match word {
+        "start" => Ok(Peg::Start),
+        "end" => Ok(Peg::End),
+        "halt" => Ok(Peg::Halt),
+        "note" => Ok(Peg::Note(Chars::from_str(alloc, "n")?)),
+        "seq0" => Ok(Peg::Seq(Pegs::new(alloc))),
+        "seq2" => Ok(Peg::Seq(last_of(alloc, stack, 2)?)),
+        "seq3" => Ok(Peg::Seq(last_of(alloc, stack, 3)?)),
+        "choice2" => Ok(Peg::Choice(last_of(alloc, stack, 2)?)),
+        "choice3" => Ok(Peg::Choice(last_of(alloc, stack, 3)?)),
+        _ => around(alloc, stack, word),
     }
 }
 
@@ -149,22 +225,22 @@ fn fill(
     random: &mut Pcg32,
     limits: Limits,
     template: &str,
-    parts: &mut Vec<String>,
-) -> Result<String, AllocError> {
-    let mut filled = String::new(alloc);
+    parts: &mut Vec<Peg>,
+) -> Result<Peg, AllocError> {
+    let mut stack = Vec::new(alloc);
     for word in template.split_whitespace() {
-        match word {
-            "S" => filled.push_str(pick(random, &SETS))?,
-            "C" => filled.push_str(call(random, limits))?,
+        let peg = match word {
+            "S" => set(alloc, random)?,
+            "C" => call(alloc, random, limits)?,
             "P" => match parts.pop() {
-                Some(part) => filled.push_str(part.as_str())?,
-                None => filled.push_str(pick(random, &SETS))?,
+                Some(part) => part,
+                None => set(alloc, random)?,
             },
-            _ => filled.push_str(word)?,
-        }
-        filled.push_str(" ")?;
+            _ => join(alloc, &mut stack, word)?,
+        };
+        stack.push(peg)?;
     }
-    Ok(filled)
+    Ok(last(alloc, &mut stack))
 }
 
 /// A template for the next part.
@@ -189,7 +265,7 @@ fn pattern(
     random: &mut Pcg32,
     limits: Limits,
     last: &str,
-) -> Result<String, AllocError> {
+) -> Result<Peg, AllocError> {
     let mut parts = Vec::new(alloc);
     for _ in 0..random.random_range(2..9) {
         let template = template(random, limits);
@@ -204,16 +280,31 @@ fn pattern(
     fill(alloc, random, limits, last, &mut parts)
 }
 
+/// Adds a rule, unless there is one of its name.
+fn push_rule(
+    alloc: Global,
+    rules: &mut Rules,
+    block: Option<u32>,
+    body: Peg,
+) -> Result<(), AllocError> {
+    let number = rules.len();
+    let name = format!(in alloc; "r{number}")?;
+    let name = Chars::from_str(alloc, name.as_str())?;
+    if number > 99 || !is_new(rules, &name) {
+        return Ok(());
+    }
+    rules.push(Rule { name, block, body })
+}
+
 /// The table of the rules, which stand in one block, so that each may call all.
-fn rules(alloc: Global, random: &mut Pcg32, limits: Limits) -> Result<String, AllocError> {
-    let mut table = String::new(alloc);
+fn rules(alloc: Global, random: &mut Pcg32, limits: Limits) -> Result<Rules, AllocError> {
+    let mut rules = Rules::new(alloc);
     for _ in 0..limits.rules {
         let last = pick(random, &RULES);
-        table.push_str("0| ")?;
-        table.push_str(&pattern(alloc, random, limits, last)?)?;
-        table.push_str(";")?;
+        let body = pattern(alloc, random, limits, last)?;
+        push_rule(alloc, &mut rules, Some(0), body)?;
     }
-    Ok(table)
+    Ok(rules)
 }
 
 /// A text of up to six letters.
@@ -239,7 +330,7 @@ pub(crate) fn make(alloc: Global, random: &mut Pcg32) -> Result<Made, AllocError
 }
 
 /// A pattern of which anything may be wrong.
-fn wild_pattern(alloc: Global, random: &mut Pcg32, limits: Limits) -> Result<String, AllocError> {
+fn wild_pattern(alloc: Global, random: &mut Pcg32, limits: Limits) -> Result<Peg, AllocError> {
     let mut parts = Vec::new(alloc);
     for _ in 0..random.random_range(0..4) {
         let template = pick(random, &WILD);
@@ -257,11 +348,11 @@ pub(crate) fn make_wild(alloc: Global, random: &mut Pcg32) -> Result<Made, Alloc
         may_halt: true,
     };
     let blocks = BLOCKS.choose(random).unwrap_or(&BLOCKS[0]);
-    let mut rules = String::new(alloc);
+    let mut rules = Rules::new(alloc);
     for number in 0..limits.rules.min(3) {
-        rules.push_str(blocks[number as usize])?;
-        rules.push_str(&wild_pattern(alloc, random, limits)?)?;
-        rules.push_str(";")?;
+        let block = blocks[number as usize].checked_sub(1);
+        let body = wild_pattern(alloc, random, limits)?;
+        push_rule(alloc, &mut rules, block, body)?;
     }
     let goal = wild_pattern(alloc, random, limits)?;
     let text = text(alloc, random)?;

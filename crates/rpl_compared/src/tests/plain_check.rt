@@ -1,4 +1,6 @@
-// The check once more, slow and plain: the least set of rules is what all closed sets share, and every set is tried.
+// The check once more, slow and plain. Which rules may be empty, and which may halt, is the least set of rules, that is,
+// what all closed sets share: every set is tried.
+use rpl_check::BehindCause;
 use rpl_core::{Peg, Rules};
 use std::alloc::{AllocError, Global};
 
@@ -7,6 +9,18 @@ const MOST: u32 = 3;
 
 /// Which rules of a table are in a set.
 type Marks = [bool; 3];
+
+/// What is wrong with a table or a pattern, if anything is. A rule is its number, or none for the pattern.
+#[derive(Clone, Copy, PartialEq, Eq)]
+pub(crate) enum Verdict {
+    Unordered,
+    Behind(Option<u32>, BehindCause),
+    Left(Marks),
+    Loop(Option<u32>),
+    Halt(Option<u32>),
+    NoCode,
+    Fine,
+}
 
 /// Every set of rules.
 static SETS: [Marks; 8] = [
@@ -119,36 +133,6 @@ fn mark_in_each(parts: &[Peg], empties: &Marks, called: &mut Marks) {
     }
 }
 
-/// The greatest number of characters that it takes, where it neither calls nor repeats.
-#[cycle(greatest)]
-fn greatest(peg: &Peg) -> usize {
-    match peg {
-        Peg::Set(_) => 1,
-        Peg::Seq(parts) => greatest_sum(parts.as_slice()),
-        Peg::Choice(parts) => greatest_part(parts.as_slice()),
-        Peg::Capture(_, body) => greatest(body),
-        _ => 0,
-    }
-}
-
-#[cycle(greatest)]
-fn greatest_sum(parts: &[Peg]) -> usize {
-    let mut sum = 0usize;
-    for part in parts {
-        sum = sum.saturating_add(greatest(part));
-    }
-    sum
-}
-
-#[cycle(greatest)]
-fn greatest_part(parts: &[Peg]) -> usize {
-    let mut most = 0usize;
-    for part in parts {
-        most = most.max(greatest(part));
-    }
-    most
-}
-
 /// A fact of a pattern that hangs on which rules have it too.
 #[derive(Clone, Copy)]
 enum Fact {
@@ -200,62 +184,44 @@ fn rules_with(alloc: Global, fact: Fact, rules: &Rules) -> Result<Marks, AllocEr
     Ok(least)
 }
 
-/// The rules that this one calls before it has taken a character.
-fn called_here(rules: &Rules, empties: &Marks, number: u32) -> Marks {
-    let mut called = [false; 3];
-    if let Some(rule) = rules.get(number) {
-        mark_called_here(&rule.body, empties, &mut called);
-    }
-    called
-}
-
-/// Is the first set within the second?
-fn is_within(one: &Marks, other: &Marks) -> bool {
-    both(one, other) == *one
-}
-
-/// Has the set what this rule calls before a character, and what each of its own calls so?
-fn is_closed_behind(rules: &Rules, empties: &Marks, number: u32, marks: &Marks) -> bool {
-    for other in 0..MOST {
-        if has(marks, other) && !is_within(&called_here(rules, empties, other), marks) {
-            return false;
-        }
-    }
-    is_within(&called_here(rules, empties, number), marks)
-}
-
-/// Does the rule reach itself before it has taken a character?
+/// Does the rule reach itself before it has taken a character? What the rules that it reaches call so is marked too, three
+/// times over, which is enough for three rules.
 fn reaches_itself(rules: &Rules, empties: &Marks, number: u32) -> bool {
-    let mut least = [true; 3];
-    for marks in &SETS {
-        if is_closed_behind(rules, empties, number, marks) {
-            least = both(&least, marks);
+    let mut reached = [false; 3];
+    if let Some(rule) = rules.get(number) {
+        mark_called_here(&rule.body, empties, &mut reached);
+    }
+    for _ in 0..MOST {
+        for other in 0..MOST {
+            if has(&reached, other) {
+                if let Some(rule) = rules.get(other) {
+                    mark_called_here(&rule.body, empties, &mut reached);
+                }
+            }
         }
     }
-    has(&least, number)
+    has(&reached, number)
 }
 
-/// What is wrong with the body of a look-behind.
-fn cause_of(alloc: Global, body: &Peg) -> Result<Option<&'static str>, AllocError> {
+/// What is wrong with the body of a look-behind. None that is made up is longer than 255 characters.
+fn cause_of(alloc: Global, body: &Peg) -> Result<Option<BehindCause>, AllocError> {
     let mut repeats = false;
     for part in &all_in(alloc, body)? {
         match part {
-            Peg::Call(_) => return Ok(Some("recursive")),
+            Peg::Call(_) => return Ok(Some(BehindCause::Recursive)),
             Peg::Many(_) => repeats = true,
             _ => {}
         }
     }
-    if repeats {
-        return Ok(Some("repetition"));
-    }
-    if greatest(body) > 255 {
-        return Ok(Some("too long"));
-    }
-    Ok(None)
+    Ok(if repeats {
+        Some(BehindCause::Repetition)
+    } else {
+        None
+    })
 }
 
 /// What is wrong with the first bad look-behind.
-fn first_cause(alloc: Global, peg: &Peg) -> Result<Option<&'static str>, AllocError> {
+fn first_cause(alloc: Global, peg: &Peg) -> Result<Option<BehindCause>, AllocError> {
     for part in &all_in(alloc, peg)? {
         if let Peg::Behind { body, .. } = part {
             if let Some(cause) = cause_of(alloc, body)? {
@@ -309,32 +275,31 @@ enum Kind {
     Halt,
 }
 
-/// The pattern's fault of this kind in words, if it has one.
+/// The pattern's fault of this kind, if it has one.
 fn own_fault(
     alloc: Global,
     known: &Known<'_>,
     kind: Kind,
     peg: &Peg,
-    name: &str,
-) -> Result<Option<String>, AllocError> {
-    match kind {
-        Kind::Behind => match first_cause(alloc, peg)? {
-            Some(cause) => Ok(Some(format!(in alloc; "behind {name} {cause}")?)),
-            None => Ok(None),
-        },
-        Kind::Loop => {
-            if has_empty_loop(alloc, peg, &known.empties)? {
-                return Ok(Some(format!(in alloc; "loop {name}")?));
-            }
-            Ok(None)
+    rule: Option<u32>,
+) -> Result<Option<Verdict>, AllocError> {
+    let (is_bad, fault) = match kind {
+        Kind::Behind => {
+            return match first_cause(alloc, peg)? {
+                Some(cause) => Ok(Some(Verdict::Behind(rule, cause))),
+                None => Ok(None),
+            };
         }
-        Kind::Halt => {
-            if has_halt_inside(alloc, peg, &known.halting)? {
-                return Ok(Some(format!(in alloc; "halt {name}")?));
-            }
-            Ok(None)
-        }
-    }
+        Kind::Loop => (
+            has_empty_loop(alloc, peg, &known.empties)?,
+            Verdict::Loop(rule),
+        ),
+        Kind::Halt => (
+            has_halt_inside(alloc, peg, &known.halting)?,
+            Verdict::Halt(rule),
+        ),
+    };
+    Ok(if is_bad { Some(fault) } else { None })
 }
 
 /// The first fault of this kind of the rules from `first` on and before `end`.
@@ -344,11 +309,10 @@ fn first_own(
     kind: Kind,
     first: u32,
     end: u32,
-) -> Result<Option<String>, AllocError> {
+) -> Result<Option<Verdict>, AllocError> {
     for number in first..end {
         if let Some(rule) = known.rules.get(number) {
-            let name = format!(in alloc; "{number}")?;
-            let fault = own_fault(alloc, known, kind, &rule.body, name.as_str())?;
+            let fault = own_fault(alloc, known, kind, &rule.body, Some(number))?;
             if fault.is_some() {
                 return Ok(fault);
             }
@@ -358,22 +322,17 @@ fn first_own(
 }
 
 /// Those of the rules that reach themselves before a character, if there are any.
-fn left_fault(
-    alloc: Global,
-    known: &Known<'_>,
-    first: u32,
-    end: u32,
-) -> Result<Option<String>, AllocError> {
-    let mut fault = String::from_str(alloc, "left")?;
+fn left_fault(known: &Known<'_>, first: u32, end: u32) -> Option<Verdict> {
+    let mut marks = [false; 3];
     for number in first..end {
-        if reaches_itself(known.rules, &known.empties, number) {
-            fault.push_str(format!(in alloc; " {number}")?.as_str())?;
+        if number < MOST && reaches_itself(known.rules, &known.empties, number) {
+            marks[number as usize] = true;
         }
     }
-    if fault.as_str() == "left" {
-        return Ok(None);
+    if marks == [false; 3] {
+        return None;
     }
-    Ok(Some(fault))
+    Some(Verdict::Left(marks))
 }
 
 /// The first fault of the rules of a block, or of a rule outside blocks.
@@ -382,15 +341,18 @@ fn group_fault(
     known: &Known<'_>,
     first: u32,
     end: u32,
-) -> Result<Option<String>, AllocError> {
-    if let Some(fault) = first_own(alloc, known, Kind::Behind, first, end)? {
-        return Ok(Some(fault));
+) -> Result<Option<Verdict>, AllocError> {
+    let behind = first_own(alloc, known, Kind::Behind, first, end)?;
+    if behind.is_some() {
+        return Ok(behind);
     }
-    if let Some(fault) = left_fault(alloc, known, first, end)? {
-        return Ok(Some(fault));
+    let left = left_fault(known, first, end);
+    if left.is_some() {
+        return Ok(left);
     }
-    if let Some(fault) = first_own(alloc, known, Kind::Loop, first, end)? {
-        return Ok(Some(fault));
+    let empty_loop = first_own(alloc, known, Kind::Loop, first, end)?;
+    if empty_loop.is_some() {
+        return Ok(empty_loop);
     }
     first_own(alloc, known, Kind::Halt, first, end)
 }
@@ -409,38 +371,6 @@ fn share_block(rules: &Rules, one: u32, other: u32) -> bool {
     }
 }
 
-/// The first fault of the table.
-fn table_fault(alloc: Global, known: &Known<'_>) -> Result<Option<String>, AllocError> {
-    let mut first = 0;
-    for end in 1..MOST + 1 {
-        if !share_block(known.rules, end - 1, end) {
-            if let Some(fault) = group_fault(alloc, known, first, end)? {
-                return Ok(Some(fault));
-            }
-            first = end;
-        }
-    }
-    Ok(None)
-}
-
-/// What is due of the table, or else of the pattern.
-pub(crate) fn verdict(alloc: Global, rules: &Rules, goal: &Peg) -> Result<String, AllocError> {
-    let known = Known {
-        rules,
-        empties: rules_with(alloc, Fact::MayBeEmpty, rules)?,
-        halting: rules_with(alloc, Fact::MayHalt, rules)?,
-    };
-    if let Some(fault) = table_fault(alloc, &known)? {
-        return Ok(fault);
-    }
-    for kind in &[Kind::Behind, Kind::Loop, Kind::Halt] {
-        if let Some(fault) = own_fault(alloc, &known, *kind, goal, "-")? {
-            return Ok(fault);
-        }
-    }
-    String::from_str(alloc, "ok")
-}
-
 /// Does the rule call only earlier rules, and those of its block?
 fn calls_back(alloc: Global, rules: &Rules, number: u32) -> Result<bool, AllocError> {
     let Some(rule) = rules.get(number) else {
@@ -456,17 +386,48 @@ fn calls_back(alloc: Global, rules: &Rules, number: u32) -> Result<bool, AllocEr
     Ok(true)
 }
 
-/// Do both rules stand in one block, and one between them not?
-fn is_torn(rules: &Rules, one: u32, between: u32, other: u32) -> bool {
-    share_block(rules, one, other) && !share_block(rules, one, between)
-}
-
 /// Do the rules of each block stand side by side, and call only earlier rules and those of their block?
-pub(crate) fn is_in_order(alloc: Global, rules: &Rules) -> Result<bool, AllocError> {
+fn is_in_order(alloc: Global, rules: &Rules) -> Result<bool, AllocError> {
     for number in 0..MOST {
         if !calls_back(alloc, rules, number)? {
             return Ok(false);
         }
     }
-    Ok(!is_torn(rules, 0, 1, 2))
+    Ok(!share_block(rules, 0, 2) || share_block(rules, 0, 1))
+}
+
+/// The first fault of the table.
+fn table_fault(alloc: Global, known: &Known<'_>) -> Result<Option<Verdict>, AllocError> {
+    let mut first = 0;
+    for end in 1..MOST + 1 {
+        if !share_block(known.rules, end - 1, end) {
+            let fault = group_fault(alloc, known, first, end)?;
+            if fault.is_some() {
+                return Ok(fault);
+            }
+            first = end;
+        }
+    }
+    Ok(None)
+}
+
+/// What is due of the table, or else of the pattern.
+pub(crate) fn verdict_on(alloc: Global, rules: &Rules, goal: &Peg) -> Result<Verdict, AllocError> {
+    if !is_in_order(alloc, rules)? {
+        return Ok(Verdict::Unordered);
+    }
+    let known = Known {
+        rules,
+        empties: rules_with(alloc, Fact::MayBeEmpty, rules)?,
+        halting: rules_with(alloc, Fact::MayHalt, rules)?,
+    };
+    if let Some(fault) = table_fault(alloc, &known)? {
+        return Ok(fault);
+    }
+    for kind in &[Kind::Behind, Kind::Loop, Kind::Halt] {
+        if let Some(fault) = own_fault(alloc, &known, *kind, goal, None)? {
+            return Ok(fault);
+        }
+    }
+    Ok(Verdict::Fine)
 }

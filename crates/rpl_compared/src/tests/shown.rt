@@ -3,9 +3,8 @@
 use rpl_core::{Caught, Program};
 use rpl_plain::{Forest, Outcome};
 use std::alloc::{AllocError, Global};
-use std::test::Fail;
 
-/// Adds one capture.
+/// Adds one capture, or `@` and the place where a match ends.
 fn push_capture(
     alloc: Global,
     shown: &mut String,
@@ -48,7 +47,8 @@ pub(crate) fn show_outcome(alloc: Global, outcome: &Outcome) -> Result<String, A
         Outcome::At { place, trees, .. } | Outcome::HaltAt { place, trees, .. } => {
             let mut shown = String::new(alloc);
             show_trees(alloc, &mut shown, trees)?;
-            format!(in alloc; "{shown}@{place}")
+            push_capture(alloc, &mut shown, '@', "", *place)?;
+            Ok(shown)
         }
     }
 }
@@ -60,36 +60,28 @@ pub(crate) fn show_plain(alloc: Global, answer: &rpl_plain::Answer) -> Result<St
         rpl_plain::Answer::At { place, caught, .. } => {
             let mut shown = String::new(alloc);
             for one in caught {
-                match one {
-                    rpl_plain::Caught::Begin { label, place } => {
-                        push_capture(alloc, &mut shown, '<', label.as_str(), *place)?;
-                    }
-                    rpl_plain::Caught::Finish { place } => {
-                        push_capture(alloc, &mut shown, '>', "", *place)?;
-                    }
-                    rpl_plain::Caught::Note { text, place } => {
-                        push_capture(alloc, &mut shown, '!', text.as_str(), *place)?;
-                    }
-                }
+                let (mark, label, place) = match one {
+                    rpl_plain::Caught::Begin { label, place } => ('<', label.as_str(), *place),
+                    rpl_plain::Caught::Finish { place } => ('>', "", *place),
+                    rpl_plain::Caught::Note { text, place } => ('!', text.as_str(), *place),
+                };
+                push_capture(alloc, &mut shown, mark, label, place)?;
             }
-            format!(in alloc; "{shown}@{place}")
+            push_capture(alloc, &mut shown, '@', "", *place)?;
+            Ok(shown)
         }
     }
 }
 
-/// The number of the character at a place of the line, which is a number of bytes.
-fn number_of(line: &str, place: usize) -> Result<usize, Fail> {
+/// How many characters stand before a place of the line, which is a number of bytes.
+fn number_of(line: &str, place: usize) -> usize {
     let mut number = 0usize;
     for (start, _) in line.char_indices() {
-        if start == place {
-            return Ok(number);
+        if start < place {
+            number = number.saturating_add(1);
         }
-        number = number.saturating_add(1);
     }
-    if place != line.len() {
-        Err("a place")?;
-    }
-    Ok(number)
+    number
 }
 
 /// A match of the machine: its captures, and the place where it ends.
@@ -99,23 +91,17 @@ pub(crate) fn show_match(
     line: &str,
     captures: &[Caught],
     end: usize,
-) -> Result<String, Fail> {
+) -> Result<String, AllocError> {
     let mut shown = String::new(alloc);
     for one in captures {
-        match *one {
-            Caught::Begin { label, place } => {
-                let label = program.label(label).ok_or("a label")?;
-                push_capture(alloc, &mut shown, '<', label, number_of(line, place)?)?;
-            }
-            Caught::Finish { place } => {
-                push_capture(alloc, &mut shown, '>', "", number_of(line, place)?)?;
-            }
-            Caught::Note { text, place } => {
-                let text = program.label(text).ok_or("a text")?;
-                push_capture(alloc, &mut shown, '!', text, number_of(line, place)?)?;
-            }
-        }
+        let (mark, label, place) = match *one {
+            Caught::Begin { label, place } => ('<', program.label(label), place),
+            Caught::Finish { place } => ('>', None, place),
+            Caught::Note { text, place } => ('!', program.label(text), place),
+        };
+        let label = label.unwrap_or("");
+        push_capture(alloc, &mut shown, mark, label, number_of(line, place))?;
     }
-    let end = number_of(line, end)?;
-    Ok(format!(in alloc; "{shown}@{end}")?)
+    push_capture(alloc, &mut shown, '@', "", number_of(line, end))?;
+    Ok(shown)
 }

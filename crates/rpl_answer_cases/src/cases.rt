@@ -1,8 +1,0 @@
-mod captures;
-mod codefile;
-mod encode;
-mod listing;
-mod machine;
-mod trace;
-mod tree;
-mod unittest;
