@@ -2,7 +2,7 @@
 use Rattle.std.proofs.Common.{ℕ, ◌≡◌, ◌+◌, ◌<◌, ◌≤◌, List, ◌∷◌, length, ◌∙◌, ap, subst, arith, ⊎_elim}
 use Rattle.std.specs.Prelude.{Ok}
 use Rattle.std.proofs.lemmas.List.{length-append, length-map}
-use Rattle.rosie_faults.specs.Lines.{compile_line}
+use Rattle.rosie_prepare.specs.Lines.{compile_line}
 use Rattle.rosie_prepare.specs.Prepared.{Ready, bodies}
 use Rattle.rpl_codefile.specs.Spelling.{Spells}
 use Rattle.rpl_codefile.proofs.One.{one_spelling_holds}

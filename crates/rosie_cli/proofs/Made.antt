@@ -1,7 +1,7 @@
 -- From the steps of planning to a plan.
 use Rattle.std.proofs.Common.{◌≡◌, ◌≤◌, ℕ, List, refl, sym, ◌∙◌, ap, subst, arith}
 use Rattle.std.specs.Prelude.{Result, Ok, Err, IfErr, IfOk, IsErrAnd, None, Some, string_bytes}
-use Rattle.rosie_faults.specs.Lines.{compile_line}
+use Rattle.rosie_prepare.specs.Lines.{compile_line}
 use Rattle.rosie_io.specs.Loading.{NotFewer}
 use Rattle.rosie_io.specs.declared.outside.Source.{Ghosts}
 use Rattle.rosie_prepare.specs.Answers.{Counts, IsAsked, IsDue}

@@ -1,6 +1,6 @@
 -- The plan of `compile`.
 use Rattle.std.specs.Prelude.{◌≡◌, ◌<◌, ◌⊎◌, ℕ, List, length, Ok, Err}
-use Rattle.rosie_faults.specs.Lines.{compile_line}
+use Rattle.rosie_prepare.specs.Lines.{compile_line}
 use Rattle.rosie_prepare.specs.Prepared.{IsPrepared, OrLine, Ready, Tree, Wanted, bodies}
 use Rattle.rpl_codefile.specs.Spelling.{Spells}
 use Rattle.rpl_core.specs.Instr.{Instr}

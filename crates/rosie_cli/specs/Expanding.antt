@@ -1,11 +1,11 @@
 -- The plan of `expand`.
 use Rattle.std.specs.Prelude.{◌≡◌, ℕ, Bool, true, false, List, ◌++◌, Ok, Err, nat_lt, length, if◌then◌else◌}
-use Rattle.rosie_faults.specs.Lines.{compile_line}
+use Rattle.rosie_prepare.specs.Lines.{compile_line}
 use Rattle.rosie_prepare.specs.Prepared.{IsPrepared, OrLine, Ready, Tree, Wanted, bodies}
 use Rattle.rosie_show.specs.Expansions.{IsExpansion}
 use Rattle.rpl_core.specs.Instr.{Instr}
 use Rattle.rpl_core.specs.Programs.{IsCode}
-use Rattle.rpl_listing.specs.Listing.{lines}
+use Rattle.rosie_show.specs.Listing.{lines}
 use Rattle.rosie_cli.specs.Plans.{Plan, Planned, refusal, whole_answer}
 
 -- the text with the lines of its program, unless the code is too long

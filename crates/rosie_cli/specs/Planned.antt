@@ -1,7 +1,7 @@
 -- What the words come to over the tree of files.
 use Rattle.std.specs.Prelude.{ℕ, ◌≡◌, Bool, true, false, nat_lt, if◌then◌else◌, map, List, [], ◌∷◌, length}
 use Rattle.std.specs.Prelude.{Ok, Err, Option, Some, None, chars, codes, encode_utf8_all}
-use Rattle.rosie_faults.specs.Lines.{compile_line}
+use Rattle.rosie_prepare.specs.Lines.{compile_line}
 use Rattle.rosie_prepare.specs.Prepared.{Tree, Wanted, Ready, OrLine, IsPrepared, bodies}
 use Rattle.rosie_words.specs.declared.command.Command.{Command}
 use Rattle.rosie_words.specs.declared.command.What.{What}

@@ -9,8 +9,8 @@ ghost use Rattle.rosie_cli.specs.inside.Planning.{plan_of, IsMade};
 
 use crate::plan::Plan;
 use rosie_prepare::Unready;
+use rosie_show::push_class;
 use rpl_classes::{Set, SetFault};
-use rpl_listing::push_class;
 use rpl_print::text_of;
 use rpl_text::Chars;
 use std::alloc::Global;

@@ -11,9 +11,8 @@ ghost use Rattle.rosie_cli.specs.inside.Planning.{plan_of, IsReady, Leaves, Make
 use crate::plan::{Plan, uncompiled};
 use rosie_io::Files;
 use rosie_prepare::{Prepared, Unready, Wanted, prepare};
-use rosie_show::expansion_text;
+use rosie_show::{expansion_text, push_program};
 use rpl_codegen::compile;
-use rpl_listing::push_program;
 use std::alloc::Global;
 
 /// The plan of a pattern that is ready: what it stands for, and its program, if that is wanted.

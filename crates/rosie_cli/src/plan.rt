@@ -3,10 +3,9 @@
 ghost use Rattle.rosie_prepare.specs.inside.Steps.{Tells};
 ghost use Rattle.rosie_cli.specs.inside.Planning.{due_of};
 
-use rosie_faults::compile_line;
 use rosie_io::Bytes;
 use rosie_jobs::{CodeJob, MatchJob, TraceJob};
-use rosie_prepare::Unready;
+use rosie_prepare::{Unready, compile_line};
 use rosie_sample::SampleRun;
 use rosie_verdicts::Suite;
 use rosie_words::Paths;

@@ -3,3 +3,5 @@ pub mod Passing
 pub mod OneAnswer
 pub mod Roots
 pub mod SomeAnswer
+pub mod Characters
+pub mod Told

@@ -3,7 +3,7 @@ use Rattle.std.proofs.Common.{◌≡◌, ℕ, List, [], ◌∷◌, refl, sym, �
 use Rattle.std.specs.Prelude.{IfErr, IsErrAnd, Option, Some, None, Result, Ok, Err, string_bytes}
 use Rattle.std.specs.Option.{option_map}
 use Rattle.std.specs.Option.{option_or}
-use Rattle.rosie_faults.specs.Lines.{Line, check_line, expand_line}
+use Rattle.rosie_prepare.specs.Lines.{Line, check_line, expand_line}
 use Rattle.rosie_prepare.specs.Answers.{IsDue, Prepares}
 use Rattle.rosie_prepare.specs.Prepared.{OrLine, Passes, Ready, TableFacts, bodies, blocks, found, goal_in, ready}
 use Rattle.rosie_prepare.specs.declared.unready.Unready.{Unready}

@@ -6,7 +6,7 @@ use Rattle.std.specs.Option.{option_map}
 use Rattle.std.proofs.lemmas.Bool.{cases_lt}
 use Rattle.std.proofs.lemmas.List.{length-map}
 use Rattle.std.proofs.lemmas.Option.{slice_get-map}
-use Rattle.rosie_faults.specs.Lines.{expand_line, load_line}
+use Rattle.rosie_prepare.specs.Lines.{expand_line, load_line}
 use Rattle.rosie_prepare.specs.Laws.{SomePreparation}
 use Rattle.rosie_prepare.specs.Prepared.{Comes, OrLine, Passes, Ready, TableComes, TableFacts, Tree}
 use Rattle.rosie_prepare.specs.Prepared.{blocks, bodies, found, loaded, ready, too_large, unsound}

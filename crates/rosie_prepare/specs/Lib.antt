@@ -3,3 +3,5 @@ pub mod Answers
 pub mod Views
 pub mod Laws
 pub mod inside
+pub mod Lines
+pub mod Texts

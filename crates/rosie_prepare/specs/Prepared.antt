@@ -2,7 +2,7 @@
 -- then expanded, then checked.
 use Rattle.std.specs.Prelude.{◌≡◌, ℕ, Bool, List, [], map, Option, Some, None, Result, Ok, Err, encode_utf8_all}
 use Rattle.std.specs.Option.{option_or}
-use Rattle.rosie_faults.specs.Lines.{Line, check_line, expand_line, load_line}
+use Rattle.rosie_prepare.specs.Lines.{Line, check_line, expand_line, load_line}
 use Rattle.rpl_check.specs.Blocks.{first_fault}
 use Rattle.rpl_check.specs.Facts.{Facts}
 use Rattle.rpl_check.specs.Faults as C

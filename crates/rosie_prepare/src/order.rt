@@ -9,7 +9,7 @@ ghost use Rattle.rpl_core.specs.Programs.{calls};
 ghost use Rattle.rpl_core.specs.View.{core_of};
 ghost use Rattle.rpl_simulation.specs.Laws.{IsCapture};
 
-use rosie_faults::NoMemory;
+use crate::NoMemory;
 use rpl_core::{Peg, Rules, calls_are_rules, is_in_order};
 
 /// The table, which is in order: the check needs it. It always is, since a name is bound to an earlier rule or to one

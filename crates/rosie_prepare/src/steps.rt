@@ -1,7 +1,7 @@
 // The second and the third pass: expansion and check.
 ghost use Rattle.std.specs.Prelude.{◌≡◌, ◌<◌, ℕ, List, IfErr, IfOk, None, Some, length, true};
 ghost use Rattle.std.specs.Option.{option_map};
-ghost use Rattle.rosie_faults.specs.Lines as L;
+ghost use Rattle.rosie_prepare.specs.Lines as L;
 ghost use Rattle.rosie_prepare.specs.Prepared.{OrLine, Passes, Ready, goal_in, ready, table_too_large, table_unsound};
 ghost use Rattle.rosie_prepare.specs.Prepared.{too_large, unsound};
 ghost use Rattle.rosie_prepare.specs.Answers.{Prepares};
@@ -28,7 +28,7 @@ ghost use Rattle.rpl_syntax.specs.View.{expr_of};
 use crate::order::{in_order, over_rules, with_root};
 use crate::prepared::{Prepared, PreparedRules};
 use crate::unready::Unready;
-use rosie_faults::{check_line, expand_line};
+use crate::{check_line, expand_line};
 use rpl_check::{Checked, CheckedPeg, check, check_pattern};
 use rpl_core::{Peg, Rules};
 use rpl_expand::{expand, expand_pattern};

@@ -1,9 +1,9 @@
 // Why there is nothing to run.
 ghost use Rattle.std.specs.Prelude.{Some};
-ghost use Rattle.rosie_faults.specs.Lines.{load_line};
+ghost use Rattle.rosie_prepare.specs.Lines.{load_line};
 ghost use Rattle.rosie_prepare.specs.inside.Steps.{Tells, TellsLoad};
 
-use rosie_faults::{NoMemory, load_line};
+use crate::{NoMemory, load_line};
 use rpl_package::{LoadFault, LoadKind};
 use rpl_text::Chars;
 use std::alloc::Global;

@@ -1,7 +1,7 @@
 -- From a goal that is ready to its job.
 use Rattle.std.proofs.Common.{◌≡◌, true, false, cond, List, length, sym, ◌∙◌, ap, subst, arith}
 use Rattle.std.specs.Prelude.{Ok, Err, nat_lt}
-use Rattle.rosie_faults.specs.Lines.{compile_line}
+use Rattle.rosie_prepare.specs.Lines.{compile_line}
 use Rattle.rosie_jobs.specs.Jobs.{IsJobOf}
 use Rattle.rosie_jobs.specs.Lines.{Job}
 use Rattle.rosie_prepare.specs.Prepared.{OrLine, Ready, bodies}

@@ -3,7 +3,7 @@ use Rattle.std.proofs.Common.{ℕ, ◌≡◌, ◌<◌, true, false, List, [], �
 use Rattle.std.specs.Prelude.{Bool, Option, Some, None, Ok, Err, cond, nat_lt}
 use Rattle.std.proofs.lemmas.Grind.{merely}
 use Rattle.std.proofs.lemmas.List.{length-map}
-use Rattle.rosie_faults.specs.Lines.{compile_line}
+use Rattle.rosie_prepare.specs.Lines.{compile_line}
 use Rattle.rosie_jobs.proofs.Allowed.{job-due}
 use Rattle.rosie_jobs.specs.Limits.{PaysFor}
 use Rattle.rosie_jobs.specs.Lines.{Job}

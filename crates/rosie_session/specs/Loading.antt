@@ -1,6 +1,6 @@
 -- What a session loads: texts alone, and texts with a pattern.
 use Rattle.std.specs.Prelude.{◌≡◌, ℕ, false, nat_lt, if◌then◌else◌, List, length, map, Ok, Err, encode_utf8_all}
-use Rattle.rosie_faults.specs.Lines.{compile_line}
+use Rattle.rosie_prepare.specs.Lines.{compile_line}
 use Rattle.rosie_jobs.specs.Lines.{Job}
 use Rattle.rosie_prepare.specs.Prepared.{IsPrepared, OrLine, Ready, TableComes, Tree, Wanted, bodies}
 use Rattle.rpl_core.specs.Instr.{Instr}

@@ -16,10 +16,9 @@ ghost use Rattle.rpl_check.specs.Goal.{peg_of};
 ghost use Rattle.rpl_core.specs.Table.{bodies_of};
 ghost use Rattle.rpl_core.specs.View.{core_of};
 
-use rosie_faults::compile_line;
 use rosie_io::Files;
 use rosie_jobs::{Job, MatchJob, Settings};
-use rosie_prepare::{Prepared, Unready, Wanted, prepare, prepare_rules};
+use rosie_prepare::{Prepared, Unready, Wanted, compile_line, prepare, prepare_rules};
 use rosie_repl::State;
 use rosie_run::NoMemory;
 use rpl_codegen::CompileFault;

@@ -1,3 +1,4 @@
 pub mod Rows
 mod Sorting
 pub mod Texts
+pub mod Pieces

@@ -2,7 +2,7 @@
 use Rattle.std.specs.Prelude.{◌≡◌, ℕ, nat_lt, if◌then◌else◌, map, List, [], ◌∷◌, ◌++◌, length}
 use Rattle.std.specs.Prelude.{Option, Some, None, Ok, Err, codes, encode_utf8_all}
 use Rattle.std.specs.Str.{is_utf8}
-use Rattle.rosie_faults.specs.Lines.{load_line}
+use Rattle.rosie_prepare.specs.Lines.{load_line}
 use Rattle.rosie_io.specs.Opening.{file_of}
 use Rattle.rosie_prepare.specs.Prepared.{OrLine, TableComes, Tree, bodies}
 use Rattle.rosie_run.specs.Lines.{line_fault}

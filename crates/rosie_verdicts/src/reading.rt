@@ -1,6 +1,6 @@
 // The second reading of the file.
 ghost use Rattle.std.specs.Prelude.{◌≡◌, ◌∷◌, [], IfErr, encode_utf8_all, false, string_bytes};
-ghost use Rattle.rosie_faults.specs.Lines.{load_line};
+ghost use Rattle.rosie_prepare.specs.Lines.{load_line};
 ghost use Rattle.rosie_io.specs.Loading.{NotFewer};
 ghost use Rattle.rosie_io.specs.Opening.{file_of};
 ghost use Rattle.rosie_prepare.specs.Answers.{HasCause, IsAsked};
@@ -8,9 +8,8 @@ ghost use Rattle.rosie_run.specs.Sources.{moment};
 ghost use Rattle.rpl_scope.specs.Faults.{fault_at};
 ghost use Rattle.rosie_verdicts.specs.inside.Steps.{IsRefusal, Rereads};
 
-use rosie_faults::load_line;
 use rosie_io::{FileFault, Files, read_file};
-use rosie_prepare::Unready;
+use rosie_prepare::{Unready, load_line};
 use rpl_package::{LoadFault, LoadKind};
 use rpl_print::text_of;
 use rpl_text::Chars;

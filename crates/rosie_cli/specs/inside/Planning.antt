@@ -1,7 +1,7 @@
 -- How contracts see a plan, and what comes of making one.
 use Rattle.std.specs.Prelude.{◌≡◌, ◌≢◌, ℕ, List, Option, None, Some, Result, Ok, Err, IfErr, IfOk}
 use Rattle.std.specs.Prelude.{string_bytes, encode_utf8_all}
-use Rattle.rosie_faults.specs.Lines.{Line, compile_line}
+use Rattle.rosie_prepare.specs.Lines.{Line, compile_line}
 use Rattle.rosie_io.specs.Loading.{NotFewer}
 use Rattle.rosie_io.specs.declared.outside.Source.{Ghosts}
 use Rattle.rosie_jobs.specs.Jobs.{matcher_of, runner_of, tracer_of}

@@ -1,7 +1,7 @@
 -- What the steps of a preparation leave.
 use Rattle.std.specs.Prelude.{◌≡◌, Option, None, Some, Result, Ok, Err, string_bytes}
 use Rattle.std.specs.List.{Contains}
-use Rattle.rosie_faults.specs.Lines.{Line, load_line}
+use Rattle.rosie_prepare.specs.Lines.{Line, load_line}
 use Rattle.rosie_prepare.specs.declared.unready.Unready.{Unready}
 use Rattle.rosie_prepare.specs.declared.unready.Unready.TheVariants.{NoMemory, Refused, ReadFault}
 use Rattle.rpl_package.specs.Asking.{Outcome}

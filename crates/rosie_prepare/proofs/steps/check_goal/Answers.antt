@@ -1,6 +1,6 @@
 use Rattle.std.proofs.Common.{ap}
 use Rattle.std.specs.Option.{option_map}
-use Rattle.rosie_faults.specs.Lines.{check_line}
+use Rattle.rosie_prepare.specs.Lines.{check_line}
 use Rattle.rosie_prepare.proofs.Passing.{unsound_line}
 use Rattle.rpl_package.specs.Sets.{set_seen}
 use Rattle.rosie_prepare.proofs.steps.check_goal.Goals as goal

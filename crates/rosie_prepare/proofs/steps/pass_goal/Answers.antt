@@ -1,6 +1,6 @@
 use Rattle.std.proofs.Common.{◌≡◌, sym, ◌∙◌, ap}
 use Rattle.std.specs.Prelude.{None}
-use Rattle.rosie_faults.specs.Lines.{check_line, expand_line}
+use Rattle.rosie_prepare.specs.Lines.{check_line, expand_line}
 use Rattle.rosie_prepare.proofs.Passing.{blocks-rows_of, bodies-rows_of, due_through, found_due, goal_found}
 use Rattle.rosie_prepare.proofs.Passing.{none_mapped}
 use Rattle.rosie_prepare.proofs.Passing.{none_then, own_through, passes, ready_is, rules_found, tells_first}

@@ -1,6 +1,6 @@
 use Rattle.std.proofs.Common.{◌≡◌, sym, ◌∙◌, ap}
 use Rattle.std.specs.Prelude.{None}
-use Rattle.rosie_faults.specs.Lines.{check_line, expand_line}
+use Rattle.rosie_prepare.specs.Lines.{check_line, expand_line}
 use Rattle.rosie_prepare.proofs.Passing.{blocks-rows_of, bodies-rows_of, due_through, found_due, none_mapped, passes}
 use Rattle.rosie_prepare.proofs.Passing.{rules_found}
 use Rattle.rosie_prepare.specs.Prepared.{blocks, bodies, table_too_large, table_unsound}

@@ -1,6 +1,0 @@
-use Rattle.std.proofs.Common.{sym}
-use Rattle.rosie_faults.proofs.Characters.{spelled}
-use Rattle.rosie_faults.proofs.rules.as_it_is.Goals as goal
-
-pub returns : goal.returns
-returns c = sym (spelled _ c.utf8.text)

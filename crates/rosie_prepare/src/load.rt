@@ -1,0 +1,55 @@
+// The line of a fault of loading.
+ghost use Rattle.std.specs.Prelude.{◌≡◌, ◌++◌, IfOk, encode_utf8_all, string_bytes};
+ghost use Rattle.rosie_prepare.specs.Lines as L;
+ghost use Rattle.rosie_prepare.specs.Texts as T;
+
+use crate::NoMemory;
+use crate::texts::{lex_text, macro_text, parse_text};
+use rosie_run::{input_fault, line_fault};
+use rpl_package::{LoadFault, LoadKind};
+use rpl_print::text_of;
+use rpl_text::Chars;
+use std::alloc::Global;
+
+/// A text with a name behind it.
+fn named(alloc: Global, text: &str, name: &Chars) -> Result<String, NoMemory>
+    ensures { IfOk result (λ s. string_bytes s ≡ text.now ++ encode_utf8_all name.now) }
+{
+    let name = text_of(name);
+    format!(in alloc; "{text}{name}")
+}
+
+/// What is wrong, in words.
+fn load_text(alloc: Global, kind: &LoadKind) -> Result<String, NoMemory>
+    ensures { IfOk result (λ s. string_bytes s ≡ T.load_text kind.now) }
+{
+    match kind {
+        LoadKind::NoMemory => Err(NoMemory),
+        LoadKind::ImportMissing { path } => named(alloc, "import not found: ", path),
+        LoadKind::ImportCycle { path } => named(alloc, "import cycle: ", path),
+        LoadKind::FileTooLong => String::from_str(alloc, "text too long"),
+        LoadKind::NotText => String::from_str(alloc, "not UTF-8"),
+        LoadKind::Duplicate { name } => named(alloc, "duplicate name: ", name),
+        LoadKind::UnknownName { name } => named(alloc, "unknown name: ", name),
+        LoadKind::HiddenName { name } => named(alloc, "hidden name: ", name),
+        LoadKind::TooManyPackages => String::from_str(alloc, "too many packages"),
+        LoadKind::ReadFault => String::from_str(alloc, "read failed"),
+        LoadKind::Lex(kind) => String::from_str(alloc, lex_text(*kind)),
+        LoadKind::Parse(kind) => String::from_str(alloc, parse_text(*kind)),
+        LoadKind::Macro { name, fault } => named(alloc, macro_text(*fault), name),
+        LoadKind::RootMissing => String::from_str(alloc, "no such file"),
+    }
+}
+
+/// The line of a fault of loading: its file and byte place, and what is wrong; of a file that is missing or can't be
+/// read, its name alone.
+pub fn load_line(alloc: Global, fault: &LoadFault) -> Result<String, NoMemory>
+    ensures { IfOk result (λ line. string_bytes line ≡ L.load_line fault.now) }
+{
+    let text = load_text(alloc, &fault.kind)?;
+    let file = text_of(&fault.file);
+    match &fault.kind {
+        LoadKind::RootMissing | LoadKind::ReadFault => input_fault(alloc, file, &text),
+        _ => line_fault(alloc, file, fault.at as u64, &text),
+    }
+}

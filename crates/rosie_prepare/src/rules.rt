@@ -1,0 +1,161 @@
+// The lines of faults of rules, and of the pattern.
+ghost use Rattle.std.specs.Prelude.{◌≡◌, ◌++◌, ◌∷◌, IfOk, OnOk, Some, chars, encode_utf8_all, flat_map, string_bytes};
+ghost use Rattle.std.specs.Option.{option_map};
+ghost use Rattle.rosie_prepare.specs.Lines as L;
+ghost use Rattle.rpl_check.specs.Answers as C;
+ghost use Rattle.rpl_expand.specs.Faults as E;
+ghost use Rattle.rpl_package.specs.Sets.{set_seen};
+
+use crate::NoMemory;
+use crate::texts::cause_text;
+use rosie_run::line_fault;
+use rpl_check::CheckFault;
+use rpl_expand::ExpandFault;
+use rpl_package::PackageSet;
+use std::alloc::Global;
+
+/// A text as it is: its bytes are those of its characters.
+fn as_it_is(text: &str) -> &str
+    ensures { result.now ≡ encode_utf8_all (chars text.now) }
+{
+    text
+}
+
+/// The full name of a rule, or `*` for the pattern.
+fn rule_name(set: &PackageSet, rule: Option<u32>) -> &str
+    ensures { result.now ≡ L.rule_name (set_seen set.now) rule }
+{
+    match rule {
+        None => "*",
+        Some(rule) => match set.rule(rule) {
+            None => "*",
+            Some(head) => as_it_is(head.name),
+        },
+    }
+}
+
+/// The line of a fault at the pattern.
+fn pattern_line(alloc: Global, text: &str) -> Result<String, NoMemory>
+    ensures { IfOk result (λ line. string_bytes line ≡ L.pattern_line text.now) }
+{
+    line_fault(alloc, "(pattern)", 0, text)
+}
+
+/// The line of a fault at the first token of a rule's statement, or at the pattern.
+fn rule_line(
+    alloc: Global,
+    set: &PackageSet,
+    rule: Option<u32>,
+    text: &str,
+) -> Result<String, NoMemory>
+    ensures { IfOk result (λ line. string_bytes line ≡ L.rule_line (set_seen set.now) rule text.now) }
+{
+    match rule {
+        None => pattern_line(alloc, text),
+        Some(rule) => match set.spot(rule) {
+            None => pattern_line(alloc, text),
+            Some((file, at)) => line_fault(alloc, as_it_is(file), at as u64, text),
+        },
+    }
+}
+
+/// Adds the names of rules, with a space before each.
+fn push_names(set: &PackageSet, rules: &[u32], out: &mut String) -> Result<(), NoMemory>
+    ensures { OnOk result (string_bytes out.new
+        ≡ string_bytes out.old ++ flat_map (λ s. 32 ∷ L.rule_name (set_seen set.now) (Some s)) rules.now) }
+{
+    for rule in rules {
+        out.push_str(" ")?;
+        out.push_str(rule_name(set, Some(*rule)))?;
+    }
+    Ok(())
+}
+
+/// The names of rules, one space apart.
+fn rule_names(alloc: Global, set: &PackageSet, rules: &[u32]) -> Result<String, NoMemory>
+    ensures { IfOk result (λ names. string_bytes names ≡ L.rule_names (set_seen set.now) rules.now) }
+{
+    let mut out = String::new(alloc);
+    if let [first, rest @ ..] = rules {
+        out.push_str(rule_name(set, Some(*first)))?;
+        push_names(set, rest, &mut out)?;
+    }
+    Ok(out)
+}
+
+/// The line of a fault of a rule, or of the pattern, with this text before its name.
+fn named_line(
+    alloc: Global,
+    set: &PackageSet,
+    rule: Option<u32>,
+    text: &str,
+) -> Result<String, NoMemory>
+    ensures { IfOk result (λ line. string_bytes line
+        ≡ L.rule_line (set_seen set.now) rule (text.now ++ L.rule_name (set_seen set.now) rule)) }
+{
+    let name = rule_name(set, rule);
+    let text = format!(in alloc; "{text}{name}")?;
+    rule_line(alloc, set, rule, &text)
+}
+
+/// The line of a rule, or of the pattern, with a bad look-behind.
+fn behind_line(
+    alloc: Global,
+    set: &PackageSet,
+    rule: Option<u32>,
+    cause: &str,
+) -> Result<String, NoMemory>
+    ensures { IfOk result (λ line. string_bytes line ≡ L.behind_line (set_seen set.now) rule cause.now) }
+{
+    let name = rule_name(set, rule);
+    let text = format!(in alloc; "look-behind in {name}: {cause}")?;
+    rule_line(alloc, set, rule, &text)
+}
+
+/// The line of rules that call themselves before a character is taken.
+fn recursion_line(alloc: Global, set: &PackageSet, rules: &[u32]) -> Result<String, NoMemory>
+    ensures { IfOk result (λ line. string_bytes line ≡ L.recursion_line (set_seen set.now) rules.now) }
+{
+    let names = rule_names(alloc, set, rules)?;
+    let text = format!(in alloc; "left recursion in {names}")?;
+    rule_line(alloc, set, rules.first().copied(), &text)
+}
+
+/// The line of a fault of expansion, which the rule table of this set, or a pattern over it, has.
+pub fn expand_line(alloc: Global, set: &PackageSet, fault: &ExpandFault) -> Result<String, NoMemory>
+    ensures { IfOk result (λ line. option_map (L.expand_line (set_seen set.now)) (E.fault_named fault.now)
+        ≡ Some (string_bytes line)) }
+{
+    match fault {
+        ExpandFault::NoMemory => Err(NoMemory),
+        ExpandFault::TooLarge { rule, .. } => named_line(alloc, set, *rule, "too large: "),
+    }
+}
+
+/// The line of a fault of the check, which the rule table of this set, or a pattern over it, has.
+pub fn check_line(alloc: Global, set: &PackageSet, fault: &CheckFault) -> Result<String, NoMemory>
+    ensures { IfOk result (λ line. option_map (L.check_line (set_seen set.now)) (C.fault_named fault.now)
+        ≡ Some (string_bytes line)) }
+{
+    match fault {
+        CheckFault::NoMemory => Err(NoMemory),
+        CheckFault::LookBehind { rule, cause } => behind_line(
+            alloc,
+            set,
+            *rule,
+            cause_text(*cause),
+        ),
+        CheckFault::LeftRecursion { rules } => recursion_line(alloc, set, rules),
+        CheckFault::EmptyLoop { rule } => named_line(alloc, set, *rule, "empty loop in "),
+        CheckFault::HaltInside { rule } => {
+            named_line(alloc, set, *rule, "halt under a predicate in ")
+        }
+    }
+}
+
+/// The line of a pattern whose code is too long.
+pub fn compile_line(alloc: Global) -> Result<String, NoMemory>
+    ensures { IfOk result (λ line. string_bytes line ≡ L.compile_line) }
+{
+    pattern_line(alloc, "code too long")
+}
