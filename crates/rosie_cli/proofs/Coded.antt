@@ -1,8 +1,8 @@
 -- The plan of a code file.
 use Rattle.std.proofs.Common.{◌≡◌, ◌≤◌, ℕ, List, length, refl, sym, ap, subst, ◌∙◌, inr, ⊎_elim}
 use Rattle.std.specs.Prelude.{Ok, Err, Some}
-use Rattle.rosie_code.proofs.One.{one_loading_holds}
-use Rattle.rosie_code.specs.Loaded.{IsLoaded, OrLine, most_bytes}
+use Rattle.rosie_jobs.proofs.One.{one_loading_holds}
+use Rattle.rosie_jobs.specs.Loaded.{IsLoaded, OrLine, most_bytes}
 use Rattle.rosie_io.specs.Opening.{file_of}
 use Rattle.rosie_jobs.specs.declared.settings.Settings.{Settings}
 use Rattle.rosie_prepare.specs.Prepared.{IsPrepared, OrLine as OrRefused, Ready, Tree, Wanted}

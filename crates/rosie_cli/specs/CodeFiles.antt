@@ -1,6 +1,6 @@
 -- The plan of `match` with a code file.
 use Rattle.std.specs.Prelude.{◌≡◌, ℕ, List, [], ◌∷◌, Ok, Err}
-use Rattle.rosie_code.specs.Loaded.{IsLoaded, OrLine}
+use Rattle.rosie_jobs.specs.Loaded.{IsLoaded, OrLine}
 use Rattle.rosie_io.specs.Opening.{file_of}
 use Rattle.rosie_jobs.specs.Makers.{Runs}
 use Rattle.rosie_jobs.specs.declared.settings.Settings.{Settings}

@@ -1,6 +1,6 @@
 -- What holds of all words, and of `compile` and `match` together.
 use Rattle.std.specs.Prelude.{◌≡◌, ◌≤◌, ℕ, Bool, true, false, List, Ok, Some, length, is_some}
-use Rattle.rosie_code.specs.Loaded.{most_bytes}
+use Rattle.rosie_jobs.specs.Loaded.{most_bytes}
 use Rattle.rosie_io.specs.Opening.{file_of}
 use Rattle.rosie_jobs.specs.Makers.{Runs}
 use Rattle.rosie_jobs.specs.declared.settings.Settings.{Settings}

@@ -8,9 +8,8 @@ ghost use Rattle.rosie_cli.specs.inside.Planning.{Leaves, Plans};
 
 use crate::goal_plan::input_names;
 use crate::plan::Plan;
-use rosie_code::{Unloaded, load_code};
 use rosie_io::Files;
-use rosie_jobs::{CodeJob, Settings};
+use rosie_jobs::{CodeJob, Settings, Unloaded, load_code};
 use rosie_prepare::Unready;
 use rosie_words::Paths;
 use rpl_print::text_of;

@@ -9,8 +9,8 @@ use Rattle.rpl_core.specs.Outcome.{outcome}
 use Rattle.rpl_core.specs.Run.{Answer, Matched, Failed, Unfinished, run}
 use Rattle.rpl_encode.specs.Answer.{answer, most_bytes}
 use Rattle.rpl_encode.specs.Print.{found, in_bytes, print}
-use Rattle.rosie_code.specs.Written.{written}
-use Rattle.rosie_code.proofs.Written.{written_holds}
+use Rattle.rosie_jobs.specs.Written.{written}
+use Rattle.rosie_jobs.proofs.Written.{written_holds}
 use Rattle.rosie_jobs.specs.Laws.{RunsAsItsGoal}
 use Rattle.rosie_jobs.specs.Lines.{budget_of, code_makes, is_over, made, match_makes, matches, ran_outcome, ran_piece}
 use Rattle.rosie_jobs.specs.Lines.{said, unanswered}

@@ -4,3 +4,6 @@ pub mod Alike
 pub mod Traced
 pub mod Allowed
 mod Agreeing
+pub mod One
+pub mod Written
+pub mod Told

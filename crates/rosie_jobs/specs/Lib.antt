@@ -5,4 +5,6 @@ pub mod Makers
 pub mod Limits
 pub mod Jobs
 pub mod Laws
+pub mod Loaded
+pub mod Written
 pub mod inside

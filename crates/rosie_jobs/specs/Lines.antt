@@ -13,7 +13,7 @@ use Rattle.rpl_core.specs.Instr.{Instr}
 use Rattle.rpl_core.specs.Meaning.{Outcome, Open, Fail, At, HaltAt}
 use Rattle.rpl_core.specs.Outcome.{outcome}
 use Rattle.rpl_core.specs.Run.{Answer, Matched, Failed, Unfinished, run}
-use Rattle.rosie_code.specs.Written.{written}
+use Rattle.rosie_jobs.specs.Written.{written}
 use Rattle.rosie_jobs.specs.declared.settings.Settings.{Settings}
 
 -- a goal over a table of rules, and its code

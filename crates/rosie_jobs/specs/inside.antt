@@ -1,2 +1,3 @@
 -- Of private functions.
 pub mod Printed
+pub mod Telling

@@ -5,7 +5,7 @@ ghost use Rattle.rpl_core.specs.Forest.{Caught, flat};
 ghost use Rattle.rpl_core.specs.Program.{instructions};
 ghost use Rattle.rpl_core.specs.Run as R;
 ghost use Rattle.rpl_safe.specs.Safe.{IsSafe};
-ghost use Rattle.rosie_code.specs.Written.{written};
+ghost use Rattle.rosie_jobs.specs.Written.{written};
 
 use crate::line_run::LineRun;
 use crate::settings::Settings;

@@ -7,7 +7,7 @@ use Rattle.rpl_core.specs.Programs.{Reaches}
 use Rattle.rpl_core.specs.Table as T
 use Rattle.rpl_core.specs.declared.rules.Rule.{Rule}
 use Rattle.rpl_forms.specs.Rows.{Row, rows_of}
-use Rattle.rpl_reach.specs.Marked.{marked, MarksReached}
+use Rattle.rpl_core.specs.Marked.{marked, MarksReached}
 use Rattle.rpl_syntax.specs.Expression.{Expr}
 use Rattle.rosie_show.specs.Laws.{OneExpansion}
 use Rattle.rosie_show.specs.Expansions.{names_of, bodies_of, line_if, rule_lines, pattern_lines, IsExpansion}

@@ -3,18 +3,17 @@ ghost use Rattle.std.specs.Prelude.{◌≡◌, ◌<◌, ◌++◌, IfOk, OnOk, le
 ghost use Rattle.rpl_check.specs.Checked.{IsWhole};
 ghost use Rattle.rpl_check.specs.Goal.{peg_of};
 ghost use Rattle.rpl_core.specs.Listed.{rules_of};
+ghost use Rattle.rpl_core.specs.Marked.{marked};
 ghost use Rattle.rpl_core.specs.Table.{bodies_of, names_of};
 ghost use Rattle.rpl_core.specs.View.{core_of};
 ghost use Rattle.rpl_forms.specs.Rows.{row_at, rows_of};
-ghost use Rattle.rpl_reach.specs.Marked.{marked};
 ghost use Rattle.rpl_syntax.specs.View.{expr_of};
 ghost use Rattle.rosie_show.specs.Expansions.{rule_line, line_if, rule_lines, pattern_lines, IsExpansion};
 
 use rpl_check::{Checked, CheckedPeg};
-use rpl_core::{NoMemory, Peg, Rule, Rules};
+use rpl_core::{NoMemory, Peg, Rule, Rules, reached};
 use rpl_expand::push_peg;
 use rpl_print::push_text;
-use rpl_reach::reached;
 use rpl_syntax::{Expr, print_expr};
 use std::alloc::Global;
 

@@ -18,10 +18,10 @@ use Rattle.rpl_core.specs.declared.instr.Instr as R
 use Rattle.rpl_core.specs.declared.instr.Instr.TheVariants as V
 use Rattle.rpl_draft.specs.declared.draft.Draft.{Draft}
 use Rattle.rpl_codegen.specs.declared.layout.Layout.{Layout}
-use Rattle.rpl_reach.specs.Marked.{CallsAreRules}
+use Rattle.rpl_core.specs.Marked.{CallsAreRules}
 use Rattle.rpl_codegen.specs.inside.Laid.{LaysOut, whole_len}
-use Rattle.rpl_reach.specs.Marked.{marked}
-use Rattle.rpl_reach.specs.Marked.{MarksReached}
+use Rattle.rpl_core.specs.Marked.{marked}
+use Rattle.rpl_core.specs.Marked.{MarksReached}
 use Rattle.rpl_draft.specs.Uses.{Keeps}
 use Rattle.rpl_draft.specs.Written.{shown, Says, Adds}
 use Rattle.rpl_codegen.specs.inside.Written.{address_of}

@@ -11,7 +11,7 @@ use Rattle.rpl_core.specs.Instr.{Instr}
 use Rattle.rpl_core.specs.Instr as I
 use Rattle.rpl_core.specs.Code.{Placed, code, code_all, code_first, choice_code, tested_choice, many_code, not_code, and_code, lengths_code, behind_code, size}
 use Rattle.rpl_core.specs.Programs.{calls, calls_any, bodies, Reaches, by_goal, by_rule, address, program}
-use Rattle.rpl_reach.specs.Marked.{CallsAreRules}
+use Rattle.rpl_core.specs.Marked.{CallsAreRules}
 use Rattle.rpl_codegen.specs.inside.Laid.{body_len, bodies_len, whole_len}
 use Rattle.rpl_codegen.specs.inside.Sizes.{many_len, not_len, tried_len, len, len_all, len_first}
 use Rattle.rpl_draft.proofs.Adding.{some_at}

@@ -1,10 +1,10 @@
 // Where the rules begin.
 ghost use Rattle.std.specs.Prelude.{◌≡◌, ◌<◌, ◌++◌, IfOk, OnOk, length, min, slice_get};
 ghost use Rattle.rpl_core.specs.Listed.{rules_of};
+ghost use Rattle.rpl_core.specs.Marked.{marked};
 ghost use Rattle.rpl_core.specs.Table.{bodies_of};
 ghost use Rattle.rpl_core.specs.View.{core_of};
 ghost use Rattle.rpl_codegen.specs.inside.Laid.{LaysOut, bodies_nodes, rule_len, rule_nodes};
-ghost use Rattle.rpl_reach.specs.Marked.{marked};
 ghost use Rattle.rpl_codegen.specs.inside.Nodes.{nodes_in};
 
 use crate::NoMemory;

@@ -5,10 +5,10 @@ ghost use Rattle.rpl_core.specs.Program.{code_of, instructions, labels_of, sets_
 ghost use Rattle.rpl_core.specs.Programs.{IsCode, bodies};
 ghost use Rattle.rpl_core.specs.Table.{bodies_of};
 ghost use Rattle.rpl_core.specs.View.{core_of};
-ghost use Rattle.rpl_reach.specs.Marked.{CallsAreRules};
+ghost use Rattle.rpl_core.specs.Marked.{CallsAreRules};
 ghost use Rattle.rpl_codegen.specs.Compiled.{HasLongCode};
 ghost use Rattle.rpl_codegen.specs.inside.Laid.{bodies_len, bodies_nodes, rule_code, rule_len, rule_nodes};
-ghost use Rattle.rpl_reach.specs.Marked.{marked};
+ghost use Rattle.rpl_core.specs.Marked.{marked};
 ghost use Rattle.rpl_codegen.specs.inside.Taken.{Begins, Takes, left};
 ghost use Rattle.rpl_draft.specs.Uses.{KeepsOnce, labels_in, sets_in};
 ghost use Rattle.rpl_codegen.specs.inside.Written.{Writes, address_of};
@@ -18,9 +18,8 @@ use crate::NoMemory;
 use crate::layout::Layout;
 use crate::size::{MAX_CODE, Nodes, Plan};
 use crate::writing::emit;
-use rpl_core::{Instr, Peg, Program, Rules};
+use rpl_core::{Instr, Peg, Program, Rules, reached};
 use rpl_draft::Draft;
-use rpl_reach::reached;
 use std::alloc::Global;
 use thiserror::Error;
 

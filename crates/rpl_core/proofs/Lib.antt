@@ -13,3 +13,6 @@ pub mod Reaching
 pub mod Rows
 pub mod Standings
 pub mod Walk
+mod RuleMarks
+mod Parts
+pub mod Search

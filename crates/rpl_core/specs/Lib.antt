@@ -18,4 +18,5 @@ pub mod Numbers
 pub mod Program
 pub mod Listed
 pub mod Captures
+pub mod Marked
 pub mod inside

@@ -3,7 +3,7 @@ use Rattle.rpl_check.specs.Goal.{peg_of}
 use Rattle.rpl_core.specs.Table.{names_of}
 use Rattle.rpl_core.specs.View.{core_of}
 use Rattle.rpl_forms.specs.Rows.{rows_of}
-use Rattle.rpl_reach.specs.Marked.{marked}
+use Rattle.rpl_core.specs.Marked.{marked}
 use Rattle.rpl_syntax.specs.View.{expr_of}
 use Rattle.rosie_show.specs.Expansions.{rule_lines}
 use Rattle.rosie_show.proofs.Rows.{shown}

@@ -2,7 +2,7 @@ use Rattle.std.proofs.Common.{◌++◌, arith, string_bytes}
 use Rattle.rpl_core.specs.Listed.{rules_of}
 use Rattle.rpl_core.specs.Table.{names_of}
 use Rattle.rpl_forms.specs.Rows.{rows_of}
-use Rattle.rpl_reach.specs.Marked.{marked}
+use Rattle.rpl_core.specs.Marked.{marked}
 use Rattle.rosie_show.specs.Expansions.{rule_lines}
 use Rattle.rosie_show.proofs.Rows.{one_line, rows_long}
 use Rattle.rosie_show.proofs.expansion.push_rules.Goals as goal

@@ -2,7 +2,7 @@ use Rattle.std.proofs.Common.{◌≡◌, ◌++◌, drop, string_bytes}
 use Rattle.rpl_core.specs.Listed.{rules_of}
 use Rattle.rpl_core.specs.Table.{names_of}
 use Rattle.rpl_forms.specs.Rows.{rows_of}
-use Rattle.rpl_reach.specs.Marked.{marked}
+use Rattle.rpl_core.specs.Marked.{marked}
 use Rattle.rosie_show.specs.Expansions.{rule_lines}
 use Rattle.rosie_show.proofs.expansion.push_rules.Given as goal
 

@@ -3,7 +3,7 @@ use Rattle.std.specs.Prelude.{slice_get, true}
 use Rattle.rpl_core.specs.Listed.{rules_of}
 use Rattle.rpl_core.specs.Table.{bodies_of}
 use Rattle.rpl_codegen.specs.inside.Laid.{rule_nodes}
-use Rattle.rpl_reach.proofs.Search.{none_there}
+use Rattle.rpl_core.proofs.Search.{none_there}
 use Rattle.rpl_codegen.proofs.Taking.{append_nil}
 use Rattle.rpl_codegen.proofs.layout.marked_size.Goals as goal
 

@@ -7,7 +7,7 @@ use Rattle.rpl_core.specs.Programs.{program}
 use Rattle.rpl_core.specs.Table.{bodies_of}
 use Rattle.rpl_core.specs.View.{core_of}
 use Rattle.rpl_codegen.specs.inside.Laid.{LaysOut, bodies_nodes}
-use Rattle.rpl_reach.specs.Marked.{marked}
+use Rattle.rpl_core.specs.Marked.{marked}
 use Rattle.rpl_codegen.specs.inside.Nodes.{nodes_in}
 use Rattle.rpl_codegen.specs.inside.Taken.{left}
 use Rattle.rpl_draft.specs.Written.{Adds}

@@ -11,7 +11,7 @@ use Rattle.rpl_draft.specs.Written.{Adds}
 use Rattle.rpl_codegen.specs.inside.Written.{address_of}
 use Rattle.rpl_draft.proofs.Adding.{adds_then, adds_none}
 use Rattle.rpl_codegen.proofs.Lengths.{code_length}
-use Rattle.rpl_reach.proofs.Search.{body_is, none_there}
+use Rattle.rpl_core.proofs.Search.{body_is, none_there}
 use Rattle.rpl_codegen.proofs.Taking.{as_begins, as_taken, takes_none}
 use Rattle.rpl_codegen.proofs.whole.emit_rule.Goals as goal
 

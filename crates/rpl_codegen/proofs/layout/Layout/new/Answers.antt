@@ -7,7 +7,7 @@ use Rattle.rpl_core.specs.Programs.{place_of}
 use Rattle.rpl_core.specs.Table.{bodies_of}
 use Rattle.rpl_core.specs.View.{core_of}
 use Rattle.rpl_codegen.specs.inside.Laid.{bodies_nodes, rule_nodes, whole_len}
-use Rattle.rpl_reach.specs.Marked.{marked}
+use Rattle.rpl_core.specs.Marked.{marked}
 use Rattle.rpl_codegen.specs.inside.Sizes.{len}
 use Rattle.rpl_codegen.specs.inside.Nodes.{nodes_in}
 use Rattle.rpl_codegen.proofs.Layouts.{place_zero, place_turn, place_end, place_past, place_within, addresses_are, addresses_more}

@@ -4,7 +4,7 @@ use Rattle.rpl_core.specs.Programs.{place_of}
 use Rattle.rpl_core.specs.Table.{bodies_of}
 use Rattle.rpl_core.specs.View.{core_of}
 use Rattle.rpl_codegen.specs.inside.Laid.{bodies_nodes}
-use Rattle.rpl_reach.specs.Marked.{marked}
+use Rattle.rpl_core.specs.Marked.{marked}
 use Rattle.rpl_codegen.specs.inside.Sizes.{len}
 use Rattle.rpl_codegen.specs.inside.Nodes.{nodes_in}
 use Rattle.rpl_codegen.proofs.layout.Layout.new.Given as goal

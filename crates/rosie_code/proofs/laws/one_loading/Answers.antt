@@ -1,5 +1,0 @@
-use Rattle.rosie_code.proofs.One.{one_loading_holds}
-use Rattle.rosie_code.proofs.laws.one_loading.Goals as goal
-
-pub returns : goal.returns
-returns c = one_loading_holds

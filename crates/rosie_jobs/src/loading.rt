@@ -1,0 +1,72 @@
+// From a code file to its program.
+ghost use Rattle.std.specs.Prelude.{◌≡◌, ◌≢◌, ◌<◌, ◌≤◌, ◌-◌, ◌^◌, ℕ, Some, false, codes, length, IfOk};
+ghost use Rattle.rosie_jobs.specs.Loaded.{IsRead, HasCause, Loads};
+ghost use Rattle.rosie_jobs.specs.inside.Telling.{IsToldOfFile, Reads, Refuses};
+ghost use Rattle.rosie_io.specs.Opening.{file_of};
+ghost use Rattle.rosie_run.specs.Sources.{moment};
+ghost use Rattle.rpl_core.specs.Program.{instructions};
+ghost use Rattle.rpl_safe.specs.Safe.{IsSafe};
+
+use crate::unloaded::Unloaded;
+use rosie_io::{FileFault, Files, read_bytes};
+use rosie_run::input_fault;
+use rpl_codefile::{CodeFault, read_code};
+use rpl_core::Program;
+use std::alloc::Global;
+
+/// The longest code file that is read, in bytes.
+const MOST_CODE_BYTES: usize = 67_108_864;
+
+/// The refusal of the file with these words, if there is memory for its line.
+fn refused(alloc: Global, path: &str, text: &str) -> Unloaded
+    ensures { Refuses path.now text.now result }
+{
+    match input_fault(alloc, path, text) {
+        Ok(line) => Unloaded::Refused(line),
+        Err(_) => Unloaded::NoMemory,
+    }
+}
+
+/// What a fault of a file that needn't be text comes to.
+fn of_file(alloc: Global, path: &str, fault: FileFault) -> Unloaded
+    requires { fault ≢ FileFault.NotText }
+    ensures { IsToldOfFile path.now fault result }
+{
+    match fault {
+        FileFault::Missing => refused(alloc, path, "no such file"),
+        FileFault::TooLong => refused(alloc, path, "text too long"),
+        FileFault::ReadFault => Unloaded::ReadFault,
+        FileFault::NoMemory => Unloaded::NoMemory,
+        FileFault::NotText => unreachable!(),
+    }
+}
+
+/// The program of these bytes.
+fn program_of(alloc: Global, path: &str, bytes: &[u8]) -> Result<Program, Unloaded>
+    ensures { Reads path.now bytes.now result }
+{
+    match read_code(alloc, bytes) {
+        Ok(program) => Ok(program),
+        Err(fault) => match fault {
+            CodeFault::NotCode => Err(refused(alloc, path, "not a code file")),
+            CodeFault::NotSafe => Err(refused(alloc, path, "unsafe code")),
+            CodeFault::NoMemory => Err(Unloaded::NoMemory),
+        },
+    }
+}
+
+/// The program of the code file at that path, or why there is none. Its code is safe.
+pub fn load_code<F: Files>(alloc: Global, files: &mut F, path: &str) -> Result<Program, Unloaded>
+    ensures loads { F.tells → Loads path.now (file_of path.now (F.tree files.old)) result }
+    ensures safe { IfOk result (λ program. IsSafe (instructions program)) }
+    ensures cause { HasCause result (moment F.rest F.taken F.faults F.failed_opens files.old)
+        (moment F.rest F.taken F.faults F.failed_opens files.new) }
+    ensures taken { F.taken files.new < 2 ^ 64 - 1 → F.taken files.old ≤ F.taken files.new }
+    ensures tree { F.tree files.new ≡ F.tree files.old }
+    ensures closed { F.is_open files.new ≡ false }
+{
+    match read_bytes(alloc, files, path, MOST_CODE_BYTES) {
+        Ok(bytes) => program_of(alloc, path, bytes.as_slice()),
+        Err(fault) => Err(of_file(alloc, path, fault)),
+    }
+}

@@ -1,3 +1,0 @@
-mod Marking
-mod Parts
-pub mod Search
