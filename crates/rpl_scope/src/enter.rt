@@ -1,8 +1,10 @@
 // Rules that enter a module.
-ghost use Rattle.std.specs.Prelude.{◌≡◌, ◌++◌, ◌∷◌, [], OnOk};
-ghost use Rattle.rpl_scope.specs.Faults.{Gives};
+ghost use Rattle.std.specs.Prelude.{◌≡◌, ◌++◌, ◌∷◌, [], IfErr, IfOk, OnOk, length};
+ghost use Rattle.rpl_scope.specs.Faults.{Gives, IsStop, fault_at};
 ghost use Rattle.rpl_scope.specs.Seen.{module_seen, rule_seen};
 ghost use Rattle.rpl_scope.specs.Statements.{enter};
+ghost use Rattle.rpl_scope.specs.declared.fault.LoadKind.TheVariants.{Duplicate};
+ghost use Rattle.rpl_scope.specs.declared.fault.Stop.TheVariants.{Memory as OutOfMemory};
 
 use crate::NoMemory;
 use crate::fault::{LoadKind, Stop, fault_at};
@@ -18,24 +20,40 @@ fn push_rule(rules: &mut Vec<Rule>, rule: Rule) -> Result<(), NoMemory>
     Ok(())
 }
 
+/// How many rules the module has by now: just those behind them see what is added next.
+pub(crate) fn rules_so_far(own: &Module) -> Result<u32, Stop>
+    ensures ok { IfOk result (λ since. since ≡ length (module_seen own.now).rules) }
+    ensures err { IfErr result (λ s. s ≡ OutOfMemory) }
+{
+    let count = own.rules.len();
+    if count > 4_294_967_295 {
+        return Err(Stop::Memory);
+    }
+    Ok(count as u32)
+}
+
+/// The fault of a rule whose name the module has already.
+fn duplicate(alloc: Global, file: &Chars, rule: Rule) -> Stop
+    ensures { IsStop result (fault_at file.now rule.at (Duplicate rule.name)) }
+{
+    let kind = LoadKind::Duplicate { name: rule.name };
+    fault_at(alloc, file, rule.at, kind)
+}
+
 /// The rule and its name at the end of the module, unless it has that name already.
 #[tactic(auto, using(crate::proofs::Stops::told))]
 pub fn enter(alloc: Global, own: &mut Module, file: &Chars, rule: Rule) -> Result<(), Stop>
     ensures { Gives (λ _. module_seen own.new) result (enter file.now (rule_seen rule) (module_seen own.old)) }
 {
     if own.names.get(&rule.name).is_some() {
-        let kind = LoadKind::Duplicate { name: rule.name };
-        return Err(fault_at(alloc, file, rule.at, kind));
+        return Err(duplicate(alloc, file, rule));
     }
-    let number = own.rules.len();
-    if number >= 4_294_967_295 {
-        return Err(Stop::Memory);
-    }
+    let number = rules_so_far(own)?;
     let entry = Entry {
         since: rule.since,
         local: rule.local,
         hidden: rule.hidden,
-        referent: Referent::Own(number as u32),
+        referent: Referent::Own(number),
     };
     own.names.put(alloc, &rule.name, entry)?;
     push_rule(&mut own.rules, rule)?;

@@ -8,6 +8,7 @@ ghost use Rattle.rpl_scope.specs.declared.fault.Stop.TheVariants.{Memory as OutO
 ghost use Rattle.rpl_scope.specs.Seen.{module_seen, modules_seen, rule_seen, rules_seen};
 
 use crate::NoMemory;
+use crate::enter::rules_so_far;
 use crate::fault::{LoadKind, Stop, fault_at};
 use crate::module::{Entry, Module, Prefix, Referent, Rule};
 use rpl_syntax::{Import, ImportAs};
@@ -27,18 +28,6 @@ pub fn last_part(alloc: Global, path: &Chars) -> Result<Chars, NoMemory>
         }
     }
     Chars::from_str(alloc, &last)
-}
-
-/// How many rules the module has by now: just those behind them see what is added next.
-fn rules_so_far(own: &Module) -> Result<u32, Stop>
-    ensures ok { IfOk result (λ since. since ≡ length (module_seen own.now).rules) }
-    ensures err { IfErr result (λ s. s ≡ OutOfMemory) }
-{
-    let count = own.rules.len();
-    if count > 4_294_967_295 {
-        return Err(Stop::Memory);
-    }
-    Ok(count as u32)
 }
 
 /// One prefix more, for the module with this number.
