@@ -1,6 +1,7 @@
 // The modules that are loaded, and those that are being loaded.
 ghost use Rattle.std.specs.Prelude.{◌≡◌, ◌++◌, ◌∷◌, [], OnErr, OnOk, IfOk, IfErr, length};
 ghost use Rattle.rpl_package.specs.Kept.{Keeps};
+ghost use Rattle.rpl_package.specs.inside.Noted.{noted};
 ghost use Rattle.rpl_package.specs.Loading.{is_loading, is_held, is_taken, finished, empty_module, with_path};
 ghost use Rattle.rpl_package.specs.Stocks.{stock_seen};
 ghost use Rattle.rpl_scope.specs.Seen.{module_seen};
@@ -107,6 +108,24 @@ fn push_module(modules: &mut Vec<Module>, from: Module) -> Result<(), NoMemory>
     Ok(())
 }
 
+/// The number of the next module, noted under its path and its package name.
+fn note(alloc: Global, stock: &mut Stock, from: &Module) -> Result<u32, NoMemory>
+    ensures noted { OnOk result (stock_seen stock.new ≡ noted (stock_seen stock.old) (module_seen from.now)) }
+    ensures number { IfOk result (λ n. n ≡ length (stock_seen stock.old).modules) }
+    ensures kept { Keeps (stock_seen stock.old) (stock_seen stock.new) }
+    ensures modules { stock.new.modules ≡ stock.old.modules }
+    ensures held { stock.new.held ≡ stock.old.held }
+{
+    let count = stock.modules.len();
+    if count > 4_294_967_295 {
+        return Err(NoMemory);
+    }
+    let number = count as u32;
+    note_path(alloc, &mut stock.paths, &from.path, number)?;
+    stock.labels.add(alloc, &from.label, number)?;
+    Ok(number)
+}
+
 /// One module more, whose loading is finished: its number.
 pub fn finish(alloc: Global, stock: &mut Stock, from: Module) -> Result<u32, Stop>
     ensures stock { OnOk result (stock_seen stock.new ≡ finished (stock_seen stock.old) (module_seen from)) }
@@ -115,13 +134,7 @@ pub fn finish(alloc: Global, stock: &mut Stock, from: Module) -> Result<u32, Sto
     ensures kept { Keeps (stock_seen stock.old) (stock_seen stock.new) }
     ensures memory { IfErr result (λ s. s ≡ OutOfMemory) }
 {
-    let count = stock.modules.len();
-    if count > 4_294_967_295 {
-        return Err(Stop::Memory);
-    }
-    let number = count as u32;
-    note_path(alloc, &mut stock.paths, &from.path, number)?;
-    stock.labels.add(alloc, &from.label, number)?;
+    let number = note(alloc, stock, &from)?;
     push_module(&mut stock.modules, from)?;
     Ok(number)
 }
