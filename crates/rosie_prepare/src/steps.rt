@@ -6,7 +6,7 @@ ghost use Rattle.rosie_prepare.specs.Prepared.{OrLine, Passes, Ready, goal_in, r
 ghost use Rattle.rosie_prepare.specs.Prepared.{too_large, unsound};
 ghost use Rattle.rosie_prepare.specs.Answers.{Prepares};
 ghost use Rattle.rosie_prepare.specs.Views.{ready_seen};
-ghost use Rattle.rosie_prepare.specs.inside.Steps.{Finds, IsOwn};
+ghost use Rattle.rosie_prepare.specs.inside.Steps.{Finds, IsOwn, both_seen};
 ghost use Rattle.rpl_check.specs.Blocks.{first_fault};
 ghost use Rattle.rpl_check.specs.Checked.{IsWhole};
 ghost use Rattle.rpl_check.specs.Facts.{Facts};
@@ -112,6 +112,24 @@ pub(crate) fn pass_rules(alloc: Global, set: PackageSet) -> Result<PreparedRules
     Ok(PreparedRules { set, rules })
 }
 
+/// The rule table of a set and the core of a pattern over it, unless something is too large or the check finds a fault.
+fn pass_both(alloc: Global, set: &PackageSet, expr: &Expr) -> Result<(Checked, CheckedPeg), Unready>
+    ensures prepares { (r : OrLine Ready)
+        → Passes (set_seen set.now) (too_large (set_seen set.now) (expr_of expr.now))
+        (unsound (set_seen set.now) (expr_of expr.now)) (ready (set_seen set.now) (expr_of expr.now)) r
+        → Prepares (both_seen (set_seen set.now) (expr_of expr.now)) result r }
+    ensures whole { IfOk result (λ both. IsWhole (bodies_of both.0) (core_of (peg_of both.1))) }
+    ensures root { IfOk result (λ both. (label : List ℕ)
+        × IsCapture (bodies_of both.0) label (core_of (peg_of both.1))) }
+    ensures own { IfErr result IsOwn }
+{
+    let rules = expand_rules(alloc, set)?;
+    let goal = expand_goal(alloc, set, &rules, expr)?;
+    let rules = check_rules(alloc, set, rules)?;
+    let goal = check_goal(alloc, set, &rules, goal)?;
+    Ok((rules, goal))
+}
+
 /// A pattern over a set, unless something is too large or the check finds a fault.
 pub(crate) fn pass_goal(alloc: Global, set: PackageSet, expr: Expr) -> Result<Prepared, Unready>
     ensures prepares { (r : OrLine Ready)
@@ -122,10 +140,7 @@ pub(crate) fn pass_goal(alloc: Global, set: PackageSet, expr: Expr) -> Result<Pr
     ensures root { IfOk result (λ p. (label : List ℕ) × IsCapture (bodies_of p.rules) label (core_of (peg_of p.goal))) }
     ensures own { IfErr result IsOwn }
 {
-    let rules = expand_rules(alloc, &set)?;
-    let goal = expand_goal(alloc, &set, &rules, &expr)?;
-    let rules = check_rules(alloc, &set, rules)?;
-    let goal = check_goal(alloc, &set, &rules, goal)?;
+    let (rules, goal) = pass_both(alloc, &set, &expr)?;
     Ok(Prepared {
         set,
         expr,

@@ -1,13 +1,21 @@
 -- What the steps of a preparation leave.
-use Rattle.std.specs.Prelude.{◌≡◌, Option, None, Some, Result, Ok, Err, string_bytes}
+use Rattle.std.specs.Prelude.{◌≡◌, List, Option, None, Some, Result, Ok, Err, string_bytes}
 use Rattle.std.specs.List.{Contains}
 use Rattle.rosie_prepare.specs.Lines.{Line, load_line}
+use Rattle.rosie_prepare.specs.Prepared.{Ready}
 use Rattle.rosie_prepare.specs.declared.unready.Unready.{Unready}
 use Rattle.rosie_prepare.specs.declared.unready.Unready.TheVariants.{NoMemory, Refused, ReadFault}
+use Rattle.rpl_check.specs.Goal.{peg_of}
+use Rattle.rpl_check.specs.declared.checked.CheckedPeg.{CheckedPeg}
+use Rattle.rpl_core.specs.View.{core_of}
+use Rattle.rpl_core.specs.declared.rules.Rule.{Rule}
+use Rattle.rpl_forms.specs.Rows.{rows_of}
 use Rattle.rpl_package.specs.Asking.{Outcome}
+use Rattle.rpl_package.specs.Roots.{Packages}
 use Rattle.rpl_scope.specs.declared.fault.LoadFault.{LoadFault}
 use Rattle.rpl_scope.specs.declared.fault.LoadKind.{LoadKind}
 use Rattle.rpl_scope.specs.declared.fault.LoadKind.TheVariants as K
+use Rattle.rpl_syntax.specs.Expression.{Expr}
 
 -- a refusal has this line, if there is one; no read failed
 abbrev pub Tells : Option Line → Unready → Type 0
@@ -45,3 +53,7 @@ abbrev pub IsOwn : Unready → Type 0
 IsOwn NoMemory = Unit {0}
 IsOwn (Refused line) = Unit {0}
 IsOwn (ReadFault path) = ⊥
+
+-- the rule table and the core of a pattern, seen with its packages and its expression
+abbrev pub both_seen : Packages → Expr → List Rule × CheckedPeg → Ready
+both_seen p e both = record { packages = p; expr = e; rules = rows_of both.0; goal = core_of (peg_of both.1) }

@@ -18,12 +18,12 @@ use Rattle.rpl_expand.specs.Sets.{table_of}
 use Rattle.rpl_forms.specs.Rows.{rows_of}
 use Rattle.rpl_package.specs.Sets.{set_seen}
 use Rattle.rpl_syntax.specs.View.{expr_of}
-use Rattle.rosie_prepare.proofs.steps.pass_goal.Goals as goal
+use Rattle.rosie_prepare.proofs.steps.pass_both.Goals as goal
 
 pub returns-in_err-rules-2-clause-prepares : goal.returns-in_err-rules-2-clause-prepares
 returns-in_err-rules-2-clause-prepares c =
-    let p = set_seen c.args.set in
-    let e = expr_of c.args.expr in
+    let p = set_seen c.args.set.now in
+    let e = expr_of c.args.expr.now in
     let rules = c.in_ok-rules.rules in
     let table = c.in_ok-rules.ensures.table in
     let u = c.in_err-rules-2.field-0.0 in
@@ -43,8 +43,8 @@ returns-in_err-rules-2-clause-own c =
 
 pub returns-in_err-goal-2-clause-prepares : goal.returns-in_err-goal-2-clause-prepares
 returns-in_err-goal-2-clause-prepares c =
-    let p = set_seen c.args.set in
-    let e = expr_of c.args.expr in
+    let p = set_seen c.args.set.now in
+    let e = expr_of c.args.expr.now in
     let rules = c.in_ok-rules.rules in
     let table = c.in_ok-rules.ensures.table in
     let u = c.in_err-goal-2.field-0.0 in
@@ -68,8 +68,8 @@ returns-in_err-goal-2-clause-own c =
 
 pub returns-clause-prepares : goal.returns-clause-prepares
 returns-clause-prepares c =
-    let p = set_seen c.args.set in
-    let e = expr_of c.args.expr in
+    let p = set_seen c.args.set.now in
+    let e = expr_of c.args.expr.now in
     let rules = c.in_ok-rules.rules in
     let table = c.in_ok-rules.ensures.table in
     let same = sym (bodies-rows_of (rules_of rules)) ∙ ap bodies table in
