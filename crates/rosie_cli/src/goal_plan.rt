@@ -1,10 +1,14 @@
 //! The plan of a command that runs a pattern on lines.
 
 ghost use Rattle.std.specs.Prelude.{◌≡◌, Ok, IfErr, IfOk, List, encode_utf8_all};
-ghost use Rattle.rosie_jobs.specs.Jobs.{job_of, rule_names};
+ghost use Rattle.rosie_jobs.specs.Jobs.{IsJobOf, job_of, rule_names};
 ghost use Rattle.rosie_prepare.specs.Views.{ready_seen, wanted_seen};
 ghost use Rattle.rosie_prepare.specs.inside.Steps.{IsOwn};
 ghost use Rattle.rosie_run.specs.Inputs.{names_of};
+ghost use Rattle.rpl_check.specs.Goal.{peg_of};
+ghost use Rattle.rpl_codegen.specs.Compiled.{HasLongCode};
+ghost use Rattle.rpl_core.specs.Table.{bodies_of, names_of as names_of_rules};
+ghost use Rattle.rpl_core.specs.View.{core_of};
 ghost use Rattle.rpl_forms.specs.Rows.{Row};
 ghost use Rattle.rosie_cli.specs.Planned.{full_names, input_names, IsRun, IsRunning};
 ghost use Rattle.rosie_cli.specs.Plans.{Planned};
@@ -18,6 +22,7 @@ use rosie_prepare::{Prepared, Unready, Wanted, prepare};
 use rosie_run::NoMemory;
 use rosie_sample::SampleRun;
 use rosie_words::Paths;
+use rpl_codegen::CompileFault;
 use rpl_text::Chars;
 use std::alloc::Global;
 
@@ -88,6 +93,17 @@ fn plan_job(alloc: Global, job: Job, purpose: Purpose) -> Result<Plan, NoMemory>
     }
 }
 
+/// The job of a goal that is prepared, for which alone its rules are kept. Its code may be too long.
+fn compile_goal(alloc: Global, ready: Prepared) -> Result<Job, CompileFault>
+    requires { IsReady ready }
+    ensures job { IfOk result (λ job. IsJobOf (bodies_of ready.rules) (core_of (peg_of ready.goal)) (job_of job)) }
+    ensures names { IfOk result (λ job. rule_names job ≡ names_of_rules ready.rules) }
+    ensures too_long { IfErr result (λ e. e ≡ CompileFault.CodeTooLong
+        → HasLongCode (bodies_of ready.rules) (core_of (peg_of ready.goal))) }
+{
+    Job::new(alloc, ready.rules, ready.goal)
+}
+
 /// The plan of a goal that is prepared. Its code may be too long.
 fn plan_ready(alloc: Global, ready: Prepared, purpose: Purpose) -> Result<Plan, Unready>
     requires { IsReady ready }
@@ -95,7 +111,7 @@ fn plan_ready(alloc: Global, ready: Prepared, purpose: Purpose) -> Result<Plan, 
     ensures due { IfOk result (λ plan. IsPromised (plan_of plan)) }
     ensures own { IfErr result IsOwn }
 {
-    match Job::new(alloc, ready.rules, ready.goal) {
+    match compile_goal(alloc, ready) {
         Ok(job) => Ok(plan_job(alloc, job, purpose)?),
         Err(fault) => Err(uncompiled(alloc, fault)),
     }
