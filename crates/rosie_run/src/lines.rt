@@ -5,11 +5,11 @@ ghost use Rattle.rosie_io.specs.Answering.{Keeps};
 ghost use Rattle.rosie_io.specs.Appending.{Appends};
 ghost use Rattle.rosie_io.specs.Counts.{capped};
 ghost use Rattle.rosie_io.specs.Gathering.{left, Reads};
-ghost use Rattle.rosie_run.specs.Lines.{input_pieces};
+ghost use Rattle.rosie_run.specs.Lines.{input_pieces, line_fault};
 ghost use Rattle.rosie_run.specs.Outputs.{texts};
 ghost use Rattle.rosie_run.specs.inside.Causes.{BothCause, SinksCause, SourceCause, SpentCause, IsOfReading};
-ghost use Rattle.rosie_run.specs.inside.Passing.{MakesLine, CountsLine, StopsLine, RunsInput, made_out, made_err};
-ghost use Rattle.rosie_run.specs.inside.Passing.{made_mark};
+ghost use Rattle.rosie_run.specs.inside.Passing.{MakesLine, CountsLine, StopsLine, RunsInput, ComesOf, SaysFault};
+ghost use Rattle.rosie_run.specs.inside.Passing.{made_out, made_err, made_mark};
 
 use crate::line_job::LineJob;
 use crate::write::{flush_before_wait, line_fault, write_both};
@@ -65,27 +65,45 @@ fn make_line<J: LineJob, S: Source, L: Ledger>(
     ensures tree { S.tree source.new ≡ S.tree source.old }
     ensures opens { S.failed_opens source.new ≡ S.failed_opens source.old }
 {
-    match reader.next(source) {
-        Ok(line) => match line {
-            Line::Text => match job.answer(file, reader.number(), reader.line(), steps) {
-                Ok(mark) => Ok(Some(Made::Answer(mark))),
-                Err(_) => Err(Trouble::NoMemory),
-            },
-            Line::End => Ok(None),
+    let found = reader.next(source);
+    make_of(alloc, job, file, reader, found, steps)
+}
+
+/// Makes the piece of what the reader answered. `None` where there is no further line.
+fn make_of<J: LineJob, L: Ledger>(
+    alloc: Global,
+    job: &mut J,
+    file: &str,
+    reader: &LineReader,
+    found: Result<Line, LineFault>,
+    steps: &mut Steps<L>,
+) -> Result<Option<Made>, Trouble>
+    requires { length reader.now.text ≤ 2 ^ 30 }
+    ensures same { J.makes job.new ≡ J.makes job.old }
+    ensures comes { ComesOf result found (J.makes job.old) file.now reader.now.number reader.now.text
+        (J.out_text job.new) (J.err_text job.new) steps.old steps.new }
+{
+    match found {
+        Ok(Line::Text) => match job.answer(file, reader.number(), reader.line(), steps) {
+            Ok(mark) => Ok(Some(Made::Answer(mark))),
+            Err(_) => Err(Trouble::NoMemory),
         },
-        Err(fault) => match fault {
-            LineFault::TooLong { line } => match line_fault(alloc, file, line, "line too long") {
-                Ok(text) => Ok(Some(Made::Fault(text))),
-                Err(_) => Err(Trouble::NoMemory),
-            },
-            LineFault::NotText { line } => match line_fault(alloc, file, line, "not UTF-8") {
-                Ok(text) => Ok(Some(Made::Fault(text))),
-                Err(_) => Err(Trouble::NoMemory),
-            },
-            LineFault::NoMemory => Err(Trouble::NoMemory),
-            LineFault::ReadFault => Err(Trouble::ReadFault),
-            LineFault::Spent => Err(Trouble::Spent),
-        },
+        Ok(Line::End) => Ok(None),
+        Err(LineFault::TooLong { line }) => fault_of(alloc, file, line, "line too long"),
+        Err(LineFault::NotText { line }) => fault_of(alloc, file, line, "not UTF-8"),
+        Err(LineFault::NoMemory) => Err(Trouble::NoMemory),
+        Err(LineFault::ReadFault) => Err(Trouble::ReadFault),
+        Err(LineFault::Spent) => Err(Trouble::Spent),
+    }
+}
+
+/// What is wrong with a line, as what was made of it.
+fn fault_of(alloc: Global, file: &str, number: u64, why: &str) -> Result<Option<Made>, Trouble>
+    ensures { SaysFault result (line_fault file.now number why.now) }
+{
+    match line_fault(alloc, file, number, why) {
+        Ok(text) => Ok(Some(Made::Fault(text))),
+        Err(_) => Err(Trouble::NoMemory),
     }
 }
 

@@ -1,11 +1,15 @@
 -- How a run over the lines of an input goes past a line.
+use Rattle.rosie_io.specs.declared.reader.Line.TheVariants as L
+use Rattle.rosie_io.specs.declared.reader.LineFault.TheVariants as F
 use Rattle.rosie_run.specs.declared.trouble.Trouble.TheVariants as T
 use Rattle.rosie_run.specs.declared.lines.Made.TheVariants as M
 use Rattle.rosie_io.specs.Gathering.{IsEndOf, NoFeed, Splits, left}
 use Rattle.rosie_io.specs.Held.{Held}
 use Rattle.rosie_io.specs.Lines.{lines}
 use Rattle.rosie_io.specs.Reader.{Reader}
-use Rattle.rosie_run.specs.Lines.{Makes, input_pieces, line_piece, passed, pieces_from}
+use Rattle.rosie_io.specs.declared.reader.Line.{Line}
+use Rattle.rosie_io.specs.declared.reader.LineFault.{LineFault}
+use Rattle.rosie_run.specs.Lines.{Makes, input_pieces, line_fault, line_piece, passed, pieces_from}
 use Rattle.rosie_run.specs.Made.{IsMade}
 use Rattle.rosie_run.specs.Outputs.{Fronts, Stands, Telling, Texts, Wrote}
 use Rattle.rosie_run.specs.Report.{Piece, has, is_stop, tally_of, up_to_stop}
@@ -16,7 +20,7 @@ use Rattle.rosie_run.specs.declared.mark.Mark.TheVariants.{Fault}
 use Rattle.rosie_run.specs.declared.tally.Tally.{Tally}
 use Rattle.rosie_run.specs.declared.trouble.Trouble.{Trouble}
 use Rattle.std.specs.Prelude.{◌++◌, ◌+◌, ◌^◌, ◌≡◌, ◌≤◌, Bool, Err, List, None, Ok, Option, Result, Some, [], false}
-use Rattle.std.specs.Prelude.{length, string_bytes, true, ℕ}
+use Rattle.std.specs.Prelude.{codes, length, string_bytes, true, ℕ}
 
 -- the texts and the mark that were made of a line: by the job, or of what is wrong with the line
 abbrev pub made_out : Made → List ℕ → List ℕ
@@ -30,6 +34,38 @@ made_err (M.Fault text) err = string_bytes text
 abbrev pub made_mark : Made → Mark
 made_mark (M.Answer mark) = mark
 made_mark (M.Fault text) = Fault
+
+-- reading on failed at no read
+abbrev pub IsNoReadFault : Result Line LineFault → Type 0
+IsNoReadFault (Err F.ReadFault) = ⊥
+IsNoReadFault _ = Unit {0}
+
+-- what is said of a line that has this fault
+abbrev pub TellsFault : LineFault → List ℕ → List ℕ → Type 0
+TellsFault (F.TooLong n) file text = text ≡ line_fault file n (codes "line too long")
+TellsFault (F.NotText n) file text = text ≡ line_fault file n (codes "not UTF-8")
+TellsFault _ file text = ⊥
+
+-- what was made of the answer of the reader, with the number and the text of its line
+abbrev pub ComesOf : Result (Option Made) Trouble → Result Line LineFault → Makes → List ℕ → ℕ → List ℕ → List ℕ
+    → List ℕ → ℕ → ℕ → Type 0
+ComesOf (Ok (Some (M.Answer mark))) found makes file n line out err steps0 steps1 =
+    (found ≡ Ok L.Text) × IsMade mark out err (makes file n line) × (steps1 ≡ steps0 + (makes file n line).cost)
+ComesOf (Ok (Some (M.Fault text))) found makes file n line out err steps0 steps1 =
+    ((fault : LineFault) × (found ≡ Err fault) × TellsFault fault file (string_bytes text)) × (steps1 ≡ steps0)
+ComesOf (Ok None) found makes file n line out err steps0 steps1 = (found ≡ Ok L.End) × (steps1 ≡ steps0)
+ComesOf (Err T.NoMemory) found makes file n line out err steps0 steps1 = IsNoReadFault found
+ComesOf (Err T.WriteFault) found makes file n line out err steps0 steps1 = ⊥
+ComesOf (Err T.ReadFault) found makes file n line out err steps0 steps1 =
+    (found ≡ Err F.ReadFault) × (steps1 ≡ steps0)
+ComesOf (Err T.Spent) found makes file n line out err steps0 steps1 = (found ≡ Err F.Spent) × (steps1 ≡ steps0)
+
+-- the text of a fault is made
+abbrev pub SaysFault : Result (Option Made) Trouble → List ℕ → Type 0
+SaysFault (Ok (Some (M.Answer mark))) line = ⊥
+SaysFault (Ok (Some (M.Fault text))) line = string_bytes text ≡ line
+SaysFault (Ok None) line = ⊥
+SaysFault (Err e) line = e ≡ T.NoMemory
 
 -- the next line was passed, and its piece is made
 pub record MakesPiece (makes : Makes) (r : Reading) (file : List ℕ) (old now : Reader) (left0 left1 : List ℕ)
