@@ -2,6 +2,7 @@
 ghost use Rattle.std.specs.Prelude.{◌≡◌, [], ◌∷◌, IfOk, chars, None};
 ghost use Rattle.rpl_syntax.specs.Expression as M;
 ghost use Rattle.rpl_syntax.specs.View.{expr_of};
+ghost use Rattle.rpl_syntax.specs.declared.expr.Mark.TheVariants.{Hit, Skip};
 ghost use Rattle.rpl_macro.specs.Kinds.{kind_of};
 ghost use Rattle.rpl_macro.specs.Macros as S;
 ghost use Rattle.rpl_macro.specs.Macros.{applied_if, found, kept, passed, text_of, use_fault};
@@ -53,29 +54,36 @@ fn passed(alloc: Global, arg: &Expr) -> Result<Expr, NoMemory>
     })
 }
 
+/// The argument, marked as what was looked for, behind what was passed over.
+fn hit(alloc: Global, before: Expr, arg: Expr) -> Result<Expr, NoMemory>
+    ensures { IfOk result (λ e. expr_of e ≡ M.Raw (M.Cons (expr_of before) (M.one (M.Marked Hit (expr_of arg))))) }
+{
+    let hit = Expr::Marked(Mark::Hit, Box::new(alloc, arg)?);
+    pair(alloc, before, hit)
+}
+
 /// The first place where the argument matches.
 fn found(alloc: Global, arg: Expr) -> Result<Expr, NoMemory>
     ensures { IfOk result (λ e. expr_of e ≡ found (expr_of arg)) }
 {
     let before = passed(alloc, &arg)?;
-    pair(
-        alloc,
-        before,
-        Expr::Marked(Mark::Hit, Box::new(alloc, arg)?),
-    )
+    hit(alloc, before, arg)
 }
 
-/// The same, with what stands before it.
+/// What was passed over, marked as such.
+fn skipped(alloc: Global, arg: &Expr) -> Result<Expr, NoMemory>
+    ensures { IfOk result (λ e. expr_of e ≡ M.Marked Skip (passed (expr_of arg.now))) }
+{
+    let before = passed(alloc, arg)?;
+    Ok(Expr::Marked(Mark::Skip, Box::new(alloc, before)?))
+}
+
+/// The first place, with what stands before it.
 fn kept(alloc: Global, arg: Expr) -> Result<Expr, NoMemory>
     ensures { IfOk result (λ e. expr_of e ≡ kept (expr_of arg)) }
 {
-    let before = passed(alloc, &arg)?;
-    let before = Expr::Marked(Mark::Skip, Box::new(alloc, before)?);
-    pair(
-        alloc,
-        before,
-        Expr::Marked(Mark::Hit, Box::new(alloc, arg)?),
-    )
+    let before = skipped(alloc, &arg)?;
+    hit(alloc, before, arg)
 }
 
 /// All places, one after the other.

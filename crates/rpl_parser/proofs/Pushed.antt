@@ -1,10 +1,10 @@
 -- What one more rule stands for.
 use Rattle.std.proofs.Common.{◌≡◌, List, [], ◌∷◌, ◌++◌, Some, None, refl, sym, ap, ◌∙◌}
-use Rattle.std.specs.Prelude.{false, if◌then◌else◌}
 use Rattle.rpl_syntax.specs.Modules.{Rule, Entry, One, Block, rule_of, rules_of, entry_of, entries_of}
 use Rattle.rpl_syntax.specs.declared.module.Binding.{Binding}
 use Rattle.rpl_syntax.specs.declared.module.Item.{Item}
-use Rattle.rpl_parser.specs.Walks.{Walk, in_block, ruled, shut}
+use Rattle.rpl_parser.specs.Walks.{Walk, ruled, shut}
+use Rattle.rpl_parser.specs.inside.Walked.{inside}
 use Rattle.rpl_parser.specs.declared.walk.Stage.TheVariants.{Ruled}
 
 rules_more : (bs : List Binding) (b : Binding) → rules_of (bs ++ b ∷ []) ≡ rules_of bs ++ rule_of b ∷ []
@@ -21,9 +21,8 @@ entries_more (j ∷ is) i = ap (λ x. entry_of j ∷ x) (entries_more is i)
 pub items_pushed : (new old : List Item) (i : Item) → new ≡ old ++ i ∷ [] → entries_of new ≡ entries_of old ++ entry_of i ∷ []
 items_pushed new old i e = ap entries_of e ∙ entries_more old i
 
-pub in_block_is : (w : Walk) (r : Rule) (rs : List Rule) → r.local ≡ false → rs ≡ w.rules ++ r ∷ [] → in_block w r ≡ Some (record w { rules = rs })
-in_block_is w r rs e h =
-    ap (λ b. if b then None else Some (record w { rules = w.rules ++ r ∷ [] })) e ∙ ap (λ x. Some (record w { rules = x })) (sym h)
+pub inside_is : (w : Walk) (r : Rule) (rs : List Rule) → rs ≡ w.rules ++ r ∷ [] → Some (inside w r) ≡ Some (record w { rules = rs })
+inside_is w r rs e = ap (λ x. Some (record w { rules = x })) (sym e)
 
 pub ruled_is : (w : Walk) (r : Rule) (is : List Entry) → is ≡ w.items ++ One r ∷ [] → Some (ruled w r) ≡ Some (record w { stage = Ruled; items = is })
 ruled_is w r is e = ap (λ x. Some (record w { stage = Ruled; items = x })) (sym e)

@@ -1,13 +1,17 @@
 -- A module is walked over piece by piece.
 use Rattle.std.proofs.Common.{◌≡◌, ◌≢◌, ℕ, zero, suc, ◌+◌, ◌-◌, ◌<◌, ◌≤◌, List, [], ◌∷◌, length, take, drop, Ok, Err, refl, sym, ap, ◌∙◌, arith}
-use Rattle.std.specs.Prelude.{Bool, Option, Some, Result}
+use Rattle.std.specs.Prelude.{Bool, Option, Some, None, Result}
 use Rattle.std.proofs.lemmas.List.{length-drop, length-take-le, get_or-drop, get_or-take}
 use Rattle.std.proofs.lemmas.Option.{slice_get_read, slice_get_within, get_or_from_slice_get}
 use Rattle.rpl_lexer.specs.declared.token.Token.{Token as Lexeme}
+use Rattle.rpl_parser.specs.Levels.{ground_level, too_deep}
+use Rattle.rpl_parser.specs.Lines.{line_of}
 use Rattle.rpl_parser.specs.Spelling.{Line}
-use Rattle.rpl_parser.specs.Tokens.{AllStand, tokens_of}
+use Rattle.rpl_parser.specs.Tokens.{AllStand, tokens_of, first_place, first_bad}
+use Rattle.rpl_parser.specs.inside.Read.{Piece}
+use Rattle.rpl_parser.specs.inside.Read as R
 use Rattle.rpl_parser.specs.Pieces.{piece_len, closes_later}
-use Rattle.rpl_parser.specs.Walks.{Walk, by_place, by_line, place, step, finish, go_on, walk}
+use Rattle.rpl_parser.specs.Walks.{Walk, by_place, by_line, by_level, place, step, finish, go_on, walk}
 use Rattle.rpl_parser.specs.declared.fault.ParseFault.{ParseFault}
 use Rattle.rpl_syntax.specs.Modules.{Said}
 
@@ -29,6 +33,27 @@ tokens_len s [] = refl
 tokens_len s (t ∷ ts) = let h = tokens_len s ts in omega arith
 
 -- ---- one piece
+
+abbrev then_placed : (at : ℕ) → Walk → (closes : Bool) → Result Piece ParseFault → Result Walk ParseFault
+then_placed at w c (Ok x) = by_place at x.1 (place w at c x.0)
+then_placed at w c (Err f) = Err f
+
+step_by : (at : ℕ) (bad : Option ParseFault) (w : Walk) (c : Bool) (deep : Option ℕ) (o : Option Line) → by_level deep (by_line at bad w c o) ≡ then_placed at w c (R.by_level deep (R.by_line at bad o))
+step_by at bad w c (Some d) o = refl
+step_by at bad w c None None = refl
+step_by at bad w c None (Some l) = refl
+
+module _ (s : List ℕ) (w : Walk) (c : Bool) (p : List Lexeme) where
+  step_split : step s w c p ≡ then_placed (first_place p) w c (R.piece_of s p)
+  step_split = step_by (first_place p) (first_bad s p) w c (too_deep s ground_level p) (line_of (tokens_of s p))
+
+  -- behind a piece that is a statement
+  pub step_placed : (l : Line) (b : Option ParseFault) → R.piece_of s p ≡ Ok (l, b) → step s w c p ≡ by_place (first_place p) b (place w (first_place p) c l)
+  step_placed l b e = step_split ∙ ap (then_placed (first_place p) w c) e
+
+  -- the fault of a piece that is none
+  pub step_refused : (f : ParseFault) → R.piece_of s p ≡ Err f → step s w c p ≡ Err f
+  step_refused f e = step_split ∙ ap (then_placed (first_place p) w c) e
 
 -- a statement of a piece is placed, or not
 pub line_placed : (at a : ℕ) (bad b : Option ParseFault) (w : Walk) (c : Bool) (o : Option Line) (l : Line)

@@ -9,7 +9,7 @@ ghost use Rattle.rpl_syntax.specs.View.{expr_of, shown};
 
 use crate::refusal::Refusal;
 use rpl_lexer::Punct;
-use rpl_syntax::{Expr, Exprs, QName, Sign, Token, choose, wrap};
+use rpl_syntax::{Expr, Exprs, QName, Token, choose, wrap};
 use rpl_text::Chars;
 use std::alloc::Global;
 
@@ -49,12 +49,6 @@ pub fn repeated(alloc: Global, body: Expr, least: u32, most: Option<u32>) -> Res
         least,
         most,
     })
-}
-
-pub fn prefix(alloc: Global, sign: Sign, item: Expr) -> Result<Expr, Refusal>
-    ensures { Gives expr_of result (Some (M.Prefix sign (expr_of item))) }
-{
-    Ok(Expr::Prefix(sign, Box::new(alloc, item)?))
 }
 
 pub fn macro_use(alloc: Global, name: &Chars, at: usize, arg: Expr) -> Result<Expr, Refusal>
@@ -109,11 +103,9 @@ pub fn close(
 ) -> Result<(Expr, &[Token]), Refusal>
     ensures { Gives (λ x. (expr_of x.0, x.1.now)) result (closed raw (shown items) tokens.now) }
 {
-    match tokens {
-        [Token::Sign(Punct::CloseParen), rest @ ..] if !raw => {
-            quantify(alloc, wrap(raw, items), rest)
-        }
-        [Token::Sign(Punct::CloseBrace), rest @ ..] if raw => {
+    match (raw, tokens) {
+        (false, [Token::Sign(Punct::CloseParen), rest @ ..])
+        | (true, [Token::Sign(Punct::CloseBrace), rest @ ..]) => {
             quantify(alloc, wrap(raw, items), rest)
         }
         _ => Err(Refusal::Syntax),

@@ -3,12 +3,11 @@
 ghost use Rattle.std.specs.Prelude.{◌≡◌, suc, ◌∷◌, length, Some};
 ghost use Rattle.rpl_parser.specs.inside.Gives.{Gives};
 ghost use Rattle.rpl_syntax.specs.Reading.{read, item_of, read_item, read_exp, seq_of, parts_of};
+ghost use Rattle.rpl_syntax.specs.Reading.{◌>>=◌ as and_then, signed, closed};
 ghost use Rattle.rpl_syntax.specs.View.{expr_of, shown};
 ghost use Rattle.rpl_syntax.specs.declared.token.Token.TheVariants as T;
 
-use crate::assemble::{
-    alone, both, close, macro_use, prefix, qualified_name, quantify, simple_name,
-};
+use crate::assemble::{alone, both, close, macro_use, qualified_name, quantify, simple_name};
 use crate::refusal::Refusal;
 use crate::steps::{goes_on, item_begins, next, past_ampersand, past_colon, past_slash};
 use rpl_lexer::Punct;
@@ -88,30 +87,15 @@ fn item_signed<'a>(
         (item_of (read_item depth) (read_exp depth) (T.Sign sign ∷ tokens.now)) }
 {
     match sign {
-        Punct::Bang => {
-            let (inner, rest) = item(alloc, tokens, depth)?;
-            Ok((prefix(alloc, Sign::Not, inner)?, rest))
-        }
-        Punct::Greater => {
-            let (inner, rest) = item(alloc, tokens, depth)?;
-            Ok((prefix(alloc, Sign::Ahead, inner)?, rest))
-        }
-        Punct::Less => {
-            let (inner, rest) = item(alloc, tokens, depth)?;
-            Ok((prefix(alloc, Sign::Behind, inner)?, rest))
-        }
+        Punct::Bang => predicate(alloc, Sign::Not, tokens, depth),
+        Punct::Greater => predicate(alloc, Sign::Ahead, tokens, depth),
+        Punct::Less => predicate(alloc, Sign::Behind, tokens, depth),
         Punct::Dot => quantify(alloc, Expr::Any, tokens),
         Punct::Caret => quantify(alloc, Expr::Start, tokens),
         Punct::Dollar => quantify(alloc, Expr::End, tokens),
         Punct::Tilde => quantify(alloc, Expr::Boundary, tokens),
-        Punct::OpenParen => {
-            let (items, rest) = content(alloc, false, tokens, depth)?;
-            close(alloc, false, items, rest)
-        }
-        Punct::OpenBrace => {
-            let (items, rest) = content(alloc, true, tokens, depth)?;
-            close(alloc, true, items, rest)
-        }
+        Punct::OpenParen => group(alloc, false, tokens, depth),
+        Punct::OpenBrace => group(alloc, true, tokens, depth),
         Punct::CloseParen
         | Punct::CloseBrace
         | Punct::Slash
@@ -123,6 +107,35 @@ fn item_signed<'a>(
         | Punct::Comma
         | Punct::Colon => Err(Refusal::Syntax),
     }
+}
+
+/// The predicate of this sign, of which the item comes first.
+#[cycle(read)]
+fn predicate<'a>(
+    alloc: Global,
+    sign: Sign,
+    tokens: &'a [Token],
+    depth: usize,
+) -> Result<(Expr, &'a [Token]), Refusal>
+    ensures { Gives (λ x. (expr_of x.0, x.1.now)) result (and_then (read_item depth tokens.now) (signed sign)) }
+{
+    let (inner, rest) = item(alloc, tokens, depth)?;
+    Ok((Expr::Prefix(sign, Box::new(alloc, inner)?), rest))
+}
+
+/// The group behind its opening sign.
+#[cycle(read)]
+fn group<'a>(
+    alloc: Global,
+    raw: bool,
+    tokens: &'a [Token],
+    depth: usize,
+) -> Result<(Expr, &'a [Token]), Refusal>
+    ensures { Gives (λ x. (expr_of x.0, x.1.now)) result
+        (and_then (read_exp depth raw tokens.now) (λ x. closed raw x.0 x.1)) }
+{
+    let (items, rest) = content(alloc, raw, tokens, depth)?;
+    close(alloc, raw, items, rest)
 }
 
 /// The items of a sequence.

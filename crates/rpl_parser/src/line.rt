@@ -2,7 +2,7 @@
 ghost use Rattle.std.specs.Prelude.{◌≡◌, ℕ, suc, ◌∷◌, length, Some, true, false, IfSome, IfNone};
 ghost use Rattle.rpl_parser.specs.inside.Gives.{Gives};
 ghost use Rattle.rpl_parser.specs.Lines.{path_of, is_path_end, as_of, entry_of, entries_of, comma, all_of, binds};
-ghost use Rattle.rpl_parser.specs.Lines.{alias_of, alone_of, line_of};
+ghost use Rattle.rpl_parser.specs.Lines.{line_of};
 ghost use Rattle.rpl_parser.specs.inside.Statements.{line_seen};
 ghost use Rattle.rpl_lexer.specs.declared.keyword.Keyword.TheVariants.{Rpl, Package};
 ghost use Rattle.rpl_lexer.specs.declared.punct.Punct.TheVariants.{Comma, Slash, Tilde, Equals};
@@ -135,16 +135,6 @@ fn binding(alloc: Global, local: bool, alias: bool, tokens: &[Token]) -> Result<
     }
 }
 
-/// A binding behind its `local`, if it has one.
-fn binding_or_alias(alloc: Global, local: bool, tokens: &[Token]) -> Result<Line, Refusal>
-    ensures { Gives line_seen result (alias_of local tokens.now) }
-{
-    match tokens {
-        [Token::Keyword(Keyword::Alias), rest @ ..] => binding(alloc, local, true, rest),
-        _ => binding(alloc, local, false, tokens),
-    }
-}
-
 /// The entries of an import statement.
 fn entries(alloc: Global, tokens: &[Token]) -> Result<Imports, Refusal>
     ensures { Gives (λ x. x) result (entries_of (suc (length tokens.now)) tokens.now) }
@@ -202,16 +192,19 @@ pub fn read_line(alloc: Global, tokens: &[Token]) -> Result<Line, Refusal>
 fn line_from(alloc: Global, word: Keyword, tokens: &[Token]) -> Result<Line, Refusal>
     ensures { Gives line_seen result (line_of (T.Keyword word ∷ tokens.now)) }
 {
-    match word {
-        Keyword::Rpl => version(tokens),
-        Keyword::Package => package(alloc, tokens),
-        Keyword::Import => Ok(Line::Imports(entries(alloc, tokens)?)),
-        Keyword::Grammar => alone(Line::Opens, tokens),
-        Keyword::In => alone(Line::Splits, tokens),
-        Keyword::End => alone(Line::Closes, tokens),
-        Keyword::Local => binding_or_alias(alloc, true, tokens),
-        Keyword::Alias => binding(alloc, false, true, tokens),
-        Keyword::As => Err(Refusal::Syntax),
+    match (word, tokens) {
+        (Keyword::Rpl, _) => version(tokens),
+        (Keyword::Package, _) => package(alloc, tokens),
+        (Keyword::Import, _) => Ok(Line::Imports(entries(alloc, tokens)?)),
+        (Keyword::Grammar, []) => Ok(Line::Opens),
+        (Keyword::In, []) => Ok(Line::Splits),
+        (Keyword::End, []) => Ok(Line::Closes),
+        (Keyword::Local, [Token::Keyword(Keyword::Alias), rest @ ..]) => {
+            binding(alloc, true, true, rest)
+        }
+        (Keyword::Local, _) => binding(alloc, true, false, tokens),
+        (Keyword::Alias, _) => binding(alloc, false, true, tokens),
+        (Keyword::Grammar | Keyword::In | Keyword::End | Keyword::As, _) => Err(Refusal::Syntax),
     }
 }
 
@@ -239,17 +232,6 @@ fn package(alloc: Global, tokens: &[Token]) -> Result<Line, Refusal>
     match tokens {
         [Token::Name { name, .. }] => Ok(Line::Package(name.copy(alloc)?)),
         _ => Err(Refusal::Syntax),
-    }
-}
-
-/// A statement of one keyword.
-fn alone(line: Line, tokens: &[Token]) -> Result<Line, Refusal>
-    ensures { Gives line_seen result (alone_of (line_seen line) tokens.now) }
-{
-    if tokens.is_empty() {
-        Ok(line)
-    } else {
-        Err(Refusal::Syntax)
     }
 }
 

@@ -7,6 +7,8 @@ ghost use Rattle.rpl_parser.specs.ModuleFaults.{IsModuleFault};
 ghost use Rattle.rpl_parser.specs.Order.{IsModule};
 ghost use Rattle.rpl_parser.specs.Pieces.{closes_later};
 ghost use Rattle.rpl_parser.specs.Tokens.{AllStand, tokens_of, first_place, first_bad};
+ghost use Rattle.rpl_parser.specs.inside.Read.{piece_of};
+ghost use Rattle.rpl_parser.specs.inside.Statements.{line_seen};
 ghost use Rattle.rpl_parser.specs.inside.Walked.{walk_of};
 ghost use Rattle.rpl_parser.specs.Walks as W;
 ghost use Rattle.rpl_parser.specs.Walks.{by_place, by_line, step, module_of, Answers};
@@ -16,7 +18,7 @@ ghost use Rattle.rpl_syntax.specs.Modules.{said};
 use crate::convert::convert_all;
 use crate::fault::{ParseFault, ParseKind};
 use crate::level::first_deep;
-use crate::line::read_line;
+use crate::line::{Line, read_line};
 use crate::pattern::start_of;
 use crate::piece::first_piece;
 use crate::refusal::Refusal;
@@ -29,32 +31,30 @@ use std::alloc::Global;
 fn checked(
     at: usize,
     bad: Option<ParseFault>,
-    placed: Result<Walk, Refusal>,
-) -> Result<Walk, ParseFault>
+    placed: Result<(), Refusal>,
+) -> Result<(), ParseFault>
     requires { IfSome bad (λ f. f.kind ≢ OutOfMemory) }
-    ensures { (next : Option W.Walk) → Gives walk_of placed next → Answers walk_of result (by_place at bad next) }
+    ensures { (w : W.Walk) → (next : Option W.Walk) → Gives (λ _. w) placed next
+        → Answers (λ _. w) result (by_place at bad next) }
 {
     match placed {
-        Ok(walk) => match bad {
+        Ok(()) => match bad {
             Some(fault) => Err(fault),
-            None => Ok(walk),
+            None => Ok(()),
         },
         Err(refusal) => Err(refusal.fault_at(at)),
     }
 }
 
-/// Behind one more piece, with those behind it. Its level is counted before any of its brackets is read.
-fn past(
+/// The statement that a piece spells, and what is bad in it. Its level is counted before any of its brackets is read.
+fn read_piece(
     alloc: Global,
     text: &str,
-    walk: Walk,
     piece: &[Lexeme],
-    rest: &[Lexeme],
-) -> Result<Walk, ParseFault>
-    requires piece { AllStand text.now piece.now }
-    requires rest { AllStand text.now rest.now }
-    ensures { Answers walk_of result
-        (step text.now (walk_of walk) (closes_later (tokens_of text.now rest.now)) piece.now) }
+) -> Result<(Line, Option<ParseFault>), ParseFault>
+    requires { AllStand text.now piece.now }
+    ensures piece { Answers (λ x. (line_seen x.0, x.1)) result (piece_of text.now piece.now) }
+    ensures bad { IfOk result (λ x. IfSome x.1 (λ f. f.kind ≢ OutOfMemory)) }
 {
     if let Some(at) = first_deep(alloc, text, piece)? {
         return Err(ParseFault {
@@ -63,11 +63,28 @@ fn past(
         });
     }
     let converted = convert_all(alloc, text, piece)?;
-    let at = start_of(piece);
     match read_line(alloc, &converted.tokens) {
-        Ok(line) => checked(at, converted.bad, walk.place(alloc, at, line, text, rest)),
-        Err(refusal) => Err(refusal.fault_at(at)),
+        Ok(line) => Ok((line, converted.bad)),
+        Err(refusal) => Err(refusal.fault_at(start_of(piece))),
     }
+}
+
+/// Takes one more piece, with those behind it.
+fn past(
+    alloc: Global,
+    text: &str,
+    walk: &mut Walk,
+    piece: &[Lexeme],
+    rest: &[Lexeme],
+) -> Result<(), ParseFault>
+    requires piece { AllStand text.now piece.now }
+    requires rest { AllStand text.now rest.now }
+    ensures { Answers (λ _. walk_of walk.new) result
+        (step text.now (walk_of walk.old) (closes_later (tokens_of text.now rest.now)) piece.now) }
+{
+    let (line, bad) = read_piece(alloc, text, piece)?;
+    let at = start_of(piece);
+    checked(at, bad, walk.place(alloc, at, line, text, rest))
 }
 
 /// All pieces in turn.
@@ -79,7 +96,7 @@ fn read_all(alloc: Global, text: &str, lexemes: &[Lexeme]) -> Result<Module, Par
     let mut left = lexemes;
     'pieces: while !left.is_empty() {
         let (piece, rest) = left.split_at(first_piece(text, left));
-        walk = past(alloc, text, walk, piece, rest)?;
+        past(alloc, text, &mut walk, piece, rest)?;
         left = rest;
     }
     walk.finish()

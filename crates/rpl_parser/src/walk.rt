@@ -3,9 +3,9 @@ ghost use Rattle.std.specs.Prelude.{◌≡◌, Some};
 ghost use Rattle.rpl_parser.specs.inside.Gives.{Gives};
 ghost use Rattle.rpl_parser.specs.Pieces.{closes_later};
 ghost use Rattle.rpl_parser.specs.Tokens.{AllStand, tokens_of};
-ghost use Rattle.rpl_parser.specs.Walks.{begun, versioned, packaged, imported, in_block, ruled, bound, opened, split};
-ghost use Rattle.rpl_parser.specs.Walks.{shut, closed, place, by_version, finish, Answers};
-ghost use Rattle.rpl_parser.specs.inside.Walked.{walk_of};
+ghost use Rattle.rpl_parser.specs.Walks.{begun, versioned, packaged, imported, ruled, bound, opened, split};
+ghost use Rattle.rpl_parser.specs.Walks.{shut, closed, place, finish, Answers};
+ghost use Rattle.rpl_parser.specs.inside.Walked.{walk_of, inside};
 ghost use Rattle.rpl_parser.specs.inside.Statements.{line_seen};
 ghost use Rattle.rpl_syntax.specs.Modules.{rule_of, said};
 
@@ -16,6 +16,7 @@ use crate::refusal::Refusal;
 use rpl_lexer::Token;
 use rpl_syntax::{Binding, Bindings, Imports, Item, Items, Module, QName};
 use std::alloc::Global;
+use std::mem;
 
 /// What has come.
 #[derive(Clone, Copy)]
@@ -70,67 +71,65 @@ impl Walk {
         }
     }
 
-    fn version(self, version: Numbered) -> Result<Walk, Refusal>
-        ensures { Gives walk_of result (versioned (walk_of self) self.stage version) }
+    fn version(&mut self, version: Numbered) -> Result<(), Refusal>
+        ensures { Gives (λ _. walk_of self.new) result (versioned (walk_of self.old) self.old.stage version) }
     {
         match self.stage {
-            Stage::Begun => Ok(Walk {
-                stage: Stage::Versioned,
-                version: Some(version),
-                ..self
-            }),
+            Stage::Begun => {
+                self.stage = Stage::Versioned;
+                self.version = Some(version);
+                Ok(())
+            }
             _ => Err(Refusal::Syntax),
         }
     }
 
-    fn package(self, name: QName) -> Result<Walk, Refusal>
-        ensures { Gives walk_of result (packaged (walk_of self) self.stage name) }
+    fn package(&mut self, name: QName) -> Result<(), Refusal>
+        ensures { Gives (λ _. walk_of self.new) result (packaged (walk_of self.old) self.old.stage name) }
     {
         match self.stage {
-            Stage::Begun | Stage::Versioned => Ok(Walk {
-                stage: Stage::Packaged,
-                name: Some(name),
-                ..self
-            }),
+            Stage::Begun | Stage::Versioned => {
+                self.stage = Stage::Packaged;
+                self.name = Some(name);
+                Ok(())
+            }
             _ => Err(Refusal::Syntax),
         }
     }
 
-    fn import(mut self, imports: Imports) -> Result<Walk, Refusal>
-        ensures { Gives walk_of result (imported (walk_of self) self.stage imports) }
+    fn import(&mut self, imports: Imports) -> Result<(), Refusal>
+        ensures { Gives (λ _. walk_of self.new) result (imported (walk_of self.old) self.old.stage imports) }
     {
         match self.stage {
             Stage::Ruled | Stage::InBlock | Stage::BehindIn => Err(Refusal::Syntax),
             Stage::Begun | Stage::Versioned | Stage::Packaged => {
                 self.imports.append(imports)?;
                 self.stage = Stage::Packaged;
-                Ok(self)
+                Ok(())
             }
         }
     }
 
-    fn bind_in_block(mut self, rule: Binding) -> Result<Walk, Refusal>
-        ensures { Gives walk_of result (in_block (walk_of self) (rule_of rule)) }
+    fn bind_in_block(&mut self, rule: Binding) -> Result<(), Refusal>
+        ensures { Gives (λ _. walk_of self.new) result (Some (inside (walk_of self.old) (rule_of rule))) }
     {
-        if rule.local {
-            return Err(Refusal::Syntax);
-        }
         self.rules.push(rule)?;
-        Ok(self)
+        Ok(())
     }
 
-    fn bind_outside(mut self, rule: Binding) -> Result<Walk, Refusal>
-        ensures { Gives walk_of result (Some (ruled (walk_of self) (rule_of rule))) }
+    fn bind_outside(&mut self, rule: Binding) -> Result<(), Refusal>
+        ensures { Gives (λ _. walk_of self.new) result (Some (ruled (walk_of self.old) (rule_of rule))) }
     {
         self.items.push(Item::Binding(rule))?;
         self.stage = Stage::Ruled;
-        Ok(self)
+        Ok(())
     }
 
-    fn bind(self, rule: Binding) -> Result<Walk, Refusal>
-        ensures { Gives walk_of result (bound (walk_of self) self.stage (rule_of rule)) }
+    fn bind(&mut self, rule: Binding) -> Result<(), Refusal>
+        ensures { Gives (λ _. walk_of self.new) result (bound (walk_of self.old) self.old.stage (rule_of rule)) }
     {
         match self.stage {
+            Stage::InBlock | Stage::BehindIn if rule.local => Err(Refusal::Syntax),
             Stage::InBlock | Stage::BehindIn => self.bind_in_block(rule),
             Stage::Begun | Stage::Versioned | Stage::Packaged | Stage::Ruled => {
                 self.bind_outside(rule)
@@ -138,8 +137,8 @@ impl Walk {
         }
     }
 
-    fn open(self, alloc: Global, closes: bool) -> Result<Walk, Refusal>
-        ensures { Gives walk_of result (opened (walk_of self) self.stage closes) }
+    fn open(&mut self, alloc: Global, closes: bool) -> Result<(), Refusal>
+        ensures { Gives (λ _. walk_of self.new) result (opened (walk_of self.old) self.old.stage closes) }
     {
         match self.stage {
             Stage::InBlock | Stage::BehindIn => Err(Refusal::Syntax),
@@ -147,59 +146,39 @@ impl Walk {
                 if !closes {
                     return Err(Refusal::Syntax);
                 }
-                Ok(Walk {
-                    stage: Stage::InBlock,
-                    hidden: Bindings::new(alloc),
-                    rules: Bindings::new(alloc),
-                    ..self
-                })
+                self.stage = Stage::InBlock;
+                self.hidden = Bindings::new(alloc);
+                self.rules = Bindings::new(alloc);
+                Ok(())
             }
         }
     }
 
-    fn split(self, alloc: Global) -> Result<Walk, Refusal>
-        ensures { Gives walk_of result (split (walk_of self) self.stage) }
+    fn split(&mut self, alloc: Global) -> Result<(), Refusal>
+        ensures { Gives (λ _. walk_of self.new) result (split (walk_of self.old) self.old.stage) }
     {
         match self.stage {
-            Stage::InBlock => Ok(Walk {
-                stage: Stage::BehindIn,
-                hidden: self.rules,
-                rules: Bindings::new(alloc),
-                ..self
-            }),
+            Stage::InBlock => {
+                self.stage = Stage::BehindIn;
+                self.hidden = mem::replace(&mut self.rules, Bindings::new(alloc));
+                Ok(())
+            }
             _ => Err(Refusal::Syntax),
         }
     }
 
-    fn shut(self, alloc: Global) -> Result<Walk, Refusal>
-        ensures { Gives walk_of result (Some (shut (walk_of self))) }
+    fn shut(&mut self, alloc: Global) -> Result<(), Refusal>
+        ensures { Gives (λ _. walk_of self.new) result (Some (shut (walk_of self.old))) }
     {
-        let Walk {
-            version,
-            name,
-            imports,
-            mut items,
-            hidden,
-            rules,
-            ..
-        } = self;
-        items.push(Item::Block {
-            hidden,
-            visible: rules,
-        })?;
-        Ok(Walk {
-            stage: Stage::Ruled,
-            version,
-            name,
-            imports,
-            items,
-            hidden: Bindings::new(alloc),
-            rules: Bindings::new(alloc),
-        })
+        let hidden = mem::replace(&mut self.hidden, Bindings::new(alloc));
+        let visible = mem::replace(&mut self.rules, Bindings::new(alloc));
+        self.items.push(Item::Block { hidden, visible })?;
+        self.stage = Stage::Ruled;
+        Ok(())
     }
 
-    fn close(self, alloc: Global) -> Result<Walk, Refusal>
-        ensures { Gives walk_of result (closed (walk_of self) self.stage) }
+    fn close(&mut self, alloc: Global) -> Result<(), Refusal>
+        ensures { Gives (λ _. walk_of self.new) result (closed (walk_of self.old) self.old.stage) }
     {
         match self.stage {
             Stage::InBlock | Stage::BehindIn => self.shut(alloc),
@@ -207,18 +186,18 @@ impl Walk {
         }
     }
 
-    /// Behind one more statement, which begins at this place. The tokens behind it say whether a block is closed.
+    /// Takes one more statement, which begins at this place. The tokens behind it say whether a block is closed.
     pub fn place(
-        self,
+        &mut self,
         alloc: Global,
         at: usize,
         line: Line,
         text: &str,
         rest: &[Token],
-    ) -> Result<Walk, Refusal>
+    ) -> Result<(), Refusal>
         requires { AllStand text.now rest.now }
-        ensures { Gives walk_of result
-            (place (walk_of self) at (closes_later (tokens_of text.now rest.now)) (line_seen line)) }
+        ensures { Gives (λ _. walk_of self.new) result
+            (place (walk_of self.old) at (closes_later (tokens_of text.now rest.now)) (line_seen line)) }
     {
         match line {
             Line::Version { major, minor } => self.version(Numbered { at, major, minor }),
@@ -250,29 +229,16 @@ impl Walk {
     pub fn finish(self) -> Result<Module, ParseFault>
         ensures { Answers said result (finish (walk_of self)) }
     {
-        let version = self.version;
-        let whole = Module {
-            package: self.name,
-            imports: self.imports,
-            items: self.items,
-        };
-        match version {
-            Some(version) => known(whole, version),
-            None => Ok(whole),
+        match self.version {
+            Some(version) if version.major != 1 || version.minor > 4 => Err(ParseFault {
+                at: version.at,
+                kind: ParseKind::Version,
+            }),
+            _ => Ok(Module {
+                package: self.name,
+                imports: self.imports,
+                items: self.items,
+            }),
         }
-    }
-}
-
-/// The module, unless its version is unknown.
-fn known(whole: Module, version: Numbered) -> Result<Module, ParseFault>
-    ensures { Answers said result (by_version (said whole) (Some version)) }
-{
-    if version.major == 1 && version.minor <= 4 {
-        Ok(whole)
-    } else {
-        Err(ParseFault {
-            at: version.at,
-            kind: ParseKind::Version,
-        })
     }
 }

@@ -1,5 +1,6 @@
 -- What the parser's walk over statements stands for.
-use Rattle.rpl_syntax.specs.Modules.{entries_of, rules_of}
+use Rattle.std.specs.Prelude.{[], ◌∷◌, ◌++◌}
+use Rattle.rpl_syntax.specs.Modules.{Rule, entries_of, rules_of}
 use Rattle.rpl_parser.specs.Walks as W
 use Rattle.rpl_parser.specs.declared.walk.Walk.{Walk}
 
@@ -13,3 +14,7 @@ walk_of w = record {
   hidden = rules_of w.hidden;
   rules = rules_of w.rules;
 }
+
+-- behind one more rule of a block
+abbrev pub inside : W.Walk → Rule → W.Walk
+inside w r = record w { rules = w.rules ++ r ∷ [] }

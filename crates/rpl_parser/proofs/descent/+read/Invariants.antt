@@ -13,6 +13,12 @@ decreases-item_from l = 8 * l.depth + 5
 abbrev pub decreases-item_signed : goal.decreases-item_signed
 decreases-item_signed l = 8 * l.depth + 4
 
+abbrev pub decreases-predicate : goal.decreases-predicate
+decreases-predicate l = 8 * l.depth + 3
+
+abbrev pub decreases-group : goal.decreases-group
+decreases-group l = 8 * l.depth + 3
+
 abbrev pub decreases-content : goal.decreases-content
 decreases-content l = 8 * l.depth
 

@@ -29,16 +29,16 @@ pub past-requires-clause-rest : goal.past-requires-clause-rest
 past-requires-clause-rest c =
     subst (AllStand c.args.text.now) (sym c.split_at.ensures.back) (stands_drop c.args.text.now c.pieces.left.now c.first_piece.result c.pieces.invariant.stand)
 
-pub returns-in_err-walk : goal.returns-in_err-walk
-returns-in_err-walk c =
+pub returns-in_err-past : goal.returns-in_err-past
+returns-in_err-past c =
     let left = c.pieces.left.now in
     let more : 0 < length left = grind (arith, nat_tests) in
     let e = c.first_piece.ensures in
     let h = split_of c.args.text.now left _ _ c.first_piece.result more e.value e.some e.inside c.split_at.ensures.front c.split_at.ensures.back in
     let p = err_from_is_err_and c.from_residual.result c.from_residual.ensures.1 in
     rw (p.1, p.2) (
-      λ ne. left_stop c.args.text.now (walk_of c.pieces.walk) left _ _ c.first_piece.result _ h c.pieces.invariant.walked c.in_err-walk.field-0.0 (c.in_err-walk.ensures.0 ne),
-      c.in_err-walk.ensures.1,
+      λ ne. left_stop c.args.text.now (walk_of c.pieces.walk) left _ _ c.first_piece.result _ h c.pieces.invariant.walked c.in_err-past.field-0.0 (c.in_err-past.ensures.0 ne),
+      c.in_err-past.ensures.1,
     )
 
 pub pieces-preserved : goal.pieces-preserved
@@ -51,7 +51,7 @@ pieces-preserved c =
     let h = split_of s left _ _ k more e.value e.some e.inside c.split_at.ensures.front c.split_at.ensures.back in
     record {
       stand = subst (AllStand s) (sym c.split_at.ensures.back) (stands_drop s left k c.pieces.invariant.stand);
-      walked = left_on s (walk_of c.pieces.walk) left _ _ k _ h c.pieces.invariant.walked (walk_of c.in_ok-walk.walk) c.in_ok-walk.ensures;
+      walked = left_on s (walk_of c.pieces.walk) left _ _ k _ h c.pieces.invariant.walked (walk_of c.past.new.walk) c.in_ok-past.ensures;
     }
 
 pub pieces-smaller : goal.pieces-smaller

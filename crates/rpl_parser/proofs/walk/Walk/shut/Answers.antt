@@ -1,5 +1,5 @@
-use Rattle.std.proofs.Common.{ap}
-use Rattle.rpl_syntax.specs.Modules.{rules_of, entries_of}
+use Rattle.std.proofs.Common.{ap, ◌++◌, ◌∷◌, [], ◌∙◌}
+use Rattle.rpl_syntax.specs.Modules.{rules_of, entry_of, entries_of}
 use Rattle.rpl_syntax.specs.declared.module.Item.TheVariants as I
 use Rattle.rpl_parser.specs.inside.Walked.{walk_of}
 use Rattle.rpl_parser.proofs.Pushed.{items_pushed, shut_is}
@@ -7,5 +7,10 @@ use Rattle.rpl_parser.proofs.walk.Walk.shut.Goals as goal
 
 pub returns : goal.returns
 returns c =
-    shut_is (walk_of c.args.self) (entries_of c.push.new.self) (rules_of c.new.result) (rules_of c.new-2.result)
-    (items_pushed c.push.new.self c.args.self.items (I.Block c.args.self.hidden c.args.self.rules) c.in_ok-push.ensures.ok) (ap rules_of c.new.ensures) (ap rules_of c.new-2.ensures)
+    let old = c.args.self.now in
+    let pushed = items_pushed c.push.new.self old.items (I.Block c.replace-hidden.result c.replace-visible.result) c.in_ok-push.ensures.ok in
+    let block =
+    ap (λ h. entries_of old.items ++ entry_of (I.Block h c.replace-visible.result) ∷ []) c.replace-hidden.ensures.value
+    ∙ ap (λ v. entries_of old.items ++ entry_of (I.Block old.hidden v) ∷ []) c.replace-visible.ensures.value in
+    shut_is (walk_of old) (entries_of c.push.new.self) (rules_of c.replace-hidden.new.dest) (rules_of c.replace-visible.new.dest) (pushed ∙ block)
+    (ap rules_of (c.replace-hidden.ensures.after ∙ c.new.ensures)) (ap rules_of (c.replace-visible.ensures.after ∙ c.new-2.ensures))
