@@ -61,7 +61,7 @@ pub gathers_last : (old new : List Range) (h : Option (List Range)) (found : Boo
 gathers_last old new h found a = gathers_then old new new h (Some []) found true a (gathers_nothing new)
 
 module _ (old mid : List Range) (h : Option (List Range)) (found : Bool) (a : Gathers old mid h found) where
-  front : (n : ℕ) → n ≡ length old → take n mid ≡ old
+  pub front : (n : ℕ) → n ≡ length old → take n mid ≡ old
   front n e = ap (λ k. take k mid) e ∙ ap (take (length old)) a.is ∙ take-append_seam old a.more
 
   behind : (n : ℕ) → n ≡ length old → drop n mid ≡ a.more

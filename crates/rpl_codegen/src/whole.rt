@@ -1,17 +1,19 @@
 // The code of a goal.
-ghost use Rattle.std.specs.Prelude.{◌≡◌, ◌<◌, ◌≤◌, ◌+◌, IfErr, IfOk, OnOk, length, slice_get};
+ghost use Rattle.std.specs.Prelude.{◌≡◌, ◌<◌, ◌≤◌, ◌+◌, [], ◌++◌, IfErr, IfOk, OnOk, length, slice_get};
 ghost use Rattle.rpl_core.specs.Listed.{rules_of};
+ghost use Rattle.rpl_core.specs.Marked.{CallsAreRules, marked};
+ghost use Rattle.rpl_core.specs.Numbers.{AreInRange};
 ghost use Rattle.rpl_core.specs.Program.{code_of, instructions, labels_of, sets_of};
-ghost use Rattle.rpl_core.specs.Programs.{IsCode, bodies};
+ghost use Rattle.rpl_core.specs.Programs.{IsCode, bodies, program};
 ghost use Rattle.rpl_core.specs.Table.{bodies_of};
 ghost use Rattle.rpl_core.specs.View.{core_of};
-ghost use Rattle.rpl_core.specs.Marked.{CallsAreRules};
 ghost use Rattle.rpl_codegen.specs.Compiled.{HasLongCode};
-ghost use Rattle.rpl_codegen.specs.inside.Laid.{bodies_len, bodies_nodes, rule_code, rule_len, rule_nodes};
-ghost use Rattle.rpl_core.specs.Marked.{marked};
+ghost use Rattle.rpl_codegen.specs.inside.Laid.{LaysOut, bodies_len, bodies_nodes, rule_code, rule_len, rule_nodes};
+ghost use Rattle.rpl_codegen.specs.inside.Nodes.{nodes_in};
 ghost use Rattle.rpl_codegen.specs.inside.Taken.{Begins, Takes, left};
 ghost use Rattle.rpl_draft.specs.Uses.{KeepsOnce, labels_in, sets_in};
 ghost use Rattle.rpl_codegen.specs.inside.Written.{Writes, address_of};
+ghost use Rattle.rpl_draft.specs.Written.{Adds};
 ghost use Rattle.rpl_codegen.specs.declared.whole.CompileFault.TheVariants.{NoMemory};
 
 use crate::NoMemory;
@@ -63,13 +65,46 @@ pub(crate) fn compile_goal(
     if layout.size() > MAX_CODE {
         return Err(CompileFault::CodeTooLong);
     }
-    let mut draft = Draft::new(alloc);
     let mut nodes = Nodes::new(plan.nodes);
-    emit(&mut draft, &layout, &mut nodes, goal)?;
+    let mut draft = Draft::new(alloc);
+    emit_whole(&mut draft, &layout, &mut nodes, rules, goal, &marks)?;
+    Ok(program_of(alloc, draft)?)
+}
+
+/// The program of a draft.
+fn program_of(alloc: Global, draft: Draft) -> Result<Program, NoMemory>
+    requires { AreInRange draft.code draft.sets draft.labels }
+    ensures code { IfOk result (λ p. code_of p ≡ draft.code) }
+    ensures fits { IfOk result (λ p. length (code_of p) ≤ 1048576) }
+    ensures sets { IfOk result (λ p. sets_of p ≡ draft.sets) }
+    ensures labels { IfOk result (λ p. labels_of p ≡ draft.labels) }
+{
+    let sets = draft.sets.sets(alloc)?;
+    let labels = draft.labels.labels(alloc)?;
+    Ok(Program::new(draft.code, sets, labels))
+}
+
+/// Writes the goal, `finish`, and the marked rules into an empty draft.
+fn emit_whole(
+    draft: &mut Draft,
+    layout: &Layout,
+    nodes: &mut Nodes,
+    rules: &Rules,
+    goal: &Peg,
+    marks: &[bool],
+) -> Result<(), NoMemory>
+    requires empty { draft.old.code ≡ [] }
+    requires long { length marks.now ≡ length (rules_of rules.now) }
+    requires layout { LaysOut (marked marks.now) (bodies_of (rules_of rules.now)) (core_of goal.now) layout.now }
+    requires room { layout.now.end ≤ 1048576 }
+    requires nodes { left nodes.old
+        ≡ nodes_in (core_of goal.now) ++ bodies_nodes (marked marks.now) (bodies_of (rules_of rules.now)) 0 }
+    ensures { OnOk result (Adds draft.old draft.new
+        (program (marked marks.now) (bodies_of (rules_of rules.now)) (core_of goal.now))) }
+{
+    emit(draft, layout, nodes, goal)?;
     draft.put(Instr::Finish)?;
-    emit_rules(&mut draft, &layout, &mut nodes, rules, &marks)?;
-    let Draft { code, sets, labels } = draft;
-    Ok(Program::new(code, sets.sets(alloc)?, labels.labels(alloc)?))
+    emit_rules(draft, layout, nodes, rules, marks)
 }
 
 /// Writes the marked rules in the order of the table, each with its return.

@@ -59,10 +59,6 @@ part_deep (q ∷ ps) (suc k) p lt is = let h = part_deep ps k p (omega arith) is
 pub two_more : (a b d x y : Cores) → a ≡ NoMore → b ≡ joined a x → d ≡ joined b y → d ≡ joined x y
 two_more a b d x y e f g = g ∙ ap (λ z. joined z y) (f ∙ ap (λ z. joined z x) e)
 
-pub three_more : (a b d g x y z : Cores) → a ≡ NoMore → b ≡ joined a x → d ≡ joined b y → g ≡ joined d z
-    → g ≡ joined x (joined y z)
-three_more a b d g x y z e f h i = i ∙ ap (λ w. joined w z) (two_more a b d x y e f h) ∙ joined_assoc x y z
-
 pub group_none : (ps : List Peg) → length ps ≢ 1 → seq_of (cores ps) ≡ Seq (cores ps)
 group_none [] h = refl
 group_none (p ∷ []) h = absurd (h refl)

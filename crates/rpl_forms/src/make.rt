@@ -160,6 +160,15 @@ fn endless(alloc: Global, body: Peg, least: u32) -> Result<Peg, NoMemory>
     Ok(seq(parts))
 }
 
+/// A pattern, or nothing, so many times more at the end.
+fn append_options(alloc: Global, parts: &mut Pegs, number: u32, part: Peg) -> Result<(), NoMemory>
+    ensures { OnOk result (cores (listed parts.new)
+        ≡ F.joined (cores (listed parts.old)) (F.copies number (F.or_nothing (core_of part)) C.NoMore)) }
+{
+    let option = or_nothing(alloc, part)?;
+    append_copies(alloc, parts, number, &option)
+}
+
 /// So many times, and up to some more.
 fn bounded(alloc: Global, body: Peg, least: u32, more: u32) -> Result<Peg, NoMemory>
     ensures { IfOk result (λ p. core_of p
@@ -167,8 +176,7 @@ fn bounded(alloc: Global, body: Peg, least: u32, more: u32) -> Result<Peg, NoMem
 {
     let mut parts = Pegs::new(alloc);
     append_copies(alloc, &mut parts, least, &body)?;
-    let option = or_nothing(alloc, body)?;
-    append_copies(alloc, &mut parts, more, &option)?;
+    append_options(alloc, &mut parts, more, body)?;
     Ok(seq(parts))
 }
 
@@ -182,19 +190,36 @@ pub fn repeat(alloc: Global, body: Peg, least: u32, most: Option<u32>) -> Result
     }
 }
 
+/// A further turn of a cooked group: the boundary, and a copy of the group.
+fn further_turn(alloc: Global, boundary: Peg, body: &Peg) -> Result<Peg, NoMemory>
+    ensures { IfOk result (λ p. core_of p ≡ F.pair (core_of boundary) (core_of body.now)) }
+{
+    let again = body.copy(alloc)?;
+    pair(alloc, boundary, again)
+}
+
+/// A pattern, and then another so many times.
+fn with_copies(alloc: Global, first: Peg, number: u32, next: &Peg) -> Result<Pegs, NoMemory>
+    ensures { IfOk result (λ ps. cores (listed ps)
+        ≡ C.Then (core_of first) (F.copies number (core_of next.now) C.NoMore)) }
+{
+    let mut parts = Pegs::new(alloc);
+    append(&mut parts, first)?;
+    append_copies(alloc, &mut parts, number, next)?;
+    Ok(parts)
+}
+
 /// A cooked group so many times and more, with the boundary between its turns.
 fn cooked_endless(alloc: Global, boundary: Peg, body: Peg, least: u32) -> Result<Peg, NoMemory>
     ensures { IfOk result (λ p. core_of p ≡ F.cooked_endless (core_of boundary) (core_of body) least) }
 {
-    let turn = pair(alloc, boundary, body.copy(alloc)?)?;
+    let turn = further_turn(alloc, boundary, &body)?;
     if least == 0 {
         let turns = many(alloc, turn)?;
         let some = pair(alloc, body, turns)?;
         return or_nothing(alloc, some);
     }
-    let mut parts = Pegs::new(alloc);
-    append(&mut parts, body)?;
-    append_copies(alloc, &mut parts, least - 1, &turn)?;
+    let mut parts = with_copies(alloc, body, least - 1, &turn)?;
     append(&mut parts, many(alloc, turn)?)?;
     Ok(seq(parts))
 }
@@ -209,12 +234,9 @@ fn cooked_turns(
 ) -> Result<Peg, NoMemory>
     ensures { IfOk result (λ p. core_of p ≡ F.cooked_turns (core_of boundary) (core_of body) further more) }
 {
-    let turn = pair(alloc, boundary, body.copy(alloc)?)?;
-    let mut parts = Pegs::new(alloc);
-    append(&mut parts, body)?;
-    append_copies(alloc, &mut parts, further, &turn)?;
-    let option = or_nothing(alloc, turn)?;
-    append_copies(alloc, &mut parts, more, &option)?;
+    let turn = further_turn(alloc, boundary, &body)?;
+    let mut parts = with_copies(alloc, body, further, &turn)?;
+    append_options(alloc, &mut parts, more, turn)?;
     Ok(seq(parts))
 }
 
@@ -290,10 +312,10 @@ pub fn marked(alloc: Global, inside: bool, mark: Mark, body: Peg) -> Result<Peg,
 }
 
 /// The characters that a search passes over.
-fn passed(alloc: Global, body: Peg) -> Result<Peg, NoMemory>
-    ensures { IfOk result (λ p. core_of p ≡ F.passed (core_of body)) }
+fn passed(alloc: Global, body: &Peg) -> Result<Peg, NoMemory>
+    ensures { IfOk result (λ p. core_of p ≡ F.passed (core_of body.now)) }
 {
-    let not = Peg::Not(Box::new(alloc, body)?);
+    let not = Peg::Not(Box::new(alloc, body.copy(alloc)?)?);
     let step = pair(alloc, not, any(alloc)?)?;
     many(alloc, step)
 }
@@ -303,7 +325,7 @@ fn found(alloc: Global, inside: bool, body: Peg) -> Result<Peg, NoMemory>
     ensures { IfOk result (λ q. (I : Inners) (p : Core) → core_of body ≡ seen inside I p
         → core_of q ≡ seen inside I (F.found p)) }
 {
-    let before = passed(alloc, body.copy(alloc)?)?;
+    let before = passed(alloc, &body)?;
     let hit = marked(alloc, inside, Mark::Hit, body)?;
     pair(alloc, before, hit)
 }
@@ -313,7 +335,7 @@ fn kept(alloc: Global, inside: bool, body: Peg) -> Result<Peg, NoMemory>
     ensures { IfOk result (λ q. (I : Inners) (p : Core) → core_of body ≡ seen inside I p
         → core_of q ≡ seen inside I (F.kept p)) }
 {
-    let before = passed(alloc, body.copy(alloc)?)?;
+    let before = passed(alloc, &body)?;
     let before = marked(alloc, inside, Mark::Skip, before)?;
     let hit = marked(alloc, inside, Mark::Hit, body)?;
     pair(alloc, before, hit)

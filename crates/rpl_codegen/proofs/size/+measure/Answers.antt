@@ -5,12 +5,12 @@ use Rattle.rpl_classes.specs.Norm.{norm}
 use Rattle.rpl_core.specs.Head as H
 use Rattle.rpl_core.specs.View.{core_of, cores}
 use Rattle.rpl_codegen.specs.inside.Gathered.{Gathers}
-use Rattle.rpl_codegen.specs.inside.Nodes.{choice_nodes, inner_nodes, tested_nodes}
-use Rattle.rpl_codegen.specs.inside.Sizes.{capped_len, len}
-use Rattle.rpl_codegen.proofs.Gathering.{gathers_joined, gathers_last, gathers_set, gathers_then, joined_head}
+use Rattle.rpl_codegen.specs.inside.Nodes.{choice_nodes, inner_nodes, nodes_in, parts_nodes, tested_nodes}
+use Rattle.rpl_codegen.specs.inside.Sizes.{capped_len, len, len_all}
+use Rattle.rpl_codegen.proofs.Gathering.{front, gathers_joined, gathers_last, gathers_set, gathers_then, joined_head}
 use Rattle.rpl_core.proofs.Walk.{choice_core, drop_here, seq_core}
 use Rattle.rpl_codegen.proofs.Parts.{drop_last, len_first_here, tried_is, and_assoc}
-use Rattle.rpl_codegen.proofs.Taking.{filled, listed_turn, tried_here}
+use Rattle.rpl_codegen.proofs.Taking.{filled, listed_turn, parts_here, tried_here}
 use Rattle.rpl_codegen.proofs.size.+measure.Goals.{measure_first-then-tried, measure_first-else-tried, measure_first-then-all, measure_first-else-all, measure_first-then-all-2, measure_first-else-all-2}
 use Rattle.rpl_codegen.proofs.size.+measure.Goals as goal
 
@@ -70,6 +70,24 @@ measure_first-loop-number-preserved t c =
       omega (arith, here, tried, c.in_ok-tried.ensures.size),
       listed_turn l.plan.nodes.items _ (tested_nodes (core_of p)) _ (choice_nodes (cores (drop (k + 1) ps))) _ c.in_ok-tried.ensures.nodes (tried_here ps k p lt c.index-parts-number.is) l.invariant.2,
       λ new found g. subst (λ b. Gathers c.args.plan.now.ranges.items new (option_map norm (H.all_heads (cores ps))) b) (sym (ap (λ b. b && found) all ∙ and_assoc l.all m.has_head found)) (l.invariant.3 new (m.has_head && found) (subst (λ h. Gathers r new h (m.has_head && found)) (sym more) (gathers_then r c.measure_tried.new.plan.ranges.items new (H.head (core_of p)) rest m.has_head found c.in_ok-tried.ensures.head g))),
+    )
+
+pub measure_all-loop-number-preserved : goal.measure_all-loop-number-preserved
+measure_all-loop-number-preserved t c =
+    let ps = c.args.parts.now in
+    let l = c.loop-number in
+    let k = l.number in
+    let p = c.index-parts-number.result in
+    let r = l.plan.ranges.items in
+    let e = c.in_ok-part.ensures in
+    let lt : k < length ps = omega arith in
+    let here = ap (λ x. len_all (cores x)) (drop_here ps k p lt c.index-parts-number.is) in
+    let same : c.truncate.new.self.items ≡ r = c.truncate.ensures.items ∙ front r c.measure-in-loop-number.new.plan.ranges.items (H.head (core_of p)) c.in_ok-part.part.has_head e.head c.len-kept.result l.invariant.3 in (
+      omega (arith, c.capped-total.ensures),
+      omega (arith, here, e.size, c.capped-total.ensures, l.invariant.1),
+      listed_turn l.plan.nodes.items _ (nodes_in (core_of p)) _ (parts_nodes (cores (drop (k + 1) ps))) _ e.nodes (parts_here ps k p lt c.index-parts-number.is) l.invariant.2,
+      l.invariant.3 ∙ ap length (sym same),
+      subst (λ x. Gathers c.args.plan.now.ranges.items x (H.first_head (cores ps)) c.in_ok-first.first.has_head) (sym same) l.invariant.4,
     )
 
 pub measure-returns-clause-nodes : goal.measure-returns-clause-nodes

@@ -19,7 +19,7 @@ use Rattle.rpl_draft.proofs.Adding.{adds_then}
 use Rattle.rpl_codegen.proofs.Lengths.{code_length, first_length}
 use Rattle.rpl_core.proofs.Walk.{drop_here}
 use Rattle.rpl_codegen.proofs.Parts.{len_first_here, code_first_here, drop_last, no_parts, part_of}
-use Rattle.rpl_codegen.proofs.Pieces.{on_ok, piece_loop, piece_refuse, piece_and, piece_capture, piece_choice, piece_length, piece_tried, test_length, behind_end, room_turn}
+use Rattle.rpl_codegen.proofs.Pieces.{on_ok, piece_loop, piece_refuse, piece_and, piece_capture, piece_choice, piece_length, piece_tried, test_length, behind_end, room_here, room_turn}
 use Rattle.rpl_codegen.proofs.Taking.{as_begins, as_taken, begins_behind, begins_front, last_here, more_lengths, parts_here, takes_anew, takes_none, takes_then, tried_here}
 use Rattle.rpl_codegen.proofs.Weights.{seq_part, choice_part}
 use Rattle.rpl_codegen.proofs.writing.+emit.Goals as goal
@@ -97,6 +97,16 @@ emit_and-returns-clause-code t c =
     let l = c.next.result + 1 + c.size.result + 1 in
     let is : l ≡ length c.args.draft.now.code + 1 + len p + 1 = omega (arith, c.next.ensures, (c.size.ensures ∙ ap size_at c.requires.nodes.is), c.requires.room) in
     on_ok c.put-3.result _ _ (piece_and c.args.draft.now c.put.new.self c.emit.new.draft c.put-2.new.self c.put-3.new.self (C.code at p) (len p) l (l + 1) (code_length at p) is refl c.in_ok-put.ensures c.in_ok-emit.ensures.code c.in_ok-put-2.ensures) c.put-3.ensures
+
+pub emit_behind-emit_length-requires : goal.emit_behind-emit_length-requires
+emit_behind-emit_length-requires t c =
+    let p = core_of c.args.body.now in
+    let most = c.args.most in
+    let least = c.args.least in
+    let room = room_here most c.loop-back.back (len p) (length c.loop-back.draft.code) (omega arith) c.loop-back.invariant.0 in
+    let some = more_lengths (most + 1 - least) (most - least) (nodes_in p) (omega arith) in
+    let first = as_begins (left c.args.nodes.now) _ _ some c.requires.nodes in
+    (omega (arith, c.decreases), (room, subst (λ l. Begins (drop c.args.nodes.now.next l) (nodes_in p)) (sym c.loop-back.invariant.2.same) first))
 
 pub emit_behind-loop-back-preserved : goal.emit_behind-loop-back-preserved
 emit_behind-loop-back-preserved t c =

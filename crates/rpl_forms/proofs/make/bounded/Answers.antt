@@ -9,11 +9,8 @@ pub returns : goal.returns
 returns c =
     let p = core_of c.args.body in
     let n = c.args.least in
-    let m = c.args.more in
+    let rest = F.copies c.args.more (F.or_nothing p) C.NoMore in
     let all =
-    two_more (cores (listed c.new-parts.result)) _ _ (F.copies n p C.NoMore)
-    (F.copies m (core_of c.in_ok-option.option) C.NoMore) (ap cores c.new-parts.ensures)
-    c.in_ok-append_copies.ensures c.in_ok-append_copies-2.ensures in
-    c.seq.ensures ∙ ap C.Seq (all ∙ ap (λ o. F.joined (F.copies n p C.NoMore) (F.copies m o C.NoMore))
-    c.in_ok-option.ensures
-    ∙ sym (copies_joined n p (F.copies m (F.or_nothing p) C.NoMore)))
+    two_more (cores (listed c.new-parts.result)) _ _ (F.copies n p C.NoMore) rest (ap cores c.new-parts.ensures)
+    c.in_ok-append_copies.ensures c.in_ok-append_options.ensures in
+    c.seq.ensures ∙ ap C.Seq (all ∙ sym (copies_joined n p rest))
