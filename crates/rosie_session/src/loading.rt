@@ -1,6 +1,7 @@
 // What the kept texts come to: alone, and with a pattern.
 ghost use Rattle.std.specs.Prelude.{◌≡◌, IfErr, IfOk, Ok, chars};
 ghost use Rattle.rosie_io.specs.Loading.{NotFewer};
+ghost use Rattle.rosie_jobs.specs.Jobs.{IsJobOf, job_of};
 ghost use Rattle.rosie_jobs.specs.Lines.{Job as Ran};
 ghost use Rattle.rosie_prepare.specs.Answers.{HasCause, IsAsked};
 ghost use Rattle.rosie_prepare.specs.Prepared.{OrLine};
@@ -13,6 +14,7 @@ ghost use Rattle.rosie_session.specs.Replay.{judged};
 ghost use Rattle.rosie_session.specs.inside.Turning.{GivesJob, IsOwn, Judges};
 ghost use Rattle.rpl_check.specs.Checked.{IsWhole};
 ghost use Rattle.rpl_check.specs.Goal.{peg_of};
+ghost use Rattle.rpl_codegen.specs.Compiled.{HasLongCode};
 ghost use Rattle.rpl_core.specs.Table.{bodies_of};
 ghost use Rattle.rpl_core.specs.View.{core_of};
 
@@ -69,13 +71,23 @@ pub(crate) fn load_texts<F: Files>(
     }
 }
 
+/// Compiles a goal that is ready, for which alone its rules are kept. Its code may be too long.
+fn compile_ready(alloc: Global, ready: Prepared) -> Result<Job, CompileFault>
+    requires { IsWhole (bodies_of ready.rules) (core_of (peg_of ready.goal)) }
+    ensures job { IfOk result (λ job. IsJobOf (bodies_of ready.rules) (core_of (peg_of ready.goal)) (job_of job)) }
+    ensures too_long { IfErr result (λ e. e ≡ CompileFault.CodeTooLong
+        → HasLongCode (bodies_of ready.rules) (core_of (peg_of ready.goal))) }
+{
+    Job::new(alloc, ready.rules, ready.goal)
+}
+
 /// The job of a goal that is ready, unless its code is too long.
 fn make_job(alloc: Global, ready: Prepared) -> Result<MatchJob, Unready>
     requires { IsWhole (bodies_of ready.rules) (core_of (peg_of ready.goal)) }
     ensures gives { (answer : OrLine Ran) → Compiles (Ok (ready_seen ready)) answer → GivesJob result answer }
     ensures own { IfErr result IsOwn }
 {
-    match Job::new(alloc, ready.rules, ready.goal) {
+    match compile_ready(alloc, ready) {
         Ok(job) => {
             let made = MatchJob::new(alloc, PLAIN, job)?;
             Ok(made)

@@ -9,8 +9,8 @@ use Rattle.rpl_core.specs.Table.{bodies_of}
 use Rattle.rosie_session.proofs.Compiling.{job_gives, long_gives}
 use Rattle.rosie_session.proofs.loading.make_job.Goals as goal
 
-pub returns-in-Ok-clause-gives : goal.returns-in-Ok-clause-gives
-returns-in-Ok-clause-gives c = λ answer is.
+pub returns-in_ok-made-in-Ok-clause-gives : goal.returns-in_ok-made-in-Ok-clause-gives
+returns-in_ok-made-in-Ok-clause-gives c = λ answer is.
     let ready = c.args.ready in
     let job = job_of c.in-Ok.job in (
       job,
@@ -18,8 +18,8 @@ returns-in-Ok-clause-gives c = λ answer is.
       c.in_ok-made-in-Ok.ensures.maker,
     )
 
-pub returns-in-CodeTooLong-clause-gives : goal.returns-in-CodeTooLong-clause-gives
-returns-in-CodeTooLong-clause-gives c = λ answer is.
+pub returns-in_ok-line-in-CodeTooLong-clause-gives : goal.returns-in_ok-line-in-CodeTooLong-clause-gives
+returns-in_ok-line-in-CodeTooLong-clause-gives c = λ answer is.
     let ready = c.args.ready in
     let line : List ℕ → OrLine Job = λ text. Err text in
     long_gives (ready_seen ready) (bodies_of ready.rules) (bodies-rows_of ready.rules) answer is
