@@ -40,6 +40,16 @@ find_front_calls-returns-then-not-branch-clause-finds t c =
     let off = sym c.in_ok-find_calls.ensures.empty ∙ c.if-not-branch.true in
     c.loop-part.invariant.1 c.find_calls.new.search (finds_as (calls_here m (core_of p)) (front_calls_here m (cores (drop k ps))) c.loop-part.search c.find_calls.new.search c.in_ok-find_calls.ensures.finds (front_stops m ps k p c.loop-part-test.true c.part-item.is off))
 
+pub find_front_calls-returns-then-not-branch-clause-empty : goal.find_front_calls-returns-then-not-branch-clause-empty
+find_front_calls-returns-then-not-branch-clause-empty t c =
+    let m = marked c.args.empties.now in
+    let ps = c.args.parts.now in
+    let k = c.loop-part.part-index in
+    let off = sym c.in_ok-find_calls.ensures.empty ∙ c.if-not-branch.true in
+    sym (c.loop-part.invariant.0
+    ∙ ap (λ l. all_may_be_empty m (cores l)) (drop_here ps k c.part-item.result c.loop-part-test.true c.part-item.is)
+    ∙ ap (λ b. b && all_may_be_empty m (cores (drop (k + 1) ps))) off)
+
 pub find_front_calls-loop-part-preserved : goal.find_front_calls-loop-part-preserved
 find_front_calls-loop-part-preserved t c =
     let m = marked c.args.empties.now in

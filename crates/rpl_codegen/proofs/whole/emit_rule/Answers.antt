@@ -15,6 +15,14 @@ use Rattle.rpl_core.proofs.Search.{body_is, none_there}
 use Rattle.rpl_codegen.proofs.Taking.{as_begins, as_taken, takes_none}
 use Rattle.rpl_codegen.proofs.whole.emit_rule.Goals as goal
 
+pub emit-requires-clause-room : goal.emit-requires-clause-room
+emit-requires-clause-room c =
+    let R = bodies_of (rules_of c.args.rules.now) in
+    let k = c.args.number in
+    let is = body_is (rules_of c.args.rules.now) k c.in-Some.rule.now c.in-Some.ensures in
+    let room = ap (λ b. if b then body_len (slice_get R k) else 0) c.if-not-marks-number.false ∙ ap body_len is in
+    omega (arith, room, c.requires.room)
+
 pub put-requires : goal.put-requires
 put-requires c =
     let rule = c.in-Some.rule.now in
