@@ -85,7 +85,26 @@ pub reach_fresh : (w : World) (below : Walk) (hs : List Head) (f : List ℕ) (i 
 reach_fresh w below hs f i s g bytes t free new found room walked =
     sym (room_leads w below hs f i s g bytes free new found room).0 ∙ ap (λ r. r >>= λ u. Ok (taken_up u)) walked
 
--- ---- how `reach` stops
+-- ---- how a walk stops
+
+-- no more files are read one inside the other
+pub walk_deep : (w : World) (n : ℕ) (s : Stock) (hs : List Head) (f path bytes : List ℕ) → n ≡ 0 → (stop : Stop) → IsStop stop (fault_at f 0 TooManyPackages)
+    → MayStop stop (walk w n s hs f path bytes)
+walk_deep w n s hs f path bytes e stop is =
+    may_lead stop _ _ (same _ _ (sym (ap (λ d. walk w d s hs f path bytes) e))) (may stop _ (told _ stop _ is refl))
+
+-- another module has the package name
+pub own_taken : (w : World) (below : Walk) (s : Stock) (hs : List Head) (f : List ℕ) (path : Option (List ℕ)) (label : List ℕ) (t : Said) → is_taken label hs s ≡ true → (stop : Stop) → IsStop stop (fault_at f (label_at t.name) (Duplicate label))
+    → MayStop stop (own_text w below s hs f path label t)
+own_taken w below s hs f path label t taken stop is =
+    may_lead stop _ _ (same _ _ (sym (ap (λ b. if b then at_once (fault f (label_at t.name) (Duplicate label))
+    else checks w below (hs ++ record { path = path; label = label } ∷ []) f t (record { stock = s; own = empty_module path label })) taken))) (may stop _ (told _ stop _ is refl))
+
+-- the module is being loaded
+pub reach_cycle : (w : World) (below : Walk) (hs : List Head) (f : List ℕ) (i : Import) (s : Stock) → is_loading i.path hs ≡ true → (stop : Stop) → IsStop stop (fault_at f i.at (ImportCycle i.path))
+    → MayStop stop (reach w below hs f i s)
+reach_cycle w below hs f i s loading stop is =
+    may_lead stop _ _ (same _ _ (sym (ap (λ b. if b then at_once (fault f i.at (ImportCycle i.path)) else known_or (first_of i.path s.paths) w below hs f i s) loading))) (may stop _ (told _ stop _ is refl))
 
 module _ (w : World) (below : Walk) (hs : List Head) (f : List ℕ) (i : Import) (s : Stock) (free : is_loading i.path hs ≡ false) (new : first_of i.path s.paths ≡ None) (stop : Stop) where
   pub reach_missing : find w.tree w.folders i.path ≡ None → IsStop stop (fault_at f i.at (ImportMissing i.path)) → MayStop stop (reach w below hs f i s)

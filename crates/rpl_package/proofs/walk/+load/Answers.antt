@@ -1,18 +1,22 @@
-use Rattle.std.proofs.Common.{drop, length, ◌+◌, true, ◌≡◌, ◌≢◌, ◌++◌, ◌∷◌, [], ap, ap₂, sym, ◌∙◌}
+use Rattle.std.proofs.Common.{drop, length, ◌+◌, true, false, ◌≡◌, ◌≢◌, ◌++◌, ◌∷◌, [], ap, ap₂, sym, subst, ◌∙◌}
 use Rattle.std.proofs.Common.{arith}
 use Rattle.std.specs.Prelude.{Ok, nat_lt}
 use Rattle.std.proofs.lemmas.List.{length-map}
 use Rattle.std.proofs.lemmas.Bool.Decides.{nat_tests}
 use Rattle.rpl_syntax.specs.Modules.{said}
+use Rattle.rpl_scope.specs.Faults.{IsStop, fault_at}
 use Rattle.rpl_scope.specs.Seen.{module_seen}
+use Rattle.rpl_scope.specs.declared.fault.LoadKind.TheVariants.{ImportCycle, ImportMissing, Duplicate}
 use Rattle.rpl_package.specs.Loading.{is_loading, world, walk, import_entry}
 use Rattle.rpl_package.specs.Stocks.{stock_seen, state_seen}
 use Rattle.rpl_package.proofs.Leaving.{after, unread}
 use Rattle.rpl_package.proofs.Outcomes.{same, may_lead, turn_on, turn_stop}
-use Rattle.rpl_package.proofs.Walking.{own_leads, read_leads, unread_stops, reach_fresh, reach_unread, reach_stopped}
+use Rattle.rpl_package.proofs.Walking.{own_leads, own_taken, read_leads, unread_stops, walk_deep}
+use Rattle.rpl_package.proofs.Walking.{reach_fresh, reach_cycle, reach_missing, reach_full, reach_unread, reach_stopped}
 use Rattle.rpl_package.proofs.Keeping.{keeps_trans}
 use Rattle.rpl_scope.proofs.Checking.{front}
 use Rattle.rpl_package.proofs.walk.+load.Goals as goal
+use Rattle.rpl_package.proofs.walk.+load.Goals.{reach-then-len-ge-MOST_MODULES-via-then-len-ge-MOST_MODULES, reach-then-len-ge-MOST_MODULES-via-else-len-ge-MOST_MODULES+then-len}
 
 pub load_module-returns-in-Err-clause-gives : goal.load_module-returns-in-Err-clause-gives
 load_module-returns-in-Err-clause-gives g t c = λ tells bytes r.
@@ -127,3 +131,54 @@ enter_imports-loop-import-preserved g t c =
           (state_seen c.enter_import.new.stock c.enter_import.new.own)
           (ap₂ (λ U h. (import_entry (world U ds) (walk (world U ds) d) h f i s0).answer) (sym inv.files.tree) (sym inv.held) ∙ c.in_default.ensures.gives tells);
     }
+
+pub load_module-returns-then-depth-eq0-clause-gives : goal.load_module-returns-then-depth-eq0-clause-gives
+load_module-returns-then-depth-eq0-clause-gives g t c = λ tells bytes r.
+    let W = world (g.F.Source.tree c.args.files.now) c.args.folders.now in
+    let none : c.args.depth ≡ 0 = grind (arith, nat_tests) in
+    walk_deep W c.args.depth (stock_seen c.args.stock.now) c.args.stock.now.held.items c.args.found.file c.args.path.now bytes none c.fault_at.result c.fault_at.ensures
+
+pub load_own-returns-then-is_taken-clause-gives : goal.load_own-returns-then-is_taken-clause-gives
+load_own-returns-then-is_taken-clause-gives g t c = λ tells.
+    let W = world (g.F.Source.tree c.args.files.now) c.args.importer.folders.now in
+    let f = c.args.importer.file.now in
+    let taken = sym c.is_taken.ensures ∙ c.if-is_taken.true in
+    own_taken W (walk W c.args.depth) (stock_seen c.args.stock.now) c.args.stock.now.held.items f c.args.path c.args.label (said c.args.text.now) taken c.fault_at.result
+    (subst (λ a. IsStop c.fault_at.result (fault_at f a (Duplicate c.args.label))) c.requires c.fault_at.ensures)
+
+pub reach-returns-then-is_loading-clause-gives : goal.reach-returns-then-is_loading-clause-gives
+reach-returns-then-is_loading-clause-gives g t c = λ tells.
+    let W = world (g.F.Source.tree c.args.files.now) c.args.importer.folders.now in
+    let f = c.args.importer.file.now in
+    let i = c.args.import.now in
+    let loading = ap (is_loading i.path) (sym c.deref.ensures.value) ∙ sym c.is_loading.ensures ∙ c.if-is_loading.true in
+    reach_cycle W (walk W c.args.depth) c.args.stock.now.held.items f i (stock_seen c.args.stock.now) loading c.fault_at.result
+    (subst (λ p. IsStop c.fault_at.result (fault_at f i.at (ImportCycle p))) c.in_ok-copy.ensures c.fault_at.ensures)
+
+pub reach-returns-in-Ok-None-clause-gives : goal.reach-returns-in-Ok-None-clause-gives
+reach-returns-in-Ok-None-clause-gives g t c = λ tells.
+    let W = world (g.F.Source.tree c.args.files.now) c.args.importer.folders.now in
+    let f = c.args.importer.file.now in
+    let i = c.args.import.now in
+    let free = ap (is_loading i.path) (sym c.deref.ensures.value) ∙ sym c.is_loading.ensures ∙ c.if-is_loading.false in
+    let new = sym c.get.ensures ∙ c.in_default.is in
+    let found = rw c.in-Ok-None.field-0-is at c.in-Ok-None.ensures.found tells in
+    let stop = c.fault_at-in-Ok-None.result in
+    reach_missing W (walk W c.args.depth) c.args.stock.now.held.items f i (stock_seen c.args.stock.now) free new stop found
+    (subst (λ p. IsStop stop (fault_at f i.at (ImportMissing p))) c.in_ok-copy-in-Ok-None.ensures c.fault_at-in-Ok-None.ensures)
+
+pub reach-returns-then-len-ge-MOST_MODULES-clause-gives : goal.reach-returns-then-len-ge-MOST_MODULES-clause-gives
+reach-returns-then-len-ge-MOST_MODULES-clause-gives g t c = λ tells.
+    let W = world (g.F.Source.tree c.args.files.now) c.args.importer.folders.now in
+    let S = stock_seen c.args.stock.now in
+    let hs = c.args.stock.now.held.items in
+    let i = c.args.import.now in
+    let free = ap (is_loading i.path) (sym c.deref.ensures.value) ∙ sym c.is_loading.ensures ∙ c.if-is_loading.false in
+    let new = sym c.get.ensures ∙ c.in_default.is in
+    let found = rw c.in-Ok-Some.field-0-is at c.in-Ok-Some.ensures.found tells in
+    let count : length S.modules ≡ length c.args.stock.now.modules.items = length-map c.args.stock.now.modules.items module_seen in
+    let full : nat_lt (length S.modules + length hs) 1024 ≡ false = elim c.then-len-ge-MOST_MODULES.branch [
+      | reach-then-len-ge-MOST_MODULES-via-then-len-ge-MOST_MODULES w ↦ grind (arith, nat_tests, count)
+      | reach-then-len-ge-MOST_MODULES-via-else-len-ge-MOST_MODULES+then-len w ↦ grind (arith, nat_tests, count)
+    ] in
+    reach_full W (walk W c.args.depth) hs c.args.importer.file.now i S free new c.fault_at-then-len-ge-MOST_MODULES.result c.in-Ok-Some.found.file found.0 found.1 full c.fault_at-then-len-ge-MOST_MODULES.ensures
