@@ -26,7 +26,7 @@ use Rattle.rosie_verdicts.specs.Suites.{AreTrials, Comes, ComesAgain, IsSuite, S
 use Rattle.rosie_verdicts.specs.Trials.{Bench, Trial}
 use Rattle.rpl_scope.specs.Faults.{fault_at}
 use Rattle.rpl_scope.specs.declared.fault.LoadKind.TheVariants.{FileTooLong, NotText, RootMissing}
-use Rattle.rosie_verdicts.specs.inside.Steps.{IsRefusal}
+use Rattle.rosie_verdicts.specs.inside.Steps.{IsBadTest, IsOwn, IsRefusal}
 
 -- ---- the second reading
 
@@ -89,6 +89,19 @@ pub bad-due :
 bad-due p m b text r line h (tests us due k is e) = absurd ((one_answer_holds text).apart us line k h)
 bad-due p m b text r line h (bad other k e) =
     e ∙ ap (λ x. Err (line_fault b.file x (codes "bad test"))) ((one_answer_holds text).bad other line k h)
+
+pub refused-due :
+    (p : Packages) (m : ℕ) (file : List ℕ) (budget : Option ℕ) (name text : List ℕ) (r : OrLine Suite) (u : Unready)
+    → IsBadTest file text u → Tells p m (bench_with file budget name) text r → IsDue u r
+refused-due p m file budget name text r NoMemory h t = tt
+refused-due p m file budget name text r (Refused line) h t =
+    bad-due p m (bench_with file budget name) text r h.0 h.1 t ∙ ap Err (sym h.2)
+refused-due p m file budget name text r (ReadFault path) h t = absurd h
+
+pub refused-own : (file text : List ℕ) (u : Unready) → IsBadTest file text u → IsOwn u
+refused-own file text NoMemory h = tt
+refused-own file text (Refused line) h = tt
+refused-own file text (ReadFault path) h = absurd h
 
 -- ---- the steps
 

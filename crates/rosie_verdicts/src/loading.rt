@@ -8,10 +8,11 @@ ghost use Rattle.rpl_expand.specs.Sets.{table_of};
 ghost use Rattle.rpl_forms.specs.Rows.{rows_of};
 ghost use Rattle.rpl_package.specs.Sets.{set_seen};
 ghost use Rattle.rpl_package.specs.declared.rooted.Root.TheVariants.{File};
+ghost use Rattle.rpl_unittest.specs.Comments.{HasTests};
 ghost use Rattle.rosie_verdicts.specs.Limits.{Pays};
 ghost use Rattle.rosie_verdicts.specs.Seen.{bench_of, suite_of, trials_of};
 ghost use Rattle.rosie_verdicts.specs.Suites as S;
-ghost use Rattle.rosie_verdicts.specs.inside.Steps.{IsOwn};
+ghost use Rattle.rosie_verdicts.specs.inside.Steps.{IsBadTest, IsOwn};
 
 use crate::reading::read_again;
 use crate::suite::Suite;
@@ -22,7 +23,7 @@ use rosie_run::{NoMemory, line_fault};
 use rpl_package::{LibPath, Root, Roots};
 use rpl_print::text_of;
 use rpl_text::Chars;
-use rpl_unittest::{TestFault, read_tests};
+use rpl_unittest::{TestFault, Tests, read_tests};
 use std::alloc::Global;
 
 /// The file as the one root.
@@ -32,6 +33,23 @@ fn one_root(alloc: Global, file: &Chars) -> Result<Roots, NoMemory>
     let mut roots = Roots::new(alloc);
     roots.push(Root::File(file.copy(alloc)?))?;
     Ok(roots)
+}
+
+/// The tests that the comments of the file's text say, or the line of the first bad one.
+fn tests_in(alloc: Global, file: &Chars, text: &str) -> Result<Tests, Unready>
+    ensures tests { IfOk result (HasTests text.now) }
+    ensures bad { IfErr result (IsBadTest file.now text.now) }
+{
+    match read_tests(alloc, text) {
+        Ok(tests) => Ok(tests),
+        Err(fault) => match fault {
+            TestFault::NoMemory => Err(Unready::NoMemory),
+            TestFault::BadTest { line } => {
+                let told = line_fault(alloc, text_of(file), line, "bad test")?;
+                Err(Unready::Refused(told))
+            }
+        },
+    }
 }
 
 /// The tests of the file's text, over its packages; or the line of its first bad test comment.
@@ -55,26 +73,16 @@ fn suite_over(
         return Err(Unready::NoMemory);
     };
     let prefix = Chars::from_str(alloc, name)?;
-    match read_tests(alloc, text) {
-        Ok(tests) => {
-            let Trials { subjects, trials } = trials_of(alloc, &set, &rules, number, tests)?;
-            Ok(Suite {
-                file,
-                prefix,
-                budget,
-                rules,
-                subjects,
-                trials,
-            })
-        }
-        Err(fault) => match fault {
-            TestFault::NoMemory => Err(Unready::NoMemory),
-            TestFault::BadTest { line } => {
-                let told = line_fault(alloc, text_of(&file), line, "bad test")?;
-                Err(Unready::Refused(told))
-            }
-        },
-    }
+    let tests = tests_in(alloc, &file, text)?;
+    let Trials { subjects, trials } = trials_of(alloc, &set, &rules, number, tests)?;
+    Ok(Suite {
+        file,
+        prefix,
+        budget,
+        rules,
+        subjects,
+        trials,
+    })
 }
 
 /// The tests of a file, each with what it is tried with; or the line of the first fault.

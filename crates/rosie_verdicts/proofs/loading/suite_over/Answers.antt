@@ -1,42 +1,46 @@
 use Rattle.std.proofs.Common.{◌≡◌, sym, ap, subst, ◌∙◌}
-use Rattle.std.specs.Prelude.{Ok, Err, chars, codes, map}
+use Rattle.std.specs.Prelude.{Ok, chars, map}
 use Rattle.rosie_prepare.specs.Prepared.{bodies}
-use Rattle.rosie_prepare.proofs.Passing.{bodies-rows_of}
-use Rattle.rosie_run.specs.Lines.{line_fault}
+use Rattle.rosie_prepare.proofs.Passing.{bodies-rows_of, due_through, own_through}
 use Rattle.rpl_core.specs.Table.{bodies_of}
 use Rattle.rpl_expand.specs.Sets.{table_of}
 use Rattle.rpl_package.specs.Owned.{own}
 use Rattle.rpl_package.specs.Sets.{set_seen}
+use Rattle.rosie_verdicts.specs.Seen.{suite_of}
 use Rattle.rosie_verdicts.specs.Suites.{AreTrials}
 use Rattle.rosie_verdicts.specs.Tried.{trial_of}
-use Rattle.rosie_verdicts.proofs.Loads.{again-tells, bad-due, bench_with, tests-due}
+use Rattle.rosie_verdicts.proofs.Loads.{again-tells, bench_with, refused-due, refused-own, tests-due}
 use Rattle.rosie_verdicts.proofs.loading.suite_over.Goals as goal
 
-pub returns-in-Ok-clause-prepares : goal.returns-in-Ok-clause-prepares
-returns-in-Ok-clause-prepares c = λ r h.
+pub returns-clause-prepares : goal.returns-clause-prepares
+returns-clause-prepares c = λ r h.
     let p = set_seen c.args.ready.set in
     let rules = c.args.ready.rules in
     let m = c.in-Some.number in
     let name = chars c.in-Some-package.name.now in
-    let made = c.in_ok-subjects-in-Ok.field-0 in
+    let made = c.in_ok-subjects.field-0 in
     let trials = map (trial_of (bodies_of rules) made.subjects.items) made.trials.items in
     let same : bodies (table_of p) ≡ bodies_of rules = sym (ap bodies c.requires) ∙ bodies-rows_of rules in
     let tells =
     again-tells p c.args.file c.args.budget c.args.text.now r m name (sym c.in-Some.ensures)
     (sym c.in-Some-package.ensures) h in
-    tests-due p m (bench_with c.args.file c.args.budget name) c.args.text.now r c.in-Ok.tests trials c.in-Ok.ensures.tests
-    (λ due is. c.in_ok-subjects-in-Ok.ensures.trials due (subst (λ R. AreTrials R (own p m) c.in-Ok.tests due) same is)) tells
+    tests-due p m (bench_with c.args.file c.args.budget name) c.args.text.now r c.in_ok-tests.tests trials c.in_ok-tests.ensures.tests
+    (λ due is. c.in_ok-subjects.ensures.trials due (subst (λ R. AreTrials R (own p m) c.in_ok-tests.tests due) same is)) tells
     ∙ ap (λ x. Ok (record { bench = bench_with c.args.file c.args.budget x; trials = trials })) (sym c.in_ok-prefix.ensures)
 
-pub returns-clause-prepares : goal.returns-clause-prepares
-returns-clause-prepares c = λ r h.
+pub returns-in_err-tests-clause-prepares : goal.returns-in_err-tests-clause-prepares
+returns-in_err-tests-clause-prepares c = λ r h.
     let p = set_seen c.args.ready.set in
     let m = c.in-Some.number in
     let name = chars c.in-Some-package.name.now in
-    let bench = bench_with c.args.file c.args.budget name in
-    let line = c.in-BadTest.line in
-    let found = rw c.in-BadTest.is at c.in-Err.ensures.bad in
-    bad-due p m bench c.args.text.now r line found
+    let u = c.in_err-tests.field-0.0 in
+    due_through suite_of c.from_residual-in_err-tests.result u r c.from_residual-in_err-tests.ensures.1
+    (refused-due p m c.args.file c.args.budget name c.args.text.now r u c.in_err-tests.ensures.bad
     (again-tells p c.args.file c.args.budget c.args.text.now r m name (sym c.in-Some.ensures)
-    (sym c.in-Some-package.ensures) h)
-    ∙ ap Err (sym (c.in_ok-told-in-BadTest.ensures ∙ ap (λ file. line_fault file line (codes "bad test")) c.text_of.ensures))
+    (sym c.in-Some-package.ensures) h))
+
+pub returns-in_err-tests-clause-own : goal.returns-in_err-tests-clause-own
+returns-in_err-tests-clause-own c =
+    let u = c.in_err-tests.field-0.0 in
+    own_through c.from_residual-in_err-tests.result u c.from_residual-in_err-tests.ensures.1
+    (refused-own c.args.file c.args.text.now u c.in_err-tests.ensures.bad)
