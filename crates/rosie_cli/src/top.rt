@@ -1,7 +1,7 @@
 //! The top call: the words are read, their command is planned, the plan runs, and the run is ended. A session runs
 //! without a plan.
 
-ghost use Rattle.std.specs.Prelude.{◌≡◌, ◌<◌, ◌^◌, ◌∷◌, [], ℕ, length, string_bytes, IfErr};
+ghost use Rattle.std.specs.Prelude.{◌≡◌, ◌≢◌, ◌<◌, ◌^◌, ◌∷◌, [], ℕ, length, string_bytes, IfErr};
 ghost use Rattle.rosie_io.specs.Counts.{Rose};
 ghost use Rattle.rosie_jobs.specs.Lines.{reading};
 ghost use Rattle.rosie_run.specs.Causes.{SourcesCause, WritesCause, OutputCause, ReadsCause, IsFlushed};
@@ -12,6 +12,7 @@ ghost use Rattle.rosie_run.specs.Runs.{Runs, GoesOn, IsNoCut};
 ghost use Rattle.rosie_run.specs.Sources.{moment, RoseIn};
 ghost use Rattle.rosie_run.specs.Where.{Nowhere};
 ghost use Rattle.rosie_words.specs.Reading.{words_of};
+ghost use Rattle.rosie_words.specs.declared.command.What.TheVariants as W;
 ghost use Rattle.rosie_cli.specs.Planned.{IsPlanned, IsPlannedAs};
 ghost use Rattle.rosie_cli.specs.Plans.{Planned, pieces, inputs_of, ReadsInput, span, among, stood};
 ghost use Rattle.rosie_cli.specs.Promises.{IsPromised, HasRun, IsSound};
@@ -104,6 +105,46 @@ fn run_plan<F: Files, I: Source, O: Sink, E: Sink, L: Ledger>(
     }
 }
 
+/// Plans a command and runs its plan, but for its end. A session has no plan.
+fn run_planned<F: Files, I: Source, O: Sink, E: Sink, L: Ledger>(
+    alloc: Global,
+    command: Command,
+    files: &mut F,
+    input: &mut I,
+    out: &mut O,
+    err: &mut E,
+    steps: &mut Steps<L>,
+) -> Result<Tally, Ended>
+    requires { command.what ≢ W.Repl }
+    ensures runs { F.tells → (p : Planned) → IsPlannedAs command command.what (F.tree files.old) p
+        → KnowsInputs p.plan F.tells I.tells
+        → Runs result (record { out = O.tells; err = E.tells; counts = O.counts })
+        (pieces p.plan (F.tree files.old) (I.rest input.old))
+        (stood p (F.tree files.old)
+        (span I.rest I.taken I.faults I.failed_opens input.old input.new)
+        (span F.rest F.taken F.faults F.failed_opens files.old files.new))
+        (texts O.written O.number E.written out.old err.old steps.old)
+        (texts O.written O.number E.written out.new err.new steps.new) }
+    ensures due { F.tells → (p : Planned) → IsPlannedAs command command.what (F.tree files.old) p
+        → HasStepped result steps.old steps.new → IsPromised p.plan }
+    ensures rest { F.tells → I.tells → (p : Planned) → IsPlannedAs command command.what (F.tree files.old) p
+        → GoesOn result (ReadsInput p.plan → I.rest input.new ≡ []) }
+    ensures cause { SourcesCause result (moment I.rest I.taken I.faults I.failed_opens input.old)
+        (moment I.rest I.taken I.faults I.failed_opens input.new)
+        (moment F.rest F.taken F.faults F.failed_opens files.old)
+        (moment F.rest F.taken F.faults F.failed_opens files.new) }
+    ensures sinks { WritesCause result (O.faults out.old) (O.faults out.new) (E.faults err.old) (E.faults err.new) }
+{
+    match plan_command(alloc, command, files) {
+        Ok(mut plan) => run_plan(alloc, &mut plan, files, input, out, err, steps),
+        Err(unready) => match unready {
+            Unready::NoMemory => Err(Ended::NoMemory),
+            Unready::Refused(line) => refuse(line, out, err),
+            Unready::ReadFault(path) => Err(cut(alloc, Why::ReadFault, text_of(&path))),
+        },
+    }
+}
+
 /// Does what a command says, but for its end. A session has no plan: it reads its files as its lines come.
 fn run_command<F: Files, I: Source, O: Sink, E: Sink, L: Ledger>(
     alloc: Global,
@@ -135,14 +176,7 @@ fn run_command<F: Files, I: Source, O: Sink, E: Sink, L: Ledger>(
 {
     match command.what {
         What::Repl => run_session(alloc, &command.folders, files, input, out, err, steps),
-        _ => match plan_command(alloc, command, files) {
-            Ok(mut plan) => run_plan(alloc, &mut plan, files, input, out, err, steps),
-            Err(unready) => match unready {
-                Unready::NoMemory => Err(Ended::NoMemory),
-                Unready::Refused(line) => refuse(line, out, err),
-                Unready::ReadFault(path) => Err(cut(alloc, Why::ReadFault, text_of(&path))),
-            },
-        },
+        _ => run_planned(alloc, command, files, input, out, err, steps),
     }
 }
 
