@@ -1,5 +1,5 @@
 // A table of rules while it is made.
-ghost use Rattle.std.specs.Prelude.{◌≡◌, ◌++◌, ◌∷◌, ◌<◌, [], IfOk, length};
+ghost use Rattle.std.specs.Prelude.{◌≡◌, ◌++◌, ◌∷◌, ◌<◌, [], IfOk, OnOk, length};
 ghost use Rattle.rpl_core.specs.Listed.{rules_of};
 ghost use Rattle.rpl_core.specs.Table.{names_of};
 ghost use Rattle.rpl_forms.specs.Counting.{KnowsInners};
@@ -39,6 +39,32 @@ fn kept_names(alloc: Global, rules: &Rules) -> Result<LabelTable, NoMemory>
     Ok(names)
 }
 
+/// Adds a rule to the parts of a table, unless it has one of this name.
+fn add_rule(
+    alloc: Global,
+    rules: &mut Rules,
+    known: &mut Vec<Option<Inner>>,
+    names: &mut LabelTable,
+    rule: Rule,
+) -> Result<(), NoMemory>
+    requires few { length (rules_of rules.old) < 0xffff_ffff }
+    requires as_many { length known.old.items ≡ length (rules_of rules.old) }
+    requires named { names.old ≡ names_of (rules_of rules.old) }
+    requires knows { KnowsInners known.old.items (inners_of (rules_of rules.old)) }
+    ensures rules { OnOk result (rules_of rules.new ≡ rules_of rules.old ++ rule ∷ []) }
+    ensures as_many { OnOk result (length known.new.items ≡ length (rules_of rules.new)) }
+    ensures named { OnOk result (names.new ≡ names_of (rules_of rules.new)) }
+    ensures knows { OnOk result (KnowsInners known.new.items (inners_of (rules_of rules.new))) }
+{
+    let place = names.keep(alloc, &rule.name)?;
+    if place as usize != rules.len() {
+        return Err(NoMemory);
+    }
+    push_inner(known, &rule)?;
+    rules.push(rule)?;
+    Ok(())
+}
+
 impl Growing {
     /// A table that begins with these rules.
     pub(crate) fn new(alloc: Global, rules: Rules) -> Result<Growing, NoMemory>
@@ -67,12 +93,7 @@ impl Growing {
             mut known,
             mut names,
         } = self;
-        let place = names.keep(alloc, &rule.name)?;
-        if place as usize != rules.len() {
-            return Err(NoMemory);
-        }
-        push_inner(&mut known, &rule)?;
-        rules.push(rule)?;
+        add_rule(alloc, &mut rules, &mut known, &mut names, rule)?;
         Ok(Growing {
             rules,
             known,
