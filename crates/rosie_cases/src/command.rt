@@ -1,5 +1,5 @@
 // One run of the command over files and streams in memory, of which one call fails.
-ghost use Rattle.std.specs.Prelude.{◌≡◌, ◌<◌};
+ghost use Rattle.std.specs.Prelude.{◌≡◌, ◌<◌, ◌≤◌};
 
 use rosie_cli::{Status, rosie};
 use rosie_io::{Bytes, Calls, MemoryFiles, MemorySink, MemorySource, NoMemory, Tree, TreeFile};
@@ -15,7 +15,7 @@ const WORDS: &str = "match --steps -o line --libpath lib p.ab f - g";
 const ROOM: usize = 200;
 
 /// What the command calls.
-#[derive(Clone, Copy)]
+#[derive(Clone, Copy, PartialEq)]
 pub(crate) enum Device {
     Files,
     Input,
@@ -23,13 +23,13 @@ pub(crate) enum Device {
     Err,
 }
 
-/// The number of the call that fails of each device, counted from 1; with 0 none does.
-#[derive(Clone, Copy)]
-struct Fails {
-    files: u64,
-    input: u64,
-    out: u64,
-    err: u64,
+/// What the command calls in one run.
+#[derive(Drop)]
+struct Devices {
+    files: MemoryFiles,
+    input: MemorySource,
+    out: MemorySink,
+    err: MemorySink,
 }
 
 /// How the run ended, and what it wrote.
@@ -40,26 +40,9 @@ pub(crate) struct Outcome {
     pub(crate) err: Vec<u8>,
 }
 
-/// This call of this device fails, and no other.
-fn fails_of(device: Device, call: u64) -> Fails {
-    let none = Fails {
-        files: 0,
-        input: 0,
-        out: 0,
-        err: 0,
-    };
-    match device {
-        Device::Files => Fails {
-            files: call,
-            ..none
-        },
-        Device::Input => Fails {
-            input: call,
-            ..none
-        },
-        Device::Out => Fails { out: call, ..none },
-        Device::Err => Fails { err: call, ..none },
-    }
+/// Which call of this device fails where that call of that one does, and no other.
+fn call_of(this: Device, that: Device, call: u64) -> u64 {
+    if this == that { call } else { 0 }
 }
 
 fn words(alloc: Global) -> Result<Vec<String>, NoMemory> {
@@ -70,55 +53,93 @@ fn words(alloc: Global) -> Result<Vec<String>, NoMemory> {
     Ok(words)
 }
 
-fn file(alloc: Global, path: &[u8], bytes: &[u8]) -> Result<TreeFile, NoMemory> {
-    Ok(TreeFile {
-        path: Bytes::from_slice(alloc, path)?,
-        bytes: Bytes::from_slice(alloc, bytes)?,
-    })
+fn put(alloc: Global, tree: &mut Tree, path: &[u8], bytes: &[u8]) -> Result<(), NoMemory> {
+    let path = Bytes::from_slice(alloc, path)?;
+    let bytes = Bytes::from_slice(alloc, bytes)?;
+    tree.push(TreeFile { path, bytes })
 }
 
 /// The files: one has a line that matches and one that doesn't, one a line that is no text and one that matches, and
 /// the package has the rule.
 fn tree(alloc: Global) -> Result<Tree, NoMemory> {
     let mut tree = Tree::new(alloc);
-    tree.push(file(alloc, b"f".as_slice(), b"ab1\nx\n".as_slice())?)?;
-    tree.push(file(alloc, b"g".as_slice(), b"\xff\nab4".as_slice())?)?;
-    let package = b"package p ab = \"ab\"".as_slice();
-    tree.push(file(alloc, b"lib/p.rpl".as_slice(), package)?)?;
+    put(alloc, &mut tree, b"f".as_slice(), b"ab1\nx\n".as_slice())?;
+    put(alloc, &mut tree, b"g".as_slice(), b"\xff\nab4".as_slice())?;
+    put(
+        alloc,
+        &mut tree,
+        b"lib/p.rpl".as_slice(),
+        b"package p ab = \"ab\"".as_slice(),
+    )?;
     Ok(tree)
+}
+
+fn files(alloc: Global, call: u64) -> Result<MemoryFiles, NoMemory> {
+    let tree = tree(alloc)?;
+    let fails = Calls::from_slice(alloc, &[call])?;
+    Ok(MemoryFiles::new(tree, 8, fails))
+}
+
+/// The standard input has a line that matches, one that is no text, and one that matches.
+fn input(alloc: Global, call: u64) -> Result<MemorySource, NoMemory> {
+    let bytes = Bytes::from_slice(alloc, b"ab2\n\xff\nab3\n".as_slice())?;
+    let fails = Calls::from_slice(alloc, &[call])?;
+    Ok(MemorySource::new(bytes, 3, fails))
+}
+
+fn sink(alloc: Global, most: usize, call: u64) -> Result<MemorySink, NoMemory>
+    requires { 1 ≤ most }
+{
+    let fails = Calls::from_slice(alloc, &[call])?;
+    MemorySink::new(alloc, ROOM, most, fails)
+}
+
+impl Devices {
+    /// The devices where this call of this device fails, counted from 1; with 0 none does. A call moves so many bytes
+    /// at the most: 8 of a file, 3 of the input and of `out`, and 20 of `err`.
+    fn new(alloc: Global, device: Device, call: u64) -> Result<Devices, NoMemory> {
+        Ok(Devices {
+            files: files(alloc, call_of(Device::Files, device, call))?,
+            input: input(alloc, call_of(Device::Input, device, call))?,
+            out: sink(alloc, 3, call_of(Device::Out, device, call))?,
+            err: sink(alloc, 20, call_of(Device::Err, device, call))?,
+        })
+    }
+
+    /// What was written, by a run that ended so.
+    fn outcome(&self, alloc: Global, status: Status) -> Result<Outcome, NoMemory> {
+        let out = self.out.written().to_vec(alloc)?;
+        let err = self.err.written().to_vec(alloc)?;
+        Ok(Outcome { status, out, err })
+    }
 }
 
 /// Runs the command where this call of this device fails.
 pub(crate) fn run_on(alloc: Global, device: Device, call: u64) -> Result<Outcome, NoMemory> {
-    run_counted::<Brand>(alloc, fails_of(device, call), Blank::new(1))
+    let mut devices = Devices::new(alloc, device, call)?;
+    let status = run_counted::<Brand>(alloc, &mut devices, Blank::new(1))?;
+    devices.outcome(alloc, status)
 }
 
-/// The standard input has a line that matches, one that is no text, and one that matches. A call moves so many bytes at
-/// the most: 8 of a file, 3 of the input and of `out`, and 20 of `err`.
-fn run_counted<L: Ledger>(alloc: Global, fails: Fails, blank: Blank) -> Result<Outcome, NoMemory>
+/// Runs the command with these devices.
+fn run_counted<L: Ledger>(
+    alloc: Global,
+    devices: &mut Devices,
+    blank: Blank,
+) -> Result<Status, NoMemory>
     requires name { blank.name ≡ L.name }
     requires parts { blank.parts ≡ L.parts }
     requires some { 0 < blank.parts }
 {
     let words = words(alloc)?;
-    let input = Bytes::from_slice(alloc, b"ab2\n\xff\nab3\n".as_slice())?;
-    let mut files = MemoryFiles::new(tree(alloc)?, 8, Calls::from_slice(alloc, &[fails.files])?);
-    let mut source = MemorySource::new(input, 3, Calls::from_slice(alloc, &[fails.input])?);
-    let mut out = MemorySink::new(alloc, ROOM, 3, Calls::from_slice(alloc, &[fails.out])?)?;
-    let mut err = MemorySink::new(alloc, ROOM, 20, Calls::from_slice(alloc, &[fails.err])?)?;
     let mut steps = Steps::<L>::new(blank);
-    let status = rosie(
+    Ok(rosie(
         alloc,
         &words,
-        &mut files,
-        &mut source,
-        &mut out,
-        &mut err,
+        &mut devices.files,
+        &mut devices.input,
+        &mut devices.out,
+        &mut devices.err,
         &mut steps,
-    );
-    Ok(Outcome {
-        status,
-        out: out.written().to_vec(alloc)?,
-        err: err.written().to_vec(alloc)?,
-    })
+    ))
 }

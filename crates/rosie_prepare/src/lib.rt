@@ -6,9 +6,9 @@
 //! every file is closed on the way out. [`load_set`] and [`prepare_rules`] are the same for commands without a pattern.
 //! [`over_rules`] and [`with_root`] look at a core before it is checked, here and where a command makes one of its own.
 //!
-//! [`load_line`], [`expand_line`], [`check_line`] and [`compile_line`] are the line by which each fault is told, with the
-//! file and the byte place where it stands: exactly that of `specs/Lines.antt`; docs/COMMAND.md has the texts for the
-//! user. Want of memory has no line, and is answered as want of memory.
+//! [`load_line`], [`expand_line`], [`check_line`] and [`compile_line`] are the line by which each fault is told, with
+//! the file and the byte place where it stands: exactly that of `specs/Lines.antt`; docs/COMMAND.md has the texts for
+//! the user. Want of memory has no line, and is answered as want of memory.
 #![tactic(auto)]
 
 mod edge;
