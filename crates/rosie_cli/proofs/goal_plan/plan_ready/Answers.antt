@@ -8,20 +8,20 @@ use Rattle.rosie_cli.proofs.Limits.{job_plans, long_plans, names-rows_of}
 use Rattle.rosie_cli.proofs.Made.{told-made}
 use Rattle.rosie_cli.proofs.goal_plan.plan_ready.Goals as goal
 
-pub returns-in-Ok-clause-makes : goal.returns-in-Ok-clause-makes
-returns-in-Ok-clause-makes c = λ p is.
+pub returns-in_ok-plan_job-in-Ok-clause-makes : goal.returns-in_ok-plan_job-in-Ok-clause-makes
+returns-in_ok-plan_job-in-Ok-clause-makes c = λ p is.
     let ready = c.args.ready in
     let seen = ready_seen ready in
     job_plans (run_of c.args.purpose) seen (bodies_of ready.rules) (bodies-rows_of ready.rules) p is
     (job_of c.in-Ok.job) c.in-Ok.ensures.job
     ∙ c.in_ok-plan_job-in-Ok.ensures.plans seen.rules (names-rows_of ready.rules ∙ sym c.in-Ok.ensures.names)
 
-pub returns-clause-makes : goal.returns-clause-makes
-returns-clause-makes c = λ p is.
+pub returns-in-Err-clause-makes : goal.returns-in-Err-clause-makes
+returns-in-Err-clause-makes c = λ p is.
     let ready = c.args.ready in
     told-made c.in-Err.fault c.uncompiled.result p c.uncompiled.ensures (λ long.
     long_plans (run_of c.args.purpose) (ready_seen ready) (bodies_of ready.rules) (bodies-rows_of ready.rules) p is
     (c.in-Err.ensures.too_long long))
 
-pub returns-clause-own : goal.returns-clause-own
-returns-clause-own c = told_own (due_of c.in-Err.fault) c.uncompiled.result c.uncompiled.ensures
+pub returns-in-Err-clause-own : goal.returns-in-Err-clause-own
+returns-in-Err-clause-own c = told_own (due_of c.in-Err.fault) c.uncompiled.result c.uncompiled.ensures
