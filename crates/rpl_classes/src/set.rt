@@ -1,8 +1,9 @@
 // A set of characters: its ranges, and two masks for the test of an ASCII character.
 ghost use Rattle.std.specs.Prelude.{◌≡◌, ℕ, ◌≤◌, ◌||◌, ◌&&◌, ◌↔◌, [], ◌∷◌, ◌++◌, not, nat_eq, nat_le, IfOk};
-ghost use Rattle.std.specs.Prelude.{IfSome, OnOk, IsTrue, chars};
+ghost use Rattle.std.specs.Prelude.{IfSome, OnOk, IsTrue, chars, true, false};
 ghost use Rattle.std.specs.Option.{option_map};
 ghost use Rattle.regex_class.specs.Ranges.{in_ranges};
+ghost use Rattle.rpl_text.specs.Masks.{IsMarked};
 ghost use Rattle.rpl_unicode.specs.Named.{members};
 ghost use Rattle.rpl_unicode.specs.Folding.{folds_with};
 ghost use Rattle.rpl_classes.specs.Sets.{IsNormal, HasJust};
@@ -12,7 +13,7 @@ ghost use Rattle.rpl_classes.specs.Classes.{test_named, set_named};
 ghost use Rattle.rpl_classes.specs.Faults.{IsNamed};
 
 use crate::NoMemory;
-use crate::bits::bitmap;
+use crate::bits::{bitmap, but};
 use crate::classes::NamedClass;
 use crate::fault::SetFault;
 use regex_class::{Class, ClassRange};
@@ -239,6 +240,24 @@ impl Set {
         } else {
             self.class.contains(number)
         }
+    }
+
+    /// The ASCII characters that are in the set, as the bits of two words.
+    #[inline(always)]
+    pub fn ascii(&self) -> [u64; 2]
+        ensures { (c : ℕ) → IsMarked result c → in_ranges self.now c ≡ true }
+    {
+        self.masks
+    }
+
+    /// The ASCII characters that are in this set and not in the other, as the bits of two words.
+    pub fn ascii_without(&self, other: &Set) -> [u64; 2]
+        ensures { (c : ℕ) → IsMarked result c → (in_ranges self.now c ≡ true) × (in_ranges other.now c ≡ false) }
+    {
+        [
+            but(self.masks[0], other.masks[0]),
+            but(self.masks[1], other.masks[1]),
+        ]
     }
 
     /// The ranges in order, as numbers of characters, each with both its ends.

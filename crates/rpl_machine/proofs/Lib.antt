@@ -5,3 +5,5 @@ mod Later
 mod Advancing
 mod Ranges
 mod Pushing
+mod Turning
+mod Spanning

@@ -2,3 +2,4 @@ pub mod States
 pub mod Trees
 pub mod Lists
 pub mod Progress
+pub mod Turns

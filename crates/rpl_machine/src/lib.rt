@@ -12,6 +12,7 @@ mod lists;
 mod looping;
 mod moves;
 mod scratch;
+mod searches;
 mod spans;
 mod steps;
 mod turn;

@@ -40,6 +40,13 @@ impl<L: Ledger> Steps<L> {
     {
         self.book.add(&mut self.share, 1);
     }
+
+    /// So many steps more.
+    pub(crate) fn add(&mut self, count: u64)
+        ensures { self.new ≡ self.old + count }
+    {
+        self.book.add(&mut self.share, count);
+    }
 }
 
 /// Counts a step. Answers how many are left then.
