@@ -5,9 +5,11 @@ pub mod Stay
 pub mod Settling
 pub mod Ordering
 pub mod Finding
+pub mod Listing
 pub mod Fronts
 pub mod Following
 pub mod Clean
+pub mod Ranks
 pub mod Rings
 pub mod Selves
 pub mod Firsts

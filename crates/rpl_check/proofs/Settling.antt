@@ -118,10 +118,3 @@ grows_none a x = record { long = refl; more = λ r e. e; before = λ r l. refl }
 
 pub room_less : (x y : List Bool) → length y ≡ length x → count (marked x) (length x) < count (marked y) (length x) → length y - count (marked y) (length y) < length x - count (marked x) (length x)
 room_less x y e lt = let h = count_all_le (marked y) (length x) in rw e (omega arith)
-
--- where more is marked beyond y, there is less room still
-pub room_lesser : (a : ℕ) (x y z : List Bool) → Grows a x y → Grows a y z → count (marked x) (length x) < count (marked y) (length x) → length z - count (marked z) (length z) < length x - count (marked x) (length x)
-room_lesser a x y z g h lt =
-    let e = h.long ∙ g.long in
-    let le = count_le (marked y) (marked z) (length x) h.more in
-    room_less x z e (omega arith)

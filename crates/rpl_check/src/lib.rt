@@ -10,6 +10,7 @@ mod behinds;
 mod checked;
 mod facts;
 mod fault;
+mod gates;
 mod groups;
 mod inside;
 mod laws;

@@ -1,12 +1,12 @@
 // Which rules of a block reach themselves before a character is taken.
-ghost use Rattle.std.specs.Prelude.{◌≡◌, ℕ, ◌-◌, ◌<◌, ◌≤◌, ◌^◌, Bool, false, true, nat_eq, length, IfOk, OnOk};
+ghost use Rattle.std.specs.Prelude.{◌≡◌, ℕ, ◌-◌, ◌<◌, ◌≤◌, ◌^◌, Bool, false, true, nat_eq, length, IfOk, OnOk, ◌+◌};
 ghost use Rattle.rpl_core.specs.View.{core_of, cores};
 ghost use Rattle.rpl_simulation.specs.Static as E;
 ghost use Rattle.rpl_check.specs.Facts.{Follows, IsLeast, any_calls_here, calls_at, calls_here, front_calls_here};
 ghost use Rattle.rpl_check.specs.Blocks as B;
 ghost use Rattle.rpl_core.specs.inside.Marks.{marked};
 ghost use Rattle.rpl_check.specs.inside.Rounds.{OverReach};
-ghost use Rattle.rpl_check.specs.inside.Search.{AreClean, AreLeft, AreReached, Finds, ReachRule, marked_from};
+ghost use Rattle.rpl_check.specs.inside.Search.{AreClean, AreLeft, AreReached, Finds, Lists, ReachRule, marked_from};
 ghost use Rattle.rpl_check.specs.inside.Search.{clean_all, clean_core, clean_each, within_or_none};
 
 use crate::NoMemory;
@@ -177,6 +177,155 @@ fn find_all_calls(search: &mut Search, parts: &[Peg], empties: &[bool]) -> Resul
     Ok(any)
 }
 
+/// Lists the rules that the pattern may call before a character, and tells whether it may be empty.
+#[cycle(list)]
+fn list_calls(list: &mut Vec<u32>, peg: &Peg, empties: &[bool]) -> Result<bool, NoMemory>
+    ensures lists { OnOk result
+        (Lists (calls_here (marked empties.now) (core_of peg.now)) list.old.items list.new.items) }
+    ensures empty { IfOk result (λ b. b ≡ E.may_be_empty (marked empties.now) (core_of peg.now)) }
+{
+    match peg {
+        Peg::Set(_) | Peg::Halt => Ok(false),
+        Peg::Note(_) | Peg::Start | Peg::End => Ok(true),
+        Peg::Call(rule) => {
+            list.push(*rule)?;
+            Ok(is_marked(empties, *rule))
+        }
+        Peg::Many(body) => {
+            list_calls(list, body, empties)?;
+            Ok(true)
+        }
+        Peg::Not(body) => {
+            list_calls(list, body, empties)?;
+            Ok(true)
+        }
+        Peg::And(body) => {
+            list_calls(list, body, empties)?;
+            Ok(true)
+        }
+        Peg::Behind { body, .. } => {
+            list_calls(list, body, empties)?;
+            Ok(true)
+        }
+        Peg::Capture(_, body) => list_calls(list, body, empties),
+        Peg::Seq(parts) => list_front_calls(list, parts.as_slice(), empties),
+        Peg::Choice(parts) => list_all_calls(list, parts.as_slice(), empties),
+    }
+}
+
+/// Lists those of parts in turn.
+#[cycle(list)]
+fn list_front_calls(list: &mut Vec<u32>, parts: &[Peg], empties: &[bool]) -> Result<bool, NoMemory>
+    ensures lists { OnOk result
+        (Lists (front_calls_here (marked empties.now) (cores parts.now)) list.old.items list.new.items) }
+    ensures empty { IfOk result (λ b. b ≡ E.all_may_be_empty (marked empties.now) (cores parts.now)) }
+{
+    for part in parts {
+        if !list_calls(list, part, empties)? {
+            return Ok(false);
+        }
+    }
+    Ok(true)
+}
+
+/// Lists those of a choice of the parts.
+#[cycle(list)]
+fn list_all_calls(list: &mut Vec<u32>, parts: &[Peg], empties: &[bool]) -> Result<bool, NoMemory>
+    ensures lists { OnOk result
+        (Lists (any_calls_here (marked empties.now) (cores parts.now)) list.old.items list.new.items) }
+    ensures empty { IfOk result (λ b. b ≡ E.any_may_be_empty (marked empties.now) (cores parts.now)) }
+{
+    let mut any = false;
+    for part in parts {
+        let empty = list_calls(list, part, empties)?;
+        any = any || empty;
+    }
+    Ok(any)
+}
+
+/// Which rules of a block wait for which: for each place the places of those that call it, and how many calls of each
+/// are to come.
+#[derive(Drop)]
+struct Turns {
+    callers: Vec<Vec<u32>>,
+    needs: Vec<u32>,
+}
+
+impl Turns {
+    /// No rule waits.
+    fn new(alloc: Global, count: u32) -> Result<Turns, NoMemory>
+        ensures { IfOk result (λ t. (length t.callers.items ≡ count) × (length t.needs.items ≡ count)) }
+    {
+        let mut callers = Vec::new(alloc);
+        for _ in 0..count {
+            callers.push(Vec::new(alloc))?;
+        }
+        Ok(Turns {
+            callers,
+            needs: vec![in alloc; 0; count as usize]?,
+        })
+    }
+
+    /// The rule at `place` calls the one at `called`.
+    fn note(&mut self, place: u32, called: u32) -> Result<(), NoMemory>
+        ensures { OnOk result (length self.new.callers.items ≡ length self.old.callers.items) }
+    {
+        let (place_at, called_at) = (place as usize, called as usize);
+        if place_at < self.needs.len() && called_at < self.callers.len() {
+            self.callers[called_at].push(place)?;
+            self.needs[place_at] = self.needs[place_at].saturating_add(1);
+        }
+        Ok(())
+    }
+
+    /// Lists places so that each stands after those that it calls, as far as there is such an order.
+    fn order(mut self, alloc: Global) -> Result<Vec<u32>, NoMemory> {
+        let mut order = Vec::new(alloc);
+        let mut place: u32 = 0;
+        for needs in &self.needs {
+            if *needs == 0 {
+                order.push(place)?;
+            }
+            place = place.saturating_add(1);
+        }
+        for at in 0..self.callers.len() {
+            if at < order.len() {
+                release(&self.callers, &mut self.needs, order[at], &mut order)?;
+            }
+        }
+        Ok(order)
+    }
+}
+
+/// One call of the rule at this place is done, and whether it was the last.
+fn is_last(needs: &mut [u32], place: u32) -> bool {
+    let at = place as usize;
+    if at >= needs.len() || needs[at] == 0 {
+        return false;
+    }
+    needs[at] -= 1;
+    needs[at] == 0
+}
+
+/// The rule at this place is done: those whose last call it was join the list.
+fn release(
+    callers: &[Vec<u32>],
+    needs: &mut [u32],
+    place: u32,
+    order: &mut Vec<u32>,
+) -> Result<(), NoMemory> {
+    let at = place as usize;
+    if at >= callers.len() {
+        return Ok(());
+    }
+    for caller in &callers[at] {
+        if is_last(needs, *caller) {
+            order.push(*caller)?;
+        }
+    }
+    Ok(())
+}
+
 /// A block of the table: its rules from `start` on and before `end`, and which rules of the table may be empty.
 #[derive(Clone, Copy)]
 pub(crate) struct Block<'a> {
@@ -312,49 +461,74 @@ impl Block<'_> {
         Ok(true)
     }
 
-    /// Marks rules of a block, the last first: each that calls only marked rules and earlier blocks before a character.
-    fn mark_down(&self, clean: &mut [bool])
-        requires block { Stands self.now }
-        requires long { IsLong self.now clean.old }
-        requires none { (r : ℕ) → marked clean.old r ≡ false }
-        ensures long { IsLong self.now clean.new }
-        ensures clean { AreClean (table_of self.now) (empty_in self.now) self.now.start clean.new }
-    {
-        let mut number = self.end;
-        while self.start < number {
-            number -= 1;
-            if self.calls_clean(number, clean) {
-                clean[(number - self.start) as usize] = true;
-            }
-        }
-    }
-
-    /// Marks more of them, the first first.
-    fn mark_up(&self, clean: &mut [bool])
+    /// Marks the rule at this place of the block, if it calls only marked rules and earlier blocks before a character.
+    fn mark_if_clean(&self, place: u32, clean: &mut [bool])
         requires block { Stands self.now }
         requires long { IsLong self.now clean.old }
         requires clean { AreClean (table_of self.now) (empty_in self.now) self.now.start clean.old }
         ensures long { IsLong self.now clean.new }
         ensures clean { AreClean (table_of self.now) (empty_in self.now) self.now.start clean.new }
     {
-        for place in 0..self.end - self.start {
-            if !clean[place as usize] && self.calls_clean(self.start + place, clean) {
-                clean[place as usize] = true;
-            }
+        if place >= self.end - self.start || clean[place as usize] {
+            return;
+        }
+        if self.calls_clean(self.start + place, clean) {
+            clean[place as usize] = true;
         }
     }
 
-    /// Marks rules of a block that don't reach themselves, without a search. Where its rules call later ones, and where
-    /// they call earlier ones, all of them are marked.
-    fn mark_clean(&self, clean: &mut [bool])
+    /// Marks rules of a block that don't reach themselves, without a search: those of the list in turn. Where each
+    /// stands after those that it calls, all of the list are marked.
+    fn mark_in_turn(&self, order: &[u32], clean: &mut [bool])
         requires block { Stands self.now }
         requires long { IsLong self.now clean.old }
         requires none { (r : ℕ) → marked clean.old r ≡ false }
         ensures long { IsLong self.now clean.new }
         ensures clean { AreClean (table_of self.now) (empty_in self.now) self.now.start clean.new }
     {
-        self.mark_down(clean);
-        self.mark_up(clean);
+        for place in order {
+            self.mark_if_clean(*place, clean);
+        }
+    }
+
+    /// Lists the calls before a character of the rule at this place.
+    fn list_calls_of(&self, place: u32, list: &mut Vec<u32>) -> Result<(), NoMemory>
+        requires block { Stands self.now }
+        requires inside { place < self.now.end - self.now.start }
+        ensures { OnOk result
+            (Lists (calls_at (empty_in self.now) (table_of self.now) (self.now.start + place)) list.old.items
+            list.new.items) }
+    {
+        if let Some(rule) = self.rules.get(self.start + place) {
+            list_calls(list, &rule.body, self.empties)?;
+        }
+        Ok(())
+    }
+
+    /// Notes the rule at this place as a caller of each rule of the block in the list.
+    fn note_caller(&self, place: u32, list: &[u32], turns: &mut Turns) -> Result<(), NoMemory>
+        requires block { Stands self.now }
+        ensures { OnOk result (length turns.new.callers.items ≡ length turns.old.callers.items) }
+    {
+        for rule in list {
+            if *rule >= self.start && *rule < self.end {
+                turns.note(place, *rule - self.start)?;
+            }
+        }
+        Ok(())
+    }
+
+    /// Which rules of a block wait for which.
+    fn turns(&self, alloc: Global) -> Result<Turns, NoMemory>
+        requires { Stands self.now }
+    {
+        let mut turns = Turns::new(alloc, self.end - self.start)?;
+        for place in 0..self.end - self.start {
+            let mut list = Vec::new(alloc);
+            self.list_calls_of(place, &mut list)?;
+            self.note_caller(place, &list, &mut turns)?;
+        }
+        Ok(turns)
     }
 
     /// A list of such marks.
@@ -365,7 +539,8 @@ impl Block<'_> {
             AreClean (table_of self.now) (empty_in self.now) self.now.start v.items) }
     {
         let mut clean = vec![in alloc; false; (self.end - self.start) as usize]?;
-        self.mark_clean(&mut clean);
+        let order = self.turns(alloc)?.order(alloc)?;
+        self.mark_in_turn(&order, &mut clean);
         Ok(clean)
     }
 

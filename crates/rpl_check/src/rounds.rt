@@ -1,5 +1,5 @@
 // A fact of all rules, found block by block.
-ghost use Rattle.std.specs.Prelude.{◌≡◌, ℕ, ◌<◌, ◌≤◌, false, true, length, slice_get, IfOk};
+ghost use Rattle.std.specs.Prelude.{◌≡◌, ℕ, ◌<◌, ◌≤◌, false, true, length, slice_get, IfOk, OnOk};
 ghost use Rattle.rpl_core.specs.Listed.{blocks_in, bodies_in, rules_of};
 ghost use Rattle.rpl_check.specs.Facts.{IsLeast, Solves, passes};
 ghost use Rattle.rpl_core.specs.inside.Marks.{count, marked};
@@ -8,6 +8,7 @@ ghost use Rattle.rpl_check.specs.inside.Rounds.{AreKnown, CallsBefore, Grows, Is
 
 use crate::NoMemory;
 use crate::facts::{Fact, rule_holds};
+use crate::gates::turns;
 use rpl_core::{Rules, joins_next};
 use std::alloc::Global;
 
@@ -51,49 +52,94 @@ fn round(rules: &Rules, start: u32, end: u32, fact: Fact, marks: &mut [bool]) ->
     found
 }
 
-/// Marks rules of a block that have the fact, the first first.
-fn mark_up(rules: &Rules, start: u32, end: u32, fact: Fact, marks: &mut [bool])
+/// Marks the rule at this place of the block, if it has the fact.
+fn mark_if_new(rules: &Rules, start: u32, end: u32, place: u32, fact: Fact, marks: &mut [bool])
     requires within { (start ≤ end) × (end ≤ length (rules_of rules.now)) }
     requires long { length marks.old ≡ length (rules_of rules.now) }
     requires under { IsUnder (test_of fact) (bodies_in rules.now) (marked marks.old) }
     ensures grows { Grows start marks.old marks.new }
     ensures under { IsUnder (test_of fact) (bodies_in rules.now) (marked marks.new) }
 {
-    for number in start..end {
-        if is_new(rules, number, fact, marks) {
-            marks[number as usize] = true;
-        }
+    if place >= end - start {
+        return;
+    }
+    let number = start + place;
+    if is_new(rules, number, fact, marks) {
+        marks[number as usize] = true;
     }
 }
 
-/// Marks the rules of a block that have the fact: rounds down and up, until one down marks nothing. Three are enough
-/// where all rules call later ones, and where all call earlier ones.
-fn close(rules: &Rules, start: u32, end: u32, fact: Fact, marks: &mut [bool])
+/// Marks rules of a block that have the fact: those of the list in turn.
+fn mark_in_turn(rules: &Rules, start: u32, end: u32, order: &[u32], fact: Fact, marks: &mut [bool])
+    requires within { (start ≤ end) × (end ≤ length (rules_of rules.now)) }
+    requires long { length marks.old ≡ length (rules_of rules.now) }
+    requires under { IsUnder (test_of fact) (bodies_in rules.now) (marked marks.old) }
+    ensures grows { Grows start marks.old marks.new }
+    ensures under { IsUnder (test_of fact) (bodies_in rules.now) (marked marks.new) }
+{
+    for place in order {
+        mark_if_new(rules, start, end, *place, fact, marks);
+    }
+}
+
+/// Marks rules of a block that have the fact, each after those by which it has it. A rule alone needs no order.
+fn mark_most(
+    alloc: Global,
+    rules: &Rules,
+    start: u32,
+    end: u32,
+    fact: Fact,
+    marks: &mut [bool],
+) -> Result<(), NoMemory>
+    requires within { (start ≤ end) × (end ≤ length (rules_of rules.now)) }
+    requires long { length marks.old ≡ length (rules_of rules.now) }
+    requires under { IsUnder (test_of fact) (bodies_in rules.now) (marked marks.old) }
+    ensures grows { OnOk result (Grows start marks.old marks.new) }
+    ensures under { OnOk result (IsUnder (test_of fact) (bodies_in rules.now) (marked marks.new)) }
+{
+    if end - start > 1 {
+        let order = turns(alloc, rules, start, end, fact, marks)?;
+        mark_in_turn(rules, start, end, &order, fact, marks);
+    }
+    Ok(())
+}
+
+/// Marks the rules of a block that have the fact: in turn, and then by rounds until one marks nothing, as the first
+/// does.
+fn close(
+    alloc: Global,
+    rules: &Rules,
+    start: u32,
+    end: u32,
+    fact: Fact,
+    marks: &mut [bool],
+) -> Result<(), NoMemory>
     requires within { (start ≤ end) × (end ≤ length (rules_of rules.now)) }
     requires earlier { CallsBefore (bodies_in rules.now) start }
     requires known { AreKnown (test_of fact) (bodies_in rules.now) marks.old start }
-    ensures { AreKnown (test_of fact) (bodies_in rules.now) marks.new end }
+    ensures { OnOk result (AreKnown (test_of fact) (bodies_in rules.now) marks.new end) }
 {
-    while round(rules, start, end, fact, marks) {
-        mark_up(rules, start, end, fact, marks);
-    }
+    mark_most(alloc, rules, start, end, fact, marks)?;
+    while round(rules, start, end, fact, marks) {}
+    Ok(())
 }
 
 /// Marks all rules that have the fact.
-fn close_all(rules: &Rules, fact: Fact, marks: &mut [bool])
+fn close_all(alloc: Global, rules: &Rules, fact: Fact, marks: &mut [bool]) -> Result<(), NoMemory>
     requires order { IsInOrder (bodies_in rules.now) (blocks_in rules.now) }
     requires long { length marks.old ≡ length (rules_of rules.now) }
     requires none { (r : ℕ) → marked marks.old r ≡ false }
-    ensures { IsLeast (Solves (test_of fact) (bodies_in rules.now)) (marked marks.new) }
+    ensures { OnOk result (IsLeast (Solves (test_of fact) (bodies_in rules.now)) (marked marks.new)) }
 {
     let mut start = 0;
     for number in 0..rules.len() as u32 {
         if joins_next(rules, number) {
             continue;
         }
-        close(rules, start, number + 1, fact, marks);
+        close(alloc, rules, start, number + 1, fact, marks)?;
         start = number + 1;
     }
+    Ok(())
 }
 
 /// The marks of all rules that have the fact.
@@ -102,6 +148,6 @@ pub(crate) fn work_out(alloc: Global, rules: &Rules, fact: Fact) -> Result<Vec<b
     ensures { IfOk result (λ marks. IsLeast (Solves (test_of fact) (bodies_in rules.now)) (marked marks.items)) }
 {
     let mut marks = vec![in alloc; false; rules.len()]?;
-    close_all(rules, fact, &mut marks);
+    close_all(alloc, rules, fact, &mut marks)?;
     Ok(marks)
 }

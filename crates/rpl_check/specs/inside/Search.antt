@@ -91,3 +91,7 @@ pub record Finds (test : ℕ → Bool) (old new : Search) : Type 0 where
   pub marks : (r : ℕ) → found new r ≡ (found old r || (in_block old r && test r))
   pub waiting : (r : ℕ) → waits new.waiting.items r ≡ (waits old.waiting.items r || (found new r && not (found old r)))
   pub left : length new.waiting.items + unmarked new.marks.items ≡ length old.waiting.items + unmarked old.marks.items
+
+-- the rules that pass the test are listed as well
+abbrev pub Lists : (ℕ → Bool) → (old new : List ℕ) → Type 0
+Lists test old new = (r : ℕ) → waits new r ≡ (waits old r || test r)

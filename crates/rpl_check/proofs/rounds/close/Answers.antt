@@ -1,15 +1,17 @@
 use Rattle.rpl_core.specs.Listed.{rules_of}
 use Rattle.rpl_core.specs.Table.{bodies_of}
-use Rattle.rpl_check.proofs.Settling.{room_lesser, known_end, grows_on}
+use Rattle.rpl_check.proofs.Settling.{room_less, known_end, grows_on}
 use Rattle.rpl_check.proofs.rounds.close.Goals as goal
 
+pub loop-fact-init : goal.loop-fact-init
+loop-fact-init c = (c.in_ok-mark_most.ensures.grows, c.in_ok-mark_most.ensures.under)
+
 pub loop-fact-smaller : goal.loop-fact-smaller
-loop-fact-smaller c = room_lesser c.args.start c.loop-fact.marks c.round.new.marks c.mark_up.new.marks c.round.ensures.grows c.mark_up.ensures.grows (c.round.ensures.found c.loop-fact-test.true)
+loop-fact-smaller c = room_less c.loop-fact.marks c.round.new.marks c.round.ensures.grows.long (c.round.ensures.found c.loop-fact-test.true)
 
 pub loop-fact-preserved : goal.loop-fact-preserved
 loop-fact-preserved c =
-    let to_round = grows_on c.args.start c.args.marks.now c.loop-fact.marks c.round.new.marks c.loop-fact.invariant.0 c.round.ensures.grows in
-    (grows_on c.args.start c.args.marks.now c.round.new.marks c.mark_up.new.marks to_round c.mark_up.ensures.grows, c.mark_up.ensures.under)
+    (grows_on c.args.start c.args.marks.now c.loop-fact.marks c.round.new.marks c.loop-fact.invariant.0 c.round.ensures.grows, c.round.ensures.under)
 
 pub returns : goal.returns
 returns c =

@@ -1,8 +1,0 @@
-use Rattle.rpl_core.specs.Listed.{rules_of}
-use Rattle.rpl_core.specs.Table.{bodies_of}
-use Rattle.rpl_core.specs.inside.Marks.{marked}
-use Rattle.rpl_check.specs.inside.Rounds.{test_of, IsUnder, Grows}
-use Rattle.rpl_check.proofs.rounds.mark_up.Given as goal
-
-abbrev pub invariant-loop-number : goal.invariant-loop-number
-invariant-loop-number l = Grows l.start l.fn.marks l.marks × IsUnder (test_of l.fact) (bodies_of (rules_of l.rules)) (marked l.marks)
