@@ -183,7 +183,7 @@ moved t j q (Some (c, n)) a e =
     let p = escape_plain (drop j t) c n e in
     ap (λ k. Some (c, k)) (ap (λ k. k + n) (sym a) ∙ sym (ap (λ k. at t j + k) p.bytes) ∙ sym (at-drop t j n))
 
-get_inside : (bs : List ℕ) (p c : ℕ) → slice_get bs p ≡ Some c → (p < length bs) × (get_or bs p 0 ≡ c)
+pub get_inside : (bs : List ℕ) (p c : ℕ) → slice_get bs p ≡ Some c → (p < length bs) × (get_or bs p 0 ≡ c)
 get_inside [] p c e = absurd (cc)
 get_inside (b ∷ bs) zero c e = (omega arith, cc)
 get_inside (b ∷ bs) (suc p) c e = let h = get_inside bs p c e in (omega (arith, h.0), h.1)

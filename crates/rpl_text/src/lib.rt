@@ -9,6 +9,7 @@
 mod chars;
 mod escapes;
 mod line;
+mod marks;
 mod numbers;
 mod text;
 

@@ -1,7 +1,7 @@
 // Places in a line of text.
-ghost use Rattle.std.specs.Prelude.{◌≡◌, ◌≤◌, ◌+◌, ◌↔◌, chars, length, slice_range, IsTrue};
+ghost use Rattle.std.specs.Prelude.{◌≡◌, ◌<◌, ◌≤◌, ◌+◌, ◌↔◌, chars, length, slice_range, IsTrue};
 ghost use Rattle.rpl_text.specs.Places.{at, index, IsPlace, step_from, back_from, place_from};
-ghost use Rattle.rpl_text.specs.Masks.{AllMarked};
+ghost use Rattle.rpl_text.specs.Masks.{AllMarked, UnmarkedAt};
 ghost use Rattle.rpl_text.specs.Seen.{text_of};
 
 use crate::line::{back_in, is_place_in, line_len, pass_in, place_in, slice_in, step_in};
@@ -49,8 +49,9 @@ impl<'a> Text<'a> {
         step_in(self.line, place)
     }
 
-    /// A place that is reached from this one over ASCII characters alone, `most` at most, whose bits in the mask are
-    /// all set: the two words hold the bits of the characters from 0 to 63, and of those from 64 to 127.
+    /// The place behind the marked characters that stand here, `most` at most: it is that of the first character that
+    /// isn't marked, or the end. Marked are the ASCII characters whose bits in the mask are set: the first word has the
+    /// bits of those from 0 to 63, the second of those from 64 to 127.
     pub fn pass(self, place: usize, most: usize, mask: [u64; 2]) -> usize
         requires { IsPlace (text_of self) place }
         ensures place { IsPlace (text_of self.entry) result }
@@ -58,6 +59,7 @@ impl<'a> Text<'a> {
         ensures most { result ≤ place + most }
         ensures number { let t = text_of self.entry in index t result + place ≡ index t place + result }
         ensures marked { let t = text_of self.entry in AllMarked mask t (index t place) (index t result) }
+        ensures stops { let t = text_of self.entry in result < place + most → UnmarkedAt mask t (index t result) }
     {
         pass_in(self.line, place, most, mask)
     }
