@@ -1,7 +1,7 @@
 -- Laws of sets and brackets.
 use Rattle.std.specs.Prelude.{◌≡◌, ℕ, suc, true, false, ◌&&◌, if◌then◌else◌, List, ◌++◌, length, Ok, Err}
 use Rattle.regex_class.specs.Ranges.{Range, in_ranges, IsCanonical}
-use Rattle.rpl_classes.specs.Sets.{IsNormal, HasJust}
+use Rattle.rpl_classes.specs.Sets.{IsNormal, HasJust, is_char}
 use Rattle.rpl_classes.specs.Norm.{norm}
 use Rattle.rpl_classes.specs.Algebra.{both, others, without}
 use Rattle.rpl_classes.specs.Symbols.{Placed, symbols_from, place, rest, begins, past_blanks}
@@ -9,10 +9,11 @@ use Rattle.rpl_classes.specs.Lists.{Reading, and_then, changed, list}
 use Rattle.rpl_classes.specs.Brackets.{is_class, class, more, joined, bracket, marked, bracket_of}
 use Rattle.rpl_classes.specs.declared.fault.SetFault.TheVariants.{BadSet}
 
--- sets with the same members are the same list, whose ranges are sorted and joined
+-- sets with the same members are the same list, whose ranges are sorted and joined, and hold only characters
 pub record OneList : Type 0 where
   pub same : (xs ys : List Range) → IsNormal xs → IsNormal ys → HasJust xs (in_ranges ys) → xs ≡ ys
   pub sorted : (rs : List Range) → IsCanonical (norm rs)
+  pub characters : (rs : List Range) (c : ℕ) → in_ranges (norm rs) c ≡ true → is_char c ≡ true
   pub members : (rs : List Range) → HasJust (norm rs) (in_ranges rs)
 
 -- ---- brackets without a bound: each part is read with a number that is large enough

@@ -1,29 +1,45 @@
 // The members below 128 as bits.
-ghost use Rattle.std.specs.Prelude.{◌≡◌, ◌≢◌, ℕ, ◌<◌, ◌≤◌};
+ghost use Rattle.std.specs.Prelude.{◌≡◌, ◌≢◌, ℕ, ◌<◌, ◌≤◌, ◌+◌, ◌↔◌, true};
 ghost use Rattle.std.specs.Int.{bit_at};
+ghost use Rattle.regex_class.specs.Ranges.{in_range};
 ghost use Rattle.rpl_classes.specs.Sets.{IsBitmap};
 
-use regex_class::Class;
+use regex_class::{Class, ClassRange};
 
-/// The mask with one more bit set.
-fn with_bit(bits: u64, bit: u32) -> u64
-    requires { bit < 64 }
-    ensures set { bit_at result bit ≡ 1 }
-    ensures kept { (k : ℕ) → k ≢ bit → bit_at result k ≡ bit_at bits k }
+/// The bits from one to another, both included.
+fn ones(low: u32, high: u32) -> u64
+    requires order { low ≤ high }
+    requires high { high < 64 }
+    ensures { (k : ℕ) → k < 64 → (bit_at result k ≡ 1) ↔ ((low ≤ k) × (k ≤ high)) }
 {
-    bits | (1 << bit)
+    (u64::MAX << low) & (u64::MAX >> (63 - high))
 }
 
-/// The bits of the 64 members from `start` on.
+/// The bits of those of the 64 numbers from `start` on that are in the range.
+fn bits_in(range: ClassRange, start: u32) -> u64
+    requires { start ≤ 64 }
+    ensures { (k : ℕ) → k < 64 → (bit_at result k ≡ 1) ↔ (in_range range (start + k) ≡ true) }
+{
+    let low = range.0.max(start);
+    let high = range.1.min(start + 63);
+    if low <= high {
+        ones(low - start, high - start)
+    } else {
+        0
+    }
+}
+
+/// The bits of the 64 members from `start` on. It looks at no range behind the first that starts after them.
 pub(crate) fn bitmap(class: &Class, start: u32) -> u64
     requires { start ≤ 64 }
     ensures { IsBitmap start class.now.ranges.items result }
 {
     let mut bits: u64 = 0;
-    for k in 0..64u32 {
-        if class.contains(start + k) {
-            bits = with_bit(bits, k);
+    for range in class.ranges.iter() {
+        if range.0 >= start + 64 {
+            return bits;
         }
+        bits |= bits_in(*range, start);
     }
     bits
 }

@@ -1,5 +1,5 @@
-use Rattle.std.proofs.Common.{◌≡◌, ◌-◌, arith}
-use Rattle.std.specs.Int.{bit_at, bit_not, w64}
+use Rattle.std.proofs.Common.{arith}
+use Rattle.std.specs.Int.{bit_not, w64}
 use Rattle.std.proofs.lemmas.Nat.Bits.{bit_at_and, bit_at_not, bit_at-lt}
 use Rattle.rpl_classes.proofs.bits.but.Goals as goal
 
