@@ -14,3 +14,9 @@ pub mod Quotes
 pub mod Stood
 pub mod Bounded
 pub mod Computing
+pub mod Escapes
+pub mod Peeling
+pub mod Texts
+pub mod BoundsWritten
+pub mod Blanks
+pub mod FormsWritten

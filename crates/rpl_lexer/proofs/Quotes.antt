@@ -17,7 +17,7 @@ use Rattle.rpl_lexer.specs.Enclosed.{plus, close, bad, by_bad, by_close}
 use Rattle.rpl_lexer.specs.Fronts.{stands}
 use Rattle.rpl_lexer.specs.Forms.{each}
 use Rattle.rpl_lexer.specs.Payloads.{unescaped, decoded}
-use Rattle.rpl_lexer.specs.Written.{is_bare, is_inner, Writes, nothing, bare, escaped, ReadsBack}
+use Rattle.rpl_lexer.specs.Written.{is_bare, is_inner, Writes, nothing, bare, escaped, ReadsBack, InText, ending, bare_in, escape_in}
 use Rattle.std.proofs.lemmas.List.{append-nil}
 use Rattle.rpl_lexer.proofs.Walks.{plus_none}
 use Rattle.rpl_lexer.proofs.Spans.{left, right}
@@ -291,3 +291,13 @@ read_back u us x (escaped c e w cs h k) =
 
 pub reads_back : (w cs r : List ℕ) → Writes w cs → ReadsBack w cs r
 reads_back w cs r h = record { token = walked_token (encode_utf8_all w) r (walked w cs h); text = read_back w cs [] h }
+
+-- ---- the same by bytes
+
+walked_in : (u : List ℕ) → InText u → Walked u
+walked_in [] ending = record { closes = λ x. sym (plus_none (close Quotes 0 false x)); fine = λ x e. e }
+walked_in (c ∷ w) (bare_in b u h k) = walked_on (b ∷ []) u (walked_bare (b ∷ []) (and_both (is_bare b) true h refl)) (walked_in u k)
+walked_in w (escape_in c e u h k) = walked_on (92 ∷ e) u (walked_escape c e (shape c e h)) (walked_in u k)
+
+pub in_text_stands : (u r : List ℕ) → InText u → stands (34 ∷ u ++ 34 ∷ r) ≡ Found K.Text (length u + 2)
+in_text_stands u r h = walked_token u r (walked_in u h)

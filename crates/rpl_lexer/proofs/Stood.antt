@@ -7,7 +7,8 @@ use Rattle.rpl_text.specs.Escapes.{escape}
 use Rattle.rpl_lexer.specs.declared.token.TokenKind.TheVariants as K
 use Rattle.rpl_lexer.specs.declared.enclosed.Enclosure.TheVariants.{Brackets}
 use Rattle.rpl_lexer.specs.declared.front.Stand.{Stand}
-use Rattle.rpl_lexer.specs.declared.front.Stand.TheVariants.{Found}
+use Rattle.rpl_lexer.specs.declared.fault.LexKind.TheVariants.{NumberTooWide}
+use Rattle.rpl_lexer.specs.declared.front.Stand.TheVariants.{Found, Fault}
 use Rattle.rpl_lexer.specs.Bytes.{has}
 use Rattle.rpl_lexer.specs.Enclosed.{plus, close, bad, by_bad, by_close}
 use Rattle.rpl_lexer.specs.Braces.{parts, is_wide, begins_bounds, brace_stands}
@@ -136,3 +137,27 @@ bounds_by bs r (met h g i j f) b c l m = sym f
 pub bounds_stand : (bs : List ℕ) → begins_bounds bs ≡ true → has bs (parts bs).close 125 ≡ true → is_wide bs (parts bs).least ≡ false → is_wide bs (parts bs).most ≡ false → stands (123 ∷ bs) ≡ Found K.Bounds ((parts bs).close + 2)
 unfolding stands
 bounds_stand bs b c l m = bounds_by bs (brace_stands bs) (braced bs) b c l m
+
+first_wide : (bs : List ℕ) (r : Stand) → Braced bs r → begins_bounds bs ≡ true → has bs (parts bs).close 125 ≡ true → is_wide bs (parts bs).least ≡ true → r ≡ Fault NumberTooWide (1 + (parts bs).least.start)
+first_wide bs r (opening h f) b c l = absurd (cc)
+first_wide bs r (unmet h g f) b c l = absurd (cc)
+first_wide bs r (wide_least h g i f) b c l = sym f
+first_wide bs r (wide_most h g i j f) b c l = absurd (cc)
+first_wide bs r (met h g i j f) b c l = absurd (cc)
+
+-- bounds whose first number is too wide
+pub wide_least_stands : (bs : List ℕ) → begins_bounds bs ≡ true → has bs (parts bs).close 125 ≡ true → is_wide bs (parts bs).least ≡ true → stands (123 ∷ bs) ≡ Fault NumberTooWide (1 + (parts bs).least.start)
+unfolding stands
+wide_least_stands bs b c l = first_wide bs (brace_stands bs) (braced bs) b c l
+
+second_wide : (bs : List ℕ) (r : Stand) → Braced bs r → begins_bounds bs ≡ true → has bs (parts bs).close 125 ≡ true → is_wide bs (parts bs).least ≡ false → is_wide bs (parts bs).most ≡ true → r ≡ Fault NumberTooWide (1 + (parts bs).most.start)
+second_wide bs r (opening h f) b c l m = absurd (cc)
+second_wide bs r (unmet h g f) b c l m = absurd (cc)
+second_wide bs r (wide_least h g i f) b c l m = absurd (cc)
+second_wide bs r (wide_most h g i j f) b c l m = sym f
+second_wide bs r (met h g i j f) b c l m = absurd (cc)
+
+-- and those whose second number is
+pub wide_most_stands : (bs : List ℕ) → begins_bounds bs ≡ true → has bs (parts bs).close 125 ≡ true → is_wide bs (parts bs).least ≡ false → is_wide bs (parts bs).most ≡ true → stands (123 ∷ bs) ≡ Fault NumberTooWide (1 + (parts bs).most.start)
+unfolding stands
+wide_most_stands bs b c l m = second_wide bs (brace_stands bs) (braced bs) b c l m

@@ -1,6 +1,6 @@
 -- What holds of tokens and cuts, whatever the text.
 use Rattle.std.specs.Prelude.{◌≡◌, ◌≢◌, ℕ, ◌+◌, List, ◌∷◌, ◌++◌, Some, length, slice_get, slice_index, IsUtf8}
-use Rattle.std.specs.Prelude.{IsCharBoundary}
+use Rattle.std.specs.Prelude.{◌↔◌, IsCharBoundary}
 use Rattle.rpl_lexer.specs.declared.token.Token.{Token}
 use Rattle.rpl_lexer.specs.declared.token.TokenKind.{TokenKind}
 use Rattle.rpl_lexer.specs.declared.token.TokenKind.TheVariants as K
@@ -11,9 +11,10 @@ use Rattle.rpl_lexer.specs.Keywords.{keyword_named}
 use Rattle.rpl_lexer.specs.Signs.{punct}
 use Rattle.rpl_lexer.specs.Fronts.{stands}
 use Rattle.rpl_lexer.specs.Cut.{End, Chain, IsCut, IsToken}
-use Rattle.rpl_lexer.specs.Forms.{Fits, Longest}
-use Rattle.rpl_lexer.specs.Payloads.{span, keyword_of, punct_of}
-use Rattle.rpl_lexer.specs.Written.{Writes, ReadsBack, InBracket, WritesBounds, BoundsBack}
+use Rattle.rpl_lexer.specs.Forms.{Fits, Form, Longest}
+use Rattle.rpl_lexer.specs.Payloads.{span, bounds_of, keyword_of, punct_of}
+use Rattle.rpl_lexer.specs.Written.{Writes, ReadsBack, InBracket, WritesBounds, BoundsBack, IsText, IsBracket}
+use Rattle.rpl_lexer.specs.Written.{IsBounds, InText, SaysBounds, WideBounds, SaysBetween}
 use Rattle.rpl_lexer.specs.declared.bounds.Bounds.{Bounds}
 
 -- a text has one cut: its tokens, or those before its first fault and that fault
@@ -61,3 +62,43 @@ BracketStands = (u r : List ℕ) → InBracket u → stands (91 ∷ u ++ 93 ∷ 
 -- what is written between braces as numbers, without blanks, is one token of bounds, whatever follows it, and says them
 abbrev pub BoundsReadBack : Type 0
 BoundsReadBack = (w r : List ℕ) (b : Bounds) → WritesBounds w b → BoundsBack w b r
+
+-- each token that is called a text is one
+abbrev pub TextsAreWritten : Type 0
+TextsAreWritten = (s : List ℕ) (t : Token) → t.kind ≡ K.Text → IsToken s t → IsText (span s t)
+
+-- each token that is called a bracket is one
+abbrev pub BracketsAreWritten : Type 0
+BracketsAreWritten = (s : List ℕ) (t : Token) → t.kind ≡ K.Bracket → IsToken s t → IsBracket (span s t)
+
+-- each token that is called bounds is some
+abbrev pub BoundsAreWritten : Type 0
+BoundsAreWritten = (s : List ℕ) (t : Token) → t.kind ≡ K.Bounds → IsToken s t → IsBounds (span s t)
+
+-- what is written between quotes by bytes and escapes is one text, whatever follows it
+abbrev pub TextStands : Type 0
+TextStands = (u r : List ℕ) → InText u → stands (34 ∷ u ++ 34 ∷ r) ≡ Found K.Text (length u + 2)
+
+-- what is written between braces as bounds, with blanks or without, with a number on each side of a comma or none, is
+-- one token, whatever follows it, and says them
+abbrev pub BoundsStand : Type 0
+BoundsStand = (w r : List ℕ) (b : Bounds) → SaysBounds w b → BoundsBack w b r
+
+-- where one of the numbers is one that 64 bits don't hold, the first of these is the fault
+abbrev pub WideBoundsFail : Type 0
+WideBoundsFail =
+    (w r : List ℕ) (at : ℕ) → WideBounds w at → stands (123 ∷ w ++ 125 ∷ r) ≡ Fault NumberTooWide (1 + at)
+
+-- each token that is called bounds is written as those that it says
+abbrev pub BoundsSay : Type 0
+BoundsSay = (s : List ℕ) (t : Token) → t.kind ≡ K.Bounds → IsToken s t → SaysBetween (span s t) (bounds_of s t)
+
+-- just what is written as a text, as a bracket or as bounds has the form of one
+abbrev pub TextForm : Type 0
+TextForm = (w : List ℕ) → Form K.Text w ↔ IsText w
+
+abbrev pub BracketForm : Type 0
+BracketForm = (w : List ℕ) → Form K.Bracket w ↔ IsBracket w
+
+abbrev pub BoundsForm : Type 0
+BoundsForm = (w : List ℕ) → Form K.Bounds w ↔ IsBounds w

@@ -2,6 +2,8 @@
 ghost use Rattle.rpl_lexer.specs.Cutting.{CutOrFault, CutComputes, FaultComputes, CutFound, FaultFound};
 ghost use Rattle.rpl_lexer.specs.Laws.{OneCut, TokensStand, BetweenCharacters, LongestForm, NoForm};
 ghost use Rattle.rpl_lexer.specs.Laws.{KeywordsTold, SignsTold, WrittenReadsBack, BracketStands, BoundsReadBack};
+ghost use Rattle.rpl_lexer.specs.Laws.{BoundsAreWritten, BracketsAreWritten, TextsAreWritten, BoundsSay};
+ghost use Rattle.rpl_lexer.specs.Laws.{TextStands, BoundsStand, WideBoundsFail, TextForm, BracketForm, BoundsForm};
 
 /// Each text has one cut: its tokens, or those before its first fault, and that fault. One of the two there always is.
 pub fn one_cut()
@@ -41,6 +43,32 @@ pub fn written_reads_back()
     ensures texts { WrittenReadsBack }
     ensures brackets { BracketStands }
     ensures bounds { BoundsReadBack }
+{}
+
+/// What stands as a text, as a bracket, or as bounds, is written as one; what bounds say is what is written.
+pub fn stood_as_written()
+    ensures texts { TextsAreWritten }
+    ensures brackets { BracketsAreWritten }
+    ensures bounds { BoundsAreWritten }
+    ensures said { BoundsSay }
+{}
+
+/// What is written as a text, as a bracket, or as bounds, stands as one, whatever follows it, but for a number that is
+/// too wide, which is the fault. With `stood_as_written` that says of each of the three which texts it is, without a
+/// word of the scanner.
+pub fn written_stands()
+    ensures texts { TextStands }
+    ensures brackets { BracketStands }
+    ensures bounds { BoundsStand }
+    ensures wide { WideBoundsFail }
+{}
+
+/// The forms among which the longest stands: just what is written as a text, as a bracket, or as bounds, has the form
+/// of one.
+pub fn forms_are_written()
+    ensures texts { TextForm }
+    ensures brackets { BracketForm }
+    ensures bounds { BoundsForm }
 {}
 
 /// The cut of a text as a function gives its tokens exactly where it has a cut, and else its first fault.

@@ -24,8 +24,8 @@ pub use cut::lex;
 pub use fault::{LexFault, LexKind};
 pub use keyword::Keyword;
 pub use laws::{
-    boundaries, cut_computes, longest_form, no_form, one_cut, tokens_stand, words_and_signs,
-    written_reads_back,
+    boundaries, cut_computes, forms_are_written, longest_form, no_form, one_cut, stood_as_written,
+    tokens_stand, words_and_signs, written_reads_back, written_stands,
 };
 pub use payload::{
     bounds_of, decode_text, halves_of, keyword_of, nesting_of, number_of, punct_of, token_text,

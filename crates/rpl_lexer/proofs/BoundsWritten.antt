@@ -12,8 +12,8 @@ use Rattle.rpl_lexer.specs.Forms.{AreBounds, each, Form}
 use Rattle.rpl_lexer.specs.Payloads.{span}
 use Rattle.rpl_lexer.proofs.Longest.{longest}
 use Rattle.rpl_lexer.proofs.Spans.{drop_zero, run_stops}
-use Rattle.rpl_written.proofs.Peeling.{empty, is_byte}
-use Rattle.rpl_written.specs.Laws.{InBounds, IsBounds, one_number, with_comma}
+use Rattle.rpl_lexer.proofs.Peeling.{empty, is_byte}
+use Rattle.rpl_lexer.specs.Written.{InBounds, IsBounds, one_number, with_comma}
 
 -- ---- a run, and what is behind it
 
@@ -169,12 +169,12 @@ module _ (s : List ℕ) (begun : begins_bounds s ≡ true) where
   parted false e shut long = plain e shut long
   parted true e shut long = comma e shut long
 
-bounds_of : (w : List ℕ) → AreBounds w → IsBounds w
-bounds_of w h =
+pub bounds_form : (w : List ℕ) → AreBounds w → IsBounds w
+bounds_form w h =
     let m = parted h.rest h.begun (has h.rest (c h.rest h.begun) 44) refl h.closed h.whole in
     record { inner = m.inner; is = h.is ∙ ap (λ x. 123 ∷ x) m.is; written = m.written }
 
 pub bounds_written : (s : List ℕ) (t : Token) → t.kind ≡ K.Bounds → IsToken s t → IsBounds (span s t)
 bounds_written s t is token =
     let fits = (longest (drop t.start s) t.kind (t.end - t.start) token.stands).fits in
-    bounds_of (span s t) (subst (λ k. Form k (span s t)) is fits.form)
+    bounds_form (span s t) (subst (λ k. Form k (span s t)) is fits.form)

@@ -7,19 +7,20 @@ use Rattle.std.proofs.lemmas.Bool.Decides.{nat_tests}
 use Rattle.rpl_text.specs.Escapes.{escape}
 use Rattle.rpl_lexer.specs.declared.token.TokenKind.TheVariants as K
 use Rattle.rpl_lexer.specs.declared.token.Token.{Token}
+use Rattle.rpl_lexer.specs.declared.enclosed.Enclosure.{Enclosure}
+use Rattle.rpl_lexer.specs.declared.enclosed.Enclosure.TheVariants.{Quotes}
 use Rattle.rpl_lexer.specs.Cut.{IsToken}
 use Rattle.rpl_lexer.specs.Enclosed.{plus, opens, closes, close, bad}
-use Rattle.rpl_lexer.specs.Forms.{each, Form, IsEnclosed}
+use Rattle.rpl_lexer.specs.Forms.{each, Form}
 use Rattle.rpl_lexer.specs.Payloads.{span}
-use Rattle.rpl_lexer.specs.Written.{is_bare}
 use Rattle.rpl_lexer.proofs.Longest.{longest}
 use Rattle.rpl_lexer.proofs.Quotes.{Shape, shape}
 use Rattle.rpl_lexer.proofs.Spans.{left, right}
-use Rattle.rpl_written.proofs.Escapes.{front, none_escaped}
-use Rattle.rpl_written.proofs.Peeling.{Asked, empty, hidden_fine, is_byte, is_escape, none_less, one_less}
-use Rattle.rpl_written.specs.Laws.{InText, IsText, bare_in, ending, escape_in}
+use Rattle.rpl_lexer.proofs.Escapes.{front, none_escaped}
+use Rattle.rpl_lexer.proofs.Peeling.{empty, hidden_fine, is_byte, is_escape, none_less, one_less}
+use Rattle.rpl_lexer.specs.Written.{is_bare, InText, IsText, bare_in, ending, escape_in}
 
-record AreQuotes (e : Asked opens) : Type 0 where
+record AreQuotes (e : Enclosure) : Type 0 where
   opening : (b : ℕ) → opens e b ≡ false
   closing : (b : ℕ) → closes e b ≡ nat_eq b 34
 
@@ -35,7 +36,7 @@ fine b w h = let s : nat_eq b 92 ≡ false = grind (arith, nat_tests) in rw s re
 is_other : (b : ℕ) → nat_eq b 10 ≡ false → nat_eq b 92 ≡ false → nat_eq b 34 ≡ false → is_bare b ≡ true
 is_other b l s q = rw (l, s, q) refl
 
-module _ (e : Asked opens) (are : AreQuotes e) where
+module _ (e : Enclosure) (are : AreQuotes e) where
   -- the bytes close the text, and end with the quote
   record Closes (w : List ℕ) : Type 0 where
     closed : close e 0 false w ≡ Some (length w)
@@ -148,15 +149,12 @@ module _ (e : Asked opens) (are : AreQuotes e) where
 
 -- ---- a token
 
-enclosed_written : (e : Asked opens) (w : List ℕ) → IsEnclosed e 34 w → ((b : ℕ) → opens e b ≡ false)
-    → ((b : ℕ) → closes e b ≡ nat_eq b 34) → IsText w
-enclosed_written e w h o c =
-    made e (record { opening = o; closing = c }) w h.rest h.is (record { closed = h.closed; escapes = h.escapes })
-
-form_written : (w : List ℕ) → Form K.Text w → IsText w
-form_written w form = enclosed_written _ w form (λ b. refl) (λ b. refl)
+pub text_form : (w : List ℕ) → Form K.Text w → IsText w
+text_form w form =
+    made Quotes (record { opening = λ b. refl; closing = λ b. refl }) w form.rest form.is
+    (record { closed = form.closed; escapes = form.escapes })
 
 pub text_written : (s : List ℕ) (t : Token) → t.kind ≡ K.Text → IsToken s t → IsText (span s t)
 text_written s t is token =
     let fits = (longest (drop t.start s) t.kind (t.end - t.start) token.stands).fits in
-    form_written (span s t) (subst (λ k. Form k (span s t)) is fits.form)
+    text_form (span s t) (subst (λ k. Form k (span s t)) is fits.form)

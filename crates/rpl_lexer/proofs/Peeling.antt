@@ -7,36 +7,33 @@ use Rattle.std.proofs.lemmas.Bool.Decides.{nat_tests}
 use Rattle.rpl_text.specs.Escapes.{escape}
 use Rattle.rpl_lexer.specs.declared.token.TokenKind.TheVariants as K
 use Rattle.rpl_lexer.specs.declared.token.Token.{Token}
+use Rattle.rpl_lexer.specs.declared.enclosed.Enclosure.{Enclosure}
+use Rattle.rpl_lexer.specs.declared.enclosed.Enclosure.TheVariants.{Brackets}
 use Rattle.rpl_lexer.specs.Cut.{IsToken}
 use Rattle.rpl_lexer.specs.Enclosed.{plus, opens, closes, close, bad}
-use Rattle.rpl_lexer.specs.Forms.{each, Form, IsEnclosed}
+use Rattle.rpl_lexer.specs.Forms.{each, Form}
 use Rattle.rpl_lexer.specs.Payloads.{span}
-use Rattle.rpl_lexer.specs.Written.{is_inner, InBracket, nothing_in, inner_in, escaped_in, bracket_in}
+use Rattle.rpl_lexer.specs.Written.{is_inner, InBracket, nothing_in, inner_in, escaped_in, bracket_in, IsBracket}
 use Rattle.rpl_lexer.proofs.Longest.{longest}
 use Rattle.rpl_lexer.proofs.Quotes.{Shape, shape}
 use Rattle.rpl_lexer.proofs.Spans.{left, right}
-use Rattle.rpl_written.proofs.Escapes.{front, none_escaped}
-use Rattle.rpl_written.specs.Laws.{IsBracket}
+use Rattle.rpl_lexer.proofs.Escapes.{front, none_escaped}
 
--- what `opens` is asked about, which has no name outside its crate
-abbrev pub Asked : {A B : Type 0} → (A → B) → Type 0
-Asked {A} {B} f = A
-
-record AreBrackets (e : Asked opens) : Type 0 where
+record AreBrackets (e : Enclosure) : Type 0 where
   opening : (b : ℕ) → opens e b ≡ nat_eq b 91
   closing : (b : ℕ) → closes e b ≡ nat_eq b 93
 
 -- the bytes close the bracket that is open, and d more around it, and end with the last
-record Closes (e : Asked opens) (d : ℕ) (w : List ℕ) : Type 0 where
+record Closes (e : Enclosure) (d : ℕ) (w : List ℕ) : Type 0 where
   closed : close e d false w ≡ Some (length w)
   escapes : bad false w ≡ None
 
 -- what is left behind the first that is closed
-abbrev Left : Asked opens → ℕ → List ℕ → Type 0
+abbrev Left : Enclosure → ℕ → List ℕ → Type 0
 Left e zero w = w ≡ []
 Left e (suc d) w = Closes e d w
 
-record Peeled (e : Asked opens) (d : ℕ) (w : List ℕ) : Type 0 where
+record Peeled (e : Enclosure) (d : ℕ) (w : List ℕ) : Type 0 where
   inner : List ℕ
   rest : List ℕ
   is : w ≡ inner ++ 93 ∷ rest
@@ -87,7 +84,7 @@ is_other b l s o c = rw (l, s, o, c) refl
 part_le : (k : ℕ) (u v w : List ℕ) → u ≡ v ++ 93 ∷ w → length u ≤ k → length w ≤ k
 part_le k u v w e le = omega (arith, ap length e, length-append v (93 ∷ w))
 
-module _ (e : Asked opens) (are : AreBrackets e) where
+module _ (e : Enclosure) (are : AreBrackets e) where
   shut_last : (w : List ℕ) → close e 0 false (93 ∷ w) ≡ Some 1
   shut_last w = rw (are.closing 93) refl
 
@@ -259,15 +256,12 @@ module _ (e : Asked opens) (are : AreBrackets e) where
 
 -- ---- a token
 
-enclosed_written : (e : Asked opens) (w : List ℕ) → IsEnclosed e 91 w → ((b : ℕ) → opens e b ≡ nat_eq b 91)
-    → ((b : ℕ) → closes e b ≡ nat_eq b 93) → IsBracket w
-enclosed_written e w h o c =
-    made e (record { opening = o; closing = c }) w h.rest h.is (record { closed = h.closed; escapes = h.escapes })
-
-form_written : (w : List ℕ) → Form K.Bracket w → IsBracket w
-form_written w form = enclosed_written _ w form (λ b. refl) (λ b. refl)
+pub bracket_form : (w : List ℕ) → Form K.Bracket w → IsBracket w
+bracket_form w form =
+    made Brackets (record { opening = λ b. refl; closing = λ b. refl }) w form.rest form.is
+    (record { closed = form.closed; escapes = form.escapes })
 
 pub bracket_written : (s : List ℕ) (t : Token) → t.kind ≡ K.Bracket → IsToken s t → IsBracket (span s t)
 bracket_written s t is token =
     let fits = (longest (drop t.start s) t.kind (t.end - t.start) token.stands).fits in
-    form_written (span s t) (subst (λ k. Form k (span s t)) is fits.form)
+    bracket_form (span s t) (subst (λ k. Form k (span s t)) is fits.form)

@@ -1,4 +1,0 @@
-mod Escapes
-mod Peeling
-mod Texts
-mod Bounds
