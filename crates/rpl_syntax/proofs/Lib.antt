@@ -19,3 +19,4 @@ pub mod Sets
 pub mod Said
 pub mod Held
 mod Examples
+pub mod Bared

@@ -5,7 +5,7 @@
 use Rattle.std.specs.Prelude.{Bool, true, false}
 use Rattle.rpl_syntax.specs.declared.name.QName.{QName}
 use Rattle.rpl_syntax.specs.Expression.{Expr, Text, Class, Any, Start, End, Boundary, Name, Cooked, Raw, Choice, Both}
-use Rattle.rpl_syntax.specs.Expression.{Prefix, Repeat, Macro, Marked, Note, Exprs, Nil, Cons, one}
+use Rattle.rpl_syntax.specs.Expression.{Prefix, Repeat, Macro, Marked, Note, Exprs, Nil, Cons, one, joined}
 use Rattle.rpl_syntax.specs.Printed.{is_joined, is_compound}
 
 -- in braces, or as it stands
@@ -72,3 +72,32 @@ abbrev mutual
   pub plain_all : Exprs → Exprs
   plain_all Nil = Nil
   plain_all (Cons p rest) = Cons (plain p) (plain_all rest)
+
+-- ---- the same expression, but for raw groups of one item
+--
+-- Such a group may have another core than its item: so have `{("a" "b")}*` and `("a" "b")*`. Which groups printing adds,
+-- `again` says.
+
+abbrev mutual
+  -- with each raw group of one item as that item, and each name at the place 0
+  pub bare : Expr → Expr
+  bare (Text s) = Text s
+  bare (Class s negated) = Class s negated
+  bare Any = Any
+  bare Start = Start
+  bare End = End
+  bare Boundary = Boundary
+  bare (Name q) = Name (unplaced q)
+  bare (Cooked ps) = Cooked (bare_all ps)
+  bare (Raw ps) = joined true (bare_all ps)
+  bare (Choice ps) = Choice (bare_all ps)
+  bare (Both p q) = Both (bare p) (bare q)
+  bare (Prefix s p) = Prefix s (bare p)
+  bare (Repeat p l m) = Repeat (bare p) l m
+  bare (Macro q p) = Macro (unplaced q) (bare p)
+  bare (Marked m p) = Marked m (bare p)
+  bare (Note s) = Note s
+
+  pub bare_all : Exprs → Exprs
+  bare_all Nil = Nil
+  bare_all (Cons p rest) = Cons (bare p) (bare_all rest)

@@ -20,7 +20,7 @@ use Rattle.rpl_syntax.specs.Expression.{Expr, Text, Class, Any, Start, End, Boun
 use Rattle.rpl_syntax.specs.Expression.{Prefix, Repeat, Macro, Marked, Note, Exprs, Nil, Cons}
 use Rattle.rpl_syntax.specs.Grammar.{Reads, spell_exp}
 use Rattle.rpl_syntax.specs.Printed.{printed}
-use Rattle.rpl_syntax.specs.Braces.{again, plain}
+use Rattle.rpl_syntax.specs.Braces.{again, bare, plain}
 use Rattle.rpl_syntax.specs.Trees.{exp_tree}
 
 -- ---- what a token says, where it isn't at fault
@@ -65,6 +65,10 @@ pub record IsReadAs (s : List ℕ) (x : Expr) : Type 0 where
 -- what is printed of x is read as x with the braces that printing adds, and nothing else but the places of names
 abbrev pub ReadsBack : Expr → Type 0
 ReadsBack x = (y : Expr) × IsReadAs (encode_utf8_all (printed x)) y × (plain y ≡ plain (again x))
+
+-- what is printed of x is read as x, but for the places of names and raw groups of one item
+abbrev pub ReadsAsItself : Expr → Type 0
+ReadsAsItself x = (y : Expr) × IsReadAs (encode_utf8_all (printed x)) y × (bare y ≡ bare x)
 
 -- ---- what can be written
 

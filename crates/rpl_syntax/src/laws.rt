@@ -7,7 +7,7 @@ ghost use Rattle.rpl_syntax.specs.Braces.{again, plain};
 ghost use Rattle.rpl_syntax.specs.Readable.{Good};
 ghost use Rattle.rpl_syntax.specs.Trees.{exp_tree};
 ghost use Rattle.rpl_syntax.specs.Reading.{read};
-ghost use Rattle.rpl_syntax.specs.Texts.{IsReadAs, ReadsBack, HasFewTokens, Writable};
+ghost use Rattle.rpl_syntax.specs.Texts.{IsReadAs, ReadsAsItself, ReadsBack, HasFewTokens, Writable};
 ghost use Rattle.rpl_syntax.specs.Writing.{write_exp};
 ghost use Rattle.rpl_syntax.specs.declared.token.Token.{Token};
 
@@ -42,4 +42,11 @@ pub fn readings_of_texts()
 /// changes but the places of names.
 pub fn printed_reads_back()
     ensures { (x : M.Expr) → Good x → Writable x → HasFewTokens x → ReadsBack x }
+{}
+
+/// What a text is read as is printed, and the printed text is read as the same expression, up to the places of names and
+/// up to taking a raw group of one item as that item. So is what is printed of anything that can be written.
+pub fn printed_reads_as_itself()
+    ensures read { (s : List ℕ) (x : M.Expr) → IsUtf8 s → IsReadAs s x → HasFewTokens x → ReadsAsItself x }
+    ensures written { (x : M.Expr) → Good x → Writable x → HasFewTokens x → ReadsAsItself x }
 {}

@@ -17,7 +17,10 @@ mod token;
 
 pub use build::{choose, join, wrap};
 pub use expr::{Expr, Exprs, Mark, Sign};
-pub use laws::{one_reading, printed_reads_back, prints_tree, readings_of_texts, reads_back};
+pub use laws::{
+    one_reading, printed_reads_as_itself, printed_reads_back, prints_tree, readings_of_texts,
+    reads_back,
+};
 pub use module::{Binding, Bindings, Import, ImportAs, Imports, Item, Items, Module};
 pub use name::QName;
 pub use print::print_expr;
