@@ -9,3 +9,4 @@ pub mod Written
 pub mod Numbered
 pub mod Knowing
 pub mod Parts
+pub mod Making

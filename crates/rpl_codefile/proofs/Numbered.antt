@@ -28,7 +28,7 @@ some_is : {A : Type 0} (x y : A) → Some x ≡ Some y → x ≡ y
 some_is x y e = cc
 
 -- what a table holds keeps its place
-held : {A : Type 0} (t xs o : List A) (j : ℕ) (x : A) → slice_get t j ≡ Some x → Keeps t xs o → slice_get o j ≡ Some x
+pub held : {A : Type 0} (t xs o : List A) (j : ℕ) (x : A) → slice_get t j ≡ Some x → Keeps t xs o → slice_get o j ≡ Some x
 held t [] o j x h k = subst (λ l. slice_get l j ≡ Some x) (sym k) h
 held t (y ∷ xs) o j x h (inl k) = held t xs o j x h k.1
 held t (y ∷ xs) o j x h (inr k) = held (t ++ y ∷ []) xs o j x (behind t j x h) k.1
