@@ -1,4 +1,4 @@
--- How texts, brackets and bounds may be written. Texts are written by characters, the others by bytes.
+-- How texts, brackets and bounds may be written: by bytes, and a text by characters too.
 use Rattle.std.specs.Prelude.{◌≡◌, ℕ, ◌+◌, ◌<◌, Bool, true, false, not, ◌||◌, nat_eq, List, [], ◌∷◌, ◌++◌}
 use Rattle.std.specs.Prelude.{Option, Some, None, length, encode_utf8_all}
 use Rattle.rpl_text.specs.Escapes.{escape}

@@ -75,8 +75,8 @@ abbrev mutual
 
 -- ---- the same expression, but for raw groups of one item
 --
--- Such a group may have another core than its item: so have `{("a" "b")}*` and `("a" "b")*`. Which groups printing adds,
--- `again` says.
+-- Such a group may have another core than its item: so have `{("a" "b")}*` and `("a" "b")*`. Which groups printing
+-- adds, `again` says.
 
 abbrev mutual
   -- with each raw group of one item as that item, and each name at the place 0

@@ -44,8 +44,8 @@ pub fn printed_reads_back()
     ensures { (x : M.Expr) → Good x → Writable x → HasFewTokens x → ReadsBack x }
 {}
 
-/// What a text is read as is printed, and the printed text is read as the same expression, up to the places of names and
-/// up to taking a raw group of one item as that item. So is what is printed of anything that can be written.
+/// What a text is read as is printed, and the printed text is read as the same expression, up to the places of names
+/// and up to taking a raw group of one item as that item. So is what is printed of anything that can be written.
 pub fn printed_reads_as_itself()
     ensures read { (s : List ℕ) (x : M.Expr) → IsUtf8 s → IsReadAs s x → HasFewTokens x → ReadsAsItself x }
     ensures written { (x : M.Expr) → Good x → Writable x → HasFewTokens x → ReadsAsItself x }
