@@ -7,9 +7,9 @@ DOCUMENTS = docs/COMMAND.md docs/LANGUAGE.md docs/TUTORIAL.md
 
 .PHONY: build check try test install uninstall clean
 
-# Proves and builds the program, where a source is newer than it.
+# Proves the crates side by side and builds the program, where a source is newer than it. Stopped, it goes on from there at the next call.
 build:
-	./rosie --build
+	tools/build
 
 # Between commits: proves the crates that changed and those above them, over what earlier checks kept; no edits, no tests.
 check:
@@ -24,7 +24,8 @@ try:
 # The proofs, the must-fail edits, the unit tests and the stored run, then the built program as a real process, and the manual.
 test:
 	tests/proofs
-	./rosie --build
+	tools/build
+	tests/launcher
 	tests/run
 	tests/expand
 	tests/rows
@@ -50,4 +51,4 @@ uninstall:
 	rm -rf $(SHARE)/rosie $(SHARE)/doc/rosie
 
 clean:
-	rm -rf crates/*/out tests/.work
+	rm -rf crates/*/out tests/.work .build
