@@ -3,7 +3,8 @@ PREFIX ?= /usr/local
 BIN = $(DESTDIR)$(PREFIX)/bin
 SHARE = $(DESTDIR)$(PREFIX)/share
 PROGRAM = crates/rosie/out/rosie
-DOCUMENTS = docs/COMMAND.md docs/LANGUAGE.md docs/TUTORIAL.md
+DOCUMENTS = docs/COMMAND.md docs/LANGUAGE.md docs/TUTORIAL.md docs/MESSAGES.md
+TOOLS = rosie-at rosie-why
 
 .PHONY: build check try test install uninstall clean
 
@@ -31,14 +32,18 @@ test:
 	tests/rows
 	tests/examples
 	tests/manual
+	tests/messages
+	tests/tools
 	tests/install
 
-# The program, its man page, the documents for users, the examples, and completions for three shells.
+# The program, the tools beside it, the man pages, the documents for users, the examples, and completions for three shells.
 install: build
 	install -d $(BIN) $(SHARE)/man/man1 $(SHARE)/doc/rosie $(SHARE)/rosie/examples $(SHARE)/bash-completion/completions \
 		$(SHARE)/zsh/site-functions $(SHARE)/fish/vendor_completions.d
 	install -m 755 $(PROGRAM) $(BIN)/rosie
+	install -m 755 $(TOOLS:%=tools/%) $(BIN)
 	tools/manual_page > $(SHARE)/man/man1/rosie.1
+	install -m 644 $(TOOLS:%=tools/%.1) $(SHARE)/man/man1
 	install -m 644 $(DOCUMENTS) $(SHARE)/doc/rosie
 	install -m 644 examples/* $(SHARE)/rosie/examples
 	install -m 644 completions/rosie.bash $(SHARE)/bash-completion/completions/rosie
@@ -46,7 +51,8 @@ install: build
 	install -m 644 completions/rosie.fish $(SHARE)/fish/vendor_completions.d/rosie.fish
 
 uninstall:
-	rm -f $(BIN)/rosie $(SHARE)/man/man1/rosie.1 $(SHARE)/bash-completion/completions/rosie
+	rm -f $(BIN)/rosie $(TOOLS:%=$(BIN)/%) $(SHARE)/man/man1/rosie.1 $(TOOLS:%=$(SHARE)/man/man1/%.1)
+	rm -f $(SHARE)/bash-completion/completions/rosie
 	rm -f $(SHARE)/zsh/site-functions/_rosie $(SHARE)/fish/vendor_completions.d/rosie.fish
 	rm -rf $(SHARE)/rosie $(SHARE)/doc/rosie
 
