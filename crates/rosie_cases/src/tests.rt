@@ -13,7 +13,8 @@ steps 7\nsteps 4\nsteps 7\nrosie: -:2: not UTF-8\nsteps 7\nrosie: g:1: not UTF-8
 
 // What it writes to `out`, and behind the `!` to `err`, where the first call of a device fails, the second, and so on to
 // the last. A `¶` stands for a line feed. A line is answered once its line feed, or the end, was read, and before more
-// is read; first its answer is written, and then what is told of it. Where a read may wait, answers are flushed first.
+// is read; first its answer is written and flushed, and then what is told of it. Where a read may wait, both outputs are
+// flushed first.
 
 /// The package is opened, and has three reads and the end; `f` is opened, and has a read and the end, and so has `g`.
 const FILES: &str = "\
@@ -37,31 +38,45 @@ ab1¶ab2¶!steps 7¶steps 4¶steps 7¶rosie: -:2: not UTF-8¶rosie: -: read fail
 ab1¶ab2¶!steps 7¶steps 4¶steps 7¶rosie: -:2: not UTF-8¶rosie: -: read failed¶
 ab1¶ab2¶ab3¶!steps 7¶steps 4¶steps 7¶rosie: -:2: not UTF-8¶steps 7¶rosie: -: read failed¶";
 
-/// Each answer takes two writes, and a flush comes behind them once no whole line is left that was read.
+/// Each answer takes two writes, and a flush, since its steps are told on `err`. A line without an answer takes a flush
+/// for that alone. One more comes where no whole line is left that was read, and at the end.
 const OUT_CALLS: &str = "\
 !
 ab1!
+ab1¶!
+ab1¶!steps 7¶
 ab1¶!steps 7¶steps 4¶
 ab1¶!steps 7¶steps 4¶
 ab1¶ab2!steps 7¶steps 4¶
+ab1¶ab2¶!steps 7¶steps 4¶
+ab1¶ab2¶!steps 7¶steps 4¶steps 7¶
 ab1¶ab2¶!steps 7¶steps 4¶steps 7¶rosie: -:2: not UTF-8¶
 ab1¶ab2¶!steps 7¶steps 4¶steps 7¶rosie: -:2: not UTF-8¶
 ab1¶ab2¶ab3!steps 7¶steps 4¶steps 7¶rosie: -:2: not UTF-8¶
+ab1¶ab2¶ab3¶!steps 7¶steps 4¶steps 7¶rosie: -:2: not UTF-8¶
+ab1¶ab2¶ab3¶!steps 7¶steps 4¶steps 7¶rosie: -:2: not UTF-8¶steps 7¶
 ab1¶ab2¶ab3¶!steps 7¶steps 4¶steps 7¶rosie: -:2: not UTF-8¶steps 7¶
 ab1¶ab2¶ab3¶!steps 7¶steps 4¶steps 7¶rosie: -:2: not UTF-8¶steps 7¶rosie: g:1: not UTF-8¶
+ab1¶ab2¶ab3¶!steps 7¶steps 4¶steps 7¶rosie: -:2: not UTF-8¶steps 7¶rosie: g:1: not UTF-8¶
 ab1¶ab2¶ab3¶ab4!steps 7¶steps 4¶steps 7¶rosie: -:2: not UTF-8¶steps 7¶rosie: g:1: not UTF-8¶
+ab1¶ab2¶ab3¶ab4¶!steps 7¶steps 4¶steps 7¶rosie: -:2: not UTF-8¶steps 7¶rosie: g:1: not UTF-8¶
 ab1¶ab2¶ab3¶ab4¶!steps 7¶steps 4¶steps 7¶rosie: -:2: not UTF-8¶steps 7¶rosie: g:1: not UTF-8¶steps 7¶";
 
-/// The steps of a line take one write and each fault takes two, and there is a flush at the end.
+/// The steps of a line take one write and each fault takes two; a flush comes where no whole line is left that was read,
+/// and at the end.
 const ERR_CALLS: &str = "\
 ab1¶!
 ab1¶!steps 7¶
+ab1¶!steps 7¶steps 4¶
 ab1¶ab2¶!steps 7¶steps 4¶
 ab1¶ab2¶!steps 7¶steps 4¶steps 7¶
 ab1¶ab2¶!steps 7¶steps 4¶steps 7¶rosie: -:2: not UTF-
+ab1¶ab2¶!steps 7¶steps 4¶steps 7¶rosie: -:2: not UTF-8¶
 ab1¶ab2¶ab3¶!steps 7¶steps 4¶steps 7¶rosie: -:2: not UTF-8¶
 ab1¶ab2¶ab3¶!steps 7¶steps 4¶steps 7¶rosie: -:2: not UTF-8¶steps 7¶
+ab1¶ab2¶ab3¶!steps 7¶steps 4¶steps 7¶rosie: -:2: not UTF-8¶steps 7¶
 ab1¶ab2¶ab3¶!steps 7¶steps 4¶steps 7¶rosie: -:2: not UTF-8¶steps 7¶rosie: g:1: not UTF-
+ab1¶ab2¶ab3¶!steps 7¶steps 4¶steps 7¶rosie: -:2: not UTF-8¶steps 7¶rosie: g:1: not UTF-8¶
 ab1¶ab2¶ab3¶ab4¶!steps 7¶steps 4¶steps 7¶rosie: -:2: not UTF-8¶steps 7¶rosie: g:1: not UTF-8¶
 ab1¶ab2¶ab3¶ab4¶!steps 7¶steps 4¶steps 7¶rosie: -:2: not UTF-8¶steps 7¶rosie: g:1: not UTF-8¶steps 7¶";
 

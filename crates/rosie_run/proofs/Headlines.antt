@@ -5,7 +5,7 @@ use Rattle.std.proofs.lemmas.Bool.{false≢true}
 use Rattle.rosie_io.specs.Counts.{Rose}
 use Rattle.std.proofs.Math.Seq.{take-append_seam, take-append-add, take-length}
 use Rattle.rosie_run.specs.Causes.{OutputCause, ReadsCause, SourcesCause, WritesCause}
-use Rattle.rosie_run.specs.Headline.{Reported, Left, in_the_run, at_the_end, Headline, IsComplete}
+use Rattle.rosie_run.specs.Headline.{IsBehind, Reported, Left, in_the_run, at_the_end, Headline, IsComplete}
 use Rattle.rosie_run.specs.Outputs.{Telling, Texts, Wrote, IsFront, Fronts}
 use Rattle.rosie_run.specs.Report.{Piece, outs, errs, tally_of, up_to_stop, has, is_hit, is_stop, is_fault}
 use Rattle.rosie_run.specs.Runs.{CutShort, Runs}
@@ -65,6 +65,14 @@ module _ (W : Telling) (all : List Piece) (Where : Why → List ℕ → ℕ → 
   first_done : (done todo : List Piece) → up_to_stop all ≡ done ++ todo → take (length done) (up_to_stop all) ≡ done
   first_done done todo e = ap (take (length done)) e ∙ take-append_seam done todo
 
+  behind_done : (done todo : List Piece) → all ≡ done ++ todo → has is_stop done ≡ false → IsBehind (up_to_stop all) (length done)
+  behind_done done todo split goes =
+      let whole = ap up_to_stop split ∙ up-append done todo goes in
+      record {
+        within = omega (arith, ap length whole, length-append done (up_to_stop todo));
+        goes_on = ap (has is_stop) (first_done done (up_to_stop todo) whole) ∙ goes;
+      }
+
   headline_why : (why : Why) (a d : Texts) → Left W (up_to_stop all) Where why a d → Headline (why_status why) W (up_to_stop all) Where a d
   headline_why Y.ReadFault a d h = h
   headline_why Y.Spent a d h = h
@@ -75,13 +83,14 @@ module _ (W : Telling) (all : List Piece) (Where : Why → List ℕ → ℕ → 
       subst (λ x. Headline x W (up_to_stop all) Where a d) (sym e.0) (headline_why why a d (record {
         file = h.file;
         k = length h.done;
+        behind = behind_done h.done h.todo h.split h.goes_on;
         stood = h.stood;
         out = λ t. out t ∙ h.wrote.out t ∙ ap (λ ps. a.out ++ outs ps) (sym first);
         err = λ t. last_text a.err b.err d.err (errs h.done) text (h.wrote.err t) (e.1 t) ∙ ap (λ ps. a.err ++ (errs ps ++ text)) (sym first) ∙ ap (λ x. a.err ++ (errs (take (length h.done) (up_to_stop all)) ++ x)) h.says;
       }))
   headline_cut why text s a b d h out (inr e) =
       let first = first_done h.done (up_to_stop h.todo) (ap up_to_stop h.split ∙ up-append h.done h.todo h.goes_on) in
-      subst (λ x. Headline x W (up_to_stop all) Where a d) (sym e.0) (at_the_end why h.file (length h.done) h.stood
+      subst (λ x. Headline x W (up_to_stop all) Where a d) (sym e.0) (at_the_end why h.file (length h.done) (behind_done h.done h.todo h.split h.goes_on) h.stood
       (λ t. subst (λ ps. IsFront a.out d.out (outs ps)) (sym first) (front_still a.out b.out d.out (outs h.done) (length (outs h.done), omega arith, h.wrote.out t ∙ ap (λ xs. a.out ++ xs) (sym (take-length (outs h.done)))) (out t)))
       (λ t. subst (λ x. IsFront a.err d.err (errs (take (length h.done) (up_to_stop all)) ++ x)) h.says (subst (λ ps. IsFront a.err d.err (errs ps ++ text)) (sym first) (last_front a.err b.err d.err (errs h.done) text (h.wrote.err t) (e.1 t)))))
 

@@ -1,5 +1,5 @@
 -- The run over several inputs, from input to input.
-use Rattle.std.proofs.Common.{ℕ, ◌≡◌, ◌+◌, ◌-◌, ◌^◌, ◌<◌, ◌≤◌, Bool, true, false, ◌||◌, cond, List, [], ◌∷◌, ◌++◌, length, length-append, get_or, drop, refl, sym, ◌∙◌, ap, subst, append_assoc, arith}
+use Rattle.std.proofs.Common.{ℕ, zero, suc, ◌≡◌, ◌+◌, ◌-◌, ◌^◌, ◌<◌, ◌≤◌, Bool, true, false, ◌||◌, cond, List, [], ◌∷◌, ◌++◌, length, length-append, get_or, drop, refl, sym, ◌∙◌, ap, subst, append_assoc, arith}
 use Rattle.std.proofs.lemmas.Bool.{false≢true}
 use Rattle.std.proofs.lemmas.List.{append-nil, drop_more, drop_all}
 use Rattle.rosie_io.specs.Counts.{Rose}
@@ -96,6 +96,23 @@ by_standard false left read read' stays h is = h (sym (stays refl) ∙ is)
 pub once-on : (name left left' : List ℕ) (read read' : Bool) → left' ≡ left_after name left → (is_standard name ≡ false → read' ≡ read) → (read ≡ true → left ≡ []) → read' ≡ true → left' ≡ []
 once-on name left left' read read' e stays h is = e ∙ by_standard (is_standard name) left read read' stays h is
 
+reads_head : (standard : Bool) (rest : Bool) → cond standard true rest ≡ false → (standard ≡ false) × (rest ≡ false)
+reads_head true rest h = absurd (false≢true (sym h))
+reads_head false rest h = (refl, h)
+
+reads_cons : (name : List ℕ) (more : List (List ℕ)) → reads_standard (name ∷ more) ≡ false → (is_standard name ≡ false) × (reads_standard more ≡ false)
+unfolding reads_standard
+reads_cons name more h = reads_head (is_standard name) (reads_standard more) h
+
+-- among names of which none is the standard input's, so is none of those from one on
+reads_drop : {Z : Type 0} (f : Z → List ℕ) (xs : List Z) (i : ℕ) → reads_standard (names_of f xs) ≡ false → reads_standard (names_of f (drop i xs)) ≡ false
+reads_drop f xs zero h = h
+reads_drop f [] (suc i) h = h
+reads_drop f (x ∷ xs) (suc i) h = reads_drop f xs i (reads_cons (f x) (names_of f xs) h).1
+
+pub not-standard : {Z : Type 0} (f : Z → List ℕ) (xs : List Z) (i : ℕ) (name : List ℕ) (more : List (List ℕ)) → names_of f (drop i xs) ≡ name ∷ more → reads_standard (names_of f xs) ≡ false → is_standard name ≡ false
+not-standard f xs i name more next h = (reads_cons name more (sym (ap reads_standard next) ∙ reads_drop f xs i h)).0
+
 pub untouched-on : {I : Type 0} (standard read read' : Bool) (i0 i i' : I) → (standard ≡ true → read' ≡ true) → (standard ≡ false → (read' ≡ read) × (i' ≡ i)) → (read ≡ false → i ≡ i0) → read' ≡ false → i' ≡ i0
 untouched-on true read read' i0 i i' is isn't h e = absurd (false≢true (sym e ∙ is refl))
 untouched-on false read read' i0 i i' is isn't h e = (isn't refl).1 ∙ h (sym (isn't refl).0 ∙ e)
@@ -162,7 +179,7 @@ module _ (W : Telling) (makes : Makes) (r : Reading) (tree : List (List ℕ × L
 
     module _ (i0 i i1 f0 f f1 : Moment) (first : read ≡ false → i ≡ i0) (faults : f.faults ≡ f0.faults) (opens : f.opens ≡ f0.opens) (taken : f.taken < 2 ^ 64 - 1 → f0.taken ≤ f.taken) where
       stood : (why : Why) (file : List ℕ) (k : ℕ) → InOne name read tree r.whole i i1 f f1 why file k → InInputs names (λ front. length (inputs_pieces makes r tree input front)) tree r.whole i0 i1 f0 f1 why file (length (inputs_pieces makes r tree input h.front) + k)
-      stood why file k (of_standard is once x) = in_standard h.front back' k (whole ∙ ap (λ n. h.front ++ n ∷ back') (sym x.0)) (ap is_standard x.0 ∙ is) (subst (λ m. InSource r.whole m i1 why k) (first once) x.1) refl
+      stood why file k (of_standard is once x) = in_standard h.front back' k (whole ∙ ap (λ n. h.front ++ n ∷ back') (sym x.0)) (ap is_standard x.0 ∙ is) (h.reads ∙ once) (subst (λ m. InSource r.whole m i1 why k) (first once) x.1) refl
       stood why file k (of_file isn't x) = in_file h.front back' k (whole ∙ ap (λ n. h.front ++ n ∷ back') (sym x.0)) (ap is_standard x.0 ∙ isn't) (file_later tree r.whole f0 f f1 why file k faults opens taken x.1) refl
 
       pub reached-break : (e : Ended) (d : Texts) → Breaks e W (one_pieces makes r tree left name) (InOne name read tree r.whole i i1 f f1) b d → Breaks e W (inputs_pieces makes r tree input names) (InInputs names (λ front. length (inputs_pieces makes r tree input front)) tree r.whole i0 i1 f0 f1) a d

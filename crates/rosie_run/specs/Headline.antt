@@ -3,24 +3,30 @@ use Rattle.rosie_run.specs.declared.ended.Why.TheVariants as Y
 use Rattle.rosie_io.specs.Opening.{file_of}
 use Rattle.rosie_run.specs.Lines.{input_fault}
 use Rattle.rosie_run.specs.Outputs.{Fronts, IsFront, Telling, Texts, Wrote}
-use Rattle.rosie_run.specs.Report.{Piece, errs, has, is_hit, outs, status_of}
+use Rattle.rosie_run.specs.Report.{Piece, errs, has, is_hit, is_stop, outs, status_of}
 use Rattle.rosie_run.specs.Runs.{why_text}
 use Rattle.rosie_run.specs.declared.ended.Why.{Why}
 use Rattle.rosie_run.specs.declared.status.Status.TheVariants.{Matched, NoMatch, Refused, LineFault, ReadFault}
 use Rattle.rosie_run.specs.declared.status.Status.TheVariants.{WriteFault, NoMemory, Spent}
 use Rattle.rosie_run.specs.declared.status.Status.{Status}
-use Rattle.std.specs.Prelude.{◌++◌, ◌<◌, ◌^◌, ◌∷◌, ◌≡◌, List, Some, false, length, take, true, ℕ}
+use Rattle.std.specs.Prelude.{◌++◌, ◌<◌, ◌^◌, ◌∷◌, ◌≡◌, ◌≤◌, List, Some, false, length, take, true, ℕ}
 
 -- all is as the report has it: the status, the texts and the steps
 pub record Reported (W : Telling) (ps : List Piece) (answer : Status) (a b : Texts) : Type 0 where
   pub status : answer ≡ status_of ps
   pub wrote : Wrote W ps a b
 
+-- the run went past the first k pieces, and none of them ends it
+pub record IsBehind (ps : List Piece) (k : ℕ) : Type 0 where
+  pub within : k ≤ length ps
+  pub goes_on : has is_stop (take k ps) ≡ false
+
 -- reading ended the run: the first pieces are written, and the line that says so
 pub record Left (W : Telling) (ps : List Piece) (Where : Why → List ℕ → ℕ → Type 0) (why : Why)
     (a b : Texts) : Type 0 where
   pub file : List ℕ
   pub k : ℕ
+  pub behind : IsBehind ps k
   pub stood : Where why file k
   pub out : W.out → b.out ≡ a.out ++ outs (take k ps)
   pub err : W.err → b.err ≡ a.err ++ (errs (take k ps) ++ input_fault file (why_text why))
@@ -28,7 +34,7 @@ pub record Left (W : Telling) (ps : List Piece) (Where : Why → List ℕ → �
 -- a write or a flush failed: each output has a front of its text, or of what is left where reading ended the run
 pub data WriteFailed (W : Telling) (ps : List Piece) (Where : Why → List ℕ → ℕ → Type 0) (a b : Texts) : Type 0 where
   in_the_run : Fronts W ps a b → WriteFailed W ps Where a b
-  at_the_end : (why : Why) (file : List ℕ) (k : ℕ) → Where why file k
+  at_the_end : (why : Why) (file : List ℕ) (k : ℕ) → IsBehind ps k → Where why file k
       → (W.out → IsFront a.out b.out (outs (take k ps)))
       → (W.err → IsFront a.err b.err (errs (take k ps) ++ input_fault file (why_text why)))
       → WriteFailed W ps Where a b

@@ -2,7 +2,7 @@
 use Rattle.rosie_io.specs.Counts.{capped}
 use Rattle.rosie_run.specs.Report.{Piece, costs, errs, has, is_stop, outs, tally_of}
 use Rattle.rosie_run.specs.declared.tally.Tally.{Tally}
-use Rattle.std.specs.Prelude.{◌++◌, ◌+◌, ◌≡◌, ◌≤◌, List, false, length, take, ℕ}
+use Rattle.std.specs.Prelude.{◌++◌, ◌+◌, ◌≡◌, ◌≤◌, ◌⊎◌, List, false, length, take, ℕ}
 
 -- what the outputs tell
 pub record Telling : Type 1 where
@@ -43,3 +43,7 @@ pub record Stands (T : Telling) (all done todo : List Piece) (a b : Texts) (tall
   pub goes_on : has is_stop done ≡ false
   pub wrote : Wrote T done a b
   pub comes_to : tally ≡ tally_of done
+
+-- nothing came to `err` before all that stands on `out` was flushed: so many bytes of so many
+abbrev pub OutFirst : List ℕ → List ℕ → ℕ → ℕ → Type 0
+OutFirst err_old err_new flushed number = (err_new ≡ err_old) ⊎ (flushed ≡ number)

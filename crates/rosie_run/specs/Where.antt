@@ -1,7 +1,7 @@
 -- Where reading stood when it ended a run.
 use Rattle.rosie_io.specs.Counts.{Rose}
 use Rattle.rosie_io.specs.Opening.{file_of}
-use Rattle.rosie_run.specs.Inputs.{is_standard}
+use Rattle.rosie_run.specs.Inputs.{is_standard, reads_standard}
 use Rattle.rosie_run.specs.Lines.{passed}
 use Rattle.rosie_run.specs.Sources.{Ends, Moment}
 use Rattle.rosie_run.specs.declared.ended.Why.{Why}
@@ -44,14 +44,16 @@ pub data InOne (name : List ℕ) (read : Bool) (tree : List (List ℕ × List �
   of_file : is_standard name ≡ false → InFileNamed name tree whole f0 f1 why file k
       → InOne name read tree whole i0 i1 f0 f1 why file k
 
--- where reading stood among the inputs with these names: behind the pieces of those before it. `before` is their number
+-- where reading stood among the inputs with these names: behind the pieces of those before it. `before` is their number.
+-- The standard input is read where its name comes first
 pub data InInputs (names : List (List ℕ)) (before : List (List ℕ) → ℕ) (tree : List (List ℕ × List ℕ))
     (whole : Bool) (i0 i1 f0 f1 : Moment) (why : Why) (file : List ℕ) (k : ℕ) : Type 0 where
   in_file : (front back : List (List ℕ)) (n : ℕ) → names ≡ front ++ file ∷ back → is_standard file ≡ false
       → InFile tree whole f0 f1 why file n → k ≡ before front + n
       → InInputs names before tree whole i0 i1 f0 f1 why file k
   in_standard : (front back : List (List ℕ)) (n : ℕ) → names ≡ front ++ file ∷ back → is_standard file ≡ true
-      → InSource whole i0 i1 why n → k ≡ before front + n → InInputs names before tree whole i0 i1 f0 f1 why file k
+      → reads_standard front ≡ false → InSource whole i0 i1 why n → k ≡ before front + n
+      → InInputs names before tree whole i0 i1 f0 f1 why file k
 
 -- where it stood in the run of a command: in its loading, which asks for these paths, or among its inputs
 pub data InRun (asks : List (List ℕ)) (Inputs : Why → List ℕ → ℕ → Type 0) (f0 f1 : Moment) (why : Why)

@@ -198,6 +198,7 @@ pub fn run_inputs<J: LineJob, F: Files, I: Source, O: Sink, E: Sink, L: Ledger>(
         (texts O.written O.number E.written out.new err.new steps.new) }
     ensures rest { F.tells → I.tells → GoesOn result (reads_standard (names_of encode_utf8_all names.now) ≡ true
         → I.rest input.new ≡ []) }
+    ensures unread { reads_standard (names_of encode_utf8_all names.now) ≡ false → input.new ≡ input.old }
     ensures cause { SourcesCause result (moment I.rest I.taken I.faults I.failed_opens input.old)
         (moment I.rest I.taken I.faults I.failed_opens input.new)
         (moment F.rest F.taken F.faults F.failed_opens files.old)

@@ -30,4 +30,4 @@ pub use status::Status;
 pub use std::alloc::AllocError as NoMemory;
 pub use tally::Tally;
 pub use trouble::Trouble;
-pub use write::{input_fault, line_fault};
+pub use write::{flush_both, input_fault, line_fault, write_both};

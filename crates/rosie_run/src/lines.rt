@@ -6,7 +6,7 @@ ghost use Rattle.rosie_io.specs.Appending.{Appends};
 ghost use Rattle.rosie_io.specs.Counts.{capped};
 ghost use Rattle.rosie_io.specs.Gathering.{left, Reads};
 ghost use Rattle.rosie_run.specs.Lines.{input_pieces, line_fault};
-ghost use Rattle.rosie_run.specs.Outputs.{texts};
+ghost use Rattle.rosie_run.specs.Outputs.{OutFirst, texts};
 ghost use Rattle.rosie_run.specs.inside.Causes.{BothCause, SinksCause, SourceCause, SpentCause, IsOfReading};
 ghost use Rattle.rosie_run.specs.inside.Passing.{MakesLine, CountsLine, StopsLine, RunsInput, ComesOf, SaysFault};
 ghost use Rattle.rosie_run.specs.inside.Passing.{made_out, made_err, made_mark};
@@ -107,7 +107,7 @@ fn fault_of(alloc: Global, file: &str, number: u64, why: &str) -> Result<Option<
     }
 }
 
-/// Writes what was made of a line. Where `out` gets some of it, that is pending until it is flushed.
+/// Writes what was made of a line. Where there is some of it, that is pending until both outputs are flushed.
 fn write_made<J: LineJob, O: Sink, E: Sink>(
     job: &J,
     made: Made,
@@ -122,20 +122,27 @@ fn write_made<J: LineJob, O: Sink, E: Sink>(
         (made_err made (J.err_text job.now)) }
     ensures number { O.counts → OnOk result (O.number out.new ≡ capped
         (O.number out.old + length (made_out made (J.out_text job.now)))) }
+    ensures order { O.counts → E.tells → OutFirst (E.written err.old) (E.written err.new) (O.flushed out.new)
+        (O.number out.new) }
+    ensures pending { pending.new ≡ false → (pending.old ≡ false) × (made_out made (J.out_text job.now) ≡ [])
+        × (made_err made (J.err_text job.now) ≡ []) }
     ensures cause { BothCause result (O.faults out.old) (O.faults out.new) (E.faults err.old) (E.faults err.new) }
 {
     match made {
         Made::Answer(mark) => {
-            *pending |= !job.out().is_empty();
+            *pending |= !job.out().is_empty() || !job.err().is_empty();
             match write_both(out, err, job.out(), job.err()) {
                 Ok(()) => Ok(mark),
                 Err(fault) => Err(fault),
             }
         }
-        Made::Fault(text) => match write_both(out, err, &[], text.as_bytes()) {
-            Ok(()) => Ok(Mark::Fault),
-            Err(fault) => Err(fault),
-        },
+        Made::Fault(text) => {
+            *pending = true;
+            match write_both(out, err, &[], text.as_bytes()) {
+                Ok(()) => Ok(Mark::Fault),
+                Err(fault) => Err(fault),
+            }
+        }
     }
 }
 
@@ -170,7 +177,7 @@ pub(crate) fn run_input<J: LineJob, S: Source, O: Sink, E: Sink, L: Ledger>(
     let mut tally = Tally::new();
     'lines: loop {
         // What was written appears before the reader waits for input.
-        match flush_before_wait(pending, reader.is_ready(), out) {
+        match flush_before_wait(pending, reader.is_ready(), out, err) {
             Ok(()) => {}
             Err(_) => return Err(Trouble::WriteFault),
         }

@@ -1,16 +1,31 @@
 // Whole texts to the sinks.
-ghost use Rattle.std.specs.Prelude.{◌≡◌, ◌+◌, IfOk, OnOk, length, string_bytes};
+ghost use Rattle.std.specs.Prelude.{◌≡◌, ◌+◌, IfOk, OnOk, false, length, string_bytes, true};
 ghost use Rattle.rosie_io.specs.Counts.{capped};
 ghost use Rattle.rosie_io.specs.Appending.{Appends, HasCause};
 ghost use Rattle.rosie_run.specs.Lines.{line_fault, input_fault};
+ghost use Rattle.rosie_run.specs.Outputs.{OutFirst};
 ghost use Rattle.rosie_run.specs.inside.Causes.{BothCause};
 
 use crate::NoMemory;
 use rosie_io::{FlushAnswer, Sink, WriteFault, write_all};
 use std::alloc::Global;
 
-/// Writes the two texts of a piece.
-pub(crate) fn write_both<O: Sink, E: Sink>(
+/// Flushes what was written on one output.
+fn flush<S: Sink>(sink: &mut S) -> Result<(), WriteFault>
+    ensures bytes { S.tells → S.written sink.new ≡ S.written sink.old }
+    ensures number { S.counts → S.number sink.new ≡ S.number sink.old }
+    ensures flushed { S.counts → OnOk result (S.flushed sink.new ≡ S.number sink.new) }
+    ensures cause { HasCause result (S.faults sink.old) (S.faults sink.new) }
+{
+    match sink.flush() {
+        FlushAnswer::Done => Ok(()),
+        FlushAnswer::Failed => Err(WriteFault),
+    }
+}
+
+/// Writes the two texts of a piece. `out` is flushed before anything is written on `err`, so that whoever sees both on
+/// one screen, or in one pipe, has them in this order.
+pub fn write_both<O: Sink, E: Sink>(
     out: &mut O,
     err: &mut E,
     out_text: &[u8],
@@ -19,16 +34,36 @@ pub(crate) fn write_both<O: Sink, E: Sink>(
     ensures out { O.tells → Appends result (O.written out.old) (O.written out.new) out_text.now }
     ensures err { E.tells → Appends result (E.written err.old) (E.written err.new) err_text.now }
     ensures number { O.counts → OnOk result (O.number out.new ≡ capped (O.number out.old + length out_text.now)) }
+    ensures order { O.counts → E.tells → OutFirst (E.written err.old) (E.written err.new) (O.flushed out.new)
+        (O.number out.new) }
     ensures cause { BothCause result (O.faults out.old) (O.faults out.new) (E.faults err.old) (E.faults err.new) }
 {
     match write_all(out, out_text) {
-        Ok(()) => write_all(err, err_text),
+        Ok(()) => write_behind(out, err, err_text),
+        Err(fault) => Err(fault),
+    }
+}
+
+/// Writes a text on `err`, behind what stands on `out`: that is flushed before, where there is a text.
+fn write_behind<O: Sink, E: Sink>(out: &mut O, err: &mut E, text: &[u8]) -> Result<(), WriteFault>
+    ensures out { O.tells → O.written out.new ≡ O.written out.old }
+    ensures err { E.tells → Appends result (E.written err.old) (E.written err.new) text.now }
+    ensures number { O.counts → O.number out.new ≡ O.number out.old }
+    ensures order { O.counts → E.tells → OutFirst (E.written err.old) (E.written err.new) (O.flushed out.new)
+        (O.number out.new) }
+    ensures cause { BothCause result (O.faults out.old) (O.faults out.new) (E.faults err.old) (E.faults err.new) }
+{
+    if text.is_empty() {
+        return Ok(());
+    }
+    match flush(out) {
+        Ok(()) => write_all(err, text),
         Err(fault) => Err(fault),
     }
 }
 
 /// Flushes what was written on both.
-pub(crate) fn flush_both<O: Sink, E: Sink>(out: &mut O, err: &mut E) -> Result<(), WriteFault>
+pub fn flush_both<O: Sink, E: Sink>(out: &mut O, err: &mut E) -> Result<(), WriteFault>
     ensures out { O.tells → O.written out.new ≡ O.written out.old }
     ensures err { E.tells → E.written err.new ≡ E.written err.old }
     ensures out_number { O.counts → O.number out.new ≡ O.number out.old }
@@ -36,16 +71,25 @@ pub(crate) fn flush_both<O: Sink, E: Sink>(out: &mut O, err: &mut E) -> Result<(
     ensures err_flushed { E.counts → OnOk result (E.flushed err.new ≡ E.number err.new) }
     ensures cause { BothCause result (O.faults out.old) (O.faults out.new) (E.faults err.old) (E.faults err.new) }
 {
-    match out.flush() {
-        FlushAnswer::Done => match err.flush() {
-            FlushAnswer::Done => Ok(()),
-            FlushAnswer::Failed => Err(WriteFault),
-        },
-        FlushAnswer::Failed => Err(WriteFault),
+    match flush(out) {
+        Ok(()) => flush(err),
+        Err(fault) => Err(fault),
     }
 }
 
-/// Writes the last line on `err`, and flushes both.
+/// Writes a text and flushes it.
+fn write_last<S: Sink>(sink: &mut S, text: &[u8]) -> Result<(), WriteFault>
+    ensures bytes { S.tells → Appends result (S.written sink.old) (S.written sink.new) text.now }
+    ensures flushed { S.counts → OnOk result (S.flushed sink.new ≡ S.number sink.new) }
+    ensures cause { HasCause result (S.faults sink.old) (S.faults sink.new) }
+{
+    match write_all(sink, text) {
+        Ok(()) => flush(sink),
+        Err(fault) => Err(fault),
+    }
+}
+
+/// Flushes `out`, and then writes the last line on `err` and flushes it.
 pub(crate) fn close_with<O: Sink, E: Sink>(
     out: &mut O,
     err: &mut E,
@@ -56,32 +100,38 @@ pub(crate) fn close_with<O: Sink, E: Sink>(
     ensures out_number { O.counts → O.number out.new ≡ O.number out.old }
     ensures out_flushed { O.counts → OnOk result (O.flushed out.new ≡ O.number out.new) }
     ensures err_flushed { E.counts → OnOk result (E.flushed err.new ≡ E.number err.new) }
+    ensures order { O.counts → E.tells → OutFirst (E.written err.old) (E.written err.new) (O.flushed out.new)
+        (O.number out.new) }
     ensures cause { BothCause result (O.faults out.old) (O.faults out.new) (E.faults err.old) (E.faults err.new) }
 {
-    match write_all(err, text.as_bytes()) {
-        Ok(()) => flush_both(out, err),
+    match flush(out) {
+        Ok(()) => write_last(err, text.as_bytes()),
         Err(fault) => Err(fault),
     }
 }
 
-/// Flushes `out` where something is pending and the reader may wait for input.
-pub(crate) fn flush_before_wait<O: Sink>(
+/// Flushes both outputs where something is pending on one and the reader may wait for input.
+pub(crate) fn flush_before_wait<O: Sink, E: Sink>(
     pending: &mut bool,
     ready: bool,
     out: &mut O,
+    err: &mut E,
 ) -> Result<(), WriteFault>
-    ensures bytes { O.tells → O.written out.new ≡ O.written out.old }
+    ensures out { O.tells → O.written out.new ≡ O.written out.old }
+    ensures err { E.tells → E.written err.new ≡ E.written err.old }
     ensures number { O.counts → O.number out.new ≡ O.number out.old }
-    ensures cause { HasCause result (O.faults out.old) (O.faults out.new) }
+    ensures out_flushed { O.counts → OnOk result (ready ≡ false → pending.old ≡ true
+        → O.flushed out.new ≡ O.number out.new) }
+    ensures err_flushed { E.counts → OnOk result (ready ≡ false → pending.old ≡ true
+        → E.flushed err.new ≡ E.number err.new) }
+    ensures stays { ready ≡ true → pending.new ≡ pending.old }
+    ensures cause { BothCause result (O.faults out.old) (O.faults out.new) (E.faults err.old) (E.faults err.new) }
 {
     if !*pending || ready {
         return Ok(());
     }
     *pending = false;
-    match out.flush() {
-        FlushAnswer::Done => Ok(()),
-        FlushAnswer::Failed => Err(WriteFault),
-    }
+    flush_both(out, err)
 }
 
 /// The text that says what is wrong with a line of an input.

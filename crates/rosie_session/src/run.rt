@@ -1,13 +1,13 @@
 // The run of a session, from line to line.
 ghost use Rattle.std.specs.Prelude.{◌≡◌, ◌+◌, ◌-◌, ◌^◌, ◌<◌, ◌≤◌, List, [], true, false, length, IfErr, IfOk, OnOk};
 ghost use Rattle.rosie_io.specs.Answering.{Keeps};
-ghost use Rattle.rosie_io.specs.Appending.{Appends, HasCause};
+ghost use Rattle.rosie_io.specs.Appending.{Appends};
 ghost use Rattle.rosie_io.specs.Counts.{capped};
 ghost use Rattle.rosie_io.specs.Gathering.{Reads, left};
 ghost use Rattle.rosie_io.specs.Loading.{NotFewer};
 ghost use Rattle.rosie_repl.specs.States.{session_of};
 ghost use Rattle.rosie_run.specs.Causes.{SourcesCause, WritesCause};
-ghost use Rattle.rosie_run.specs.Outputs.{texts};
+ghost use Rattle.rosie_run.specs.Outputs.{OutFirst, texts};
 ghost use Rattle.rosie_run.specs.Runs.{GoesOn, Runs};
 ghost use Rattle.rosie_run.specs.Sources.{moment, moment_of};
 ghost use Rattle.rosie_run.specs.inside.Causes.{BothCause};
@@ -21,11 +21,9 @@ ghost use Rattle.rosie_session.specs.inside.Turning.{FilesBy};
 use crate::halt::{Halt, ended_by};
 use crate::said::{Said, wrong};
 use crate::turn::answer;
-use rosie_io::{
-    Files, FlushAnswer, Line, LineFault, LineReader, Sink, Source, WriteFault, write_all,
-};
+use rosie_io::{Files, Line, LineFault, LineReader, Sink, Source, WriteFault};
 use rosie_repl::State;
-use rosie_run::{Ended, Tally, Trouble};
+use rosie_run::{Ended, Tally, Trouble, flush_both, write_both};
 use rpl_machine::Steps;
 use rpl_package::LibPath;
 use std::alloc::Global;
@@ -85,32 +83,31 @@ fn next_turn<F: Files, I: Source, L: Ledger>(
     }
 }
 
-/// Writes what is said.
+/// Writes what is said, `out` before `err`.
 fn write_said<O: Sink, E: Sink>(said: &Said, out: &mut O, err: &mut E) -> Result<(), WriteFault>
     ensures out { O.tells → Appends result (O.written out.old) (O.written out.new) said.now.out.items }
     ensures err { E.tells → Appends result (E.written err.old) (E.written err.new) said.now.err.items }
     ensures number { O.counts → OnOk result (O.number out.new ≡ capped (O.number out.old + length said.now.out.items)) }
+    ensures order { O.counts → E.tells → OutFirst (E.written err.old) (E.written err.new) (O.flushed out.new)
+        (O.number out.new) }
     ensures cause { BothCause result (O.faults out.old) (O.faults out.new) (E.faults err.old) (E.faults err.new) }
 {
-    match write_all(out, said.out.as_slice()) {
-        Ok(()) => write_all(err, said.err.as_slice()),
-        Err(fault) => Err(fault),
-    }
+    write_both(out, err, said.out.as_slice(), said.err.as_slice())
 }
 
 /// Flushes what was said, unless the next line is held already.
-fn flush_said<O: Sink>(ready: bool, out: &mut O) -> Result<(), WriteFault>
-    ensures bytes { O.tells → O.written out.new ≡ O.written out.old }
+fn flush_said<O: Sink, E: Sink>(ready: bool, out: &mut O, err: &mut E) -> Result<(), WriteFault>
+    ensures out { O.tells → O.written out.new ≡ O.written out.old }
+    ensures err { E.tells → E.written err.new ≡ E.written err.old }
     ensures number { O.counts → O.number out.new ≡ O.number out.old }
-    ensures cause { HasCause result (O.faults out.old) (O.faults out.new) }
+    ensures out_flushed { O.counts → OnOk result (ready ≡ false → O.flushed out.new ≡ O.number out.new) }
+    ensures err_flushed { E.counts → OnOk result (ready ≡ false → E.flushed err.new ≡ E.number err.new) }
+    ensures cause { BothCause result (O.faults out.old) (O.faults out.new) (E.faults err.old) (E.faults err.new) }
 {
     if ready {
         return Ok(());
     }
-    match out.flush() {
-        FlushAnswer::Done => Ok(()),
-        FlushAnswer::Failed => Err(WriteFault),
-    }
+    flush_both(out, err)
 }
 
 /// Answers each line of the input in turn.
@@ -140,7 +137,7 @@ fn run_lines<F: Files, I: Source, O: Sink, E: Sink, L: Ledger>(
     let mut state = State::new(alloc);
     let mut tally = Tally::new();
     'lines: loop {
-        match flush_said(reader.is_ready(), out) {
+        match flush_said(reader.is_ready(), out, err) {
             Ok(()) => {}
             Err(_) => return Err(Halt::Run(Trouble::WriteFault)),
         }

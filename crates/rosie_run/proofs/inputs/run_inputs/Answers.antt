@@ -4,7 +4,7 @@ use Rattle.rosie_io.specs.Reader.{Reader}
 use Rattle.rosie_run.proofs.Pieces.{fronts-none}
 use Rattle.rosie_run.specs.Inputs.{is_standard}
 use Rattle.rosie_run.specs.Sources.{moment}
-use Rattle.rosie_run.proofs.Inward.{names-next, names-none, once-on, untouched-on, reached-start, reached-on, part-goes, reached-stop, reached-break, reached-end}
+use Rattle.rosie_run.proofs.Inward.{names-next, names-none, not-standard, once-on, untouched-on, reached-start, reached-on, part-goes, reached-stop, reached-break, reached-end}
 use Rattle.rosie_run.proofs.inputs.run_inputs.Goals as goal
 
 pub inputs-init : goal.inputs-init
@@ -15,6 +15,7 @@ inputs-init g c = record {
   reached = λ t u. reached-start _ _ _ _ _ _ _ _ _ _ refl refl (g.met.O.Sink.number_fits c.args.out.now) c.new-tally.ensures;
   once = λ t u e. absurd (cc);
   untouched = λ _. refl;
+  unread = λ _. refl;
   input_faults = refl;
   input_opens = refl;
   files_faults = refl;
@@ -43,6 +44,7 @@ inputs-preserved g c =
           let off = part-goes _ _ _ _ _ _ (g.I.Source.rest c.inputs.input) c.text_of.result.now _ _ c.inputs.read c.inputs.tally _ _ (i.reached t u) next _ c.in-Ok-run_one.part c.and-tally.result w c.and-tally.ensures c.if-tally.false in
           once-on c.text_of.result.now (g.I.Source.rest c.inputs.input) _ c.inputs.read c.run_one.new.read (e.rest u (i.once t u) off) (λ n. (e.stays n).0) (i.once t u) is;
       untouched = untouched-on (is_standard c.text_of.result.now) c.inputs.read c.run_one.new.read _ _ _ e.reads e.stays i.untouched;
+      unread = λ n. (e.stays (not-standard (encode_utf8_all) c.args.names.now c.inputs.name-index c.text_of.result.now _ next n)).1 ∙ i.unread n;
       input_faults = e.cause.0.faults ∙ i.input_faults;
       input_opens = e.cause.0.opens ∙ i.input_opens;
       files_faults = e.cause.1.faults ∙ i.files_faults;
@@ -76,3 +78,13 @@ returns-clause-runs g c = λ t u.
 
 pub returns-in_default-clause-runs : goal.returns-in_default-clause-runs
 returns-in_default-clause-runs g c = λ t u. fronts-none _ _ _
+
+pub returns-then-tally-clause-unread : goal.returns-then-tally-clause-unread
+returns-then-tally-clause-unread g c = λ n.
+    let next = names-next (encode_utf8_all) c.args.names.now c.inputs.name-index c.name-item.result c.text_of.result.now c.inputs-test.true c.name-item.is c.text_of.ensures in
+    (c.in-Ok-run_one.ensures.stays (not-standard (encode_utf8_all) c.args.names.now c.inputs.name-index c.text_of.result.now _ next n)).1 ∙ c.inputs.invariant.unread n
+
+pub returns-in-Err-clause-unread : goal.returns-in-Err-clause-unread
+returns-in-Err-clause-unread g c = λ n.
+    let next = names-next (encode_utf8_all) c.args.names.now c.inputs.name-index c.name-item.result c.text_of.result.now c.inputs-test.true c.name-item.is c.text_of.ensures in
+    (c.in-Err.ensures.stays (not-standard (encode_utf8_all) c.args.names.now c.inputs.name-index c.text_of.result.now _ next n)).1 ∙ c.inputs.invariant.unread n

@@ -1,6 +1,6 @@
 use Rattle.std.proofs.Common.{◌≡◌, ◌-◌, ◌^◌, ◌≤◌, ◌<◌, true, false, [], drop}
 use Rattle.std.specs.Prelude.{encode_utf8_all}
-use Rattle.rosie_run.specs.Inputs.{names_of}
+use Rattle.rosie_run.specs.Inputs.{names_of, reads_standard}
 use Rattle.rosie_run.specs.Outputs.{texts}
 use Rattle.rosie_run.specs.inside.Reaching.{Reached}
 use Rattle.rosie_run.proofs.inputs.run_inputs.Given as goal
@@ -16,6 +16,7 @@ invariant-inputs g l = record {
       (texts g.O.Sink.written g.O.Sink.number g.E.Sink.written l.initial.out l.initial.err l.initial.steps) (texts g.O.Sink.written g.O.Sink.number g.E.Sink.written l.out l.err l.steps);
   once : g.F.Source.tells → g.I.Source.tells → l.read ≡ true → g.I.Source.rest l.input ≡ [];
   untouched : l.read ≡ false → l.input ≡ l.initial.input;
+  unread : reads_standard (names_of encode_utf8_all l.names) ≡ false → l.input ≡ l.initial.input;
   input_faults : g.I.Source.faults l.input ≡ g.I.Source.faults l.initial.input;
   input_opens : g.I.Source.failed_opens l.input ≡ g.I.Source.failed_opens l.initial.input;
   files_faults : g.F.Source.faults l.files ≡ g.F.Source.faults l.initial.files;

@@ -42,12 +42,12 @@ lines-preserved g c =
       passed = λ ft it w is.
           let is' = subst (λ (x : Tree). IsLoading x c.args.folders.now w) (sym c.lines.invariant.tree) is in
           let m = rw c.in-Some.is at (e.makes ft it w is') in
-          let a = texts g.O.Sink.written g.O.Sink.number g.E.Sink.written c.flush_said.new.out c.lines.err c.lines.steps in
+          let a = texts g.O.Sink.written g.O.Sink.number g.E.Sink.written c.flush_said.new.out c.flush_said.new.err c.lines.steps in
           let b =
           texts g.O.Sink.written g.O.Sink.number g.E.Sink.written c.write_said.new.out c.write_said.new.err
           c.next_turn.new.steps in
           passed-line _ w _ _ _ _ _ _ _ _ (passed-still _ w _ _ _ _ _ _ _ _ (c.lines.invariant.passed ft it w is) a
-          (record { out = c.in-Ok.ensures.bytes; err = λ _. refl; number = c.in-Ok.ensures.number; steps = refl }))
+          (record { out = c.in-Ok.ensures.out; err = c.in-Ok.ensures.err; number = c.in-Ok.ensures.number; steps = refl }))
           c.next_turn.new.reader.number (session_of c.next_turn.new.state) c.next_turn.new.reader.held
           (g.I.Source.rest c.next_turn.new.input) m.line b _ _ m.splits numbers.0 m.says.1 m.says.0.marks
           (wrote-one _ _ a b _ _ _ m.says.0 o.out o.err o.number m.steps) c.with-tally.ensures (e.reads.behind it)
@@ -58,8 +58,8 @@ lines-preserved g c =
         faults = e.files.faults ∙ c.lines.invariant.files_still.faults;
         opens = e.files.opens ∙ c.lines.invariant.files_still.opens;
       };
-      out_faults = o.cause.0 ∙ c.in-Ok.ensures.cause ∙ c.lines.invariant.out_faults;
-      err_faults = o.cause.1 ∙ c.lines.invariant.err_faults;
+      out_faults = o.cause.0 ∙ c.in-Ok.ensures.cause.0 ∙ c.lines.invariant.out_faults;
+      err_faults = o.cause.1 ∙ c.in-Ok.ensures.cause.1 ∙ c.lines.invariant.err_faults;
       few = e.fits;
       taken = λ lt.
           let a = e.reads.taken lt in
@@ -75,17 +75,17 @@ lines-preserved g c =
 pub returns-in-Err-clause-runs : goal.returns-in-Err-clause-runs
 returns-in-Err-clause-runs g c = λ ft it w is.
     passed-front _ w _ _ _ _ _ _ _ _ (passed-still _ w _ _ _ _ _ _ _ _ (c.lines.invariant.passed ft it w is) _
-    (record { out = c.in-Err.ensures.bytes; err = λ _. refl; number = c.in-Err.ensures.number; steps = refl })) _ (fronts-same _ _ _ _ refl refl)
+    (record { out = c.in-Err.ensures.out; err = c.in-Err.ensures.err; number = c.in-Err.ensures.number; steps = refl })) _ (fronts-same _ _ _ _ refl refl)
 
 pub returns-in-None-clause-runs : goal.returns-in-None-clause-runs
 returns-in-None-clause-runs g c = λ ft it w is.
     let is' = subst (λ (x : Tree). IsLoading x c.args.folders.now w) (sym c.lines.invariant.tree) is in
     let p = rw c.in-None.is at (c.in-Ok-next_turn.ensures.makes ft it w is') in
-    let a = texts g.O.Sink.written g.O.Sink.number g.E.Sink.written c.flush_said.new.out c.lines.err c.lines.steps in
+    let a = texts g.O.Sink.written g.O.Sink.number g.E.Sink.written c.flush_said.new.out c.flush_said.new.err c.lines.steps in
     let b =
-    texts g.O.Sink.written g.O.Sink.number g.E.Sink.written c.flush_said.new.out c.lines.err c.next_turn.new.steps in
+    texts g.O.Sink.written g.O.Sink.number g.E.Sink.written c.flush_said.new.out c.flush_said.new.err c.next_turn.new.steps in
     passed-end _ w _ _ _ _ _ _ _ _ (passed-still _ w _ _ _ _ _ _ _ _ (c.lines.invariant.passed ft it w is) a
-    (record { out = c.in-Ok.ensures.bytes; err = λ _. refl; number = c.in-Ok.ensures.number; steps = refl })) b p.0
+    (record { out = c.in-Ok.ensures.out; err = c.in-Ok.ensures.err; number = c.in-Ok.ensures.number; steps = refl })) b p.0
     (wrote-same _ a b refl refl refl p.2 (g.met.O.Sink.number_fits c.flush_said.new.out))
 
 pub returns-in-None-clause-rest : goal.returns-in-None-clause-rest
@@ -98,11 +98,11 @@ pub returns-in-Err-next_turn-clause-runs : goal.returns-in-Err-next_turn-clause-
 returns-in-Err-next_turn-clause-runs g c = λ ft it w is.
     let e = c.in-Err-next_turn.ensures in
     let is' = subst (λ (x : Tree). IsLoading x c.args.folders.now w) (sym c.lines.invariant.tree) is in
-    let a = texts g.O.Sink.written g.O.Sink.number g.E.Sink.written c.flush_said.new.out c.lines.err c.lines.steps in
+    let a = texts g.O.Sink.written g.O.Sink.number g.E.Sink.written c.flush_said.new.out c.flush_said.new.err c.lines.steps in
     let b =
-    texts g.O.Sink.written g.O.Sink.number g.E.Sink.written c.flush_said.new.out c.lines.err c.next_turn.new.steps in
+    texts g.O.Sink.written g.O.Sink.number g.E.Sink.written c.flush_said.new.out c.flush_said.new.err c.next_turn.new.steps in
     passed-halt _ w _ _ _ _ _ _ _ _ (passed-still _ w _ _ _ _ _ _ _ _ (c.lines.invariant.passed ft it w is) a
-    (record { out = c.in-Ok.ensures.bytes; err = λ _. refl; number = c.in-Ok.ensures.number; steps = refl }))
+    (record { out = c.in-Ok.ensures.out; err = c.in-Ok.ensures.err; number = c.in-Ok.ensures.number; steps = refl }))
     c.in-Err-next_turn.halt _ it c.lines.reader c.next_turn.new.reader _ b refl c.lines.invariant.parts e.stops
     (breaks-none _ w _ (session_of c.lines.state) _ a b c.in-Err-next_turn.halt (e.makes ft it w is') refl refl refl
     (g.met.O.Sink.number_fits c.flush_said.new.out)) (e.reads.bytes it)
@@ -129,10 +129,10 @@ pub returns-in-Err-next_turn-clause-sinks : goal.returns-in-Err-next_turn-clause
 returns-in-Err-next_turn-clause-sinks g c =
     let halt = c.in-Err-next_turn.halt in
     let o1 = g.O.Sink.faults c.flush_said.new.out in
-    let r1 = g.E.Sink.faults c.lines.err in
+    let r1 = g.E.Sink.faults c.flush_said.new.err in
     subst (λ x. SinksBy halt x o1 (g.E.Sink.faults c.args.err.now) r1)
-    (c.in-Ok.ensures.cause ∙ c.lines.invariant.out_faults)
-    (subst (λ x. SinksBy halt o1 o1 x r1) c.lines.invariant.err_faults
+    (c.in-Ok.ensures.cause.0 ∙ c.lines.invariant.out_faults)
+    (subst (λ x. SinksBy halt o1 o1 x r1) (c.in-Ok.ensures.cause.1 ∙ c.lines.invariant.err_faults)
     (sinks-none halt o1 r1 c.in-Err-next_turn.ensures.of_reading))
 
 pub returns-in-Err-write_said-clause-runs : goal.returns-in-Err-write_said-clause-runs
@@ -141,9 +141,9 @@ returns-in-Err-write_said-clause-runs g c = λ ft it w is.
     let o = c.in-Err-write_said.ensures in
     let is' = subst (λ (x : Tree). IsLoading x c.args.folders.now w) (sym c.lines.invariant.tree) is in
     let m = rw c.in-Some.is at (e.makes ft it w is') in
-    let a = texts g.O.Sink.written g.O.Sink.number g.E.Sink.written c.flush_said.new.out c.lines.err c.lines.steps in
+    let a = texts g.O.Sink.written g.O.Sink.number g.E.Sink.written c.flush_said.new.out c.flush_said.new.err c.lines.steps in
     passed-front _ w _ _ _ _ _ _ _ _ (passed-still _ w _ _ _ _ _ _ _ _ (c.lines.invariant.passed ft it w is) a
-    (record { out = c.in-Ok.ensures.bytes; err = λ _. refl; number = c.in-Ok.ensures.number; steps = refl })) _
+    (record { out = c.in-Ok.ensures.out; err = c.in-Ok.ensures.err; number = c.in-Ok.ensures.number; steps = refl })) _
     (fronts-turn _ w c.lines.reader.number (session_of c.lines.state) _ a _ m.line _ _ _ _ m.splits.lines m.says.0
     o.out o.err)
 
@@ -159,8 +159,8 @@ returns-in-Err-write_said-clause-sinks g c =
     let o1 = g.O.Sink.faults c.write_said.new.out in
     let r1 = g.E.Sink.faults c.write_said.new.err in
     subst (λ x. WriteRose x o1 (g.E.Sink.faults c.args.err.now) r1)
-    (c.in-Ok.ensures.cause ∙ c.lines.invariant.out_faults)
-    (subst (λ x. WriteRose (g.O.Sink.faults c.flush_said.new.out) o1 x r1) c.lines.invariant.err_faults
+    (c.in-Ok.ensures.cause.0 ∙ c.lines.invariant.out_faults)
+    (subst (λ x. WriteRose (g.O.Sink.faults c.flush_said.new.out) o1 x r1) (c.in-Ok.ensures.cause.1 ∙ c.lines.invariant.err_faults)
     c.in-Err-write_said.ensures.cause)
 
 pub returns-in_err-reader-clause-runs : goal.returns-in_err-reader-clause-runs
