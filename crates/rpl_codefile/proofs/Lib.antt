@@ -10,3 +10,4 @@ pub mod Numbered
 pub mod Knowing
 pub mod Parts
 pub mod Making
+pub mod Fitting

@@ -1,3 +1,4 @@
 pub mod Spelling
 pub mod Laws
+pub mod Compiled
 pub mod inside

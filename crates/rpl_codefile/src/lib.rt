@@ -17,6 +17,6 @@ mod writing;
 
 pub use code_file::{read_code, write_code};
 pub use fault::CodeFault;
-pub use laws::{has_spelling, one_reading, one_spelling};
+pub use laws::{compiled_can_be_spelled, has_spelling, one_reading, one_spelling};
 pub use rosie_io::Bytes;
 pub use rpl_core::NoMemory;
