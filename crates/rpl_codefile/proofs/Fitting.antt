@@ -1,5 +1,5 @@
 -- The code of cores that fit can be spelled.
-use Rattle.std.proofs.Common.{◌≡◌, ℕ, zero, suc, ◌+◌, ◌-◌, ◌<◌, ◌≤◌, ◌^◌, List, [], ◌∷◌, ◌++◌, length, Option, Some, None, ap, subst}
+use Rattle.std.proofs.Common.{ℕ, zero, suc, ◌+◌, ◌-◌, ◌<◌, ◌^◌, List, [], ◌∷◌, ◌++◌, length, Option, Some, None, ap, subst}
 use Rattle.std.proofs.Common.{sym, arith, length-append}
 use Rattle.std.proofs.lemmas.List.Elements.{All-nil, All-cons, All-head, All-tail, All-append}
 use Rattle.std.specs.Prelude.{Bool, true, false, if◌then◌else◌, option_map, slice_index_or}
@@ -8,16 +8,16 @@ use Rattle.regex_class.specs.Ranges.{Range}
 use Rattle.rpl_classes.specs.Sets.{IsNormal}
 use Rattle.rpl_classes.specs.Norm.{norm}
 use Rattle.rpl_classes.proofs.Normal.{norm_normal}
-use Rattle.rpl_core.specs.Code.{Placed, code, code_all, code_first, choice_code, tested_choice, many_code, loop_code, not_code}
-use Rattle.rpl_core.specs.Code.{refuse_code, and_code, lengths_code, behind_code, size}
+use Rattle.rpl_core.specs.Code.{Placed, code, code_all, code_first, choice_code, tested_choice, many_code, not_code}
+use Rattle.rpl_core.specs.Code.{and_code, lengths_code, size}
 use Rattle.rpl_core.specs.Core.{Core, Set, Seq, Choice, Many, Not, And, Behind, Call, Capture, Note, Start, End, Halt}
 use Rattle.rpl_core.specs.Core.{Cores, NoMore, Then}
 use Rattle.rpl_core.specs.Head.{head, first_head, all_heads, lone_set}
 use Rattle.rpl_core.specs.Instr.{Instr}
 use Rattle.rpl_core.specs.Instr as I
-use Rattle.rpl_core.specs.Programs.{address, bodies, program, IsCode}
+use Rattle.rpl_core.specs.Programs.{address, bodies, program}
 use Rattle.rpl_codefile.specs.Compiled.{IsFit, AreFit, GoesWithin, CompiledCanBeSpelled}
-use Rattle.rpl_codefile.specs.Laws.{CanBeSpelled, Spellable}
+use Rattle.rpl_codefile.specs.Laws.{Spellable}
 use Rattle.rpl_codefile.specs.Spelling.{FitsText}
 
 -- what is asked of an instruction but for its address
