@@ -1,6 +1,7 @@
 // Sets of characters.
-ghost use Rattle.std.specs.Prelude.{◌≡◌, ◌++◌, ◌∷◌, OnOk, flat_map, string_bytes};
+ghost use Rattle.std.specs.Prelude.{◌≡◌, ◌++◌, ◌∷◌, OnErr, OnOk, flat_map, string_bytes};
 ghost use Rattle.rpl_print.specs.Sets.{range_text, set_text};
+ghost use Rattle.rpl_print.specs.inside.Behind.{StandsBefore};
 
 use crate::words::push_hexadecimal;
 use rpl_classes::Set;
@@ -8,9 +9,25 @@ use rpl_text::NoMemory;
 
 /// Adds a set: its ranges in hexadecimal, one space apart, or `none` where it has no character.
 pub fn push_set(out: &mut String, set: &Set) -> Result<(), NoMemory>
-    ensures { OnOk result (string_bytes out.new ≡ string_bytes out.old ++ set_text set.now) }
+    ensures ok { OnOk result (string_bytes out.new ≡ string_bytes out.old ++ set_text set.now) }
+    ensures err { OnErr result (string_bytes out.new ≡ string_bytes out.old) }
 {
-    match set.ranges() {
+    let before = out.len();
+    match push_ranges(out, set.ranges()) {
+        Ok(()) => Ok(()),
+        Err(fault) => {
+            out.truncate(before);
+            Err(fault)
+        }
+    }
+}
+
+/// Adds all ranges of a set, or that it has none.
+fn push_ranges(out: &mut String, ranges: &[(u32, u32)]) -> Result<(), NoMemory>
+    ensures ok { OnOk result (string_bytes out.new ≡ string_bytes out.old ++ set_text ranges.now) }
+    ensures stays { StandsBefore (string_bytes out.old) (string_bytes out.new) }
+{
+    match ranges {
         [] => out.push_str("none"),
         [first, rest @ ..] => {
             push_range(out, *first)?;
@@ -21,8 +38,9 @@ pub fn push_set(out: &mut String, set: &Set) -> Result<(), NoMemory>
 
 /// Adds ranges, with a space before each.
 fn push_more(out: &mut String, ranges: &[(u32, u32)]) -> Result<(), NoMemory>
-    ensures { OnOk result (string_bytes out.new ≡ string_bytes out.old
+    ensures ok { OnOk result (string_bytes out.new ≡ string_bytes out.old
         ++ flat_map (λ r. 32 ∷ range_text r) ranges.now) }
+    ensures stays { StandsBefore (string_bytes out.old) (string_bytes out.new) }
 {
     for range in ranges {
         out.push(' ')?;
@@ -33,7 +51,8 @@ fn push_more(out: &mut String, ranges: &[(u32, u32)]) -> Result<(), NoMemory>
 
 /// Adds a range by its first and its last character, or by its only one.
 fn push_range(out: &mut String, range: (u32, u32)) -> Result<(), NoMemory>
-    ensures { OnOk result (string_bytes out.new ≡ string_bytes out.old ++ range_text range) }
+    ensures ok { OnOk result (string_bytes out.new ≡ string_bytes out.old ++ range_text range) }
+    ensures stays { StandsBefore (string_bytes out.old) (string_bytes out.new) }
 {
     push_hexadecimal(out, range.0)?;
     if range.0 != range.1 {

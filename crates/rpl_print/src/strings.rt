@@ -1,5 +1,5 @@
 // Texts as strings of JSON.
-ghost use Rattle.std.specs.Prelude.{◌≡◌, ◌≤◌, ◌++◌, ◌∷◌, [], length, IsTrue, IfOk, OnOk, string_bytes};
+ghost use Rattle.std.specs.Prelude.{◌≡◌, ◌≤◌, ◌++◌, ◌∷◌, [], length, IsTrue, IfOk, OnOk, OnErr, string_bytes};
 ghost use Rattle.rpl_print.specs.Quoted as Q;
 
 use rpl_text::NoMemory;
@@ -17,9 +17,12 @@ pub fn quoted(alloc: Global, text: &str) -> Result<String, NoMemory>
 
 /// Adds the text as a string of JSON.
 pub fn push_quoted(out: &mut String, text: &str) -> Result<(), NoMemory>
-    ensures { OnOk result (string_bytes out.new ≡ string_bytes out.old ++ Q.quoted text.now) }
+    ensures ok { OnOk result (string_bytes out.new ≡ string_bytes out.old ++ Q.quoted text.now) }
+    ensures err { OnErr result (string_bytes out.new ≡ string_bytes out.old) }
 {
     if is_plain(text.as_bytes()) {
+        // With room for all of it, no part is added where the next can't be.
+        out.reserve(text.len() + 2)?;
         out.push('"')?;
         out.push_str(text)?;
         return out.push('"');

@@ -1,4 +1,4 @@
-use Rattle.std.proofs.Common.{◌≡◌, ◌&&◌, true, ap, sym, ◌∙◌}
+use Rattle.std.proofs.Common.{◌&&◌, ap, sym, ◌∙◌}
 use Rattle.rpl_print.specs.Quoted.{is_plain}
 use Rattle.rpl_print.proofs.Plain.{quoted_plain, next_chunk, split}
 use Rattle.rpl_print.proofs.strings.is_plain.Goals as goal
