@@ -1,5 +1,5 @@
 // The trees of captures, as a flat list of nodes.
-ghost use Rattle.std.specs.Prelude.{◌≡◌, [], length, slice_get, IfOk, OnOk};
+ghost use Rattle.std.specs.Prelude.{◌≡◌, [], length, slice_get, IfOk, OnErr, OnOk};
 ghost use Rattle.rpl_tree.specs.Trees.{BuildsEach};
 
 use crate::building::Building;
@@ -47,12 +47,19 @@ impl Forest {
         self.building.nodes.get(index).copied()
     }
 
-    /// Becomes the trees of these captures, in the memory that it has where that is enough. What it holds after a
-    /// refusal is left open.
+    /// Becomes the trees of these captures, in the memory that it has where that is enough. After a refusal it has no
+    /// trees: those that it had are gone.
     pub fn fill(&mut self, caught: &[Caught]) -> Result<(), NoMemory>
-        ensures { OnOk result (BuildsEach caught.now self.new) }
+        ensures built { OnOk result (BuildsEach caught.now self.new) }
+        ensures err { OnErr result (self.new ≡ []) }
     {
-        self.building.fill(caught)
+        match self.building.fill(caught) {
+            Ok(()) => Ok(()),
+            Err(fault) => {
+                self.building.nodes.clear();
+                Err(fault)
+            }
+        }
     }
 }
 

@@ -11,4 +11,4 @@ use Rattle.rosie_jobs.proofs.line_run.print_match.Goals as goal
 pub returns : goal.returns
 returns c = printed_as c.print.result _ _ _ c.print.ensures (λ f e inside.
     let same = trees_same (chars c.args.line.now) (labels_of c.args.program.now) c.args.captures.now f inside e in
-    ap (λ x. answer c.args.style c.args.line.now (Some x)) (c.in_ok-fill.ensures (label_in (labels_of c.args.program.now)) (placed (at (chars c.args.line.now)) f) same).trees)
+    ap (λ x. answer c.args.style c.args.line.now (Some x)) (c.in_ok-fill.ensures.built (label_in (labels_of c.args.program.now)) (placed (at (chars c.args.line.now)) f) same).trees)

@@ -7,4 +7,4 @@ use Rattle.rosie_verdicts.proofs.tester.Tester.judge_match.Goals as goal
 pub judge-requires : goal.judge-requires
 judge-requires c =
     one-tree (labels_of c.args.program.now) c.args.self.now.scratch.captures c.fill.new.self c.built_as_one_tree.ensures
-    (subst (λ caught. BuildsEach caught c.fill.new.self) c.captures-2.ensures c.in_ok-fill.ensures) c.requires
+    (subst (λ caught. BuildsEach caught c.fill.new.self) c.captures-2.ensures c.in_ok-fill.ensures.built) c.requires
