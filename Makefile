@@ -3,10 +3,10 @@ PREFIX ?= /usr/local
 BIN = $(DESTDIR)$(PREFIX)/bin
 SHARE = $(DESTDIR)$(PREFIX)/share
 PROGRAM = crates/rosie/out/rosie
-DOCUMENTS = docs/COMMAND.md docs/LANGUAGE.md docs/TUTORIAL.md docs/MESSAGES.md
+DOCUMENTS = docs/COMMAND.md docs/LANGUAGE.md docs/TUTORIAL.md docs/MESSAGES.md CHANGELOG.md LICENSE
 TOOLS = rosie-at rosie-why
 
-.PHONY: build check try test install uninstall clean
+.PHONY: build check try test install uninstall dist clean
 
 # Proves the crates side by side and builds the program, where a source is newer than it. Stopped, it goes on from there at the next call.
 build:
@@ -25,6 +25,7 @@ try:
 # The proofs, the must-fail edits, the unit tests and the stored run, then the built program as a real process, and the manual.
 test:
 	tests/proofs
+	tests/build
 	tools/build
 	tests/launcher
 	tests/run
@@ -35,6 +36,7 @@ test:
 	tests/messages
 	tests/tools
 	tests/install
+	tests/dist
 
 # The program, the tools beside it, the man pages, the documents for users, the examples, and completions for three shells.
 install: build
@@ -56,5 +58,9 @@ uninstall:
 	rm -f $(SHARE)/zsh/site-functions/_rosie $(SHARE)/fish/vendor_completions.d/rosie.fish
 	rm -rf $(SHARE)/rosie $(SHARE)/doc/rosie
 
+# What is installed, packed for machines without Rattle: a folder, a .tar.gz, and a Debian package where there is dpkg-deb, all in dist/.
+dist: build
+	tools/dist
+
 clean:
-	rm -rf crates/*/out tests/.work .build
+	rm -rf crates/*/out tests/.work .build dist
