@@ -1,5 +1,6 @@
 -- The code of cores that fit can be spelled.
-use Rattle.std.proofs.Common.{ℕ, zero, suc, ◌+◌, ◌-◌, ◌<◌, ◌^◌, List, [], ◌∷◌, ◌++◌, length, Option, Some, None, ap, subst}
+use Rattle.std.proofs.Common.{ℕ, zero, suc, ◌+◌, ◌-◌, ◌<◌, ◌^◌, List, [], ◌∷◌, ◌++◌, length, Option, Some, None, ap}
+use Rattle.std.proofs.Common.{subst}
 use Rattle.std.proofs.Common.{sym, arith, length-append}
 use Rattle.std.proofs.lemmas.List.Elements.{All-nil, All-cons, All-head, All-tail, All-append}
 use Rattle.std.specs.Prelude.{Bool, true, false, if◌then◌else◌, option_map, slice_index_or}
@@ -82,11 +83,15 @@ choice_fine : (p q : Placed) → AllFine p → AllFine q → AllFine (choice_cod
 choice_fine p q h k a =
     let l1 = a + 1 + length (p (a + 1)) + 1 in
     let rest = I.Commit (l1 + length (q l1)) ∷ q l1 in
-    one (I.Choice l1) (p (a + 1) ++ rest) tt (follow (p (a + 1)) rest (h (a + 1)) (one (I.Commit (l1 + length (q l1))) (q l1) tt (k l1)))
+    one (I.Choice l1) (p (a + 1) ++ rest) tt
+    (follow (p (a + 1)) rest (h (a + 1)) (one (I.Commit (l1 + length (q l1))) (q l1) tt (k l1)))
 
-tested_fine : (o : Option (List Range)) (p q : Placed) → FitHead o → AllFine p → AllFine q → AllFine (tested_choice o p q)
+tested_fine : (o : Option (List Range)) (p q : Placed) → FitHead o → AllFine p → AllFine q
+    → AllFine (tested_choice o p q)
 tested_fine None p q f h k a = choice_fine p q h k a
-tested_fine (Some s) p q f h k a = one (I.TestSet (a + 1 + 1 + length (p (a + 1 + 1)) + 1) s) (choice_code p q (a + 1)) f (choice_fine p q h k (a + 1))
+tested_fine (Some s) p q f h k a =
+    one (I.TestSet (a + 1 + 1 + length (p (a + 1 + 1)) + 1) s) (choice_code p q (a + 1)) f
+    (choice_fine p q h k (a + 1))
 
 many_fine : (o : Option (List Range)) (p : Placed) → FitHead o → AllFine p → AllFine (many_code o p)
 many_fine (Some s) p f h a = one (I.Span s) [] f done
@@ -107,7 +112,8 @@ and_fine p h a =
     one (I.Choice l1) (p (a + 1) ++ rest) tt
     (follow (p (a + 1)) rest (h (a + 1)) (one (I.BackCommit (l1 + 1)) (I.Fail ∷ []) tt (one I.Fail [] tt done)))
 
-lengths_fine : (p : Placed) (e n k : ℕ) → AllFine p → ((j : ℕ) → j < n → k + j < 2 ^ 32) → AllFine (lengths_code p e n k)
+lengths_fine : (p : Placed) (e n k : ℕ) → AllFine p → ((j : ℕ) → j < n → k + j < 2 ^ 32)
+    → AllFine (lengths_code p e n k)
 lengths_fine p e zero k h short a = one I.Fail [] tt done
 lengths_fine p e (suc n) k h short a =
     let next = a + 1 + 1 + length (p (a + 1 + 1)) + 1 in
@@ -131,10 +137,12 @@ mutual
   code_fine at (Behind l m p) h a =
       let n = m + 1 - l in
       let most = h.0 in
-      lengths_fine (code at p) (a + length (lengths_code (code at p) 0 n l a)) n l (code_fine at p h.1) (λ j lt. omega (arith, lt, most)) a
+      lengths_fine (code at p) (a + length (lengths_code (code at p) 0 n l a)) n l (code_fine at p h.1)
+      (λ j lt. omega (arith, lt, most)) a
   code_fine at (Call r) h a = one (I.Call (at r)) [] tt done
   code_fine at (Capture c p) h a =
-      one (I.Open c) (code at p (a + 1) ++ I.Close ∷ []) h.0 (follow (code at p (a + 1)) (I.Close ∷ []) (code_fine at p h.1 (a + 1)) (one I.Close [] tt done))
+      one (I.Open c) (code at p (a + 1) ++ I.Close ∷ []) h.0
+      (follow (code at p (a + 1)) (I.Close ∷ []) (code_fine at p h.1 (a + 1)) (one I.Close [] tt done))
   code_fine at (Note x) h a = one (I.Note x) [] h done
   code_fine at Start h a = one I.Start [] tt done
   code_fine at End h a = one I.End [] tt done
@@ -150,7 +158,8 @@ mutual
   parts_fine at NoMore h a = one I.Fail [] tt done
   parts_fine at (Then p NoMore) h a = code_fine at p h.0 a
   parts_fine at (Then p (Then q ps)) h a =
-      tested_fine (head p) (code at p) (code_first at (Then q ps)) (head_fit p h.0) (code_fine at p h.0) (parts_fine at (Then q ps) h.1) a
+      tested_fine (head p) (code at p) (code_first at (Then q ps)) (head_fit p h.0) (code_fine at p h.0)
+      (parts_fine at (Then q ps) h.1) a
 
 -- ---- a program
 
@@ -158,7 +167,8 @@ if_fine : (b : Bool) (x y : List Instr) → All Fine x → All Fine y → All Fi
 if_fine true x y h k = h
 if_fine false x y h k = k
 
-bodies_fine : (marks : ℕ → Bool) (at : ℕ → ℕ) (R : List Core) → All IsFit R → (k a : ℕ) → All Fine (bodies marks at R k a)
+bodies_fine : (marks : ℕ → Bool) (at : ℕ → ℕ) (R : List Core) → All IsFit R → (k a : ℕ)
+    → All Fine (bodies marks at R k a)
 bodies_fine marks at [] h k a = done
 bodies_fine marks at (p ∷ R) h k a =
     let b = a + size p + 1 in
@@ -171,7 +181,8 @@ program_fine : (marks : ℕ → Bool) (R : List Core) (g : Core) → All IsFit R
 program_fine marks R g h k =
     let at = address marks R g in
     let rest = bodies marks at R 0 (size g + 1) in
-    follow (code at g 0) (I.Finish ∷ rest) (code_fine at g k 0) (one I.Finish rest tt (bodies_fine marks at R h 0 (size g + 1)))
+    follow (code at g 0) (I.Finish ∷ rest) (code_fine at g k 0)
+    (one I.Finish rest tt (bodies_fine marks at R h 0 (size g + 1)))
 
 program_some : (marks : ℕ → Bool) (R : List Core) (g : Core) → 0 < length (program marks R g)
 program_some marks R g =

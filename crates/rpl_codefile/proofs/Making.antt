@@ -1,5 +1,6 @@
 -- Just the codes that can be spelled have a spelling.
-use Rattle.std.proofs.Common.{◌≡◌, ℕ, zero, suc, ◌+◌, ◌-◌, ◌<◌, ◌≤◌, List, [], ◌∷◌, ◌++◌, length, map, Some, refl, sym, ap, ◌∙◌}
+use Rattle.std.proofs.Common.{◌≡◌, ℕ, zero, suc, ◌+◌, ◌-◌, ◌<◌, ◌≤◌, List, [], ◌∷◌, ◌++◌, length, map, Some, refl}
+use Rattle.std.proofs.Common.{sym, ap, ◌∙◌}
 use Rattle.std.proofs.Common.{subst, arith, inl, inr, ⊎_elim, length-append, Ordering, Less, Equal, Greater}
 use Rattle.std.proofs.lemmas.Bool.{and_parts, and_from, leb-true, lt-ltb, ltb-true}
 use Rattle.std.proofs.lemmas.Cmp.{lists_total, nat_list_cmp_total, tied_itself}
@@ -21,7 +22,8 @@ use Rattle.rpl_core.specs.declared.instr.Instr as R
 use Rattle.rpl_core.specs.declared.instr.Instr.TheVariants as V
 use Rattle.rpl_draft.specs.Uses.{Keeps, KeepsOnce, sets_in, labels_in}
 use Rattle.rpl_codefile.specs.Laws.{CanBeSpelled, HasSpelling, Spellable}
-use Rattle.rpl_codefile.specs.Spelling.{file_of, spelling, Short, ShortRange, FitsSet, FitsText, FitsFile, IsFile, Spells}
+use Rattle.rpl_codefile.specs.Spelling.{file_of, spelling, Short, ShortRange, FitsSet, FitsText, FitsFile, IsFile}
+use Rattle.rpl_codefile.specs.Spelling.{Spells}
 use Rattle.rpl_codefile.proofs.Knowing.{exact_lists, range_cmp, range_exact, range_total}
 use Rattle.rpl_codefile.proofs.Numbered.{held, last_of}
 use Rattle.rpl_codefile.proofs.Once.{get_there, read_any, there}
@@ -42,7 +44,8 @@ rising n (r ∷ s) m e le =
     (omega (arith, go.0), All-cons ShortRange r s (omega arith, omega arith) go.1)
 
 set_fits : (s : List Range) → IsNormal s → FitsSet s
-set_fits s h = let r = rising 0 s 0x110001 h.rises (omega arith) in record { long = omega (arith, r.0); ranges = r.1; normal = h }
+set_fits s h =
+    let r = rising 0 s 0x110001 h.rises (omega arith) in record { long = omega (arith, r.0); ranges = r.1; normal = h }
 
 -- ---- equality is decided
 
@@ -82,7 +85,8 @@ module _ {A : Type 0} (same_or : (x y : A) → (x ≡ y) ⊎ (x ≡ y → ⊥)) 
   kept t [] = (t, refl)
   kept t (x ∷ xs) = by (find t x) (kept t xs) (kept (t ++ x ∷ []) xs)
     where
-      by : Contains t x ⊎ (Contains t x → ⊥) → (o : List A) × Keeps t xs o → (o : List A) × Keeps (t ++ x ∷ []) xs o → (o : List A) × Keeps t (x ∷ xs) o
+      by : Contains t x ⊎ (Contains t x → ⊥) → (o : List A) × Keeps t xs o → (o : List A) × Keeps (t ++ x ∷ []) xs o
+          → (o : List A) × Keeps t (x ∷ xs) o
       by (inl c) r q = (r.0, inl (c, r.1))
       by (inr n) r q = (q.0, inr (n, q.1))
 
@@ -96,7 +100,8 @@ found t [] o h = tt
 found t (x ∷ xs) o (inl h) =
     let c = h.0 in
     ((c.0, held t xs o c.0 x (get_there t c.0 x c.1 ∙ ap Some c.2) h.1), found t xs o h.1)
-found t (x ∷ xs) o (inr h) = ((length t, held (t ++ x ∷ []) xs o (length t) x (last_of t x) h.1), found (t ++ x ∷ []) xs o h.1)
+found t (x ∷ xs) o (inr h) =
+    ((length t, held (t ++ x ∷ []) xs o (length t) x (last_of t x) h.1), found (t ++ x ∷ []) xs o h.1)
 
 keeps_few : {A : Type 0} (t xs o : List A) → Keeps t xs o → length o ≤ length t + length xs
 keeps_few t [] o h = omega (arith, ap length h)
@@ -106,7 +111,8 @@ keeps_few t (x ∷ xs) o (inr h) = omega (arith, keeps_few (t ++ x ∷ []) xs o 
 kept_all : {A : Type 0} (P : A → Type 0) (t xs o : List A) → All P t → All P xs → Keeps t xs o → All P o
 kept_all P t [] o a b h = subst (All P) (sym h) a
 kept_all P t (x ∷ xs) o a b (inl h) = kept_all P t xs o a (All-tail P x xs b) h.1
-kept_all P t (x ∷ xs) o a b (inr h) = kept_all P (t ++ x ∷ []) xs o (All-push P t x a (All-head P x xs b)) (All-tail P x xs b) h.1
+kept_all P t (x ∷ xs) o a b (inr h) =
+    kept_all P (t ++ x ∷ []) xs o (All-push P t x a (All-head P x xs b)) (All-tail P x xs b) h.1
 
 -- ---- what a code uses
 
@@ -125,15 +131,25 @@ texts_few (_ ∷ is) = omega (arith, texts_few is)
 
 sets_fit : (n : ℕ) (code : List Instr) → All (Spellable n) code → All FitsSet (sets_in code)
 sets_fit n [] h = All-nil FitsSet
-sets_fit n (I.Set s ∷ is) h = All-cons FitsSet s (sets_in is) (set_fits s (All-head (Spellable n) (I.Set s) is h)) (sets_fit n is (All-tail (Spellable n) (I.Set s) is h))
-sets_fit n (I.TestSet l s ∷ is) h = All-cons FitsSet s (sets_in is) (set_fits s (All-head (Spellable n) (I.TestSet l s) is h).1) (sets_fit n is (All-tail (Spellable n) (I.TestSet l s) is h))
-sets_fit n (I.Span s ∷ is) h = All-cons FitsSet s (sets_in is) (set_fits s (All-head (Spellable n) (I.Span s) is h)) (sets_fit n is (All-tail (Spellable n) (I.Span s) is h))
+sets_fit n (I.Set s ∷ is) h =
+    All-cons FitsSet s (sets_in is) (set_fits s (All-head (Spellable n) (I.Set s) is h))
+    (sets_fit n is (All-tail (Spellable n) (I.Set s) is h))
+sets_fit n (I.TestSet l s ∷ is) h =
+    All-cons FitsSet s (sets_in is) (set_fits s (All-head (Spellable n) (I.TestSet l s) is h).1)
+    (sets_fit n is (All-tail (Spellable n) (I.TestSet l s) is h))
+sets_fit n (I.Span s ∷ is) h =
+    All-cons FitsSet s (sets_in is) (set_fits s (All-head (Spellable n) (I.Span s) is h))
+    (sets_fit n is (All-tail (Spellable n) (I.Span s) is h))
 sets_fit n (i ∷ is) h = sets_fit n is (All-tail (Spellable n) i is h)
 
 texts_fit : (n : ℕ) (code : List Instr) → All (Spellable n) code → All FitsText (labels_in code)
 texts_fit n [] h = All-nil FitsText
-texts_fit n (I.Open x ∷ is) h = All-cons FitsText x (labels_in is) (All-head (Spellable n) (I.Open x) is h) (texts_fit n is (All-tail (Spellable n) (I.Open x) is h))
-texts_fit n (I.Note x ∷ is) h = All-cons FitsText x (labels_in is) (All-head (Spellable n) (I.Note x) is h) (texts_fit n is (All-tail (Spellable n) (I.Note x) is h))
+texts_fit n (I.Open x ∷ is) h =
+    All-cons FitsText x (labels_in is) (All-head (Spellable n) (I.Open x) is h)
+    (texts_fit n is (All-tail (Spellable n) (I.Open x) is h))
+texts_fit n (I.Note x ∷ is) h =
+    All-cons FitsText x (labels_in is) (All-head (Spellable n) (I.Note x) is h)
+    (texts_fit n is (All-tail (Spellable n) (I.Note x) is h))
 texts_fit n (i ∷ is) h = texts_fit n is (All-tail (Spellable n) i is h)
 
 -- ---- a code with numbers
@@ -150,20 +166,26 @@ module _ (S : List (List Range)) (X : List (List ℕ)) (n : ℕ) where
   Step i is = Coded i × (Found S (sets_in is) × Found X (labels_in is))
 
   module _ (few : n ≤ 1048576) (few_sets : length S ≤ 1048576) (few_texts : length X ≤ 1048576) where
-    step : (i : Instr) (is : List Instr) → Spellable n i → Found S (sets_in (i ∷ is)) → Found X (labels_in (i ∷ is)) → Step i is
+    step : (i : Instr) (is : List Instr) → Spellable n i → Found S (sets_in (i ∷ is)) → Found X (labels_in (i ∷ is))
+        → Step i is
     step (I.Set s) is h a b =
         let lt = slice_get_within S a.0.0 s a.0.1 in
         (record { raw = V.Set a.0.0; is = ap I.Set (read_any S a.0.0 s [] a.0.1); range = lt-ltb a.0.0 (length S) lt; short = omega (arith, lt, few_sets) }, (a.1, b))
     step I.Start is h a b = (record { raw = V.Start; is = refl; range = refl; short = tt }, (a, b))
     step I.End is h a b = (record { raw = V.End; is = refl; range = refl; short = tt }, (a, b))
-    step (I.Choice l) is h a b = (record { raw = V.Choice l; is = refl; range = lt-ltb l n h; short = omega (arith, h, few) }, (a, b))
-    step (I.Commit l) is h a b = (record { raw = V.Commit l; is = refl; range = lt-ltb l n h; short = omega (arith, h, few) }, (a, b))
+    step (I.Choice l) is h a b =
+        (record { raw = V.Choice l; is = refl; range = lt-ltb l n h; short = omega (arith, h, few) }, (a, b))
+    step (I.Commit l) is h a b =
+        (record { raw = V.Commit l; is = refl; range = lt-ltb l n h; short = omega (arith, h, few) }, (a, b))
     step I.FailTwice is h a b = (record { raw = V.FailTwice; is = refl; range = refl; short = tt }, (a, b))
-    step (I.BackCommit l) is h a b = (record { raw = V.BackCommit l; is = refl; range = lt-ltb l n h; short = omega (arith, h, few) }, (a, b))
+    step (I.BackCommit l) is h a b =
+        (record { raw = V.BackCommit l; is = refl; range = lt-ltb l n h; short = omega (arith, h, few) }, (a, b))
     step I.Fail is h a b = (record { raw = V.Fail; is = refl; range = refl; short = tt }, (a, b))
     step (I.Back k) is h a b = (record { raw = V.Back k; is = refl; range = refl; short = h }, (a, b))
-    step (I.Meet l) is h a b = (record { raw = V.Meet l; is = refl; range = lt-ltb l n h; short = omega (arith, h, few) }, (a, b))
-    step (I.Call l) is h a b = (record { raw = V.Call l; is = refl; range = lt-ltb l n h; short = omega (arith, h, few) }, (a, b))
+    step (I.Meet l) is h a b =
+        (record { raw = V.Meet l; is = refl; range = lt-ltb l n h; short = omega (arith, h, few) }, (a, b))
+    step (I.Call l) is h a b =
+        (record { raw = V.Call l; is = refl; range = lt-ltb l n h; short = omega (arith, h, few) }, (a, b))
     step I.Return is h a b = (record { raw = V.Return; is = refl; range = refl; short = tt }, (a, b))
     step (I.Open x) is h a b =
         let lt = slice_get_within X b.0.0 x b.0.1 in
@@ -173,7 +195,8 @@ module _ (S : List (List Range)) (X : List (List ℕ)) (n : ℕ) where
         let lt = slice_get_within X b.0.0 x b.0.1 in
         (record { raw = V.Note b.0.0; is = ap I.Note (read_any X b.0.0 x [] b.0.1); range = lt-ltb b.0.0 (length X) lt; short = omega (arith, lt, few_texts) }, (a, b.1))
     step I.Finish is h a b = (record { raw = V.Finish; is = refl; range = refl; short = tt }, (a, b))
-    step (I.PartialCommit l) is h a b = (record { raw = V.PartialCommit l; is = refl; range = lt-ltb l n h; short = omega (arith, h, few) }, (a, b))
+    step (I.PartialCommit l) is h a b =
+        (record { raw = V.PartialCommit l; is = refl; range = lt-ltb l n h; short = omega (arith, h, few) }, (a, b))
     step (I.Span s) is h a b =
         let lt = slice_get_within S a.0.0 s a.0.1 in
         (record { raw = V.Span a.0.0; is = ap I.Span (read_any S a.0.0 s [] a.0.1); range = lt-ltb a.0.0 (length S) lt; short = omega (arith, lt, few_sets) }, (a.1, b))
@@ -188,7 +211,8 @@ module _ (S : List (List Range)) (X : List (List ℕ)) (n : ℕ) where
       range : list_all (in_range n (length S) (length X)) raws ≡ true
       short : All Short raws
 
-    coded : (code : List Instr) → All (Spellable n) code → Found S (sets_in code) → Found X (labels_in code) → AllCoded code
+    coded : (code : List Instr) → All (Spellable n) code → Found S (sets_in code) → Found X (labels_in code)
+        → AllCoded code
     coded [] h a b = record { raws = []; are = refl; range = refl; short = All-nil Short }
     coded (i ∷ is) h a b =
         let s = step i is (All-head (Spellable n) i is h) a b in
@@ -196,7 +220,9 @@ module _ (S : List (List Range)) (X : List (List ℕ)) (n : ℕ) where
         record {
           raws = s.0.raw ∷ c.raws;
           are = ap (λ x. x ∷ map (instr_of S X) c.raws) s.0.is ∙ ap (λ l. i ∷ l) c.are;
-          range = and_from (in_range n (length S) (length X) s.0.raw) (list_all (in_range n (length S) (length X)) c.raws) s.0.range c.range;
+          range =
+              and_from (in_range n (length S) (length X) s.0.raw)
+              (list_all (in_range n (length S) (length X)) c.raws) s.0.range c.range;
           short = All-cons Short s.0.raw c.raws s.0.short c.short;
         }
 
@@ -227,11 +253,13 @@ module _ (S : List (List Range)) (X : List (List ℕ)) (n : ℕ) (sets : All Fit
       (ltb-true l n p.0, (sets k [] (ltb-true k (length S) p.1)).normal)
   said V.Halt e s = tt
 
-  all_said : (c : List R.Instr) → list_all (in_range n (length S) (length X)) c ≡ true → All Short c → All (Spellable n) (map (instr_of S X) c)
+  all_said : (c : List R.Instr) → list_all (in_range n (length S) (length X)) c ≡ true → All Short c
+      → All (Spellable n) (map (instr_of S X) c)
   all_said [] e s = All-nil (Spellable n)
   all_said (i ∷ c) e s =
       let p = and_parts (in_range n (length S) (length X) i) (list_all (in_range n (length S) (length X)) c) e in
-      All-cons (Spellable n) (instr_of S X i) (map (instr_of S X) c) (said i p.0 (All-head Short i c s)) (all_said c p.1 (All-tail Short i c s))
+      All-cons (Spellable n) (instr_of S X i) (map (instr_of S X) c) (said i p.0 (All-head Short i c s))
+      (all_said c p.1 (All-tail Short i c s))
 
 -- ---- the law
 
@@ -244,7 +272,9 @@ spelled code h =
     made s.0 x.0 s.1 x.1 few_s few_x
     (coded s.0 x.0 (length code) h.limit few_s few_x code h.instrs (found [] (sets_in code) s.0 s.1) (found [] (labels_in code) x.0 x.1))
   where
-    made : (S : List (List Range)) (X : List (List ℕ)) → KeepsOnce (sets_in code) S → KeepsOnce (labels_in code) X → (few_s : length S ≤ 1048576) (few_x : length X ≤ 1048576) → AllCoded S X (length code) h.limit few_s few_x code → (bytes : List ℕ) × Spells code bytes
+    made : (S : List (List Range)) (X : List (List ℕ)) → KeepsOnce (sets_in code) S → KeepsOnce (labels_in code) X
+        → (few_s : length S ≤ 1048576) (few_x : length X ≤ 1048576)
+        → AllCoded S X (length code) h.limit few_s few_x code → (bytes : List ℕ) × Spells code bytes
     made S X k j few_s few_x c =
         let f = file_of c.raws S X in
         let long : length c.raws ≡ length code = sym (length-map c.raws (instr_of S X)) ∙ ap length c.are in
@@ -271,13 +301,16 @@ spellable code h =
     let s = h.1 in
     let f = s.file in
     let i = s.is_file in
-    let long : length f.code ≡ length code = sym (length-map f.code (instr_of f.sets f.texts)) ∙ sym (ap length s.code_is) in
+    let long : length f.code ≡ length code =
+    sym (length-map f.code (instr_of f.sets f.texts)) ∙ sym (ap length s.code_is) in
     let range : list_all (in_range (length code) (length f.sets) (length f.texts)) f.code ≡ true =
     ap (λ m. list_all (in_range m (length f.sets) (length f.texts)) f.code) (sym long) ∙ i.in_range in
     record {
       some = omega (arith, long, i.some);
       limit = omega (arith, long, i.limit);
-      instrs = subst (All (Spellable (length code))) (sym s.code_is) (all_said f.sets f.texts (length code) i.fits.sets i.fits.texts f.code range i.fits.code);
+      instrs =
+          subst (All (Spellable (length code))) (sym s.code_is)
+          (all_said f.sets f.texts (length code) i.fits.sets i.fits.texts f.code range i.fits.code);
     }
 
 pub has_spelling_holds : HasSpelling
