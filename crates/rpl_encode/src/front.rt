@@ -3,8 +3,9 @@ ghost use Rattle.std.specs.Prelude.{◌≡◌, ◌++◌, false, IfOk, OnOk, stri
 ghost use Rattle.json.specs.Print.{escape};
 ghost use Rattle.rpl_encode.specs.inside.Fronts.{front};
 
+use crate::escapes::put_bytes;
 use rpl_core::{NoMemory, Program};
-use rpl_print::{is_plain, push_quoted, quoted};
+use rpl_print::push_quoted;
 use std::alloc::Global;
 
 /// The front of the objects of nodes of one type, which is written once.
@@ -86,10 +87,5 @@ pub(crate) fn put_new_front(out: &mut Vec<u8>, is_first: bool, label: &str) -> R
 pub(crate) fn put_escaped(out: &mut Vec<u8>, text: &str) -> Result<(), NoMemory>
     ensures { OnOk result (out.new.items ≡ out.old.items ++ escape text.now) }
 {
-    if is_plain(text.as_bytes()) {
-        return out.extend_from_slice(text.as_bytes());
-    }
-    let string = quoted(*out.allocator(), text)?;
-    let string = string.as_bytes();
-    out.extend_from_slice(&string[1..string.len() - 1])
+    put_bytes(out, text.as_bytes())
 }

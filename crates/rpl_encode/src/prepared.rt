@@ -7,8 +7,8 @@ use crate::front::{Front, add_fronts};
 use rpl_core::{NoMemory, Program};
 use std::alloc::Global;
 
-/// What the objects of all nodes of a line share: the fronts of a program's types, and the line as it stands in a
-/// string of JSON.
+/// What the objects of all nodes of a line share: the fronts of a program's types, and whether the line needs escapes
+/// in a string of JSON.
 #[derive(Drop)]
 pub(crate) struct Prepared {
     pub(crate) fronts: Vec<Front>,
@@ -29,7 +29,7 @@ impl Prepared {
     pub(crate) fn new(alloc: Global) -> Prepared {
         Prepared {
             fronts: Vec::new(alloc),
-            escapes: Escapes::new(alloc),
+            escapes: Escapes::new(),
         }
     }
 
@@ -38,6 +38,7 @@ impl Prepared {
         ensures { OnOk result (AreOf line.now self.new.escapes) }
     {
         add_fronts(*self.fronts.allocator(), &mut self.fronts, program)?;
-        self.escapes.fill(line)
+        self.escapes.fill(line);
+        Ok(())
     }
 }
