@@ -3,6 +3,7 @@ ghost use Rattle.std.specs.Prelude.{◌≡◌};
 
 use rpl_text::Chars;
 use std::alloc::AllocError;
+use thiserror::Error;
 
 /// The text of a trace, a line for each evaluation, and the place in bytes where the match ends, if there is one.
 #[derive(Drop)]
@@ -12,11 +13,13 @@ pub struct Trace {
 }
 
 /// Why there is no trace.
-#[derive(Clone, Copy, Debug, PartialEq, Eq)]
+#[derive(Clone, Copy, Debug, PartialEq, Eq, Error)]
 pub enum TraceFault {
     /// There was not enough memory.
+    #[error("out of memory")]
     NoMemory,
     /// There are more evaluations than the limit.
+    #[error("trace too long")]
     TraceTooLong,
 }
 
