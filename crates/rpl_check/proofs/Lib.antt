@@ -9,7 +9,7 @@ pub mod Listing
 pub mod Fronts
 pub mod Following
 pub mod Clean
-pub mod Ranks
+pub mod Alone
 pub mod Rings
 pub mod Selves
 pub mod Firsts

@@ -3,3 +3,4 @@ pub mod Rounds
 pub mod Search
 pub mod Accepted
 pub mod Within
+pub mod Ranks

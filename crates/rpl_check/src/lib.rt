@@ -14,6 +14,7 @@ mod gates;
 mod groups;
 mod inside;
 mod laws;
+mod ranks;
 mod recursion;
 mod rounds;
 

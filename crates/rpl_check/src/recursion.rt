@@ -11,6 +11,7 @@ ghost use Rattle.rpl_check.specs.inside.Search.{clean_all, clean_core, clean_eac
 
 use crate::NoMemory;
 use crate::facts::is_marked;
+use crate::ranks::ranks;
 use rpl_core::{Peg, Rules};
 use std::alloc::Global;
 
@@ -279,7 +280,7 @@ impl Turns {
     }
 
     /// Lists places so that each stands after those that it calls, as far as there is such an order.
-    fn order(mut self, alloc: Global) -> Result<Vec<u32>, NoMemory> {
+    fn order(&mut self, alloc: Global) -> Result<Vec<u32>, NoMemory> {
         let mut order = Vec::new(alloc);
         let mut place: u32 = 0;
         for needs in &self.needs {
@@ -492,7 +493,7 @@ impl Block<'_> {
     }
 
     /// Lists the calls before a character of the rule at this place.
-    fn list_calls_of(&self, place: u32, list: &mut Vec<u32>) -> Result<(), NoMemory>
+    pub(crate) fn list_calls_of(&self, place: u32, list: &mut Vec<u32>) -> Result<(), NoMemory>
         requires block { Stands self.now }
         requires inside { place < self.now.end - self.now.start }
         ensures { OnOk result
@@ -531,7 +532,7 @@ impl Block<'_> {
         Ok(turns)
     }
 
-    /// A list of such marks.
+    /// A list of such marks. Where the order has all rules, none is on a ring, and no ranks are asked for.
     fn clean_rules(&self, alloc: Global) -> Result<Vec<bool>, NoMemory>
         requires { Stands self.now }
         ensures long { IfOk result (λ v. IsLong self.now v.items) }
@@ -539,8 +540,14 @@ impl Block<'_> {
             AreClean (table_of self.now) (empty_in self.now) self.now.start v.items) }
     {
         let mut clean = vec![in alloc; false; (self.end - self.start) as usize]?;
-        let order = self.turns(alloc)?.order(alloc)?;
+        let mut turns = self.turns(alloc)?;
+        let order = turns.order(alloc)?;
         self.mark_in_turn(&order, &mut clean);
+        if order.len() >= clean.len() {
+            return Ok(clean);
+        }
+        let ranks = ranks(alloc, &turns.callers)?;
+        self.mark_alone(alloc, &ranks, &mut clean)?;
         Ok(clean)
     }
 

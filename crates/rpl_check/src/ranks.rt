@@ -1,0 +1,284 @@
+// Rules that are on no ring because every call of theirs is of a lower rank, where no call of the block is of a higher
+// one. The ranks are the numbers of strongly connected components, by Kosaraju's two passes (Sharir 1981).
+//
+// Only the time hangs on the ranks: `falls` tests them, and where they don't pass no rule is marked by them.
+ghost use Rattle.std.specs.Prelude.{◌≡◌, ◌+◌, ◌-◌, ◌<◌, ◌≤◌, ℕ, IfOk, true};
+ghost use Rattle.rpl_check.specs.Facts.{calls_at};
+ghost use Rattle.rpl_check.specs.inside.Ranks.{Falls, rank_of};
+ghost use Rattle.rpl_check.specs.inside.Search.{AreClean};
+ghost use Rattle.rpl_core.specs.inside.Marks.{waits};
+
+use crate::NoMemory;
+use crate::recursion::Block;
+use std::alloc::Global;
+
+/// For each place the places of those that it calls, from those that call it.
+fn calls_of(alloc: Global, callers: &[Vec<u32>]) -> Result<Vec<Vec<u32>>, NoMemory> {
+    let mut calls = Vec::new(alloc);
+    for _ in 0..callers.len() {
+        calls.push(Vec::new(alloc))?;
+    }
+    let mut place: u32 = 0;
+    for those in callers {
+        add_callee(&mut calls, those, place)?;
+        place = place.saturating_add(1);
+    }
+    Ok(calls)
+}
+
+/// Each of these places calls this one.
+fn add_callee(calls: &mut [Vec<u32>], those: &[u32], place: u32) -> Result<(), NoMemory> {
+    for caller in those {
+        let at = *caller as usize;
+        if at < calls.len() {
+            calls[at].push(place)?;
+        }
+    }
+    Ok(())
+}
+
+/// A walk up from callee to caller: which places were met, those on the way and how many of their callers were tried,
+/// and those that were left, each after all that were first met from it.
+#[derive(Drop)]
+struct Walk {
+    met: Vec<bool>,
+    way: Vec<(u32, usize)>,
+    left: Vec<u32>,
+}
+
+impl Walk {
+    /// Goes on to this place, if it wasn't met.
+    fn meet(&mut self, place: u32) -> Result<(), NoMemory> {
+        let at = place as usize;
+        if at < self.met.len() && !self.met[at] {
+            self.met[at] = true;
+            self.way.push((place, 0))?;
+        }
+        Ok(())
+    }
+
+    /// Goes one step on, and whether there was one to go.
+    fn step(&mut self, callers: &[Vec<u32>]) -> Result<bool, NoMemory> {
+        let Some((place, tried)) = self.way.pop() else {
+            return Ok(false);
+        };
+        let at = place as usize;
+        if at < callers.len() && tried < callers[at].len() {
+            self.way.push((place, tried + 1))?;
+            self.meet(callers[at][tried])?;
+        } else {
+            self.left.push(place)?;
+        }
+        Ok(true)
+    }
+
+    /// Walks from this place as far as there is a way; in at most so many steps.
+    fn walk(&mut self, callers: &[Vec<u32>], place: u32, steps: usize) -> Result<(), NoMemory> {
+        self.meet(place)?;
+        for _ in 0..steps {
+            if !self.step(callers)? {
+                break;
+            }
+        }
+        Ok(())
+    }
+}
+
+/// All places, each left after all that were first met from it on the way up.
+fn left_in_order(alloc: Global, callers: &[Vec<u32>]) -> Result<Vec<u32>, NoMemory> {
+    let mut steps = callers.len();
+    for those in callers {
+        steps = steps.saturating_add(those.len());
+    }
+    let mut walk = Walk {
+        met: vec![in alloc; false; callers.len()]?,
+        way: Vec::new(alloc),
+        left: Vec::new(alloc),
+    };
+    let mut place: u32 = 0;
+    for _ in 0..callers.len() {
+        walk.walk(callers, place, steps.saturating_add(1))?;
+        place = place.saturating_add(1);
+    }
+    let Walk { left, .. } = walk;
+    Ok(left)
+}
+
+/// Gives this rank to the place, if it has none yet, which then waits.
+fn give(ranks: &mut [u32], place: u32, rank: u32, waiting: &mut Vec<u32>) -> Result<(), NoMemory> {
+    let at = place as usize;
+    if at < ranks.len() && ranks[at] == 0 {
+        ranks[at] = rank;
+        waiting.push(place)?;
+    }
+    Ok(())
+}
+
+/// Gives this rank to the place and to all that are called from it and have none yet.
+fn give_all(
+    alloc: Global,
+    calls: &[Vec<u32>],
+    ranks: &mut [u32],
+    place: u32,
+    rank: u32,
+) -> Result<(), NoMemory> {
+    let mut waiting = Vec::new(alloc);
+    give(ranks, place, rank, &mut waiting)?;
+    for at in 0..calls.len() {
+        if at >= waiting.len() {
+            break;
+        }
+        let next = waiting[at] as usize;
+        if next < calls.len() {
+            give_each(&calls[next], ranks, rank, &mut waiting)?;
+        }
+    }
+    Ok(())
+}
+
+/// Gives this rank to each of these places that has none yet.
+fn give_each(
+    those: &[u32],
+    ranks: &mut [u32],
+    rank: u32,
+    waiting: &mut Vec<u32>,
+) -> Result<(), NoMemory> {
+    for place in those {
+        give(ranks, *place, rank, waiting)?;
+    }
+    Ok(())
+}
+
+/// The ranks of places by their callers: those of one ring have one rank, and each other calls lower ones alone.
+pub(crate) fn ranks(alloc: Global, callers: &[Vec<u32>]) -> Result<Vec<u32>, NoMemory> {
+    let calls = calls_of(alloc, callers)?;
+    let order = left_in_order(alloc, callers)?;
+    let mut ranks = vec![in alloc; 0; callers.len()]?;
+    let mut rank: u32 = 0;
+    for number in 0..order.len() {
+        rank = rank.saturating_add(1);
+        give_all(
+            alloc,
+            &calls,
+            &mut ranks,
+            order[order.len() - 1 - number],
+            rank,
+        )?;
+    }
+    Ok(ranks)
+}
+
+impl Block<'_> {
+    ghost use Rattle.rpl_check.specs.inside.Within.{IsLong, Stands, empty_in, table_of};
+
+    /// The rank of a rule: one more than the list says, or 0 if it stands before the block.
+    fn rank(&self, ranks: &[u32], rule: u32) -> u64
+        ensures { result ≡ rank_of self.now.start ranks.now rule }
+    {
+        if rule < self.start {
+            return 0;
+        }
+        match ranks.get((rule - self.start) as usize) {
+            Some(rank) => *rank as u64 + 1,
+            None => 1,
+        }
+    }
+
+    /// The highest rank of these rules, or 0.
+    fn highest(&self, ranks: &[u32], rules: &[u32]) -> u64
+        ensures { (t : ℕ) → waits rules.now t ≡ true → rank_of self.now.start ranks.now t ≤ result }
+    {
+        let mut highest = 0;
+        for rule in rules {
+            highest = self.rank(ranks, *rule).max(highest);
+        }
+        highest
+    }
+
+    /// The highest rank of the rules that the one at this place calls before a character, or 0.
+    fn highest_call(&self, alloc: Global, ranks: &[u32], place: u32) -> Result<u64, NoMemory>
+        requires block { Stands self.now }
+        requires inside { place < self.now.end - self.now.start }
+        ensures { IfOk result (λ n. (t : ℕ) →
+            calls_at (empty_in self.now) (table_of self.now) (self.now.start + place) t ≡ true →
+            rank_of self.now.start ranks.now t ≤ n) }
+    {
+        let mut list = Vec::new(alloc);
+        self.list_calls_of(place, &mut list)?;
+        Ok(self.highest(ranks, &list))
+    }
+
+    /// The rule at this place calls none of a higher rank.
+    fn falls_at(&self, alloc: Global, ranks: &[u32], place: u32) -> Result<bool, NoMemory>
+        requires block { Stands self.now }
+        requires inside { place < self.now.end - self.now.start }
+        ensures { IfOk result (λ b. b ≡ true → (t : ℕ) →
+            calls_at (empty_in self.now) (table_of self.now) (self.now.start + place) t ≡ true →
+            rank_of self.now.start ranks.now t ≤ rank_of self.now.start ranks.now (self.now.start + place)) }
+    {
+        let highest = self.highest_call(alloc, ranks, place)?;
+        Ok(highest <= self.rank(ranks, self.start + place))
+    }
+
+    /// No rule of the block calls one of a higher rank.
+    fn falls(&self, alloc: Global, ranks: &[u32]) -> Result<bool, NoMemory>
+        requires { Stands self.now }
+        ensures { IfOk result (λ b. b ≡ true →
+            Falls (table_of self.now) (empty_in self.now) self.now.start self.now.end ranks.now) }
+    {
+        for place in 0..self.end - self.start {
+            if !self.falls_at(alloc, ranks, place)? {
+                return Ok(false);
+            }
+        }
+        Ok(true)
+    }
+
+    /// Marks the rule at this place, if it calls only rules of lower ranks.
+    fn mark_if_alone(
+        &self,
+        alloc: Global,
+        ranks: &[u32],
+        place: u32,
+        clean: &mut [bool],
+    ) -> Result<(), NoMemory>
+        requires block { Stands self.now }
+        requires inside { place < self.now.end - self.now.start }
+        requires falls { Falls (table_of self.now) (empty_in self.now) self.now.start self.now.end ranks.now }
+        requires long { IsLong self.now clean.old }
+        requires clean { AreClean (table_of self.now) (empty_in self.now) self.now.start clean.old }
+        ensures long { IsLong self.now clean.new }
+        ensures clean { AreClean (table_of self.now) (empty_in self.now) self.now.start clean.new }
+    {
+        if clean[place as usize] {
+            return Ok(());
+        }
+        let highest = self.highest_call(alloc, ranks, place)?;
+        if highest < self.rank(ranks, self.start + place) {
+            clean[place as usize] = true;
+        }
+        Ok(())
+    }
+
+    /// Marks each rule of the block that calls only rules of lower ranks, if no call is of a higher one.
+    pub(crate) fn mark_alone(
+        &self,
+        alloc: Global,
+        ranks: &[u32],
+        clean: &mut [bool],
+    ) -> Result<(), NoMemory>
+        requires block { Stands self.now }
+        requires long { IsLong self.now clean.old }
+        requires clean { AreClean (table_of self.now) (empty_in self.now) self.now.start clean.old }
+        ensures long { IsLong self.now clean.new }
+        ensures clean { AreClean (table_of self.now) (empty_in self.now) self.now.start clean.new }
+    {
+        if !self.falls(alloc, ranks)? {
+            return Ok(());
+        }
+        for place in 0..self.end - self.start {
+            self.mark_if_alone(alloc, ranks, place, clean)?;
+        }
+        Ok(())
+    }
+}
