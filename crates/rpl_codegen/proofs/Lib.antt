@@ -7,3 +7,4 @@ pub mod Jumps
 pub mod Finish
 pub mod Taking
 pub mod Gathering
+pub mod Passing

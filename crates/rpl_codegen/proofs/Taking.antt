@@ -8,7 +8,8 @@ use Rattle.rpl_core.specs.View.{core_of, cores}
 use Rattle.rpl_codegen.specs.declared.size.Node.{Node}
 use Rattle.rpl_codegen.specs.declared.size.Nodes.{Nodes}
 use Rattle.rpl_codegen.specs.inside.Laid.{bodies_nodes, rule_nodes}
-use Rattle.rpl_codegen.specs.inside.Nodes.{behind_nodes, choice_nodes, nodes_in, parts_nodes, tested_nodes}
+use Rattle.rpl_codegen.specs.inside.Nodes.{behind_nodes, choice_nodes, nodes_in, numbered_nodes, part_nodes, parts_nodes, tested_nodes}
+use Rattle.rpl_codegen.specs.inside.Sizes.{len}
 use Rattle.rpl_codegen.specs.inside.Taken.{Begins, Takes, left}
 use Rattle.rpl_draft.proofs.Adding.{read_at, some_at}
 use Rattle.rpl_core.proofs.Walk.{drop_here}
@@ -56,8 +57,8 @@ pub more_lengths : (n m : ℕ) (xs : List Node) → n ≡ suc m → behind_nodes
 more_lengths n m xs e = ap (λ k. behind_nodes k xs) e
 
 -- one part, and the others
-pub parts_here : (ps : List Peg) (k : ℕ) (p : Peg) → k < length ps → p ≡ get_or ps k p → parts_nodes (cores (drop k ps)) ≡ nodes_in (core_of p) ++ parts_nodes (cores (drop (k + 1) ps))
-parts_here ps k p lt is = ap (λ l. parts_nodes (cores l)) (drop_here ps k p lt is)
+pub parts_here : (ps : List Peg) (k : ℕ) (p : Peg) → k < length ps → p ≡ get_or ps k p → parts_nodes k (cores (drop k ps)) ≡ part_nodes (len (core_of p)) (numbered_nodes k (core_of p)) ++ parts_nodes (k + 1) (cores (drop (k + 1) ps))
+parts_here ps k p lt is = ap (λ l. parts_nodes k (cores l)) (drop_here ps k p lt is)
 
 tried_more : (p : Peg) (ps : List Peg) → 0 < length ps → choice_nodes (cores (p ∷ ps)) ≡ tested_nodes (core_of p) ++ choice_nodes (cores ps)
 tried_more p [] lt = absurd (omega arith)

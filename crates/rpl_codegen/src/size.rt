@@ -7,8 +7,8 @@ ghost use Rattle.rpl_classes.specs.Norm.{norm};
 ghost use Rattle.rpl_core.specs.Head as H;
 ghost use Rattle.rpl_core.specs.View.{core_of, cores};
 ghost use Rattle.rpl_codegen.specs.inside.Gathered.{Gathers};
-ghost use Rattle.rpl_codegen.specs.inside.Nodes.{behind_nodes, choice_nodes, inner_nodes, nodes_in, parts_nodes};
-ghost use Rattle.rpl_codegen.specs.inside.Nodes.{tested_nodes};
+ghost use Rattle.rpl_codegen.specs.inside.Nodes.{behind_nodes, choice_nodes, inner_nodes, nodes_in};
+ghost use Rattle.rpl_codegen.specs.inside.Nodes.{numbered_nodes, part_nodes, parts_nodes, tested_nodes};
 ghost use Rattle.rpl_codegen.specs.inside.Sizes.{len, len_all, len_first};
 
 use crate::NoMemory;
@@ -39,11 +39,12 @@ pub(crate) fn behind_size(size: u32, least: u32, most: u32) -> u32
     (lengths * (size as u64 + 3) + 1).min(MAX_CODE as u64 + 1) as u32
 }
 
-/// The number of instructions of a pattern, or the first number past the limit; and its head, if others follow it in
-/// a choice and it has one.
+/// The number of instructions of a pattern, or the first number past the limit; its number among the parts of a
+/// sequence, if it is one; and its head, if others follow it in a choice and it has one.
 #[derive(Drop)]
 pub(crate) struct Node {
     size: u32,
+    part: usize,
     head: Option<Set>,
 }
 
@@ -55,7 +56,7 @@ pub(crate) struct Nodes {
 }
 
 impl Nodes {
-    ghost use Rattle.rpl_codegen.specs.inside.Taken.{Takes, head_at, left, size_at};
+    ghost use Rattle.rpl_codegen.specs.inside.Taken.{Takes, head_at, left, part_at, size_at};
 
     /// The nodes from the first on.
     pub(crate) fn new(list: Vec<Node>) -> Nodes
@@ -70,6 +71,14 @@ impl Nodes {
         ensures { result ≡ size_at (left self.now) }
     {
         self.list[self.next].size
+    }
+
+    /// Which part of its sequence the next node is of.
+    pub(crate) fn part(&self) -> usize
+        requires { 0 < length (left self.now) }
+        ensures { result ≡ part_at (left self.now) }
+    {
+        self.list[self.next].part
     }
 
     /// The head of the next node, if one is tested.
@@ -143,13 +152,49 @@ pub(crate) fn measure(alloc: Global, plan: &mut Plan, peg: &Peg) -> Result<Shape
     let place = plan.nodes.len();
     plan.nodes.push(Node {
         size: 0,
+        part: 0,
         head: None,
     })?;
     let shape = measure_inner(alloc, plan, peg)?;
     plan.nodes[place] = Node {
         size: shape.size,
+        part: 0,
         head: None,
     };
+    Ok(shape)
+}
+
+/// The same of a part of a sequence, by its number there. A part that makes no code leaves no node behind, so that
+/// whoever writes the sequence passes over it unseen.
+#[cycle(measure)]
+fn measure_part(
+    alloc: Global,
+    plan: &mut Plan,
+    part: &Peg,
+    number: usize,
+) -> Result<Shape, NoMemory>
+    ensures nodes { OnOk result (plan.new.nodes.items ≡ plan.old.nodes.items
+        ++ part_nodes (len (core_of part.now)) (numbered_nodes number (core_of part.now))) }
+    ensures size { IfOk result (λ s. s.size ≡ min 1048577 (len (core_of part.now))) }
+    ensures head { IfOk result (λ s.
+        Gathers plan.old.ranges.items plan.new.ranges.items (H.head (core_of part.now)) s.has_head) }
+{
+    let place = plan.nodes.len();
+    plan.nodes.push(Node {
+        size: 0,
+        part: number,
+        head: None,
+    })?;
+    let shape = measure_inner(alloc, plan, part)?;
+    if shape.size == 0 {
+        plan.nodes.truncate(place);
+    } else {
+        plan.nodes[place] = Node {
+            size: shape.size,
+            part: number,
+            head: None,
+        };
+    }
     Ok(shape)
 }
 
@@ -165,12 +210,14 @@ fn measure_tried(alloc: Global, plan: &mut Plan, part: &Peg) -> Result<Shape, No
     let start = plan.ranges.len();
     plan.nodes.push(Node {
         size: 0,
+        part: 0,
         head: None,
     })?;
     let shape = measure_inner(alloc, plan, part)?;
     let head = join(alloc, &mut plan.ranges, start, shape.has_head)?;
     plan.nodes[place] = Node {
         size: shape.size,
+        part: 0,
         head,
     };
     Ok(shape)
@@ -274,7 +321,7 @@ fn measure_behind(
 /// All parts in turn, whose head is that of the first.
 #[cycle(measure)]
 fn measure_all(alloc: Global, plan: &mut Plan, parts: &[Peg]) -> Result<Shape, NoMemory>
-    ensures nodes { OnOk result (plan.new.nodes.items ≡ plan.old.nodes.items ++ parts_nodes (cores parts.now)) }
+    ensures nodes { OnOk result (plan.new.nodes.items ≡ plan.old.nodes.items ++ parts_nodes 0 (cores parts.now)) }
     ensures size { IfOk result (λ s. s.size ≡ min 1048577 (len_all (cores parts.now))) }
     ensures head { IfOk result (λ s.
         Gathers plan.old.ranges.items plan.new.ranges.items (H.first_head (cores parts.now)) s.has_head) }
@@ -282,11 +329,11 @@ fn measure_all(alloc: Global, plan: &mut Plan, parts: &[Peg]) -> Result<Shape, N
     if parts.is_empty() {
         return Ok(headless(0));
     }
-    let first = measure(alloc, plan, &parts[0])?;
+    let first = measure_part(alloc, plan, &parts[0], 0)?;
     let kept = plan.ranges.len();
     let mut total = first.size;
     for number in 1..parts.len() {
-        let part = measure(alloc, plan, &parts[number])?;
+        let part = measure_part(alloc, plan, &parts[number], number)?;
         plan.ranges.truncate(kept);
         total = capped(total, part.size);
     }

@@ -53,7 +53,7 @@ fn emit_inner(
 {
     match peg {
         Peg::Set(set) => draft.put_set(layout.alloc(), set),
-        Peg::Seq(parts) => emit_all(draft, layout, nodes, parts),
+        Peg::Seq(parts) => emit_all(draft, layout, nodes, parts, end),
         Peg::Choice(parts) => emit_first(draft, layout, nodes, parts, end),
         Peg::Many(body) => emit_many(draft, layout, nodes, body),
         Peg::Not(body) => emit_not(draft, layout, nodes, body),
@@ -70,21 +70,30 @@ fn emit_inner(
     }
 }
 
-/// Writes the parts in turn.
+/// Writes the parts in turn up to `end`. Each next node is of the next part that makes code: the others have none.
 #[cycle(emit)]
 fn emit_all(
     draft: &mut Draft,
     layout: &Layout,
     nodes: &mut Nodes,
     parts: &Pegs,
+    end: u32,
 ) -> Result<(), NoMemory>
     requires room { length draft.old.code + len (core_of (Peg.Seq parts.now)) ≤ 1048576 }
     requires nodes { Begins (left nodes.old) (inner_nodes (core_of (Peg.Seq parts.now))) }
+    requires end { end ≡ length draft.old.code + len (core_of (Peg.Seq parts.now)) }
     ensures code { OnOk result (Writes draft.old draft.new (code_in layout.now (Peg.Seq parts.now))) }
     ensures nodes { OnOk result (Takes nodes.old nodes.new (inner_nodes (core_of (Peg.Seq parts.now)))) }
 {
-    for part in parts.as_slice() {
-        emit(draft, layout, nodes, part)?;
+    let parts = parts.as_slice();
+    while draft.next() < end {
+        let number = nodes.part();
+        // There always is one: the test is for the bound of the index alone.
+        if number >= parts.len() {
+            return Ok(());
+        }
+        let behind = draft.next() + nodes.take();
+        emit_inner(draft, layout, nodes, &parts[number], behind)?;
     }
     Ok(())
 }

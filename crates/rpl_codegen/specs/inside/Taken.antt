@@ -8,10 +8,14 @@ use Rattle.rpl_codegen.specs.declared.size.Nodes.{Nodes}
 abbrev pub left : Nodes → List Node
 left ns = drop ns.next ns.list.items
 
--- the size of the first node, and its head
+-- the size of the first node, its number in a sequence, and its head
 abbrev pub size_at : List Node → ℕ
 size_at [] = 0
 size_at (n ∷ ns) = n.size
+
+abbrev pub part_at : List Node → ℕ
+part_at [] = 0
+part_at (n ∷ ns) = n.part
 
 abbrev pub head_at : List Node → Option (List Range)
 head_at [] = None

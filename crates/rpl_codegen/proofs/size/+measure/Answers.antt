@@ -1,15 +1,16 @@
-use Rattle.std.proofs.Common.{◌≡◌, ◌+◌, ◌-◌, ◌<◌, ◌∷◌, drop, get_or, length, refl, sym, ap, ◌∙◌, subst, arith}
+use Rattle.std.proofs.Common.{◌≡◌, suc, ◌+◌, ◌-◌, ◌<◌, ◌∷◌, drop, get_or, length, refl, sym, ap, ◌∙◌, subst, arith}
 use Rattle.std.proofs.lemmas.Bool.{eqb-false}
 use Rattle.std.specs.Prelude.{Bool, true, false, ◌&&◌, ◌++◌, if◌then◌else◌, None, min, option_map, IfOk, OnOk}
 use Rattle.rpl_classes.specs.Norm.{norm}
 use Rattle.rpl_core.specs.Head as H
 use Rattle.rpl_core.specs.View.{core_of, cores}
 use Rattle.rpl_codegen.specs.inside.Gathered.{Gathers}
-use Rattle.rpl_codegen.specs.inside.Nodes.{choice_nodes, inner_nodes, nodes_in, parts_nodes, tested_nodes}
+use Rattle.rpl_codegen.specs.inside.Nodes.{choice_nodes, inner_nodes, nodes_in, numbered_nodes, part_nodes, parts_nodes, tested_nodes}
 use Rattle.rpl_codegen.specs.inside.Sizes.{capped_len, len, len_all}
 use Rattle.rpl_codegen.proofs.Gathering.{front, gathers_joined, gathers_last, gathers_set, gathers_then, joined_head}
 use Rattle.rpl_core.proofs.Walk.{choice_core, drop_here, seq_core}
 use Rattle.rpl_codegen.proofs.Parts.{drop_last, len_first_here, tried_is, and_assoc}
+use Rattle.rpl_codegen.proofs.Passing.{some_nodes}
 use Rattle.rpl_codegen.proofs.Taking.{filled, listed_turn, parts_here, tried_here}
 use Rattle.rpl_codegen.proofs.size.+measure.Goals.{measure_first-then-tried, measure_first-else-tried, measure_first-then-all, measure_first-else-all, measure_first-then-all-2, measure_first-else-all-2}
 use Rattle.rpl_codegen.proofs.size.+measure.Goals as goal
@@ -82,10 +83,10 @@ measure_all-loop-number-preserved t c =
     let e = c.in_ok-part.ensures in
     let lt : k < length ps = omega arith in
     let here = ap (λ x. len_all (cores x)) (drop_here ps k p lt c.index-parts-number.is) in
-    let same : c.truncate.new.self.items ≡ r = c.truncate.ensures.items ∙ front r c.measure-in-loop-number.new.plan.ranges.items (H.head (core_of p)) c.in_ok-part.part.has_head e.head c.len-kept.result l.invariant.3 in (
+    let same : c.truncate.new.self.items ≡ r = c.truncate.ensures.items ∙ front r c.measure_part-in-loop-number.new.plan.ranges.items (H.head (core_of p)) c.in_ok-part.part.has_head e.head c.len-kept.result l.invariant.3 in (
       omega (arith, c.capped-total.ensures),
       omega (arith, here, e.size, c.capped-total.ensures, l.invariant.1),
-      listed_turn l.plan.nodes.items _ (nodes_in (core_of p)) _ (parts_nodes (cores (drop (k + 1) ps))) _ e.nodes (parts_here ps k p lt c.index-parts-number.is) l.invariant.2,
+      listed_turn l.plan.nodes.items _ (part_nodes (len (core_of p)) (numbered_nodes k (core_of p))) _ (parts_nodes (k + 1) (cores (drop (k + 1) ps))) _ e.nodes (parts_here ps k p lt c.index-parts-number.is) l.invariant.2,
       l.invariant.3 ∙ ap length (sym same),
       subst (λ x. Gathers c.args.plan.now.ranges.items x (H.first_head (cores ps)) c.in_ok-first.first.has_head) (sym same) l.invariant.4,
     )
@@ -96,7 +97,19 @@ measure-returns-clause-nodes t c =
     let inner = inner_nodes (core_of c.args.peg.now) in
     let place : c.len-place.result ≡ length old = omega (arith, c.len-place.ensures, c.args.plan.now.nodes.ok) in
     filled old c.push.new.self.items c.measure_inner.new.plan.nodes.items _ _ inner c.len-place.result c.in_ok-push.ensures.items c.in_ok-shape.ensures.nodes place
-    ∙ ap (λ k. old ++ record { size = k; head = None } ∷ inner) c.in_ok-shape.ensures.size
+    ∙ ap (λ k. old ++ record { size = k; part = 0; head = None } ∷ inner) c.in_ok-shape.ensures.size
+
+pub measure_part-returns-else-shape-eq0-clause-nodes : goal.measure_part-returns-else-shape-eq0-clause-nodes
+measure_part-returns-else-shape-eq0-clause-nodes t c =
+    let old = c.args.plan.now.nodes.items in
+    let p = core_of c.args.part.now in
+    let number = c.args.number in
+    let inner = inner_nodes p in
+    let place : c.len-place.result ≡ length old = omega (arith, c.len-place.ensures, c.args.plan.now.nodes.ok) in
+    let some : len p ≡ suc (len p - 1) = let ne = c.if-shape-eq0.false in omega (arith, c.in_ok-shape.ensures.size) in
+    filled old c.push.new.self.items c.measure_inner.new.plan.nodes.items _ _ inner c.len-place.result c.in_ok-push.ensures.items c.in_ok-shape.ensures.nodes place
+    ∙ ap (λ k. old ++ record { size = k; part = number; head = None } ∷ inner) c.in_ok-shape.ensures.size
+    ∙ ap (λ l. old ++ l) (sym (some_nodes (len p) (len p - 1) (numbered_nodes number p) some))
 
 pub measure_tried-returns-clause-nodes : goal.measure_tried-returns-clause-nodes
 measure_tried-returns-clause-nodes t c =
@@ -108,8 +121,8 @@ measure_tried-returns-clause-nodes t c =
     let start : c.len-start.result ≡ length c.args.plan.now.ranges.items = omega (arith, c.len-start.ensures, c.args.plan.now.ranges.ok) in
     let head = joined_head c.args.plan.now.ranges.items c.measure_inner.new.plan.ranges.items (H.head p) m.has_head c.in_ok-shape.ensures.head c.len-start.result c.in_ok-head.head start c.in_ok-head.ensures.set in
     filled old c.push.new.self.items c.measure_inner.new.plan.nodes.items _ _ inner c.len-place.result c.in_ok-push.ensures.items c.in_ok-shape.ensures.nodes place
-    ∙ ap (λ k. old ++ record { size = k; head = c.in_ok-head.head } ∷ inner) c.in_ok-shape.ensures.size
-    ∙ ap (λ h. old ++ record { size = capped_len p; head = h } ∷ inner) head
+    ∙ ap (λ k. old ++ record { size = k; part = 0; head = c.in_ok-head.head } ∷ inner) c.in_ok-shape.ensures.size
+    ∙ ap (λ h. old ++ record { size = capped_len p; part = 0; head = h } ∷ inner) head
 
 pub measure_tried-returns-clause-head : goal.measure_tried-returns-clause-head
 measure_tried-returns-clause-head t c =

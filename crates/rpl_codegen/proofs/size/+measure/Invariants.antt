@@ -12,7 +12,7 @@ use Rattle.rpl_codegen.proofs.size.+measure.Given as goal
 abbrev pub invariant-measure_all-loop-number : goal.invariant-measure_all-loop-number
 invariant-measure_all-loop-number l =
     (l.total ≤ 1048577) × (min 1048577 (l.total + len_all (cores (drop l.number l.parts))) ≡ min 1048577 (len_all (cores l.parts)))
-    × (l.plan.nodes.items ++ parts_nodes (cores (drop l.number l.parts)) ≡ l.fn.plan.nodes.items ++ parts_nodes (cores l.parts))
+    × (l.plan.nodes.items ++ parts_nodes l.number (cores (drop l.number l.parts)) ≡ l.fn.plan.nodes.items ++ parts_nodes 0 (cores l.parts))
     × (l.kept ≡ length l.plan.ranges.items)
     × Gathers l.fn.plan.ranges.items l.plan.ranges.items (H.first_head (cores l.parts)) l.first.has_head
 

@@ -1,5 +1,6 @@
-use Rattle.std.proofs.Common.{◌≡◌, ◌≢◌, ℕ, List, ◌<◌, ◌+◌, ◌-◌, ◌∙◌, suc, length, drop, get_or, refl, sym, ap, subst, arith, [], ◌∷◌}
+use Rattle.std.proofs.Common.{◌≡◌, ◌≢◌, ℕ, List, ◌<◌, ◌+◌, ◌-◌, ◌∙◌, suc, ◌≤◌, length, drop, take, get_or, refl, sym, ap, subst, arith, [], ◌∷◌, ◌++◌}
 use Rattle.std.proofs.lemmas.Bool.{eqb-true, eqb-false}
+use Rattle.std.proofs.lemmas.List.{nil_from_length}
 use Rattle.std.specs.Prelude.{OnOk}
 use Rattle.rpl_core.specs.Code as C
 use Rattle.rpl_core.specs.Core.{Behind, Core}
@@ -9,16 +10,17 @@ use Rattle.rpl_core.specs.View.{core_of, cores, listed}
 use Rattle.rpl_core.specs.declared.peg.Peg.{Peg}
 use Rattle.rpl_core.proofs.Rows.{seq_view, choice_view}
 use Rattle.rpl_codegen.specs.inside.Sizes.{len, len_all, len_first, many_len, not_len}
-use Rattle.rpl_codegen.specs.inside.Nodes.{behind_nodes, choice_nodes, inner_nodes, nodes_in, parts_nodes, tested_nodes}
+use Rattle.rpl_codegen.specs.inside.Nodes.{behind_nodes, choice_nodes, inner_nodes, nodes_in, part_node, parts_nodes, tested_nodes}
 use Rattle.rpl_codegen.specs.inside.Taken.{Begins, head_at, left, size_at}
 use Rattle.rpl_draft.specs.Written.{Adds}
 use Rattle.rpl_codegen.specs.inside.Written.{address_of, test_code}
 use Rattle.rpl_draft.specs.declared.draft.Draft.{Draft}
 use Rattle.rpl_codegen.specs.declared.size.Node.{Node}
-use Rattle.rpl_draft.proofs.Adding.{adds_then}
-use Rattle.rpl_codegen.proofs.Lengths.{code_length, first_length}
+use Rattle.rpl_draft.proofs.Adding.{adds_none, adds_then}
+use Rattle.rpl_codegen.proofs.Lengths.{all_length, code_length, first_length}
 use Rattle.rpl_core.proofs.Walk.{drop_here}
 use Rattle.rpl_codegen.proofs.Parts.{len_first_here, code_first_here, drop_last, no_parts, part_of}
+use Rattle.rpl_codegen.proofs.Passing.{no_nodes_left, steps, steps_as}
 use Rattle.rpl_codegen.proofs.Pieces.{on_ok, piece_loop, piece_refuse, piece_and, piece_capture, piece_choice, piece_length, piece_tried, test_length, behind_end, room_here, room_turn}
 use Rattle.rpl_codegen.proofs.Taking.{as_begins, as_taken, begins_behind, begins_front, last_here, more_lengths, parts_here, takes_anew, takes_none, takes_then, tried_here}
 use Rattle.rpl_codegen.proofs.Weights.{seq_part, choice_part}
@@ -28,52 +30,148 @@ use Rattle.rpl_codegen.proofs.writing.+emit.Goals as goal
 last_part : (row ps : List Peg) (k : ℕ) (p : Peg) → row ≡ ps → length row ≢ 0 → length row - 1 ≡ k → p ≡ get_or row (length row - 1) p → (k + 1 ≡ length ps) × (p ≡ get_or ps k p)
 last_part row ps k p same some last is = (omega (arith, some, ap length same), part_of row ps k p same (is ∙ ap (λ i. get_or row i p) last))
 
-pub emit_all-loop-part-init : goal.emit_all-loop-part-init
-emit_all-loop-part-init t c =
+pub emit_all-loop-parts-init : goal.emit_all-loop-parts-init
+emit_all-loop-parts-init t c =
     let ps = c.args.parts.now in
     let n = length c.args.draft.now.code in (
-      omega (arith, ap len (seq_view ps), c.requires.room),
+      0,
+      omega arith,
+      omega (arith, ap len (seq_view ps), c.requires.end),
       λ x a. subst (λ e. Adds c.args.draft.now x (C.code (address_of c.args.layout.now) e n)) (sym (seq_view ps)) a,
       as_begins (left c.args.nodes.now) _ _ (ap inner_nodes (seq_view ps)) c.requires.nodes,
       λ x t. as_taken c.args.nodes.now x _ _ (sym (ap inner_nodes (seq_view ps))) t,
     )
 
-pub emit_all-emit-requires : goal.emit_all-emit-requires
-emit_all-emit-requires t c =
-    let ps = c.args.parts.now in
-    let k = c.loop-part.part-index in
-    let p = c.part-item.result in
-    let lt : k < length (listed ps) = omega (arith, ap length c.as_slice-part-items.ensures, c.loop-part-test.true) in
-    let is = part_of c.as_slice-part-items.result.now (listed ps) k p c.as_slice-part-items.ensures c.part-item.is in
-    let here = ap (λ l. len_all (cores l)) (drop_here (listed ps) k p lt is) in
-    let more = parts_here (listed ps) k p lt is in
-    (omega (arith, c.decreases, seq_part ps k p lt is), (omega (arith, here, c.loop-part.invariant.0), begins_front (left c.loop-part.nodes) (nodes_in (core_of p)) (parts_nodes (cores (drop (k + 1) (listed ps)))) (as_begins (left c.loop-part.nodes) _ _ more c.loop-part.invariant.2)))
-
-pub emit_all-loop-part-preserved : goal.emit_all-loop-part-preserved
-emit_all-loop-part-preserved t c =
+pub emit_all-part-number-requires : goal.emit_all-part-number-requires
+emit_all-part-number-requires t c =
     let at = address_of c.args.layout.now in
     let ps = listed c.args.parts.now in
-    let k = c.loop-part.part-index in
-    let p = c.part-item.result in
-    let d = c.loop-part.draft in
-    let d1 = c.emit.new.draft in
+    let i = c.loop-parts.invariant in
+    let ns = c.loop-parts.nodes in
+    let s = steps at ps i.0 (left ns) i.1 (omega (arith, i.2, c.loop-parts-test.true, c.next.ensures)) i.4 in
+    s.2.some
+
+pub emit_all-returns-then-number-parts-clause-code : goal.emit_all-returns-then-number-parts-clause-code
+emit_all-returns-then-number-parts-clause-code t c =
+    let at = address_of c.args.layout.now in
+    let ps = listed c.args.parts.now in
+    let i = c.loop-parts.invariant in
+    let ns = c.loop-parts.nodes in
+    let s = steps at ps i.0 (left ns) i.1 (omega (arith, i.2, c.loop-parts-test.true, c.next.ensures)) i.4 in
+    absurd (let number : c.part-number.result ≡ s.0 = c.part-number.ensures ∙ s.2.part in omega (arith, number, s.2.comes.inside, c.if-number-parts.true, ap length c.as_slice-parts.ensures))
+
+pub emit_all-returns-then-number-parts-clause-nodes : goal.emit_all-returns-then-number-parts-clause-nodes
+emit_all-returns-then-number-parts-clause-nodes t c =
+    let at = address_of c.args.layout.now in
+    let ps = listed c.args.parts.now in
+    let i = c.loop-parts.invariant in
+    let ns = c.loop-parts.nodes in
+    let s = steps at ps i.0 (left ns) i.1 (omega (arith, i.2, c.loop-parts-test.true, c.next.ensures)) i.4 in
+    absurd (let number : c.part-number.result ≡ s.0 = c.part-number.ensures ∙ s.2.part in omega (arith, number, s.2.comes.inside, c.if-number-parts.true, ap length c.as_slice-parts.ensures))
+
+pub emit_all-take-requires : goal.emit_all-take-requires
+emit_all-take-requires t c =
+    let at = address_of c.args.layout.now in
+    let ps = listed c.args.parts.now in
+    let i = c.loop-parts.invariant in
+    let ns = c.loop-parts.nodes in
+    let s = steps at ps i.0 (left ns) i.1 (omega (arith, i.2, c.loop-parts-test.true, c.next.ensures)) i.4 in
+    s.2.some
+
+pub emit_all-overflow_add-behind : goal.emit_all-overflow_add-behind
+emit_all-overflow_add-behind t c =
+    let at = address_of c.args.layout.now in
+    let ps = listed c.args.parts.now in
+    let i = c.loop-parts.invariant in
+    let ns = c.loop-parts.nodes in
+    let s = steps at ps i.0 (left ns) i.1 (omega (arith, i.2, c.loop-parts-test.true, c.next.ensures)) i.4 in
+    omega (arith, c.next-in-loop-parts.ensures, c.take.ensures.size, s.2.size, i.2, s.2.comes.sum, c.requires.room, c.requires.end)
+
+pub emit_all-emit_inner-requires : goal.emit_all-emit_inner-requires
+emit_all-emit_inner-requires t c =
+    let at = address_of c.args.layout.now in
+    let ps = listed c.args.parts.now in
+    let i = c.loop-parts.invariant in
+    let ns = c.loop-parts.nodes in
+    let s = steps at ps i.0 (left ns) i.1 (omega (arith, i.2, c.loop-parts-test.true, c.next.ensures)) i.4 in
+    let q = c.index-parts-number.result in
+    let number : c.part-number.result ≡ s.0 = c.part-number.ensures ∙ s.2.part in
+    let is : q ≡ get_or ps s.0 q = part_of c.as_slice-parts.result.now ps c.part-number.result q c.as_slice-parts.ensures c.index-parts-number.is ∙ ap (λ n. get_or ps n q) number in
+    let sq = steps_as at ps i.0 s.0 (left ns) s.1 q s.2 is in
+    let p = core_of q in
+    let tk = c.take.new.self in
+    let rest = parts_nodes (s.0 + 1) (cores (drop (s.0 + 1) ps)) in
+    let one : take 1 (left ns) ≡ part_node s.0 p ∷ [] = ap (take 1) sq.begins.is in
+    let behind = begins_behind ns tk (take 1 (left ns)) (inner_nodes p ++ rest) c.take.ensures.taken (as_begins (left ns) _ _ (ap (λ l. l ++ (inner_nodes p ++ rest)) (sym one)) sq.begins) in
+    let room : length c.loop-parts.draft.code + len p ≤ 1048576 = omega (arith, i.2, sq.comes.sum, c.requires.room, c.requires.end) in
+    (omega (arith, c.decreases, seq_part c.args.parts.now s.0 q sq.comes.inside is), (room, (begins_front (left tk) (inner_nodes p) rest behind, omega (arith, c.next-in-loop-parts.ensures, c.take.ensures.size, sq.size, room))))
+
+pub emit_all-loop-parts-smaller : goal.emit_all-loop-parts-smaller
+emit_all-loop-parts-smaller t c =
+    let at = address_of c.args.layout.now in
+    let ps = listed c.args.parts.now in
+    let i = c.loop-parts.invariant in
+    let ns = c.loop-parts.nodes in
+    let s = steps at ps i.0 (left ns) i.1 (omega (arith, i.2, c.loop-parts-test.true, c.next.ensures)) i.4 in
+    let q = c.index-parts-number.result in
+    let number : c.part-number.result ≡ s.0 = c.part-number.ensures ∙ s.2.part in
+    let is : q ≡ get_or ps s.0 q = part_of c.as_slice-parts.result.now ps c.part-number.result q c.as_slice-parts.ensures c.index-parts-number.is ∙ ap (λ n. get_or ps n q) number in
+    let sq = steps_as at ps i.0 s.0 (left ns) s.1 q s.2 is in
+    let e = c.in_ok-emit_inner.ensures.code in
+    omega (arith, e.long, code_length at (core_of q) (length c.loop-parts.draft.code), sq.comes.some, sq.comes.sum, i.2)
+
+pub emit_all-loop-parts-preserved : goal.emit_all-loop-parts-preserved
+emit_all-loop-parts-preserved t c =
+    let at = address_of c.args.layout.now in
+    let ps = listed c.args.parts.now in
+    let i = c.loop-parts.invariant in
+    let ns = c.loop-parts.nodes in
+    let s = steps at ps i.0 (left ns) i.1 (omega (arith, i.2, c.loop-parts-test.true, c.next.ensures)) i.4 in
+    let q = c.index-parts-number.result in
+    let number : c.part-number.result ≡ s.0 = c.part-number.ensures ∙ s.2.part in
+    let is : q ≡ get_or ps s.0 q = part_of c.as_slice-parts.result.now ps c.part-number.result q c.as_slice-parts.ensures c.index-parts-number.is ∙ ap (λ n. get_or ps n q) number in
+    let sq = steps_as at ps i.0 s.0 (left ns) s.1 q s.2 is in
+    let p = core_of q in
+    let tk = c.take.new.self in
+    let rest = parts_nodes (s.0 + 1) (cores (drop (s.0 + 1) ps)) in
+    let one : take 1 (left ns) ≡ part_node s.0 p ∷ [] = ap (take 1) sq.begins.is in
+    let behind = begins_behind ns tk (take 1 (left ns)) (inner_nodes p ++ rest) c.take.ensures.taken (as_begins (left ns) _ _ (ap (λ l. l ++ (inner_nodes p ++ rest)) (sym one)) sq.begins) in
+    let d = c.loop-parts.draft in
+    let d1 = c.emit_inner.new.draft in
+    let em = c.emit_inner.new.nodes in
     let n = length d.code in
-    let lt : k < length ps = omega (arith, ap length c.as_slice-part-items.ensures, c.loop-part-test.true) in
-    let is = part_of c.as_slice-part-items.result.now ps k p c.as_slice-part-items.ensures c.part-item.is in
-    let here = drop_here ps k p lt is in
-    let rest = cores (drop (k + 1) ps) in
-    let x = C.code at (core_of p) n in
-    let more_nodes = parts_here ps k p lt is in
-    let s = c.loop-part.nodes in
-    let s1 = c.emit.new.nodes in
-    let rest_nodes = parts_nodes rest in
-    let e = c.in_ok-emit.ensures.code in (
-      omega (arith, ap (λ l. len_all (cores l)) here, c.loop-part.invariant.0, e.long, code_length at (core_of p) n),
+    let x = C.code at p n in
+    let others = cores (drop (s.0 + 1) ps) in
+    let e = c.in_ok-emit_inner.ensures.code in (
+      s.0 + 1,
+      omega (arith, sq.comes.inside),
+      omega (arith, i.2, sq.comes.sum, e.long, code_length at p n),
       λ y more.
-          c.loop-part.invariant.1 y (subst (λ l. Adds d y (C.code_all at (cores l) n)) (sym here) (adds_then d d1 y x (C.code_all at rest (n + length x)) e (subst (λ m. Adds d1 y (C.code_all at rest m)) e.long more))),
-      begins_behind s s1 (nodes_in (core_of p)) rest_nodes c.in_ok-emit.ensures.nodes (as_begins (left s) _ _ more_nodes c.loop-part.invariant.2),
-      λ y more. c.loop-part.invariant.3 y (as_taken s y _ _ (sym more_nodes) (takes_then s s1 y (nodes_in (core_of p)) rest_nodes c.in_ok-emit.ensures.nodes more)),
+          i.3 y (subst (λ l. Adds d y l) (sym (sq.comes.code n)) (adds_then d d1 y x (C.code_all at others (n + length x)) e (subst (λ m. Adds d1 y (C.code_all at others m)) e.long more))),
+      begins_behind tk em (inner_nodes p) rest c.in_ok-emit_inner.ensures.nodes behind,
+      λ y more.
+          let all = takes_then ns tk y (take 1 (left ns)) (inner_nodes p ++ rest) c.take.ensures.taken (takes_then tk em y (inner_nodes p) rest c.in_ok-emit_inner.ensures.nodes more) in
+          i.5 y (as_taken ns y _ _ (sym sq.comes.nodes) (as_taken ns y _ _ (ap (λ l. l ++ (inner_nodes p ++ rest)) one) all)),
     )
+
+pub emit_all-returns-clause-code : goal.emit_all-returns-clause-code
+emit_all-returns-clause-code t c =
+    let at = address_of c.args.layout.now in
+    let ps = listed c.args.parts.now in
+    let i = c.loop-parts.invariant in
+    let d = c.loop-parts.draft in
+    let others = cores (drop i.0 ps) in
+    let zero : len_all others ≡ 0 = omega (arith, i.2, c.loop-parts-test.false, c.next.ensures) in
+    let none = nil_from_length (C.code_all at others (length d.code)) (all_length at others (length d.code) ∙ zero) in
+    i.3 d (subst (λ l. Adds d d l) (sym none) (adds_none d))
+
+pub emit_all-returns-clause-nodes : goal.emit_all-returns-clause-nodes
+emit_all-returns-clause-nodes t c =
+    let ps = listed c.args.parts.now in
+    let i = c.loop-parts.invariant in
+    let ns = c.loop-parts.nodes in
+    let zero : len_all (cores (drop i.0 ps)) ≡ 0 = omega (arith, i.2, c.loop-parts-test.false, c.next.ensures) in
+    i.5 ns (as_taken ns ns _ _ (sym (no_nodes_left ps i.0 i.1 zero)) (takes_none ns))
 
 pub emit_and-put-requires-2 : goal.emit_and-put-requires-2
 emit_and-put-requires-2 t c =

@@ -1,4 +1,4 @@
-use Rattle.std.proofs.Common.{◌≡◌, ◌+◌, ◌-◌, ◌*◌, ◌≤◌, length, drop}
+use Rattle.std.proofs.Common.{◌≡◌, ℕ, ◌+◌, ◌-◌, ◌*◌, ◌≤◌, length, drop}
 use Rattle.rpl_core.specs.Code as C
 use Rattle.rpl_core.specs.View.{core_of, cores, listed}
 use Rattle.rpl_core.specs.declared.peg.Peg.TheViews as V
@@ -12,12 +12,16 @@ use Rattle.rpl_codegen.specs.inside.Written.{address_of}
 use Rattle.rpl_codegen.proofs.Weights.{weight}
 use Rattle.rpl_codegen.proofs.writing.+emit.Given as goal
 
-abbrev pub invariant-emit_all-loop-part : goal.invariant-emit_all-loop-part
-invariant-emit_all-loop-part l =
-    (length l.draft.code + len_all (cores (drop l.part-index (listed l.parts))) ≤ 1048576)
-    × ((x : Draft) → Adds l.draft x (C.code_all (address_of l.layout) (cores (drop l.part-index (listed l.parts))) (length l.draft.code)) → Adds l.fn.draft x (C.code (address_of l.layout) (core_of (V.Seq l.parts)) (length l.fn.draft.code)))
-    × Begins (left l.nodes) (parts_nodes (cores (drop l.part-index (listed l.parts))))
-    × ((x : Nodes) → Takes l.nodes x (parts_nodes (cores (drop l.part-index (listed l.parts)))) → Takes l.fn.nodes x (inner_nodes (core_of (V.Seq l.parts))))
+abbrev pub invariant-emit_all-loop-parts : goal.invariant-emit_all-loop-parts
+invariant-emit_all-loop-parts l =
+    (k : ℕ) × (k ≤ length (listed l.fn.parts))
+    × (l.end ≡ length l.draft.code + len_all (cores (drop k (listed l.fn.parts))))
+    × ((x : Draft) → Adds l.draft x (C.code_all (address_of l.layout) (cores (drop k (listed l.fn.parts))) (length l.draft.code)) → Adds l.fn.draft x (C.code (address_of l.layout) (core_of (V.Seq l.fn.parts)) (length l.fn.draft.code)))
+    × Begins (left l.nodes) (parts_nodes k (cores (drop k (listed l.fn.parts))))
+    × ((x : Nodes) → Takes l.nodes x (parts_nodes k (cores (drop k (listed l.fn.parts)))) → Takes l.fn.nodes x (inner_nodes (core_of (V.Seq l.fn.parts))))
+
+abbrev pub decreases-emit_all-loop-parts : goal.decreases-emit_all-loop-parts
+decreases-emit_all-loop-parts l = l.end - length l.draft.code
 
 abbrev pub invariant-emit_first-loop-number : goal.invariant-emit_first-loop-number
 invariant-emit_first-loop-number l =
