@@ -6,7 +6,7 @@ PROGRAM = crates/rosie/out/rosie
 DOCUMENTS = docs/COMMAND.md docs/LANGUAGE.md docs/TUTORIAL.md docs/MESSAGES.md CHANGELOG.md LICENSE
 TOOLS = rosie-at rosie-why
 
-.PHONY: build check try test install uninstall dist clean
+.PHONY: build check try test compare install uninstall dist clean
 
 # Proves the crates side by side and builds the program, where a source is newer than it. Stopped, it goes on from there at the next call.
 build:
@@ -37,6 +37,13 @@ test:
 	tests/tools
 	tests/install
 	tests/dist
+	tests/compare/run --where-installed 1-300
+
+# The built program beside LPeg, on made-up patterns: make compare SEEDS=1-100000. It needs lua5.4 and LPeg for it (lua-lpeg).
+SEEDS ?= 1-1000
+compare: build
+	tests/compare/run $(SEEDS)
+	tests/compare/planted 1-1000
 
 # The program, the tools beside it, the man pages, the documents for users, the examples, and completions for three shells.
 install: build
