@@ -3,7 +3,7 @@ PREFIX ?= /usr/local
 BIN = $(DESTDIR)$(PREFIX)/bin
 SHARE = $(DESTDIR)$(PREFIX)/share
 PROGRAM = crates/rosie/out/rosie
-DOCUMENTS = docs/COMMAND.md docs/LANGUAGE.md docs/TUTORIAL.md docs/MESSAGES.md CHANGELOG.md LICENSE
+DOCUMENTS = docs/COMMAND.md docs/LANGUAGE.md docs/TUTORIAL.md docs/RECIPES.md docs/MESSAGES.md CHANGELOG.md LICENSE
 TOOLS = rosie-at rosie-why
 
 .PHONY: build check try test compare install uninstall dist clean
@@ -47,11 +47,12 @@ compare: build
 
 # The program, the tools beside it, the man pages, the documents for users, the examples, and completions for three shells.
 install: build
-	install -d $(BIN) $(SHARE)/man/man1 $(SHARE)/doc/rosie $(SHARE)/rosie/examples $(SHARE)/bash-completion/completions \
+	install -d $(BIN) $(SHARE)/man/man1 $(SHARE)/man/man7 $(SHARE)/doc/rosie $(SHARE)/rosie/examples $(SHARE)/bash-completion/completions \
 		$(SHARE)/zsh/site-functions $(SHARE)/fish/vendor_completions.d
 	install -m 755 $(PROGRAM) $(BIN)/rosie
 	install -m 755 $(TOOLS:%=tools/%) $(BIN)
 	tools/manual_page > $(SHARE)/man/man1/rosie.1
+	tools/manual_page rosie-language > $(SHARE)/man/man7/rosie-language.7
 	install -m 644 $(TOOLS:%=tools/%.1) $(SHARE)/man/man1
 	install -m 644 $(DOCUMENTS) $(SHARE)/doc/rosie
 	install -m 644 examples/* $(SHARE)/rosie/examples
@@ -61,7 +62,7 @@ install: build
 
 uninstall:
 	rm -f $(BIN)/rosie $(TOOLS:%=$(BIN)/%) $(SHARE)/man/man1/rosie.1 $(TOOLS:%=$(SHARE)/man/man1/%.1)
-	rm -f $(SHARE)/bash-completion/completions/rosie
+	rm -f $(SHARE)/man/man7/rosie-language.7 $(SHARE)/bash-completion/completions/rosie
 	rm -f $(SHARE)/zsh/site-functions/_rosie $(SHARE)/fish/vendor_completions.d/rosie.fish
 	rm -rf $(SHARE)/rosie $(SHARE)/doc/rosie
 
