@@ -47,7 +47,8 @@ compare: build
 
 # The program, the tools beside it, the man pages, the documents for users, the examples, and completions for three shells.
 install: build
-	install -d $(BIN) $(SHARE)/man/man1 $(SHARE)/man/man7 $(SHARE)/doc/rosie $(SHARE)/rosie/examples $(SHARE)/bash-completion/completions \
+	install -d $(BIN) $(SHARE)/man/man1 $(SHARE)/man/man7 $(SHARE)/doc/rosie $(SHARE)/rosie/examples/fixtures \
+		$(SHARE)/bash-completion/completions \
 		$(SHARE)/zsh/site-functions $(SHARE)/fish/vendor_completions.d
 	install -m 755 $(PROGRAM) $(BIN)/rosie
 	install -m 755 $(TOOLS:%=tools/%) $(BIN)
@@ -55,7 +56,8 @@ install: build
 	tools/manual_page rosie-language > $(SHARE)/man/man7/rosie-language.7
 	install -m 644 $(TOOLS:%=tools/%.1) $(SHARE)/man/man1
 	install -m 644 $(DOCUMENTS) $(SHARE)/doc/rosie
-	install -m 644 examples/* $(SHARE)/rosie/examples
+	install -m 644 examples/*.rpl examples/*.log $(SHARE)/rosie/examples
+	install -m 644 examples/fixtures/* $(SHARE)/rosie/examples/fixtures
 	install -m 644 completions/rosie.bash $(SHARE)/bash-completion/completions/rosie
 	install -m 644 completions/_rosie $(SHARE)/zsh/site-functions/_rosie
 	install -m 644 completions/rosie.fish $(SHARE)/fish/vendor_completions.d/rosie.fish
