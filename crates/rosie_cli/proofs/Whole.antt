@@ -1,7 +1,7 @@
 -- From a plan to its run, and to what is told of it.
 use Rattle.std.proofs.Common.{ℕ, ◌≡◌, ◌≢◌, inl, inr, ◌-◌, ◌^◌, ◌<◌, ◌≤◌, Bool, true, false, List, [], ◌∷◌, ◌++◌}
 use Rattle.std.proofs.Common.{length, refl, sym, ◌∙◌, ap, subst, arith}
-use Rattle.std.specs.Prelude.{Result, Ok, Err, IfOk}
+use Rattle.std.specs.Prelude.{Result, Ok, Err, IfOk, codes}
 use Rattle.std.specs.List.{Contains}
 use Rattle.std.proofs.lemmas.Bool.{false≢true}
 use Rattle.rosie_io.specs.Counts.{Rose}
@@ -37,7 +37,7 @@ use Rattle.rosie_words.specs.declared.command.Command.{Command}
 use Rattle.rosie_session.specs.Loading.{Loading}
 use Rattle.rosie_session.specs.Replay.{replay}
 use Rattle.rosie_session.specs.Where.{InSession, in_lines, in_load}
-use Rattle.rosie_cli.specs.Plans.{pieces, inputs_of, ReadsInput, among, stood}
+use Rattle.rosie_cli.specs.Plans.{pieces, inputs_of, LeavesInput, ReadsInput, among, stood}
 use Rattle.rosie_cli.specs.Promises.{HasRun}
 use Rattle.rosie_cli.specs.Report.{IsAnswer, KnowsFiles, KnowsInputs}
 use Rattle.rosie_cli.specs.Words.{Asked, Refuse, Do, IsRefused}
@@ -51,7 +51,7 @@ goes-stop (Err e) P h = tt
 -- the counts before, and over more
 inputs_later : (names : List (List ℕ)) (before : List (List ℕ) → ℕ) (tree : List (List ℕ × List ℕ)) (whole : Bool) (i0 i1 f0 f f1 : Moment) (why : Why) (file : List ℕ) (k : ℕ) → f.faults ≡ f0.faults → f.opens ≡ f0.opens → (f.taken < 2 ^ 64 - 1 → f0.taken ≤ f.taken) → InInputs names before tree whole i0 i1 f f1 why file k → InInputs names before tree whole i0 i1 f0 f1 why file k
 inputs_later names before tree whole i0 i1 f0 f f1 why file k faults opens taken (in_file front back n is isn't x e) = in_file front back n is isn't (file_later tree whole f0 f f1 why file n faults opens taken x) e
-inputs_later names before tree whole i0 i1 f0 f f1 why file k faults opens taken (in_standard front back n is isn't x e) = in_standard front back n is isn't x e
+inputs_later names before tree whole i0 i1 f0 f f1 why file k faults opens taken (in_standard front back n is isn't first x e) = in_standard front back n is isn't first x e
 
 rose_later : (f0 f f1 : Moment) → f.faults ≡ f0.faults → f.opens ≡ f0.opens → RoseIn f f1 → RoseIn f0 f1
 rose_later f0 f f1 faults opens (inl r) = inl (subst (λ x. Rose x f1.faults) faults r)
@@ -171,7 +171,7 @@ read-of (Err (E.Cut why text)) s W b d P c is goes = elim c.1 [ inl e ↦ absurd
 inputs_not_spent : (names : List (List ℕ)) (before : List (List ℕ) → ℕ) (tree : List (List ℕ × List ℕ)) (whole : Bool) (i0 i1 f0 f1 : Moment) (file : List ℕ) (k : ℕ) → length i0.rest < 2 ^ 32 → AreShort names tree → InInputs names before tree whole i0 i1 f0 f1 Y.Spent file k → ⊥
 inputs_not_spent names before tree whole i0 i1 f0 f1 file k short files (in_file front back n is isn't (not_opened e rose z) x) = absurd (cc)
 inputs_not_spent names before tree whole i0 i1 f0 f1 file k short files (in_file front back n n' isn't (opened got o e at z long) x) = let l = long refl in let m = files front back file (got ++ f1.rest) n' at in absurd (omega arith)
-inputs_not_spent names before tree whole i0 i1 f0 f1 file k short files (in_standard front back n is isn't x e) = let l = x.long refl in absurd (omega arith)
+inputs_not_spent names before tree whole i0 i1 f0 f1 file k short files (in_standard front back n is isn't first x e) = let l = x.long refl in absurd (omega arith)
 
 session_not_spent : (w : Loading) (input : List ℕ) (i0 i1 f0 f1 : Moment) (file : List ℕ) (k : ℕ)
     → length i0.rest < 2 ^ 32 → InSession w input i0 i1 f0 f1 Y.Spent file k → ⊥
@@ -296,3 +296,18 @@ module _ (W : Telling) (ps : List Piece) (Where : Why → List ℕ → ℕ → T
   answers-all Spent h r w = absurd (few h.file h.k h.stood)
   answers-all WriteFault h r w = elim w.2 [ inl x ↦ absurd (o x) | inr x ↦ absurd (e x) ]
   answers-all NoMemory h r w = inr refl
+
+-- ---- a plan that doesn't name the standard input
+
+pub unread-names : (plan : Plan) (names names' : List (List ℕ)) → inputs_of plan ≡ names → names' ≡ names
+    → LeavesInput plan → reads_standard names' ≡ false
+unread-names plan names names' e f n = ap reads_standard (f ∙ sym e) ∙ n
+
+-- a session reads it
+session_reads : reads_standard (codes "-" ∷ []) ≡ true
+unfolding reads_standard
+session_reads = refl
+
+pub session-reads : (p : Planned) (w : Loading) → p ≡ session_planned w → LeavesInput p.plan → ⊥
+session-reads p w is n =
+    false≢true (sym (subst (λ (q : Planned). LeavesInput q.plan) is n) ∙ session_reads)

@@ -1,5 +1,5 @@
 -- A plan: what a command comes to before anything is written. Its pieces, and where reading may end its run.
-use Rattle.std.specs.Prelude.{ℕ, ◌≡◌, true, Bool, List, [], ◌∷◌, codes, length}
+use Rattle.std.specs.Prelude.{ℕ, ◌≡◌, false, true, Bool, List, [], ◌∷◌, codes, length}
 use Rattle.rosie_run.specs.Inputs.{inputs_pieces, reads_standard}
 use Rattle.rosie_run.specs.Report.{Piece, stop_piece, text_piece}
 use Rattle.rosie_run.specs.Sources.{Moment, moment}
@@ -57,6 +57,10 @@ inputs_of (Replays w) = codes "-" ∷ []
 
 abbrev pub ReadsInput : Plan → Type 0
 ReadsInput plan = reads_standard (inputs_of plan) ≡ true
+
+-- the standard input isn't among them
+abbrev pub LeavesInput : Plan → Type 0
+LeavesInput plan = reads_standard (inputs_of plan) ≡ false
 
 -- a source before and after a run
 pub record Span : Type 0 where

@@ -14,7 +14,7 @@ ghost use Rattle.rosie_run.specs.Where.{Nowhere};
 ghost use Rattle.rosie_words.specs.Reading.{words_of};
 ghost use Rattle.rosie_words.specs.declared.command.What.TheVariants as W;
 ghost use Rattle.rosie_cli.specs.Planned.{IsPlanned, IsPlannedAs};
-ghost use Rattle.rosie_cli.specs.Plans.{Planned, pieces, inputs_of, ReadsInput, span, among, stood};
+ghost use Rattle.rosie_cli.specs.Plans.{Planned, pieces, inputs_of, LeavesInput, ReadsInput, span, among, stood};
 ghost use Rattle.rosie_cli.specs.Promises.{IsPromised, HasRun, IsSound};
 ghost use Rattle.rosie_cli.specs.Report.{report, IsAnswer, KnowsFiles, KnowsInputs};
 ghost use Rattle.rosie_cli.specs.Words.{asked, IsRefused};
@@ -81,6 +81,7 @@ fn run_plan<F: Files, I: Source, O: Sink, E: Sink, L: Ledger>(
         (moment F.rest F.taken F.faults F.failed_opens files.new) }
     ensures sinks { WritesCause result (O.faults out.old) (O.faults out.new) (E.faults err.old) (E.faults err.new) }
     ensures untouched { IsSaid (plan_of plan.old) → (files.new ≡ files.old) × (input.new ≡ input.old) }
+    ensures unread { LeavesInput (plan_of plan.old) → input.new ≡ input.old }
 {
     match plan {
         Plan::Answer(text) => say(out, err, text.as_bytes(), &[], Mark::Hit),
@@ -129,6 +130,8 @@ fn run_planned<F: Files, I: Source, O: Sink, E: Sink, L: Ledger>(
         → HasStepped result steps.old steps.new → IsPromised p.plan }
     ensures rest { F.tells → I.tells → (p : Planned) → IsPlannedAs command command.what (F.tree files.old) p
         → GoesOn result (ReadsInput p.plan → I.rest input.new ≡ []) }
+    ensures unread { F.tells → (p : Planned) → IsPlannedAs command command.what (F.tree files.old) p
+        → LeavesInput p.plan → input.new ≡ input.old }
     ensures cause { SourcesCause result (moment I.rest I.taken I.faults I.failed_opens input.old)
         (moment I.rest I.taken I.faults I.failed_opens input.new)
         (moment F.rest F.taken F.faults F.failed_opens files.old)
@@ -168,6 +171,8 @@ fn run_command<F: Files, I: Source, O: Sink, E: Sink, L: Ledger>(
         → HasStepped result steps.old steps.new → IsPromised p.plan }
     ensures rest { F.tells → I.tells → (p : Planned) → IsPlannedAs command command.what (F.tree files.old) p
         → GoesOn result (ReadsInput p.plan → I.rest input.new ≡ []) }
+    ensures unread { F.tells → (p : Planned) → IsPlannedAs command command.what (F.tree files.old) p
+        → LeavesInput p.plan → input.new ≡ input.old }
     ensures cause { SourcesCause result (moment I.rest I.taken I.faults I.failed_opens input.old)
         (moment I.rest I.taken I.faults I.failed_opens input.new)
         (moment F.rest F.taken F.faults F.failed_opens files.old)
@@ -204,6 +209,8 @@ fn run_words<F: Files, I: Source, O: Sink, E: Sink, L: Ledger>(
         → IsPromised p.plan }
     ensures rest { F.tells → I.tells → (p : Planned) → IsPlanned (asked (words_of words.now)) (F.tree files.old) p
         → GoesOn result (ReadsInput p.plan → I.rest input.new ≡ []) }
+    ensures unread { (p : Planned) → KnowsFiles (asked (words_of words.now)) F.tells
+        → IsPlanned (asked (words_of words.now)) (F.tree files.old) p → LeavesInput p.plan → input.new ≡ input.old }
     ensures cause { SourcesCause result (moment I.rest I.taken I.faults I.failed_opens input.old)
         (moment I.rest I.taken I.faults I.failed_opens input.new)
         (moment F.rest F.taken F.faults F.failed_opens files.old)
@@ -243,10 +250,12 @@ pub fn rosie<F: Files, I: Source, O: Sink, E: Sink, L: Ledger>(
         (texts O.written O.number E.written out.old err.old steps.old)
         (texts O.written O.number E.written out.new err.new steps.new) }
 
-    // Where it came to its end, the standard input was read to its end, if it is among the inputs. Words that are
-    // refused read nothing.
+    // Where it came to its end, the standard input was read to its end, if it is among the inputs; if it isn't, nothing of
+    // it was read. Words that are refused open nothing either.
     ensures read { F.tells → I.tells → (p : Planned) → IsPlanned (asked (words_of words.now)) (F.tree files.old) p
         → CameToEnd result → ReadsInput p.plan → I.rest input.new ≡ [] }
+    ensures unread { (p : Planned) → KnowsFiles (asked (words_of words.now)) F.tells
+        → IsPlanned (asked (words_of words.now)) (F.tree files.old) p → LeavesInput p.plan → input.new ≡ input.old }
     ensures untouched { IsRefused (asked (words_of words.now)) → (files.new ≡ files.old) × (input.new ≡ input.old) }
 
     // No line is said to pass its budget that the budget pays for, and a code that is written as a file is safe. Where

@@ -7,7 +7,7 @@ use Rattle.rosie_cli.specs.Plans.{Plan, Planned, refusal}
 use Rattle.rosie_cli.specs.Promises.{IsPromised}
 use Rattle.rosie_cli.specs.Report.{KnowsInputs}
 use Rattle.rosie_cli.specs.inside.Planning.{plan_of}
-use Rattle.rosie_cli.proofs.Whole.{planned-runs, planned-goes, refused-runs, said-goes, session-goes, session-runs, unread}
+use Rattle.rosie_cli.proofs.Whole.{planned-runs, planned-goes, refused-runs, said-goes, session-goes, session-reads, session-runs, unread}
 use Rattle.rosie_cli.proofs.top.run_command.Goals as goal
 
 pub returns-in-Repl-clause-runs : goal.returns-in-Repl-clause-runs
@@ -24,3 +24,7 @@ returns-in-Repl-clause-due g c = λ t p is stepped.
 
 pub returns-in-Repl-clause-rest : goal.returns-in-Repl-clause-rest
 returns-in-Repl-clause-rest g c = λ t u p is. session-goes c.run_session.result p _ (c.run_session.ensures.rest t u)
+
+pub returns-in-Repl-clause-unread : goal.returns-in-Repl-clause-unread
+returns-in-Repl-clause-unread g c = λ t p is n.
+    let s = rw c.in-Repl.is at is in absurd (session-reads p s.loading s.plan n)

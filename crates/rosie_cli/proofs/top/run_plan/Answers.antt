@@ -2,10 +2,11 @@ use Rattle.std.proofs.Common.{ap, sym, subst}
 use Rattle.std.specs.Prelude.{encode_utf8_all}
 use Rattle.rosie_run.specs.Inputs.{names_of}
 use Rattle.rosie_jobs.specs.Jobs.{matcher_of, runner_of, tracer_of}
+use Rattle.rosie_cli.specs.Plans.{inputs_of}
 use Rattle.rosie_cli.specs.Report.{KnowsInputs}
 use Rattle.rosie_cli.specs.inside.Planning.{plan_of, IsSaid}
 use Rattle.rosie_verdicts.specs.Seen.{bench_of, trials_of}
-use Rattle.rosie_cli.proofs.Whole.{said-goes, match-runs, test-runs}
+use Rattle.rosie_cli.proofs.Whole.{said-goes, match-runs, test-runs, unread-names}
 use Rattle.rosie_cli.proofs.top.run_plan.Goals as goal
 
 pub returns-in-Answer-clause-rest : goal.returns-in-Answer-clause-rest
@@ -61,3 +62,24 @@ returns-in-Run-clause-runs g c = λ knows.
     (g.F.Source.tree c.args.files.now) _ _ _ _ (ap plan_of m.is)
     (ap (names_of encode_utf8_all) c.as_slice-names-in-Run.ensures) c.reading-reading-in-Run.ensures
     (c.run_inputs-in-Run.ensures.runs tells.0 tells.1)
+
+pub returns-in-Match-clause-unread : goal.returns-in-Match-clause-unread
+returns-in-Match-clause-unread g c = λ n.
+    let m = c.in-Match in
+    c.run_inputs.ensures.unread (unread-names (plan_of c.args.plan.now) (names_of encode_utf8_all m.names)
+    (names_of encode_utf8_all c.as_slice-names.result.now) (ap (λ x. inputs_of (plan_of x)) m.is)
+    (ap (names_of encode_utf8_all) c.as_slice-names.ensures) n)
+
+pub returns-in-Trace-clause-unread : goal.returns-in-Trace-clause-unread
+returns-in-Trace-clause-unread g c = λ n.
+    let m = c.in-Trace in
+    c.run_inputs-in-Trace.ensures.unread (unread-names (plan_of c.args.plan.now) (names_of encode_utf8_all m.names)
+    (names_of encode_utf8_all c.as_slice-names-in-Trace.result.now) (ap (λ x. inputs_of (plan_of x)) m.is)
+    (ap (names_of encode_utf8_all) c.as_slice-names-in-Trace.ensures) n)
+
+pub returns-in-Run-clause-unread : goal.returns-in-Run-clause-unread
+returns-in-Run-clause-unread g c = λ n.
+    let m = c.in-Run in
+    c.run_inputs-in-Run.ensures.unread (unread-names (plan_of c.args.plan.now) (names_of encode_utf8_all m.names)
+    (names_of encode_utf8_all c.as_slice-names-in-Run.result.now) (ap (λ x. inputs_of (plan_of x)) m.is)
+    (ap (names_of encode_utf8_all) c.as_slice-names-in-Run.ensures) n)

@@ -3,7 +3,7 @@ use Rattle.std.specs.List.{Contains}
 use Rattle.std.specs.Prelude.{string_bytes}
 use Rattle.rosie_run.proofs.Pieces.{fronts-none}
 use Rattle.rosie_session.proofs.Paying.{pays_holds}
-use Rattle.rosie_cli.specs.Plans.{Plan, Planned, refusal}
+use Rattle.rosie_cli.specs.Plans.{LeavesInput, Plan, Planned, refusal}
 use Rattle.rosie_cli.specs.Promises.{IsPromised}
 use Rattle.rosie_cli.specs.Report.{KnowsInputs}
 use Rattle.rosie_cli.specs.inside.Planning.{plan_of}
@@ -53,3 +53,7 @@ returns-in-ReadFault-clause-runs g c = λ t p is inputs.
     let plans = rw c.in-ReadFault.is at (c.in-Err.ensures.plans t p is) in
     unread c.cut.result _ p _ c.text_of.result.now _ _ _ (g.met.O.Sink.number_fits c.args.out.now) c.cut.ensures
     (subst (Contains p.asked) (sym c.text_of.ensures) plans.1) cause.1
+
+pub returns-in-Ok-clause-unread : goal.returns-in-Ok-clause-unread
+returns-in-Ok-clause-unread g c = λ t p is n.
+    c.run_plan.ensures.unread (subst LeavesInput (c.in-Ok.ensures.plans t p is).0 n)

@@ -50,3 +50,9 @@ pub returns-in-Do-clause-untouched : goal.returns-in-Do-clause-untouched
 returns-in-Do-clause-untouched g c = λ refused.
     let e = rw c.in-Do.is at c.in-Ok.ensures in
     absurd (do-goes-on (asked (words_of c.args.words.now)) c.in-Do.command e refused)
+
+pub returns-in-Do-clause-unread : goal.returns-in-Do-clause-unread
+returns-in-Do-clause-unread g c = λ p files is.
+    let a = asked (words_of c.args.words.now) in
+    let e = rw c.in-Do.is at c.in-Ok.ensures in
+    c.run_command.ensures.unread (do-knows a c.in-Do.command _ e files) p (do-planned a c.in-Do.command _ p e is)
