@@ -3,7 +3,7 @@ PREFIX ?= /usr/local
 BIN = $(DESTDIR)$(PREFIX)/bin
 SHARE = $(DESTDIR)$(PREFIX)/share
 PROGRAM = crates/rosie/out/rosie
-DOCUMENTS = docs/COMMAND.md docs/LANGUAGE.md docs/TUTORIAL.md docs/RECIPES.md docs/MESSAGES.md CHANGELOG.md LICENSE
+DOCUMENTS = docs/COMMAND.md docs/LANGUAGE.md docs/TUTORIAL.md docs/RECIPES.md docs/MESSAGES.md CHANGELOG.md LICENSE docs/COMING-FROM.md
 TOOLS = rosie-at rosie-why
 
 .PHONY: build check try test compare install uninstall dist clean
@@ -34,6 +34,7 @@ test:
 	tests/examples
 	tests/manual
 	tests/messages
+	tests/regular
 	tests/tools
 	tests/install
 	tests/dist
