@@ -5,6 +5,7 @@ SHARE = $(DESTDIR)$(PREFIX)/share
 PROGRAM = crates/rosie/out/rosie
 DOCUMENTS = docs/COMMAND.md docs/LANGUAGE.md docs/TUTORIAL.md docs/RECIPES.md docs/MESSAGES.md CHANGELOG.md LICENSE docs/COMING-FROM.md
 TOOLS = rosie-at rosie-why
+VIM = syntax/rpl.vim ftdetect/rpl.vim ftplugin/rpl.vim compiler/rosie.vim
 
 .PHONY: build check try test compare install uninstall dist clean
 
@@ -36,6 +37,7 @@ test:
 	tests/messages
 	tests/regular
 	tests/tools
+	tests/editors
 	tests/install
 	tests/dist
 	tests/compare/run --where-installed 1-300
@@ -46,7 +48,7 @@ compare: build
 	tests/compare/run $(SEEDS)
 	tests/compare/planted 1-1000
 
-# The program, the tools beside it, the man pages, the documents for users, the examples, and completions for three shells.
+# The program, the tools beside it, the man pages, the documents for users, the examples, what editors colour RPL by, and completions for three shells.
 install: build
 	install -d $(BIN) $(SHARE)/man/man1 $(SHARE)/man/man7 $(SHARE)/doc/rosie $(SHARE)/rosie/examples/fixtures \
 		$(SHARE)/bash-completion/completions \
@@ -59,6 +61,10 @@ install: build
 	install -m 644 $(DOCUMENTS) $(SHARE)/doc/rosie
 	install -m 644 examples/*.rpl examples/*.log $(SHARE)/rosie/examples
 	install -m 644 examples/fixtures/* $(SHARE)/rosie/examples/fixtures
+	for v in vim/vimfiles nvim/site; do for f in $(VIM); do \
+		install -d $(SHARE)/$$v/$$(dirname $$f) && install -m 644 editors/vim/$$f $(SHARE)/$$v/$$f || exit 1; done; done
+	install -d $(SHARE)/rosie/editors
+	install -m 644 editors/rpl.tmLanguage.json $(SHARE)/rosie/editors
 	install -m 644 completions/rosie.bash $(SHARE)/bash-completion/completions/rosie
 	install -m 644 completions/_rosie $(SHARE)/zsh/site-functions/_rosie
 	install -m 644 completions/rosie.fish $(SHARE)/fish/vendor_completions.d/rosie.fish
@@ -67,6 +73,7 @@ uninstall:
 	rm -f $(BIN)/rosie $(TOOLS:%=$(BIN)/%) $(SHARE)/man/man1/rosie.1 $(TOOLS:%=$(SHARE)/man/man1/%.1)
 	rm -f $(SHARE)/man/man7/rosie-language.7 $(SHARE)/bash-completion/completions/rosie
 	rm -f $(SHARE)/zsh/site-functions/_rosie $(SHARE)/fish/vendor_completions.d/rosie.fish
+	rm -f $(VIM:%=$(SHARE)/vim/vimfiles/%) $(VIM:%=$(SHARE)/nvim/site/%)
 	rm -rf $(SHARE)/rosie $(SHARE)/doc/rosie
 
 # What is installed, packed for machines without Rattle: a folder, a .tar.gz, and a Debian package where there is dpkg-deb, all in dist/.

@@ -1,0 +1,2 @@
+" Files of the Rosie Pattern Language.
+autocmd BufNewFile,BufRead *.rpl setfiletype rpl
