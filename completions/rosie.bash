@@ -1,4 +1,23 @@
-# Completion of rosie for bash: commands, options, styles, classes and files.
+# Completion of rosie for bash: commands, options, styles, classes, files, and names of packages in a pattern.
+
+# The names that a pattern may go on with, where NAME is begun: those of its package behind a dot, and else the packages and what the roots
+# bind. _rosie_names FOLDERS NAME [ROOT ..]
+_rosie_names() {
+    local folders=$1 name=$2 folder file
+    shift 2
+    if [[ $name == *.* ]]; then
+        command rosie list --libpath "$folders" --rpl "import ${name%%.*}" 2>/dev/null </dev/null | cut -d ' ' -f 1
+        return
+    fi
+    [[ $# != 0 ]] && command rosie list --libpath "$folders" "$@" 2>/dev/null </dev/null | cut -d ' ' -f 1
+    while IFS= read -r -d : folder; do
+        for file in "$folder"/*.rpl; do
+            file=${file##*/}
+            [[ $file == '*.rpl' ]] || echo "${file%.rpl}."
+        done
+    done <<<"$folders:"
+}
+
 _rosie() {
     local words=() rest=${COMP_LINE-} piece index
     # Bash cuts words at `=` and `:` too, where COMP_WORDBREAKS has them. Here they are put together again.
@@ -12,7 +31,7 @@ _rosie() {
         rest=${rest#"${rest%%[![:space:]]*}"}
         rest=${rest#"$piece"}
     done
-    local word=${words[-1]} kept command='' count=0 wants='' ended='' coded='' item
+    local word=${words[-1]} kept command='' count=0 wants='' ended='' coded='' fixed='' folders=. roots=() item
     unset 'words[-1]'
     # What stands of the word before the piece that is completed.
     [[ $piece == [=:]* ]] && piece=
@@ -21,6 +40,12 @@ _rosie() {
     # The words before it: the command, the number of arguments behind it, and the option that wants this word.
     for item in "${words[@]:1}"; do
         if [[ -n $wants ]]; then
+            # Quotes of the shell round a value are taken off, and nothing else of it is resolved.
+            [[ $item == \'*\' || $item == \"*\" ]] && item=${item:1:-1}
+            case $wants in
+                --libpath) folders=$item ;;
+                -f|--file|--rpl) roots+=("$wants" "$item") ;;
+            esac
             wants=
         elif [[ $item == *[\<\>] ]]; then
             wants=redirection
@@ -30,7 +55,12 @@ _rosie() {
             case $item in
                 -f|--file|--rpl|--libpath|-o|--output|--budget|--limit|--code-file) wants=$item ;;
             esac
-            [[ $item == --code-file || $item == --code-file=* ]] && coded=yes
+            case $item in
+                --code-file|--code-file=*) coded=yes ;;
+                -F|--fixed-strings) fixed=yes ;;
+                --libpath=*) folders=${item#*=} ;;
+                --file=*) roots+=("$item") ;;
+            esac
         elif [[ -z $command ]]; then
             command=$item
         else
@@ -44,7 +74,7 @@ _rosie() {
         wants=${word%%=*} value=${word#*=} before=${word%%=*}=
     fi
 
-    local offer='' files=''
+    local offer='' files='' names=''
     if [[ -n $wants ]]; then
         case $wants in
             -o|--output) offer='json line matches subs data bool' ;;
@@ -69,10 +99,20 @@ _rosie() {
         case $command:$count in
             :*) offer='match grep test list expand trace sample repl compile class' ;;
             test:0) files=default ;;
-            match:0) [[ -n $coded ]] && files=default ;;
+            match:0) if [[ -n $coded ]]; then files=default; else names=yes; fi ;;
+            grep:0|trace:0|expand:0|compile:0) names=yes ;;
             match:*|grep:[1-9]*|trace:[1-9]*) files=default ;;
             class:0) offer='alnum alpha blank cntrl digit graph lower print punct space upper xdigit' ;;
         esac
+    fi
+
+    if [[ -n $names && -z $fixed ]]; then
+        # The name that the pattern ends with. A quote of the shell before the pattern isn't part of what readline replaces.
+        [[ $value == [\'\"]* ]] && value=${value:1}
+        [[ $value =~ [A-Za-z][A-Za-z0-9_]*(\.[A-Za-z0-9_]*)?$ ]] || [[ -z $value ]] || names=
+        item=${BASH_REMATCH[0]}
+        [[ -n $names ]] && before=${value%"$item"} value=$item offer=$(_rosie_names "$folders" "$item" "${roots[@]}")
+        compopt -o nospace 2>/dev/null
     fi
 
     COMPREPLY=()

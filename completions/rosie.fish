@@ -1,4 +1,4 @@
-# Completion of rosie for fish: commands, options, styles, classes and files.
+# Completion of rosie for fish: commands, options, styles, classes, files, and names of packages in a pattern.
 # `-o` tells of the short options as fish doesn't join them: rosie refuses `-wa`.
 set -g __rosie_commands match grep test list expand trace sample repl compile class
 
@@ -8,9 +8,35 @@ function __rosie_for
     or not __fish_seen_subcommand_from $__rosie_commands
 end
 
+# What a pattern may go on with, where it ends with a name that is begun: the names of its package behind a dot, and else the packages.
+function __rosie_names
+    set -l token (commandline -ct)
+    set -l name (string match -r '[A-Za-z][A-Za-z0-9_]*(?:\.[A-Za-z0-9_]*)?$' -- $token)
+    set -l before (string replace -r '[A-Za-z][A-Za-z0-9_]*(\.[A-Za-z0-9_]*)?$' '' -- $token)
+    set -l folders .
+    set -l words (commandline -opc)
+    for index in (seq (count $words))
+        switch $words[$index]
+            case --libpath
+                set folders $words[(math $index + 1)]
+            case '--libpath=*'
+                set folders (string replace -- --libpath= '' $words[$index])
+        end
+    end
+    if string match -q '*.*' -- $name
+        command rosie list --libpath $folders --rpl "import "(string replace -r '\..*' '' -- $name) 2>/dev/null </dev/null |
+            string replace -r ' .*' '' | string replace -r '^' -- $before
+    else
+        for file in (string split : -- $folders)/*.rpl
+            echo $before(basename $file .rpl).
+        end
+    end
+end
+
 complete -c rosie -f
 complete -c rosie -n 'not __fish_seen_subcommand_from $__rosie_commands' -a "$__rosie_commands"
 complete -c rosie -n '__fish_seen_subcommand_from match grep trace test' -F
+complete -c rosie -n '__fish_seen_subcommand_from match grep trace expand compile' -a '(__rosie_names)' -d 'Name'
 complete -c rosie -n '__fish_seen_subcommand_from class' -a 'alnum alpha blank cntrl digit graph lower print punct space upper xdigit'
 
 set -l roots '__rosie_for match grep list expand trace compile'
