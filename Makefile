@@ -41,12 +41,13 @@ test:
 	tests/install
 	tests/dist
 	tests/compare/run --where-installed 1-300
+	tests/compare/planted --where-installed 1-300
 
 # The built program beside LPeg, on made-up patterns: make compare SEEDS=1-100000. It needs lua5.4 and LPeg for it (lua-lpeg).
 SEEDS ?= 1-1000
 compare: build
 	tests/compare/run $(SEEDS)
-	tests/compare/planted 1-1000
+	tests/compare/planted 1-300
 
 # The program, the tools beside it, the man pages, the documents for users, the examples, what editors colour RPL by, and completions for three shells.
 install: build

@@ -118,10 +118,13 @@ local function printed(node, line)
   return ('{"type":%s,"s":%d,"e":%d,"data":%s%s}'):format(json(node.type), node.s, node.e, data, below)
 end
 
+-- What an error says, in its first line, without the place in this file.
+local function why(fault) return (tostring(fault):gsub("\n.*", ""):gsub("^%S+:%d+: ", "")) end
+
 -- What LPeg answers to a line: the tree, `no`, or why it gives none.
 local function answer(pattern, line)
   local done, node = pcall(lpeg.match, pattern, line)
-  if not done then return "limit: " .. tostring(node):gsub("\n.*", "") end
+  if not done then return "limit: " .. why(node) end
   return node and printed(node, line) or "no"
 end
 
@@ -134,7 +137,7 @@ local function main()
     for index = 1, tonumber(how_many_cores) do cores[index] = io.read() end
     for index = 1, tonumber(how_many_lines) do lines[index] = io.read() end
     local accepted, pattern = pcall(grammar, cores)
-    print(accepted and "accepted" or "refused: " .. tostring(pattern):gsub("\n.*", ""))
+    print(accepted and "accepted" or "refused: " .. why(pattern))
     for _, line in ipairs(lines) do print(accepted and answer(pattern, line) or "limit: no pattern") end
   end
 end
