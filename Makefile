@@ -7,7 +7,7 @@ DOCUMENTS = docs/COMMAND.md docs/LANGUAGE.md docs/TUTORIAL.md docs/RECIPES.md do
 TOOLS = rosie-at rosie-why
 VIM = syntax/rpl.vim ftdetect/rpl.vim ftplugin/rpl.vim compiler/rosie.vim
 
-.PHONY: build check try test compare install uninstall dist clean
+.PHONY: build check try test compare bench install uninstall dist clean
 
 # Proves the crates side by side and builds the program, where a source is newer than it. Stopped, it goes on from there at the next call.
 build:
@@ -48,6 +48,10 @@ SEEDS ?= 1-1000
 compare: build
 	tests/compare/run $(SEEDS)
 	tests/compare/planted 1-300
+
+# Measures the built program beside LPeg, grep, rg and jq, where they are installed, and ends with a table for docs/SPEED.md.
+bench: build
+	bench/run
 
 # The program, the tools beside it, the man pages, the documents for users, the examples, what editors colour RPL by, and completions for three shells.
 install: build
