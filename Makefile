@@ -44,10 +44,12 @@ test:
 	tests/compare/planted --where-installed 1-300
 
 # The built program beside LPeg, on made-up patterns: make compare SEEDS=1-100000. It needs lua5.4 and LPeg for it (lua-lpeg).
+# Then beside grep, jq and awk.
 SEEDS ?= 1-1000
 compare: build
 	tests/compare/run $(SEEDS)
 	tests/compare/planted 1-300
+	tests/compare/others
 
 # Measures the built program beside LPeg, grep, rg and jq, where they are installed, and ends with a table for docs/SPEED.md.
 bench: build
