@@ -32,7 +32,7 @@ test:
 	tests/run
 	tests/expand
 	tests/rows
-	tests/examples
+	tests/packages
 	tests/manual
 	tests/messages
 	tests/regular
@@ -66,7 +66,7 @@ install: build
 	tools/manual_page rosie-language > $(SHARE)/man/man7/rosie-language.7
 	install -m 644 $(TOOLS:%=tools/%.1) $(SHARE)/man/man1
 	install -m 644 $(DOCUMENTS) $(SHARE)/doc/rosie
-	install -m 644 examples/*.rpl examples/*.log $(SHARE)/rosie/examples
+	install -m 644 examples/README.md examples/*.rpl examples/*.log $(SHARE)/rosie/examples
 	install -m 644 examples/fixtures/* $(SHARE)/rosie/examples/fixtures
 	for v in vim/vimfiles nvim/site; do for f in $(VIM); do \
 		install -d $(SHARE)/$$v/$$(dirname $$f) && install -m 644 editors/vim/$$f $(SHARE)/$$v/$$f || exit 1; done; done
