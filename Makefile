@@ -25,21 +25,21 @@ try:
 
 # The proofs, the must-fail edits, the unit tests and the stored run, then the built program as a real process, and the manual.
 test:
-	tests/proofs
-	tests/build
+	tests/run_proofs
+	tests/run_build
 	tools/build
-	tests/launcher
-	tests/run
-	tests/expand
-	tests/rows
-	tests/packages
-	tests/manual
-	tests/messages
-	tests/regular
-	tests/tools
-	tests/editors
-	tests/install
-	tests/dist
+	tests/run_launcher
+	tests/run_cases
+	tests/run_expansions
+	tests/run_tables
+	tests/run_packages
+	tests/run_documents
+	tests/run_messages
+	tests/run_regular
+	tests/run_tools
+	tests/run_editors
+	tests/run_install
+	tests/run_dist
 	tests/compare/run --where-installed 1-300
 	tests/compare/planted --where-installed 1-300
 
