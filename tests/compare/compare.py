@@ -14,6 +14,7 @@ PROGRAM = os.environ.get("ROSIE", os.path.join(HERE, "..", "..", "crates", "rosi
 BLOCK = 20                 # so many seeds make one text
 TAGS = "ABCDEFGHIJKLMNOPQRSTUVWXYZ"
 BUDGET = "100000"          # steps; a line that takes more is passed over
+SECONDS = 20               # so long LPeg may take for some of them
 AT_ONCE = 25               # blocks for one process of Lua
 
 # Patterns that are compared as one text: for each seed the words that say it alone, and for each line its seed, the line and what
@@ -157,7 +158,15 @@ def stream(things):
 def lpeg(things, plant):
     """What LPeg says of each thing: of its grammar, and of each of its lines."""
     words = ["lua5.4", os.path.join(HERE, "meaning.lua")] + ([os.path.join(HERE, "planted.lua"), plant] if plant else [])
-    done = subprocess.run(words, input="".join(stream(things)).encode(), stdout=subprocess.PIPE, timeout=3600, check=True)
+    try:
+        done = subprocess.run(words, input="".join(stream(things)).encode(), stdout=subprocess.PIPE, timeout=SECONDS, check=True)
+    except subprocess.TimeoutExpired:
+        # LPeg has no budget, and for some patterns its time doubles with each level.
+        half = len(things) // 2
+        if half:
+            return lpeg(things[:half], plant) + lpeg(things[half:], plant)
+        late = f"limit: not done after {SECONDS} seconds"
+        return [(late, [late for _ in (thing.lines if isinstance(thing, Group) else [])]) for thing in things]
     said = iter(done.stdout.decode(errors="replace").split("\n"))
     return [(next(said), [next(said) for _ in (thing.lines if isinstance(thing, Group) else [])]) for thing in things]
 
