@@ -14,7 +14,7 @@ PROGRAM = os.environ.get("ROSIE", os.path.join(HERE, "..", "..", "crates", "rosi
 BLOCK = 20                 # so many seeds make one text
 TAGS = "ABCDEFGHIJKLMNOPQRSTUVWXYZ"
 BUDGET = "100000"          # steps; a line that takes more is passed over
-SECONDS = 20               # so long LPeg may take for some of them
+SECONDS = 10               # so long LPeg may take for some things at once, and for one
 AT_ONCE = 25               # blocks for one process of Lua
 
 # Patterns that are compared as one text: for each seed the words that say it alone, and for each line its seed, the line and what
@@ -162,9 +162,8 @@ def lpeg(things, plant):
         done = subprocess.run(words, input="".join(stream(things)).encode(), stdout=subprocess.PIPE, timeout=SECONDS, check=True)
     except subprocess.TimeoutExpired:
         # LPeg has no budget, and for some patterns its time doubles with each level.
-        half = len(things) // 2
-        if half:
-            return lpeg(things[:half], plant) + lpeg(things[half:], plant)
+        if len(things) > 1:
+            return [said for thing in things for said in lpeg([thing], plant)]
         late = f"limit: not done after {SECONDS} seconds"
         return [(late, [late for _ in (thing.lines if isinstance(thing, Group) else [])]) for thing in things]
     said = iter(done.stdout.decode(errors="replace").split("\n"))

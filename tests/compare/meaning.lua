@@ -32,10 +32,14 @@ function meaning.seq(parts)
   return whole
 end
 
--- The first part that matches, for good.
+-- It matches everywhere and takes nothing, but LPeg's check doesn't know that it can't fail.
+local sure = -P(false)
+
+-- The first part that matches, for good. LPeg drops what stands behind a part that it knows can't fail, and then sees no left
+-- recursion there.
 function meaning.choice(parts)
   local whole = parts[#parts]
-  for index = #parts - 1, 1, -1 do whole = parts[index] + whole end
+  for index = #parts - 1, 1, -1 do whole = parts[index] * sure + whole end
   return whole
 end
 
