@@ -1,6 +1,6 @@
 -- One step of the walk over the nodes of a flat list.
 use Rattle.std.proofs.Common.{◌^◌, ◌⊎◌, inl, inr, subst, ◌≡◌, ℕ, zero, suc, ◌+◌, ◌-◌, ◌*◌, ◌<◌, ◌≤◌, Bool, true, false, List, [], ◌∷◌, ◌++◌, length, take, drop, min, Option, Some, None, refl, sym, ap, ◌∙◌, arith, append_assoc, length-append}
-use Rattle.std.specs.Prelude.{flat_map, codes}
+use Rattle.std.specs.Prelude.{flat_map, codes, IsSome, option_to_list}
 use Rattle.rpl_core.specs.Forest.{Forest}
 use Rattle.rpl_tree.specs.Trees.{node_as, forest_of}
 use Rattle.rpl_tree.specs.declared.node.Node.{Node}
@@ -181,3 +181,18 @@ longer most out o1 x r w e f h =
     let first = ap length e ∙ length-append out x in
     let rest = ap length f ∙ length-append x (r ++ 10 ∷ []) in
     omega (arith, h, first, rest, length-append o1 r, length-append out w, length-append r (10 ∷ []))
+
+-- the lists that are open, the innermost first, which is held apart; where there is none, none is open
+abbrev pub pending : Option ℕ → List ℕ → List ℕ
+pending None lists = []
+pending (Some left) lists = left ∷ reverse lists
+
+abbrev pub one_if : Option ℕ → ℕ
+one_if None = 0
+one_if (Some left) = 1
+
+-- the last of the lists is taken out, if there is one
+pub popped : (o : Option ℕ) (was now : List ℕ) (n : ℕ) → n ≡ length was → was ≡ now ++ option_to_list o → (IsSome o ↔ (0 < n)) → reverse was ≡ pending o now
+popped None [] now n same e h = refl
+popped None (x ∷ was) now n same e h = absurd (false≢true (h.1 (omega (arith, same))))
+popped (Some left) was now n same e h = ap reverse e ∙ reverse_last now left

@@ -1,5 +1,5 @@
 // The text of an answer, whole.
-ghost use Rattle.std.specs.Prelude.{◌≡◌, ◌≤◌, ◌++◌, [], Err, IfOk, OnOk, length};
+ghost use Rattle.std.specs.Prelude.{◌≡◌, ◌≤◌, ◌++◌, [], IfOk, OnErr, OnOk, length};
 ghost use Rattle.std.specs.Option.{option_copied};
 ghost use Rattle.rpl_encode.specs.Answer.{IsTooLong, line_by_line, most_bytes, none};
 ghost use Rattle.rpl_encode.specs.Labels.{answer_text, match_text};
@@ -58,8 +58,8 @@ impl AnswerText {
     }
 
     /// Becomes the text of a line's outcome in a style: of the trees that were found, or of none. It is written in the
-    /// memory that there is where that is enough, and taken back as soon as it is too long. What it holds where memory
-    /// is wanting is left open.
+    /// memory that there is where that is enough, and taken back as soon as it is too long. After a refusal it is as it
+    /// was.
     pub fn fill(
         &mut self,
         style: Style,
@@ -71,7 +71,7 @@ impl AnswerText {
         ensures fits { OnOk result
             (length (answer_text style line.now program.now (option_copied found.entry)) ≤ most_bytes) }
         ensures too_long { IsTooLong result (answer_text style line.now program.now (option_copied found.entry)) }
-        ensures kept { result ≡ Err EncodeFault.AnswerTooLong → self.new ≡ self.old }
+        ensures err { OnErr result (self.new ≡ self.old) }
     {
         self.draft.clear();
         put_answer(

@@ -103,7 +103,9 @@ fn put_below(
     let count = forest.len();
     let mut index = 1;
     let mut is_first = true;
-    while let Some(left) = lists.pop() {
+    // The innermost list; those around it are in `lists`.
+    let mut innermost = lists.pop();
+    while let Some(left) = innermost {
         if out.len() > MOST_BYTES {
             return Err(EncodeFault::AnswerTooLong);
         }
@@ -111,20 +113,23 @@ fn put_below(
             Some(node) if left > 0 => {
                 // A node's nodes end at the latest where those of its parent do.
                 let below = node.below.min(left - 1);
-                open_list(lists, left - 1 - below)?;
+                let behind = left - 1 - below;
                 index += 1;
                 let has_subs = has_subs(node, below, index, count);
                 put_node(out, node, is_first, has_subs, source)?;
                 if has_subs {
-                    open_list(lists, below)?;
+                    open_list(lists, behind)?;
+                    innermost = Some(below);
                 } else {
                     index = index.saturating_add(below);
+                    innermost = Some(behind);
                 }
                 is_first = has_subs;
             }
             _ => {
                 out.extend_from_slice(b"]}")?;
                 is_first = false;
+                innermost = lists.pop();
             }
         }
     }
