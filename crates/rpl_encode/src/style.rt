@@ -1,3 +1,7 @@
+// The styles of an answer.
+ghost use Rattle.std.specs.Prelude.{◌↔◌, IsTrue};
+ghost use Rattle.rpl_encode.specs.Answer.{IgnoresTrees};
+
 /// How an answer is printed.
 #[derive(Clone, Copy, Debug, PartialEq, Eq)]
 pub enum Style {
@@ -13,4 +17,16 @@ pub enum Style {
     Plain,
     /// `true` or `false`.
     Bool,
+}
+
+impl Style {
+    /// Whether the text of a match is the same whatever its trees are, so that they needn't be made.
+    pub fn ignores_trees(self) -> bool
+        ensures { IsTrue result ↔ IgnoresTrees self }
+    {
+        match self {
+            Style::Line | Style::Bool => true,
+            Style::Json | Style::Matches | Style::Subs | Style::Plain => false,
+        }
+    }
 }
