@@ -5,7 +5,7 @@ use Rattle.rpl_classes.specs.Norm.{norm}
 use Rattle.rpl_core.specs.Head as H
 use Rattle.rpl_core.specs.View.{core_of, cores}
 use Rattle.rpl_codegen.specs.inside.Gathered.{Gathers}
-use Rattle.rpl_codegen.specs.inside.Nodes.{choice_nodes, inner_nodes, nodes_in, numbered_nodes, part_nodes, parts_nodes, tested_nodes}
+use Rattle.rpl_codegen.specs.inside.Nodes.{choice_nodes, inner_nodes, numbered_nodes, part_nodes, parts_nodes, tested_nodes}
 use Rattle.rpl_codegen.specs.inside.Sizes.{capped_len, len, len_all}
 use Rattle.rpl_codegen.proofs.Gathering.{front, gathers_joined, gathers_last, gathers_set, gathers_then, joined_head}
 use Rattle.rpl_core.proofs.Walk.{choice_core, drop_here, seq_core}

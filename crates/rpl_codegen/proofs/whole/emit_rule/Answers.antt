@@ -1,4 +1,4 @@
-use Rattle.std.proofs.Common.{◌∙◌, sym, ap, subst, arith, length, [], ◌∷◌}
+use Rattle.std.proofs.Common.{◌∙◌, sym, ap, subst, arith, length, refl, [], ◌∷◌}
 use Rattle.std.specs.Prelude.{true, if◌then◌else◌, slice_get}
 use Rattle.rpl_core.specs.Code as C
 use Rattle.rpl_core.specs.Instr as I
@@ -32,7 +32,7 @@ put-requires c =
     let on = c.if-not-marks-number.false in
     let room = ap (λ b. if b then body_len (slice_get R k) else 0) on ∙ ap body_len is in
     let e = c.in_ok-emit.ensures.code in
-    omega (arith, room, c.requires.room, e.long, code_length (address_of c.args.layout.now) (core_of rule.body) (length c.args.draft.now.code))
+    record { room = omega (arith, room, c.requires.room, e.long, code_length (address_of c.args.layout.now) (core_of rule.body) (length c.args.draft.now.code)); plain = refl }
 
 pub returns-in_ok-put-clause-code : goal.returns-in_ok-put-clause-code
 returns-in_ok-put-clause-code c =
@@ -45,7 +45,7 @@ returns-in_ok-put-clause-code c =
     let n = length d.code in
     let is = body_is (rules_of c.args.rules.now) k rule c.in-Some.ensures in
     let same = ap (λ b. rule_code b at (slice_get R k) n) c.if-not-marks-number.false ∙ ap (λ o. rule_code true at o n) is in
-    subst (λ l. Adds d d1 l) (sym same) (adds_then d c.emit.new.draft d1 (C.code at (core_of rule.body) n) (I.Return ∷ []) c.in_ok-emit.ensures.code c.in_ok-put.ensures)
+    subst (λ l. Adds d d1 l) (sym same) (adds_then d c.emit.new.draft d1 (C.code at (core_of rule.body) n) (I.Return ∷ []) c.in_ok-emit.ensures.code c.in_ok-put.ensures.adds)
 
 pub returns-in_default-clause-code : goal.returns-in_default-clause-code
 returns-in_default-clause-code c =

@@ -18,11 +18,10 @@ use Rattle.rpl_draft.specs.declared.draft.Draft.{Draft}
 use Rattle.rpl_codegen.specs.declared.size.Node.{Node}
 use Rattle.rpl_draft.proofs.Adding.{adds_none, adds_then}
 use Rattle.rpl_codegen.proofs.Lengths.{all_length, code_length, first_length}
-use Rattle.rpl_core.proofs.Walk.{drop_here}
 use Rattle.rpl_codegen.proofs.Parts.{len_first_here, code_first_here, drop_last, no_parts, part_of}
 use Rattle.rpl_codegen.proofs.Passing.{no_nodes_left, steps, steps_as}
 use Rattle.rpl_codegen.proofs.Pieces.{on_ok, piece_loop, piece_refuse, piece_and, piece_capture, piece_choice, piece_length, piece_tried, test_length, behind_end, room_here, room_turn}
-use Rattle.rpl_codegen.proofs.Taking.{as_begins, as_taken, begins_behind, begins_front, last_here, more_lengths, parts_here, takes_anew, takes_none, takes_then, tried_here}
+use Rattle.rpl_codegen.proofs.Taking.{as_begins, as_taken, begins_behind, begins_front, last_here, more_lengths, takes_anew, takes_none, takes_then, tried_here}
 use Rattle.rpl_codegen.proofs.Weights.{seq_part, choice_part}
 use Rattle.rpl_codegen.proofs.writing.+emit.Goals as goal
 
@@ -176,17 +175,17 @@ emit_all-returns-clause-nodes t c =
 pub emit_and-put-requires-2 : goal.emit_and-put-requires-2
 emit_and-put-requires-2 t c =
     let at = address_of c.args.layout.now in
-    let a = c.in_ok-put.ensures in
+    let a = c.in_ok-put.ensures.adds in
     let b = c.in_ok-emit.ensures.code in
-    omega (arith, a.long, b.long, code_length at (core_of c.args.body.now) (length c.put.new.self.code))
+    record { room = omega (arith, a.long, b.long, code_length at (core_of c.args.body.now) (length c.put.new.self.code)); plain = refl }
 
 pub emit_and-put-requires-3 : goal.emit_and-put-requires-3
 emit_and-put-requires-3 t c =
     let at = address_of c.args.layout.now in
-    let a = c.in_ok-put.ensures in
+    let a = c.in_ok-put.ensures.adds in
     let b = c.in_ok-emit.ensures.code in
-    let d = c.in_ok-put-2.ensures in
-    omega (arith, a.long, b.long, d.long, code_length at (core_of c.args.body.now) (length c.put.new.self.code))
+    let d = c.in_ok-put-2.ensures.adds in
+    record { room = omega (arith, a.long, b.long, d.long, code_length at (core_of c.args.body.now) (length c.put.new.self.code)); plain = refl }
 
 pub emit_and-returns-clause-code : goal.emit_and-returns-clause-code
 emit_and-returns-clause-code t c =
@@ -194,7 +193,7 @@ emit_and-returns-clause-code t c =
     let p = core_of c.args.body.now in
     let l = c.next.result + 1 + c.size.result + 1 in
     let is : l ≡ length c.args.draft.now.code + 1 + len p + 1 = omega (arith, c.next.ensures, (c.size.ensures ∙ ap size_at c.requires.nodes.is), c.requires.room) in
-    on_ok c.put-3.result _ _ (piece_and c.args.draft.now c.put.new.self c.emit.new.draft c.put-2.new.self c.put-3.new.self (C.code at p) (len p) l (l + 1) (code_length at p) is refl c.in_ok-put.ensures c.in_ok-emit.ensures.code c.in_ok-put-2.ensures) c.put-3.ensures
+    on_ok c.put-3.result _ _ (piece_and c.args.draft.now c.put.new.self c.emit.new.draft c.put-2.new.self c.put-3.new.self (C.code at p) (len p) l (l + 1) (code_length at p) is refl c.in_ok-put.ensures.adds c.in_ok-emit.ensures.code c.in_ok-put-2.ensures.adds) c.put-3.ensures.adds
 
 pub emit_behind-emit_length-requires : goal.emit_behind-emit_length-requires
 emit_behind-emit_length-requires t c =
@@ -234,28 +233,28 @@ emit_behind-returns-clause-code t c =
     let same = behind_end (C.code at p) n c.args.least a (len p) end (code_length at p) c.requires.end in
     let none : 0 ≡ c.args.most + 1 - c.loop-back.back = omega arith in
     on_ok c.put.result _ _ (λ w.
-    subst (λ l. Adds c.args.draft.now c.put.new.self l) (sym same) (c.loop-back.invariant.1 c.put.new.self (subst (λ m. Adds d c.put.new.self (C.lengths_code (C.code at p) end m c.loop-back.back (length d.code))) none w))) c.put.ensures
+    subst (λ l. Adds c.args.draft.now c.put.new.self l) (sym same) (c.loop-back.invariant.1 c.put.new.self (subst (λ m. Adds d c.put.new.self (C.lengths_code (C.code at p) end m c.loop-back.back (length d.code))) none w))) c.put.ensures.adds
 
 pub emit_capture-put-requires : goal.emit_capture-put-requires
 emit_capture-put-requires t c =
     let at = address_of c.args.layout.now in
-    let a = c.in_ok-put_open.ensures in
+    let a = c.in_ok-put_open.ensures.adds in
     let b = c.in_ok-emit.ensures.code in
-    omega (arith, a.long, b.long, code_length at (core_of c.args.body.now) (length c.put_open.new.self.code))
+    record { room = omega (arith, a.long, b.long, code_length at (core_of c.args.body.now) (length c.put_open.new.self.code)); plain = refl }
 
 pub emit_capture-returns-clause-code : goal.emit_capture-returns-clause-code
 emit_capture-returns-clause-code t c =
-    on_ok c.put.result _ _ (piece_capture c.args.draft.now c.put_open.new.self c.emit.new.draft c.put.new.self (C.code (address_of c.args.layout.now) (core_of c.args.body.now)) c.args.label.now c.in_ok-put_open.ensures c.in_ok-emit.ensures.code) c.put.ensures
+    on_ok c.put.result _ _ (piece_capture c.args.draft.now c.put_open.new.self c.emit.new.draft c.put.new.self (C.code (address_of c.args.layout.now) (core_of c.args.body.now)) c.args.label.now c.in_ok-put_open.ensures.adds c.in_ok-emit.ensures.code) c.put.ensures.adds
 
 pub emit_first-put-requires : goal.emit_first-put-requires
 emit_first-put-requires t c =
     let e = ap len (no_parts c.args.parts.now (sym (ap length c.as_slice-parts.ensures) ∙ eqb-true (length c.as_slice-parts.result.now) 0 (sym c.is_empty.ensures ∙ c.if-is_empty.true))) in
-    omega (arith, e, c.requires.room)
+    record { room = omega (arith, e, c.requires.room); plain = refl }
 
 pub emit_first-returns-then-is_empty-clause-code : goal.emit_first-returns-then-is_empty-clause-code
 emit_first-returns-then-is_empty-clause-code t c =
     let e = no_parts c.args.parts.now (sym (ap length c.as_slice-parts.ensures) ∙ eqb-true (length c.as_slice-parts.result.now) 0 (sym c.is_empty.ensures ∙ c.if-is_empty.true)) in
-    subst (λ x. OnOk c.put.result (Adds c.args.draft.now c.put.new.self (C.code (address_of c.args.layout.now) x (length c.args.draft.now.code)))) (sym e) c.put.ensures
+    subst (λ x. OnOk c.put.result (Adds c.args.draft.now c.put.new.self (C.code (address_of c.args.layout.now) x (length c.args.draft.now.code)))) (sym e) c.put.ensures.adds
 
 pub emit_first-loop-number-init : goal.emit_first-loop-number-init
 emit_first-loop-number-init t c =
@@ -314,10 +313,10 @@ emit_first-emit-requires t c =
 pub emit_length-put-requires-3 : goal.emit_length-put-requires-3
 emit_length-put-requires-3 t c =
     let at = address_of c.args.layout.now in
-    let a = c.in_ok-put.ensures in
-    let b = c.in_ok-put-2.ensures in
+    let a = c.in_ok-put.ensures.adds in
+    let b = c.in_ok-put-2.ensures.adds in
     let e = c.in_ok-emit.ensures.code in
-    omega (arith, a.long, b.long, e.long, code_length at (core_of c.args.body.now) (length c.put-2.new.self.code))
+    record { room = omega (arith, a.long, b.long, e.long, code_length at (core_of c.args.body.now) (length c.put-2.new.self.code)); plain = refl }
 
 pub emit_length-returns-clause-goes_on : goal.emit_length-returns-clause-goes_on
 emit_length-returns-clause-goes_on t c =
@@ -326,25 +325,25 @@ emit_length-returns-clause-goes_on t c =
     let to = c.next.result + 2 + c.size.result + 1 in
     let is : to ≡ length c.args.draft.now.code + 1 + 1 + len p + 1 = omega (arith, c.next.ensures, (c.size.ensures ∙ ap size_at c.requires.nodes.is), c.requires.room) in
     on_ok c.put-3.result _ _ (λ w left x rest.
-    piece_length c.args.draft.now c.put.new.self c.put-2.new.self c.emit.new.draft c.put-3.new.self x (C.code at p) (len p) to c.args.end c.args.back left (code_length at p) is c.in_ok-put.ensures c.in_ok-put-2.ensures c.in_ok-emit.ensures.code w rest) c.put-3.ensures
+    piece_length c.args.draft.now c.put.new.self c.put-2.new.self c.emit.new.draft c.put-3.new.self x (C.code at p) (len p) to c.args.end c.args.back left (code_length at p) is c.in_ok-put.ensures.adds c.in_ok-put-2.ensures.adds c.in_ok-emit.ensures.code w rest) c.put-3.ensures.adds
 
 pub emit_length-returns-clause-long : goal.emit_length-returns-clause-long
 emit_length-returns-clause-long t c =
     let at = address_of c.args.layout.now in
     let p = core_of c.args.body.now in
-    let a = c.in_ok-put.ensures in
-    let b = c.in_ok-put-2.ensures in
+    let a = c.in_ok-put.ensures.adds in
+    let b = c.in_ok-put-2.ensures.adds in
     let e = c.in_ok-emit.ensures.code in
-    on_ok c.put-3.result (Adds c.emit.new.draft c.put-3.new.self (I.Meet c.args.end ∷ [])) _ (λ w. omega (arith, a.long, b.long, e.long, w.long, code_length at p (length c.put-2.new.self.code))) c.put-3.ensures
+    on_ok c.put-3.result (Adds c.emit.new.draft c.put-3.new.self (I.Meet c.args.end ∷ [])) _ (λ w. omega (arith, a.long, b.long, e.long, w.long, code_length at p (length c.put-2.new.self.code))) c.put-3.ensures.adds
 
 pub emit_many-put-requires-2 : goal.emit_many-put-requires-2
 emit_many-put-requires-2 t c =
     let at = address_of c.args.layout.now in
-    let a = c.in_ok-put.ensures in
+    let a = c.in_ok-put.ensures.adds in
     let b = c.in_ok-emit.ensures.code in
     let none = sym c.in_default.ensures in
     let room = ap (λ o. many_len o (len (core_of c.args.body.now))) none in
-    omega (arith, a.long, b.long, room, c.requires.room, code_length at (core_of c.args.body.now) (length c.put.new.self.code))
+    record { room = omega (arith, a.long, b.long, room, c.requires.room, code_length at (core_of c.args.body.now) (length c.put.new.self.code)); plain = refl }
 
 pub emit_many-returns-clause-code : goal.emit_many-returns-clause-code
 emit_many-returns-clause-code t c =
@@ -356,16 +355,16 @@ emit_many-returns-clause-code t c =
     let is : l ≡ length c.args.draft.now.code + 1 + len p + 1 = omega (arith, c.next-start.ensures, (c.size.ensures ∙ ap size_at c.requires.nodes.is), room, c.requires.room) in
     let start : c.next-start.result + 1 ≡ length c.args.draft.now.code + 1 = omega (arith, c.next-start.ensures) in
     on_ok c.put-2.result _ _ (λ w.
-    subst (λ o. Adds c.args.draft.now c.put-2.new.self (C.many_code o (C.code at p) (length c.args.draft.now.code))) (sym none) (piece_loop c.args.draft.now c.put.new.self c.emit.new.draft c.put-2.new.self (C.code at p) (len p) (c.next-start.result + 1) l (code_length at p) start is c.in_ok-put.ensures c.in_ok-emit.ensures.code w)) c.put-2.ensures
+    subst (λ o. Adds c.args.draft.now c.put-2.new.self (C.many_code o (C.code at p) (length c.args.draft.now.code))) (sym none) (piece_loop c.args.draft.now c.put.new.self c.emit.new.draft c.put-2.new.self (C.code at p) (len p) (c.next-start.result + 1) l (code_length at p) start is c.in_ok-put.ensures.adds c.in_ok-emit.ensures.code w)) c.put-2.ensures.adds
 
 pub emit_not-put-requires-3 : goal.emit_not-put-requires-3
 emit_not-put-requires-3 t c =
     let at = address_of c.args.layout.now in
-    let a = c.in_ok-put.ensures in
+    let a = c.in_ok-put.ensures.adds in
     let b = c.in_ok-emit.ensures.code in
     let none = sym c.in_default.ensures in
     let room = ap (λ o. not_len o (len (core_of c.args.body.now))) none in
-    omega (arith, a.long, b.long, room, c.requires.room, code_length at (core_of c.args.body.now) (length c.put-2.new.self.code))
+    record { room = omega (arith, a.long, b.long, room, c.requires.room, code_length at (core_of c.args.body.now) (length c.put-2.new.self.code)); plain = refl }
 
 pub emit_not-returns-clause-code : goal.emit_not-returns-clause-code
 emit_not-returns-clause-code t c =
@@ -376,7 +375,7 @@ emit_not-returns-clause-code t c =
     let room = ap (λ o. not_len o (len p)) none in
     let is : l ≡ length c.args.draft.now.code + 1 + len p + 1 = omega (arith, c.next-start.ensures, (c.size.ensures ∙ ap size_at c.requires.nodes.is), room, c.requires.room) in
     on_ok c.put-3.result _ _ (λ w.
-    subst (λ o. Adds c.args.draft.now c.put-3.new.self (C.not_code o (C.code at p) (length c.args.draft.now.code))) (sym none) (piece_refuse c.args.draft.now c.put-2.new.self c.emit.new.draft c.put-3.new.self (C.code at p) (len p) l (code_length at p) is c.in_ok-put.ensures c.in_ok-emit.ensures.code w)) c.put-3.ensures
+    subst (λ o. Adds c.args.draft.now c.put-3.new.self (C.not_code o (C.code at p) (length c.args.draft.now.code))) (sym none) (piece_refuse c.args.draft.now c.put-2.new.self c.emit.new.draft c.put-3.new.self (C.code at p) (len p) l (code_length at p) is c.in_ok-put.ensures.adds c.in_ok-emit.ensures.code w)) c.put-3.ensures.adds
 
 test_of : (ns : List Node) (p : Core) (d d1 : Draft) (l : ℕ) → Begins ns (tested_nodes p) → Adds d d1 (test_code (head_at ns) l) → Adds d d1 (test_code (H.head p) l)
 test_of ns p d d1 l b a = subst (λ h. Adds d d1 (test_code h l)) (ap head_at b.is) a
@@ -385,10 +384,10 @@ pub emit_tried-put-requires-2 : goal.emit_tried-put-requires-2
 emit_tried-put-requires-2 t c =
     let at = address_of c.args.layout.now in
     let x = test_of (left c.args.nodes.now) (core_of c.args.part.now) c.args.draft.now c.emit_test.new.draft (c.next.result + 2 + c.size-size.result + 1) c.requires.nodes c.in_ok-emit_test.ensures in
-    let a = c.in_ok-put.ensures in
+    let a = c.in_ok-put.ensures.adds in
     let b = c.in_ok-emit_inner.ensures.code in
     let p = core_of c.args.part.now in
-    omega (arith, x.long, a.long, b.long, test_length (H.head p) (c.next.result + 2 + c.size-size.result + 1) (len p), c.requires.room, code_length at p (length c.put.new.self.code))
+    record { room = omega (arith, x.long, a.long, b.long, test_length (H.head p) (c.next.result + 2 + c.size-size.result + 1) (len p), c.requires.room, code_length at p (length c.put.new.self.code)); plain = refl }
 
 pub emit_tried-returns-clause-goes_on : goal.emit_tried-returns-clause-goes_on
 emit_tried-returns-clause-goes_on t c =
@@ -402,16 +401,16 @@ emit_tried-returns-clause-goes_on t c =
     let is : l ≡ length c.args.draft.now.code + 1 + 1 + len p + 1 = omega (arith, c.next.ensures, size) in
     let is1 : m ≡ length d1.code + 1 + len p + 1 = omega (arith, c.next-2.ensures, size) in
     on_ok c.put-2.result _ _ (λ w q x end rest.
-    piece_tried h c.args.draft.now d1 x (C.code at p) q (len p) l (code_length at p) is (test_of (left c.args.nodes.now) p c.args.draft.now d1 l c.requires.nodes c.in_ok-emit_test.ensures) (piece_choice d1 c.put.new.self c.emit_inner.new.draft c.put-2.new.self x (C.code at p) q (len p) m c.args.end (code_length at p) is1 end c.in_ok-put.ensures c.in_ok-emit_inner.ensures.code w rest)) c.put-2.ensures
+    piece_tried h c.args.draft.now d1 x (C.code at p) q (len p) l (code_length at p) is (test_of (left c.args.nodes.now) p c.args.draft.now d1 l c.requires.nodes c.in_ok-emit_test.ensures) (piece_choice d1 c.put.new.self c.emit_inner.new.draft c.put-2.new.self x (C.code at p) q (len p) m c.args.end (code_length at p) is1 end c.in_ok-put.ensures.adds c.in_ok-emit_inner.ensures.code w rest)) c.put-2.ensures.adds
 
 pub emit_tried-returns-clause-long : goal.emit_tried-returns-clause-long
 emit_tried-returns-clause-long t c =
     let at = address_of c.args.layout.now in
     let p = core_of c.args.part.now in
     let x = test_of (left c.args.nodes.now) (core_of c.args.part.now) c.args.draft.now c.emit_test.new.draft (c.next.result + 2 + c.size-size.result + 1) c.requires.nodes c.in_ok-emit_test.ensures in
-    let a = c.in_ok-put.ensures in
+    let a = c.in_ok-put.ensures.adds in
     let b = c.in_ok-emit_inner.ensures.code in
-    on_ok c.put-2.result (Adds c.emit_inner.new.draft c.put-2.new.self (I.Commit c.args.end ∷ [])) _ (λ w. omega (arith, x.long, a.long, b.long, w.long, test_length (H.head p) (c.next.result + 2 + c.size-size.result + 1) (len p), code_length at p (length c.put.new.self.code))) c.put-2.ensures
+    on_ok c.put-2.result (Adds c.emit_inner.new.draft c.put-2.new.self (I.Commit c.args.end ∷ [])) _ (λ w. omega (arith, x.long, a.long, b.long, w.long, test_length (H.head p) (c.next.result + 2 + c.size-size.result + 1) (len p), code_length at p (length c.put.new.self.code))) c.put-2.ensures.adds
 
 pub emit_inner-returns-in-Behind-clause-code : goal.emit_inner-returns-in-Behind-clause-code
 emit_inner-returns-in-Behind-clause-code t c =
@@ -425,13 +424,13 @@ emit_behind-returns-clause-nodes t c =
     let n = c.args.most + 1 - c.args.least in
     let all : k - c.args.least ≡ n = omega (arith, c.loop-back.invariant.3) in
     on_ok c.put.result _ _ (λ w.
-    as_taken c.args.nodes.now c.loop-back.nodes _ _ (ap (λ n. behind_nodes n (nodes_in (core_of c.args.body.now))) all) c.loop-back.invariant.2) c.put.ensures
+    as_taken c.args.nodes.now c.loop-back.nodes _ _ (ap (λ n. behind_nodes n (nodes_in (core_of c.args.body.now))) all) c.loop-back.invariant.2) c.put.ensures.adds
 
 pub emit_first-returns-then-is_empty-clause-nodes : goal.emit_first-returns-then-is_empty-clause-nodes
 emit_first-returns-then-is_empty-clause-nodes t c =
     let e = no_parts c.args.parts.now (sym (ap length c.as_slice-parts.ensures) ∙ eqb-true (length c.as_slice-parts.result.now) 0 (sym c.is_empty.ensures ∙ c.if-is_empty.true)) in
     let s = c.args.nodes.now in
-    on_ok c.put.result _ _ (λ w. as_taken s s _ _ (sym (ap inner_nodes e)) (takes_none s)) c.put.ensures
+    on_ok c.put.result _ _ (λ w. as_taken s s _ _ (sym (ap inner_nodes e)) (takes_none s)) c.put.ensures.adds
 
 pub emit_first-returns-clause-nodes : goal.emit_first-returns-clause-nodes
 emit_first-returns-clause-nodes t c =
