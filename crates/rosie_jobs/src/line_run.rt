@@ -1,15 +1,16 @@
 //! The run of a program on a line, and what is printed of it.
 
-ghost use Rattle.std.specs.Prelude.{◌≡◌, ◌≤◌, ◌^◌, ◌+◌, Some, length, chars, string_bytes, IfOk, OnOk};
+ghost use Rattle.std.specs.Prelude.{◌≡◌, ◌⊎◌, ◌≤◌, ◌^◌, ◌+◌, Some, length, chars, string_bytes, IfOk, OnOk};
 ghost use Rattle.rosie_run.specs.Made.{IsMade};
 ghost use Rattle.rpl_core.specs.Forest as F;
 ghost use Rattle.rpl_core.specs.Meaning.{Outcome};
 ghost use Rattle.rpl_core.specs.Program.{instructions, labels_of};
 ghost use Rattle.rpl_core.specs.Run as R;
-ghost use Rattle.rpl_encode.specs.Answer.{answer};
+ghost use Rattle.rpl_encode.specs.Answer.{answer, IgnoresTrees};
 ghost use Rattle.rpl_encode.specs.Print.{placed};
 ghost use Rattle.rpl_machine.specs.Shown.{captures_of, CapturesIn};
 ghost use Rattle.rpl_text.specs.Places.{at};
+ghost use Rattle.rpl_tree.specs.Trees.{BuildsEach};
 ghost use Rattle.rosie_jobs.specs.Lines.{budget_of, budget_or, made, ran_piece};
 ghost use Rattle.rosie_jobs.specs.inside.Printed.{IsShown, Printed};
 
@@ -59,6 +60,16 @@ pub fn budget_or(given: Option<u64>, line: &str) -> u64
     }
 }
 
+/// Makes the trees of these captures, unless a style prints the same of all trees.
+fn make_trees(forest: &mut Forest, captures: &[Caught], style: Style) -> Result<(), NoMemory>
+    ensures { OnOk result (IgnoresTrees style ⊎ BuildsEach captures.now forest.new) }
+{
+    if style.ignores_trees() {
+        return Ok(());
+    }
+    forest.fill(captures)
+}
+
 /// Prints the answer of a run that matched with these captures. Whether it isn't too long.
 fn print_match(
     texts: &mut Texts,
@@ -73,7 +84,7 @@ fn print_match(
         → CapturesIn (chars line.now) captures.now
         → Printed fits (answer style line.now (Some (placed (at (chars line.now)) f))) texts.new.answer) }
 {
-    forest.fill(captures)?;
+    make_trees(forest, captures, style)?;
     texts.print(style, line, Some(forest), program)
 }
 
