@@ -25,7 +25,7 @@ use Rattle.rpl_forms.specs.Rows.{Row}
 use Rattle.rpl_lexer.specs.Cutting.{cut_of}
 use Rattle.rpl_lexer.specs.declared.fault.LexFault.{LexFault}
 use Rattle.rpl_lexer.specs.declared.token.Token.{Token}
-use Rattle.rpl_order.proofs.Loaded.{loaded_is_bound}
+use Rattle.rpl_order.proofs.Loaded.{loaded_is_bound, told_is_built}
 use Rattle.rpl_order.specs.Laws.{IsLoaded, by_pattern, by_roots}
 use Rattle.rpl_package.specs.Goals.{ReadsCut, ReadsGoal, ReadsText, ReadsTokens, pattern_file, sought}
 use Rattle.rpl_package.specs.Loading.{world}
@@ -88,7 +88,7 @@ table_facts : (tree : Tree) (folders : List (List ℕ)) (p : Packages) → IsLoa
 table_facts tree folders p is =
     let long = length-map (table_of p) (λ r. r.block) ∙ sym (length-map (table_of p) (λ r. r.body)) in
     facts_of (bodies (table_of p))
-    (calls_stay (bodies (table_of p)) (blocks (table_of p)) long (rows_in_order p (loaded_is_bound tree folders p is)))
+    (calls_stay (bodies (table_of p)) (blocks (table_of p)) long (rows_in_order p (loaded_is_bound p (told_is_built tree folders p is))))
 
 -- ---- what is loaded comes to something
 
@@ -98,14 +98,15 @@ passes_some :
 passes_some p (Some f) fault a d = (Err (expand_line p f), refl)
 passes_some p None fault a d = (found p a (fault d), (d, refl))
 
-module _ (tree : Tree) (folders : List (List ℕ)) (roots : List Root) (parse : Or Expr) where
+module _ (tree : Tree) (folders : List (List ℕ)) (roots : List Root) (fixed find : Bool) (text : List ℕ) (parse : Or Expr)
+    (reads : ReadsGoal fixed find text parse) where
   goal_some :
       (p : Packages) → IsLoaded tree folders p → (l : Or (Expr × Packages))
       → (load_pattern (world tree folders) p parse).answer ≡ l → (r : OrLine Ready) × Comes l r
   goal_some p is (Err f) e = (Err (load_line f), refl)
   goal_some p is (Ok l) e =
       passes_some l.1 (too_large l.1 l.0) (unsound l.1 l.0) (ready l.1 l.0)
-      (table_facts tree folders l.1 (by_pattern p l.1 parse l.0 is e))
+      (table_facts tree folders l.1 (by_pattern p l.1 fixed find text parse l.0 reads is e))
 
   comes_some :
       (x : Or Packages) → (load (world tree folders) roots).answer ≡ x
@@ -131,7 +132,8 @@ some_table tree folders roots = table_some tree folders roots (load (world tree 
 pub some_answer : SomePreparation
 some_answer tree w =
     let is = reading_some w.fixed w.find w.text in
-    let comes = comes_some tree w.folders w.roots is.0 (load (world tree w.folders) w.roots).answer refl in (
+    let comes = comes_some tree w.folders w.roots w.fixed w.find w.text is.0 is.1
+    (load (world tree w.folders) w.roots).answer refl in (
       map encode_utf8_all (loaded tree w is.0).asked,
       comes.0,
       record { parse = is.0; reads = is.1; paths = refl; comes = comes.1 },

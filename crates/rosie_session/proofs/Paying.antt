@@ -29,12 +29,13 @@ use Rattle.rpl_expand.specs.Sets.{captures_of, scope_of, table_of}
 use Rattle.rpl_expand.specs.Table.{IsOver}
 use Rattle.rpl_forms.specs.Inlining.{Inners}
 use Rattle.rpl_forms.specs.Rows.{Row, inners_from, inners_of, rows_of}
-use Rattle.rpl_order.proofs.Loaded.{scopes_are_over, tables_are_in_order}
+use Rattle.rpl_order.proofs.Loaded.{scopes_are_over, tables_are_in_order, told_is_built}
+use Rattle.rpl_order.specs.Built.{IsBuilt}
 use Rattle.rpl_order.specs.Laws.{IsLoaded, by_pattern, by_roots}
+use Rattle.rpl_package.specs.Goals.{ReadsGoal}
 use Rattle.rpl_package.specs.Loading.{world}
 use Rattle.rpl_package.specs.Patterns.{load_pattern}
 use Rattle.rpl_package.specs.Roots.{Packages, load}
-use Rattle.rpl_package.specs.declared.rooted.Root.{Root}
 use Rattle.rpl_scope.specs.Faults.{Or, ◌>>=◌}
 use Rattle.rpl_simulation.proofs.Answering.{answer_holds}
 use Rattle.rpl_syntax.specs.Expression.{Expr}
@@ -45,8 +46,7 @@ use Rattle.rosie_session.proofs.Pegs.{rules_for}
 
 -- ---- what is loaded and has no fault
 
-module _ (tree : Tree) (folders : List (List ℕ)) (p : Packages) (is : IsLoaded tree folders p) (e : Expr)
-    (d : TableFacts p) (small : table_too_large p ≡ None) (none : unsound p e d ≡ None) where
+module _ (p : Packages) (is : IsBuilt p) (e : Expr) (d : TableFacts p) (small : table_too_large p ≡ None) (none : unsound p e d ≡ None) where
   rules : List Rule
   rules = (rules_for (table_of p) 0 small).0
 
@@ -64,13 +64,13 @@ module _ (tree : Tree) (folders : List (List ℕ)) (p : Packages) (is : IsLoaded
   in_order =
       subst (λ (R : List Core). IsInOrder R (blocks (table_of p))) same_bodies
       (subst (λ (bs : List (Option ℕ)). IsInOrder (bodies_of rules) bs) same_blocks
-      (tables_are_in_order tree folders p is rules same))
+      (tables_are_in_order p is rules same))
 
   calls_rules : (r : ℕ) → calls (goal_in p e) r ≡ true → r < length (bodies (table_of p))
   calls_rules r h =
       let inners : inners_of rules ≡ inners_from [] (table_of p) = ap (inners_from []) same in
       let over = subst (λ (I : Inners). IsOver (bodies_of rules) (scope_of p None I)) inners
-      (scopes_are_over tree folders p is rules None same) in
+      (scopes_are_over p is rules None same) in
       let below = goal_only rules (captures_of p) (scope_of p None (inners_from [] (table_of p))) e (sym inners) over r h in
       let long : length (bodies_of rules) ≡ length rules = length-map rules (λ x. core_of x.body) in
       let all : length (bodies_of rules) ≡ length (bodies (table_of p)) = ap (λ (R : List Core). length R) same_bodies in
@@ -101,39 +101,41 @@ module _ (tree : Tree) (folders : List (List ℕ)) (p : Packages) (is : IsLoaded
 abbrev Whole : Ready → Type 0
 Whole r = IsWhole (bodies r.rules) r.goal
 
-module _ (tree : Tree) (folders : List (List ℕ)) (roots : List Root) (parse : Or Expr) (r : Ready) where
-  whole_found :
-      (p : Packages) (e : Expr) (o : Option F.Fault) (d : TableFacts p) → table_too_large p ≡ None → IsLoaded tree folders p
-      → unsound p e d ≡ o
-      → Ok r ≡ found p (ready p e) o → Whole r
-  whole_found p e None d small is none h =
-      let same : ready p e ≡ r = cc in subst Whole same (is_whole tree folders p is e d small none)
-  whole_found p e (Some f) d small is some h = absurd (cc)
+whole_found :
+    (r : Ready) (p : Packages) (e : Expr) (o : Option F.Fault) (d : TableFacts p) → table_too_large p ≡ None → IsBuilt p
+    → unsound p e d ≡ o
+    → Ok r ≡ found p (ready p e) o → Whole r
+whole_found r p e None d small is none h =
+    let same : ready p e ≡ r = cc in subst Whole same (is_whole p is e d small none)
+whole_found r p e (Some f) d small is some h = absurd (cc)
 
-  whole_passes :
-      (p : Packages) (e : Expr) (t : Option E.Fault) → too_large p e ≡ t → IsLoaded tree folders p
-      → Passes p t (unsound p e) (ready p e) (Ok r) → Whole r
-  whole_passes p e None small is h =
-      let parts = or_none (table_too_large p) (E.size_fault None (goal_in p e)) small in
-      whole_found p e (unsound p e h.0) h.0 parts.0 is refl h.1
-  whole_passes p e (Some f) large is h = absurd (cc)
+whole_passes :
+    (r : Ready) (p : Packages) (e : Expr) (t : Option E.Fault) → too_large p e ≡ t → IsBuilt p
+    → Passes p t (unsound p e) (ready p e) (Ok r) → Whole r
+whole_passes r p e None small is h =
+    let parts = or_none (table_too_large p) (E.size_fault None (goal_in p e)) small in
+    whole_found r p e (unsound p e h.0) h.0 parts.0 is refl h.1
+whole_passes r p e (Some f) large is h = absurd (cc)
 
+module _ (tree : Tree) (v : Wanted) (parse : Or Expr) (reads : ReadsGoal v.fixed v.find v.text parse) (r : Ready) where
   whole_goal :
-      (p : Packages) → IsLoaded tree folders p → (l : Or (Expr × Packages))
-      → (load_pattern (world tree folders) p parse).answer ≡ l → Comes l (Ok r) → Whole r
+      (p : Packages) → IsLoaded tree v.folders p → (l : Or (Expr × Packages))
+      → (load_pattern (world tree v.folders) p parse).answer ≡ l → Comes l (Ok r) → Whole r
   whole_goal p is (Err f) e h = absurd (cc)
   whole_goal p is (Ok l) e h =
-      whole_passes l.1 l.0 (too_large l.1 l.0) refl (by_pattern p l.1 parse l.0 is e) h
+      let after = told_is_built tree v.folders l.1 (by_pattern p l.1 v.fixed v.find v.text parse l.0 reads is e) in
+      whole_passes r l.1 l.0 (too_large l.1 l.0) refl after h
 
   whole_comes :
-      (x : Or Packages) → (load (world tree folders) roots).answer ≡ x
-      → Comes (x >>= λ p. (load_pattern (world tree folders) p parse).answer) (Ok r) → Whole r
+      (x : Or Packages) → (load (world tree v.folders) v.roots).answer ≡ x
+      → Comes (x >>= λ p. (load_pattern (world tree v.folders) p parse).answer) (Ok r) → Whole r
   whole_comes (Err f) e h = absurd (cc)
-  whole_comes (Ok p) e h = whole_goal p (by_roots roots p e) (load_pattern (world tree folders) p parse).answer refl h
+  whole_comes (Ok p) e h =
+      whole_goal p (by_roots v.roots p e) (load_pattern (world tree v.folders) p parse).answer refl h
 
 whole_prepared : (tree : Tree) (v : Wanted) (asked : List (List ℕ)) (r : Ready) → IsPrepared tree v asked (Ok r) → Whole r
 whole_prepared tree v asked r h =
-    whole_comes tree v.folders v.roots h.parse r (load (world tree v.folders) v.roots).answer refl h.comes
+    whole_comes tree v h.parse h.reads r (load (world tree v.folders) v.roots).answer refl h.comes
 
 -- ---- its job
 

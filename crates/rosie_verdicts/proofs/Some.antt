@@ -16,8 +16,7 @@ use Rattle.rpl_lexer.specs.declared.fault.LexFault.{LexFault}
 use Rattle.rpl_lexer.specs.declared.token.Token.{Token}
 use Rattle.rpl_lexer.proofs.Computing.{either}
 use Rattle.rpl_order.proofs.Lists.{nth_last, nth_more}
-use Rattle.rpl_order.proofs.Steps.{both}
-use Rattle.rpl_order.proofs.Walking.{else_fault, unless_fault}
+use Rattle.rpl_order.proofs.Steps.{both, else_fault, unless_fault}
 use Rattle.rpl_package.specs.Asking.{and_then, at_once, each_in_turn}
 use Rattle.rpl_package.specs.Loading.{State, World, checks, own_text, walk, world}
 use Rattle.rpl_package.specs.Owned.{own, package_name, root_module}

@@ -7,6 +7,8 @@ pub mod Entering
 pub mod Walking
 pub mod Rooting
 pub mod Goals
+pub mod Words
+pub mod Asked
 pub mod Texts
 pub mod Rows
 pub mod Blocks
@@ -15,4 +17,12 @@ pub mod Aiming
 pub mod Tables
 pub mod Naming
 pub mod Scoping
+pub mod Building
+pub mod FullNames
+pub mod Under
+pub mod Merely
+pub mod Labels
 pub mod Loaded
+pub mod Distinct
+pub mod Told
+pub mod Names

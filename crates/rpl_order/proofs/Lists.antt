@@ -2,6 +2,7 @@
 use Rattle.std.proofs.Common.{arith, ◌≡◌, ◌<◌, ◌⊎◌, inl, inr, ℕ, zero, suc, ◌+◌, List, [], ◌∷◌, ◌++◌, length}
 use Rattle.std.proofs.Common.{Option, Some, None, refl, ap, true, false}
 use Rattle.std.specs.Prelude.{Bool, if◌then◌else◌}
+use Rattle.std.specs.List.{AllByRecursion}
 use Rattle.std.specs.Str.{bytes_eq}
 use Rattle.rpl_scope.specs.Packages.{first_of, nth}
 
@@ -90,3 +91,10 @@ pub first_end : {A : Type 0} (n : List ℕ) (ps : List (List ℕ × A)) (k : Lis
 first_end n [] k v x h = end_one (bytes_eq n k) n k v x refl h
 first_end n (p ∷ ps) k v x h =
     end_by (bytes_eq n p.0) n k v x p.1 (first_of n ps) (first_of n (ps ++ (k, v) ∷ [])) (first_end n ps k v x) h
+
+-- ---- all of two lists
+
+pub all_append : {A : Type 0} (P : A → Type 0) (xs ys : List A) → AllByRecursion P xs → AllByRecursion P ys
+    → AllByRecursion P (xs ++ ys)
+all_append P [] ys f g = g
+all_append P (x ∷ xs) ys f g = (f.0, all_append P xs ys f.1 g)

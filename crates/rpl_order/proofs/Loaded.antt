@@ -1,38 +1,44 @@
 -- The laws of loaded sets.
-use Rattle.std.proofs.Common.{ℕ, List, None}
-use Rattle.rpl_package.specs.Loading.{world}
-use Rattle.rpl_package.specs.Roots.{Packages}
-use Rattle.rpl_order.proofs.Goals.{goal_loaded}
+use Rattle.std.proofs.Common.{None}
+use Rattle.rpl_scope.specs.Packages.{nth}
+use Rattle.rpl_package.specs.Goals.{pattern_file}
+use Rattle.rpl_order.proofs.Building.{set_of}
+use Rattle.rpl_order.proofs.Goals.{stand_by}
+use Rattle.rpl_order.proofs.Names as N
 use Rattle.rpl_order.proofs.Naming.{goal_names, said_names}
-use Rattle.rpl_order.proofs.Rooting.{IsSet, loaded}
 use Rattle.rpl_order.proofs.Scoping.{make_trees, rules_in_order, scope_over}
 use Rattle.rpl_order.proofs.Tables.{all_bound}
-use Rattle.rpl_order.proofs.Texts.{plain_texts}
-use Rattle.rpl_order.specs.Laws.{IsLoaded, by_roots, by_pattern, LoadedIsBound, PatternsResolve}
-use Rattle.rpl_order.specs.Laws.{ScopesAreOver, StatementsResolve, TablesAreInOrder, TreesAreMade}
+use Rattle.rpl_order.proofs.Told as T
+use Rattle.rpl_order.specs.Laws.{LoadedIsBound, ModulesAreApart, PatternsResolve, ScopesAreOver, StatementsResolve}
+use Rattle.rpl_order.specs.Laws.{TableIsDistinct, TablesAreInOrder, ToldIsBuilt, TreesAreMade}
 
-set_of : (tree : List (List ℕ × List ℕ)) (folders : List (List ℕ)) (p : Packages) → IsLoaded tree folders p → IsSet p
-set_of tree folders p (by_roots roots q h) = loaded (world tree folders) (plain_texts tree folders) roots q h
-set_of tree folders p (by_pattern o q read e l h) =
-    (goal_loaded (world tree folders) (plain_texts tree folders) o q read e (set_of tree folders o l) h).set
+pub told_is_built : ToldIsBuilt
+told_is_built tree folders p h = T.told_is_built tree folders p h
 
 pub loaded_is_bound : LoadedIsBound
-loaded_is_bound tree folders p h = all_bound p (set_of tree folders p h).stock.sound
+loaded_is_bound p h = all_bound p (set_of p h).stock.sound
 
 pub statements_resolve : StatementsResolve
-statements_resolve tree folders p h n e q is c = said_names p (set_of tree folders p h).stock.sound n e q is c
+statements_resolve p h n e q is c = said_names p (set_of p h).stock.sound n e q is c
 
 pub patterns_resolve : PatternsResolve
 patterns_resolve tree folders e p q h c =
-    let before = set_of tree folders h.before h.loaded in
-    let is = goal_loaded (world tree folders) (plain_texts tree folders) h.before p h.read e before h.loads in
-    goal_names p is.set.stock.sound e q is.set.top is.stand c
+    let is = T.goal_passes tree folders e p h in
+    let set = set_of p is.built in
+    let stand = stand_by pattern_file e p.stock (nth p.stock.modules p.top) is.passes in
+    goal_names p set.stock.sound e q set.top stand c
 
 pub tables_are_in_order : TablesAreInOrder
-tables_are_in_order tree folders p h rs same = rules_in_order p rs same (set_of tree folders p h).stock.sound
+tables_are_in_order p h rs same = rules_in_order p rs same (set_of p h).stock.sound
 
 pub scopes_are_over : ScopesAreOver
-scopes_are_over tree folders p h rs n same = scope_over p rs same (set_of tree folders p h).stock.sound n
+scopes_are_over p h rs n same = scope_over p rs same (set_of p h).stock.sound n
 
 pub trees_are_made : TreesAreMade
-trees_are_made tree folders p h rs same = make_trees p rs same (set_of tree folders p h).stock.sound None
+trees_are_made p h rs same = make_trees p rs same (set_of p h).stock.sound None
+
+pub modules_are_apart : ModulesAreApart
+modules_are_apart p h = N.modules_apart p h
+
+pub table_is_distinct : TableIsDistinct
+table_is_distinct p h = N.table_distinct p h

@@ -1,8 +1,10 @@
 -- Steps that came to an end without a fault.
-use Rattle.std.proofs.Common.{◌≡◌, List, [], ◌∷◌, ◌++◌, Option, Some, None, refl}
-use Rattle.std.specs.Prelude.{Ok, Err}
-use Rattle.rpl_scope.specs.Faults.{Or, ◌>>=◌, ◌orelse◌, in_turn, unless}
+use Rattle.std.proofs.Common.{◌≡◌, ℕ, List, [], ◌∷◌, ◌++◌, Option, Some, None, refl}
+use Rattle.std.specs.Prelude.{Bool, true, false, if◌then◌else◌, Ok, Err}
+use Rattle.rpl_scope.specs.Faults.{Or, ◌>>=◌, ◌orelse◌, fault, in_turn, unless}
 use Rattle.rpl_scope.specs.declared.fault.LoadFault.{LoadFault}
+use Rattle.rpl_scope.specs.declared.fault.LoadKind.{LoadKind}
+use Rattle.rpl_package.specs.Asking.{Outcome, at_once}
 
 -- both steps did
 pub both : {A B : Type 0} (r : Or A) (f : A → Or B) (y : B) → (r >>= f) ≡ Ok y → (x : A) × (r ≡ Ok x) × (f x ≡ Ok y)
@@ -26,3 +28,15 @@ turns_append {A = A} {S = S} step (x ∷ xs) ys s = by (step x s) (turns_append 
         → (r >>= in_turn step (xs ++ ys)) ≡ ((r >>= in_turn step xs) >>= in_turn step ys)
     by (Ok t) f = f t
     by (Err e) f = refl
+
+-- ---- a step behind a test
+
+pub unless_fault : {A : Type 0} (b : Bool) (f : List ℕ) (at : ℕ) (k : LoadKind) (o : Outcome A) (x : A)
+    → (if b then at_once (fault f at k) else o).answer ≡ Ok x → o.answer ≡ Ok x
+unless_fault true f at k o x h = absurd (cc)
+unless_fault false f at k o x h = h
+
+pub else_fault : {A : Type 0} (b : Bool) (f : List ℕ) (at : ℕ) (k : LoadKind) (o : Outcome A) (x : A)
+    → (if b then o else at_once (fault f at k)).answer ≡ Ok x → o.answer ≡ Ok x
+else_fault true f at k o x h = h
+else_fault false f at k o x h = absurd (cc)

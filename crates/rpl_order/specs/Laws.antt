@@ -1,8 +1,8 @@
--- What holds of every set of packages that is loaded.
-use Rattle.std.specs.Prelude.{◌≡◌, ℕ, List, Option, Some, None, Result, Ok}
+-- What holds of every set of packages that is loaded, from real files too.
+use Rattle.std.specs.Prelude.{◌≡◌, ℕ, Bool, List, Option, Some, None, Result, Ok, map}
 use Rattle.std.specs.List.{Contains}
 use Rattle.rpl_core.specs.Order.{IsInOrder}
-use Rattle.rpl_core.specs.Table.{bodies_of, blocks_of}
+use Rattle.rpl_core.specs.Table.{AreDistinct, bodies_of, blocks_of}
 use Rattle.rpl_core.specs.declared.rules.Rule.{Rule}
 use Rattle.rpl_forms.specs.Rows.{rows_of, inners_of}
 use Rattle.rpl_expand.specs.Sets.{captures_of, scope_of, statements, table_of}
@@ -11,6 +11,8 @@ use Rattle.rpl_syntax.specs.Expression.{Expr}
 use Rattle.rpl_syntax.specs.declared.name.QName.{QName}
 use Rattle.rpl_scope.specs.Bodies.{names}
 use Rattle.rpl_scope.specs.Faults.{Or}
+use Rattle.rpl_scope.specs.Packages.{Module, nth}
+use Rattle.rpl_package.specs.Goals.{ReadsGoal}
 use Rattle.rpl_package.specs.Loading.{world}
 use Rattle.rpl_package.specs.Patterns.{load_pattern}
 use Rattle.rpl_package.specs.Roots.{Packages, load}
@@ -18,6 +20,7 @@ use Rattle.rpl_package.specs.Targets.{body, resolved}
 use Rattle.rpl_package.specs.declared.rooted.Root.{Root}
 use Rattle.rpl_package.specs.declared.targets.NameFault.{NameFault}
 use Rattle.rpl_package.specs.declared.targets.Target.{Target}
+use Rattle.rpl_order.specs.Built.{IsBuilt}
 
 -- ---- loaded sets
 
@@ -26,28 +29,37 @@ use Rattle.rpl_package.specs.declared.targets.Target.{Target}
 pub data IsLoaded (tree : List (List ℕ × List ℕ)) (folders : List (List ℕ)) : Packages → Type 0 where
   by_roots : (roots : List Root) (p : Packages) → (load (world tree folders) roots).answer ≡ Ok p
       → IsLoaded tree folders p
-  by_pattern : (p q : Packages) (read : Or Expr) (e : Expr) → IsLoaded tree folders p →
-      (load_pattern (world tree folders) p read).answer ≡ Ok (e, q) → IsLoaded tree folders q
+  by_pattern : (p q : Packages) (fixed find : Bool) (text : List ℕ) (read : Or Expr) (e : Expr)
+      → ReadsGoal fixed find text read → IsLoaded tree folders p
+      → (load_pattern (world tree folders) p read).answer ≡ Ok (e, q) → IsLoaded tree folders q
 
 -- the pattern e is loaded over such a set, which is p then
 pub record HasPattern (tree : List (List ℕ × List ℕ)) (folders : List (List ℕ)) (e : Expr)
     (p : Packages) : Type 0 where
   pub before : Packages
   pub loaded : IsLoaded tree folders before
+  pub fixed : Bool
+  pub find : Bool
+  pub text : List ℕ
   pub read : Or Expr
+  pub reads : ReadsGoal fixed find text read
   pub loads : (load_pattern (world tree folders) before read).answer ≡ Ok (e, p)
 
--- it holds of all of them
-abbrev pub OfAllLoaded : (Packages → Type 0) → Type 0
-OfAllLoaded P =
-    (tree : List (List ℕ × List ℕ)) (folders : List (List ℕ)) (p : Packages) → IsLoaded tree folders p → P p
+-- all of these are built
+abbrev pub ToldIsBuilt : Type 0
+ToldIsBuilt =
+    (tree : List (List ℕ × List ℕ)) (folders : List (List ℕ)) (p : Packages) → IsLoaded tree folders p → IsBuilt p
+
+-- it holds of every set that is built, whatever the files were
+abbrev pub OfAllBuilt : (Packages → Type 0) → Type 0
+OfAllBuilt P = (p : Packages) → IsBuilt p → P p
 
 -- ---- the order of statements
 
 -- each name of a statement is bound to an earlier rule or to one of its block, the boundary in force is an earlier
 -- rule, and the rules of a block stand side by side
 abbrev pub LoadedIsBound : Type 0
-LoadedIsBound = OfAllLoaded (λ p. AreBound (statements p))
+LoadedIsBound = OfAllBuilt (λ p. AreBound (statements p))
 
 -- ---- what names stand for
 
@@ -57,7 +69,7 @@ IsFound r = (t : Target) × (r ≡ Ok t)
 -- each name that a statement says stands for a rule
 abbrev pub StatementsResolve : Type 0
 StatementsResolve =
-    OfAllLoaded (λ p. (n : ℕ) (e : Expr) (q : QName) → body p n ≡ Some e → Contains (names e) q
+    OfAllBuilt (λ p. (n : ℕ) (e : Expr) (q : QName) → body p n ≡ Some e → Contains (names e) q
     → IsFound (resolved p (Some n) q))
 
 -- and each that the pattern says
@@ -74,16 +86,31 @@ AreRulesOf rs p = rows_of rs ≡ table_of p
 
 -- the table is in order: a rule calls no later one but those of its block
 abbrev pub TablesAreInOrder : Type 0
-TablesAreInOrder = OfAllLoaded (λ p. (rs : List Rule) → AreRulesOf rs p → IsInOrder (bodies_of rs) (blocks_of rs))
+TablesAreInOrder = OfAllBuilt (λ p. (rs : List Rule) → AreRulesOf rs p → IsInOrder (bodies_of rs) (blocks_of rs))
 
 -- the scopes of statements, and with None that of the pattern, are over the rules of the table
 abbrev pub ScopesAreOver : Type 0
 ScopesAreOver =
-    OfAllLoaded (λ p. (rs : List Rule) (n : Option ℕ) → AreRulesOf rs p
+    OfAllBuilt (λ p. (rs : List Rule) (n : Option ℕ) → AreRulesOf rs p
     → IsOver (bodies_of rs) (scope_of p n (inners_of rs)))
 
 -- a name in the pattern that is said to make a tree is bound to a rule whose body is a capture
 abbrev pub TreesAreMade : Type 0
 TreesAreMade =
-    OfAllLoaded (λ p. (rs : List Rule) → AreRulesOf rs p
+    OfAllBuilt (λ p. (rs : List Rule) → AreRulesOf rs p
     → MakeTrees (bodies_of rs) (captures_of p) (scope_of p None (inners_of rs)))
+
+-- ---- names of rules
+
+-- no two rules of one of these modules have one name
+abbrev pub RulesAreDistinct : List Module → Type 0
+RulesAreDistinct ms = (i : ℕ) (m : Module) → nth ms i ≡ Some m → AreDistinct (map (λ r. r.name) m.rules)
+
+-- in a set no two rules of a module have one name, and no two modules have one package name
+abbrev pub ModulesAreApart : Type 0
+ModulesAreApart =
+    OfAllBuilt (λ p. RulesAreDistinct p.stock.modules × AreDistinct (map (λ m. m.label) p.stock.modules))
+
+-- so no two rules of its table, the built-in ones among them, have one full name
+abbrev pub TableIsDistinct : Type 0
+TableIsDistinct = OfAllBuilt (λ p. AreDistinct (map (λ r. r.name) (table_of p)))
