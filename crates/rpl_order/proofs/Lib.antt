@@ -17,6 +17,7 @@ pub mod Aiming
 pub mod Tables
 pub mod Naming
 pub mod Scoping
+pub mod Owning
 pub mod Building
 pub mod FullNames
 pub mod Under

@@ -6,10 +6,11 @@ use Rattle.rpl_order.proofs.Building.{set_of}
 use Rattle.rpl_order.proofs.Goals.{stand_by}
 use Rattle.rpl_order.proofs.Names as N
 use Rattle.rpl_order.proofs.Naming.{goal_names, said_names}
+use Rattle.rpl_order.proofs.Owning.{own_is_rule}
 use Rattle.rpl_order.proofs.Scoping.{make_trees, rules_in_order, scope_over}
 use Rattle.rpl_order.proofs.Tables.{all_bound}
 use Rattle.rpl_order.proofs.Told as T
-use Rattle.rpl_order.specs.Laws.{LoadedIsBound, ModulesAreApart, PatternsResolve, ScopesAreOver, StatementsResolve}
+use Rattle.rpl_order.specs.Laws.{LoadedIsBound, ModulesAreApart, OwnNamesAreRules, PatternsResolve, ScopesAreOver, StatementsResolve}
 use Rattle.rpl_order.specs.Laws.{TableIsDistinct, TablesAreInOrder, ToldIsBuilt, TreesAreMade}
 
 pub told_is_built : ToldIsBuilt
@@ -36,6 +37,9 @@ scopes_are_over p h rs n same = scope_over p rs same (set_of p h).stock.sound n
 
 pub trees_are_made : TreesAreMade
 trees_are_made p h rs same = make_trees p rs same (set_of p h).stock.sound None
+
+pub own_names_are_rules : OwnNamesAreRules
+own_names_are_rules p h rs i n t same e = own_is_rule p rs same (set_of p h).stock.sound i n t e
 
 pub modules_are_apart : ModulesAreApart
 modules_are_apart p h = N.modules_apart p h

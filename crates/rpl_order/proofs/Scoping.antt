@@ -115,7 +115,7 @@ module _ (p : Packages) (rs : List Built) (same : rows_of rs ≡ table_of p) whe
     bodies_long : length (bodies_of rs) ≡ length rs
     bodies_long = length-map rs (λ x. core_of x.body)
 
-    in_rules : (x : ℕ) → x < 2 + length (rows p.stock.modules) → x < length (bodies_of rs)
+    pub in_rules : (x : ℕ) → x < 2 + length (rows p.stock.modules) → x < length (bodies_of rs)
     in_rules x lt = let a = all_there in let b = bodies_long in omega (arith, a, b, lt)
 
     block_long : (t b : ℕ) (o : Option (Option ℕ)) → slice_get (blocks_of rs) t ≡ o → block_at o ≡ Some b
@@ -169,7 +169,7 @@ module _ (p : Packages) (rs : List Built) (same : rows_of rs ≡ table_of p) whe
         let c = statement_captures s.captures b.0 s refl h in
         (c.0, c.1, b.1 ∙ ap Some c.2)
 
-    target_captures : (j k : ℕ) (t : Targets p.stock.modules j k) → not t.rule.alias ≡ true
+    pub target_captures : (j k : ℕ) (t : Targets p.stock.modules j k) → not t.rule.alias ≡ true
         → Captures (first_rule p.stock.modules j + k)
     target_captures j k t h =
         let ms = p.stock.modules in

@@ -1,6 +1,7 @@
 -- What holds of every set of packages that is loaded, from real files too.
-use Rattle.std.specs.Prelude.{◌≡◌, ℕ, Bool, List, Option, Some, None, Result, Ok, map}
+use Rattle.std.specs.Prelude.{◌≡◌, ◌<◌, ℕ, Bool, true, List, length, Option, Some, None, Result, Ok, map, slice_get}
 use Rattle.std.specs.List.{Contains}
+use Rattle.rpl_core.specs.Core.{Core, Capture}
 use Rattle.rpl_core.specs.Order.{IsInOrder}
 use Rattle.rpl_core.specs.Table.{AreDistinct, bodies_of, blocks_of}
 use Rattle.rpl_core.specs.declared.rules.Rule.{Rule}
@@ -14,6 +15,7 @@ use Rattle.rpl_scope.specs.Faults.{Or}
 use Rattle.rpl_scope.specs.Packages.{Module, nth}
 use Rattle.rpl_package.specs.Goals.{ReadsGoal}
 use Rattle.rpl_package.specs.Loading.{world}
+use Rattle.rpl_package.specs.Owned.{own}
 use Rattle.rpl_package.specs.Patterns.{load_pattern}
 use Rattle.rpl_package.specs.Roots.{Packages, load}
 use Rattle.rpl_package.specs.Targets.{body, resolved}
@@ -99,6 +101,17 @@ abbrev pub TreesAreMade : Type 0
 TreesAreMade =
     OfAllBuilt (λ p. (rs : List Rule) → AreRulesOf rs p
     → MakeTrees (bodies_of rs) (captures_of p) (scope_of p None (inners_of rs)))
+
+-- the target is a rule of the table of these bodies, and its body is a capture where it is said to make a tree
+pub record IsRuleOf (R : List Core) (t : Target) : Type 0 where
+  pub within : t.rule < length R
+  pub captures : t.captures ≡ true → (label : List ℕ) × (p : Core) × (slice_get R t.rule ≡ Some (Capture label p))
+
+-- so is that of each name that a statement of a module binds
+abbrev pub OwnNamesAreRules : Type 0
+OwnNamesAreRules =
+    OfAllBuilt (λ p. (rs : List Rule) (i : ℕ) (n : List ℕ) (t : Target) → AreRulesOf rs p → own p i n ≡ Some t
+    → IsRuleOf (bodies_of rs) t)
 
 -- ---- names of rules
 

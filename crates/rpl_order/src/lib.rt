@@ -7,9 +7,9 @@
 //! definitions of `rpl_package` and `rpl_expand` alone, whose statement stands in `specs/Laws.antt`.
 #![tactic(auto)]
 
-ghost use Rattle.rpl_order.specs.Laws.{LoadedIsBound, ModulesAreApart, PatternsResolve, ScopesAreOver};
-ghost use Rattle.rpl_order.specs.Laws.{StatementsResolve, TableIsDistinct, TablesAreInOrder, ToldIsBuilt};
-ghost use Rattle.rpl_order.specs.Laws.{TreesAreMade};
+ghost use Rattle.rpl_order.specs.Laws.{LoadedIsBound, ModulesAreApart, OwnNamesAreRules, PatternsResolve};
+ghost use Rattle.rpl_order.specs.Laws.{ScopesAreOver, StatementsResolve, TableIsDistinct, TablesAreInOrder};
+ghost use Rattle.rpl_order.specs.Laws.{ToldIsBuilt, TreesAreMade};
 
 /// Where the files are told, each set that roots are loaded to, and that a pattern brings more modules to, is built.
 pub fn told_is_built()
@@ -49,4 +49,10 @@ pub fn scopes_are_over()
 /// A name of a statement or of the pattern that is told to make a tree is bound to a rule whose body is a capture.
 pub fn trees_are_made()
     ensures { TreesAreMade }
+{}
+
+/// A name that a statement of a module binds is bound to a rule of the table, whose body is a capture where it is told to
+/// make a tree.
+pub fn own_names_are_rules()
+    ensures { OwnNamesAreRules }
 {}
