@@ -1,12 +1,11 @@
 -- The table, one rule after the other.
-use Rattle.std.proofs.Common.{◌≡◌, ℕ, ◌+◌, List, [], ◌∷◌, ◌++◌, length, refl, sym, ap, ◌∙◌}
-use Rattle.std.proofs.Common.{arith, inl, inr, append_assoc}
+use Rattle.std.proofs.Common.{◌≡◌, ℕ, zero, suc, ◌+◌, List, [], ◌∷◌, ◌++◌, length, map, refl, sym, ap, subst, ◌∙◌}
+use Rattle.std.proofs.Common.{arith, append_assoc}
+use Rattle.std.proofs.lemmas.List.{map-append}
 use Rattle.std.specs.Prelude.{Option, Some, None, slice_get}
 use Rattle.std.proofs.lemmas.Option.{slice_get_within}
 use Rattle.std.specs.Option.{option_or}
-use Rattle.rpl_core.specs.Table.{IsNew, names_of}
-use Rattle.rpl_draft.specs.Uses.{Keeps}
-use Rattle.rpl_draft.proofs.Adding.{held}
+use Rattle.rpl_core.specs.Table.{AreDistinct, IsNew, names_of}
 use Rattle.rpl_core.specs.declared.rules.Rule.{Rule}
 use Rattle.rpl_expand.specs.Faults.{Fault, size_fault, table_fault, IsDue}
 use Rattle.rpl_forms.specs.Inlining.{inner}
@@ -38,24 +37,37 @@ pub fault_found : (k : ℕ) (r : Row) (old new : List Row) (due : Option Fault) 
 fault_found k r old new due f e some h =
     sym h ∙ ap (table_fault k) e ∙ ap (λ o. option_or o (table_fault (k + 1) new)) some
 
--- a name whose place is behind all others is new, and is added
-pub new_place : (known old new : List (List ℕ)) (x : List ℕ) (k : ℕ) → old ≡ known → Keeps old (x ∷ []) new
-    → slice_get new k ≡ Some x → k ≡ length known → IsNew x known × (new ≡ known ++ x ∷ [])
-new_place known old new x k same (inl (there, stays)) got place =
-    let e = sym (ap (λ l. slice_get l k) (stays ∙ same)) ∙ got in
-    let lt = slice_get_within known k x e in
-    absurd (omega (arith, place, lt))
-new_place known old new x k same (inr (missing, added)) got place =
-    (λ i e. missing (held old i x (ap (λ l. slice_get l i) same ∙ e)), added ∙ ap (λ l. l ++ x ∷ []) same)
+-- ---- names
 
-names_more : (rs : List Rule) (r : Rule) → names_of (rs ++ r ∷ []) ≡ names_of rs ++ r.name ∷ []
-names_more [] r = refl
-names_more (x ∷ rs) r = ap (λ l. x.name ∷ l) (names_more rs r)
+names_rows : (rs : List Rule) → map (λ r. r.name) (rows_of rs) ≡ names_of rs
+names_rows [] = refl
+names_rows (r ∷ rs) = ap (λ l. r.name ∷ l) (names_rows rs)
 
--- the names with that of one rule more
-pub names_added : (rs : List Rule) (r : Rule) (new : List (List ℕ)) (all : List Rule)
-    → new ≡ names_of rs ++ r.name ∷ [] → all ≡ rs ++ r ∷ [] → new ≡ names_of all
-names_added rs r new all e f = e ∙ sym (names_more rs r) ∙ ap names_of (sym f)
+found_before : (xs ys : List (List ℕ)) (i : ℕ) (x : List ℕ) → slice_get xs i ≡ Some x → slice_get (xs ++ ys) i ≡ Some x
+found_before [] ys i x h = absurd (cc)
+found_before (y ∷ xs) ys zero x h = h
+found_before (y ∷ xs) ys (suc i) x h = found_before xs ys i x h
+
+found_behind : (xs ys : List (List ℕ)) (x : List ℕ) → slice_get (xs ++ x ∷ ys) (length xs) ≡ Some x
+found_behind [] ys x = refl
+found_behind (y ∷ xs) ys x = found_behind xs ys x
+
+-- one of distinct names isn't among those before it
+new_behind : (xs ys : List (List ℕ)) (x : List ℕ) → AreDistinct (xs ++ x ∷ ys) → IsNew x xs
+new_behind xs ys x d i h =
+    let same = d i (length xs) x (found_before xs (x ∷ ys) i x h) (found_behind xs ys x) in
+    let lt = slice_get_within xs i x h in
+    omega (arith, same, lt)
+
+-- in a table of distinct names the next rule has a new one
+pub next_is_new : (rs : List Rule) (r : Rule) (old new whole : List Row) → old ≡ row_at r ∷ new
+    → rows_of rs ++ old ≡ whole → AreDistinct (map (λ x. x.name) whole) → IsNew r.name (names_of rs)
+next_is_new rs r old new whole e is d =
+    let all : map (λ (x : Row). x.name) whole ≡ names_of rs ++ r.name ∷ map (λ x. x.name) new =
+    ap (map (λ x. x.name)) (sym is ∙ ap (λ l. rows_of rs ++ l) e)
+    ∙ map-append (λ (x : Row). x.name) (rows_of rs) (row_at r ∷ new)
+    ∙ ap (λ l. l ++ r.name ∷ map (λ x. x.name) new) (names_rows rs) in
+    new_behind (names_of rs) (map (λ x. x.name) new) r.name (subst AreDistinct all d)
 
 -- a core that is too large, after rules that are not
 pub due_found : (k : ℕ) (r : Row) (old new : List Row) (due : Option Fault) (o : Option Fault) → old ≡ r ∷ new

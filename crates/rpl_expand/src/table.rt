@@ -1,10 +1,10 @@
 // The rule table of a set, and the core of a pattern over it.
-ghost use Rattle.std.specs.Prelude.{◌≡◌, ◌<◌, ℕ, true, List, IfOk, None, chars, codes, length};
+ghost use Rattle.std.specs.Prelude.{◌≡◌, ◌<◌, ℕ, true, List, IfOk, None, chars, codes, length, map};
 ghost use Rattle.rpl_core.specs.Core.{Core};
 ghost use Rattle.rpl_core.specs.Listed.{rules_of};
 ghost use Rattle.rpl_core.specs.Order.{IsInOrder};
 ghost use Rattle.rpl_core.specs.Programs.{calls};
-ghost use Rattle.rpl_core.specs.Table.{blocks_of, bodies_of};
+ghost use Rattle.rpl_core.specs.Table.{AreDistinct, blocks_of, bodies_of};
 ghost use Rattle.rpl_core.specs.View.{core_of};
 ghost use Rattle.rpl_expand.specs.Expansion.{core};
 ghost use Rattle.rpl_expand.specs.Faults.{Answers, size_fault, table_fault};
@@ -119,7 +119,10 @@ fn halt_name(set: &PackageSet) -> &str
 
 /// The rule table of a set of packages: the boundary, the built-in `halt`, and a rule for each statement of the set in
 /// its order. The first rule whose core is too large is answered instead, before anything is made of it.
+///
+/// No two of these rules have one full name, as in every set that is loaded.
 pub fn expand(alloc: Global, set: &PackageSet) -> Result<Rules, ExpandFault>
+    requires { AreDistinct (map (λ r. r.name) (table_of (set_seen set.now))) }
     ensures exactly { Answers (table_fault 0 (table_of (set_seen set.now))) result }
     ensures table { IfOk result (λ rs. rows_of (rules_of rs) ≡ table_of (set_seen set.now)) }
     ensures order { AreBound (statements (set_seen set.now))
@@ -136,7 +139,7 @@ pub fn expand(alloc: Global, set: &PackageSet) -> Result<Rules, ExpandFault>
             return Err(fault);
         }
         let rule = make_rule(alloc, &table, &statement)?;
-        table = table.with(alloc, rule)?;
+        table = table.with(rule)?;
     }
     Ok(table.rules)
 }
