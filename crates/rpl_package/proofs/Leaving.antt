@@ -28,3 +28,7 @@ after S x y z a b c first last =
       tree = last.tree ∙ first.tree;
       closed = λ h. last.closed (first.closed h);
     }
+
+-- where nothing is done
+pub still : {F X : Type 0} (S : Ghosts F) (x : X) (files : F) → LeavesFiles S (Ok x) files files
+still S x files = record { cause = (refl, refl); taken = λ lt. omega arith; tree = refl; closed = λ h. h }

@@ -1,4 +1,5 @@
 pub mod Bringing
+pub mod Building
 pub mod Causes
 mod Examples
 pub mod Keeping

@@ -59,6 +59,10 @@ module _ (find : Bool) (s : List ℕ) (ts : List Token) (cut : cut_of s ≡ Ok t
     pub read_pattern : (r : Or Expr) → ReadsText false find s r → r ≡ Ok (sought find x)
     read_pattern r h = read_tokens r (subst (λ c. ReadsCut find s c r) cut h)
 
+    -- and such an expression is what the text is read as
+    pub reads_pattern : (e : Expr) → e ≡ sought find x → ReadsText false find s (Ok e)
+    reads_pattern e h = subst (λ c. ReadsCut find s c (Ok e)) (sym cut) (x, is, h)
+
 -- ---- such a stop is no failed read
 
 lex_loud_by : (s : Stop) (f : List ℕ) (e : LexFault) → (e.kind ≡ X.NoMemory) ⊎ (e.kind ≢ X.NoMemory) → (e.kind ≢ X.NoMemory → IsStop s (fault_at f e.at (Lex e.kind))) → (e.kind ≡ X.NoMemory → s ≡ Memory) → IsLoud s

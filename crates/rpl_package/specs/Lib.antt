@@ -1,5 +1,6 @@
 pub mod Answers
 pub mod Asking
+pub mod Built
 pub mod Goals
 pub mod Kept
 pub mod Loading

@@ -5,6 +5,9 @@
 //! and the rule table. The first fault of all is answered, with its file and place, in the one order that `specs/`
 //! says; a read fault only where a read or an open failed. Every file is closed on every way out, and time is linear in
 //! the bytes that are read.
+//!
+//! A set knows of itself, whatever the files are, that it came, by the steps of loading, of texts that were read
+//! (`specs/Built.antt`): the laws of all sets stand on that.
 #![tactic(auto)]
 
 mod edge;

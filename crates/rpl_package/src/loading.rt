@@ -1,6 +1,7 @@
 // Loading the roots.
 ghost use Rattle.std.specs.Prelude.{◌≡◌, [], ◌∷◌, IfOk, IfErr};
 ghost use Rattle.rpl_package.specs.Asking.{Walks};
+ghost use Rattle.rpl_package.specs.Built.{Becomes};
 ghost use Rattle.rpl_package.specs.Loading.{world};
 ghost use Rattle.rpl_package.specs.Roots.{begun, load, top_head, whole};
 ghost use Rattle.rpl_package.specs.Sets.{set_seen};
@@ -43,7 +44,8 @@ fn whole(
     own: Module,
     roots: Vec<Option<u32>>,
 ) -> Result<PackageSet, Stop>
-    requires { stock.held.items ≡ top_head ∷ [] }
+    requires held { stock.held.items ≡ top_head ∷ [] }
+    requires built { Becomes (top_head ∷ []) begun.state (state_seen stock own) }
     ensures ok { IfOk result (λ s. set_seen s ≡ whole (record { roots = roots.items; state = state_seen stock own })) }
     ensures memory { IfErr result (λ s. s ≡ OutOfMemory) }
 {

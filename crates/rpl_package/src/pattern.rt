@@ -1,10 +1,11 @@
 // The pattern: its text, the packages that it imports, its names and its macros.
-ghost use Rattle.std.specs.Prelude.{◌≡◌, [], IfErr, IfOk, OnOk, false, map};
+ghost use Rattle.std.specs.Prelude.{◌≡◌, [], All, IfErr, IfOk, Ok, OnOk, false, map};
 ghost use Rattle.rpl_syntax.specs.Expression.{Expr as Said};
 ghost use Rattle.rpl_syntax.specs.View.{expr_of};
 ghost use Rattle.rpl_scope.specs.Bodies.{names};
 ghost use Rattle.rpl_scope.specs.Faults.{Checks, Gives, Or};
 ghost use Rattle.rpl_package.specs.Asking.{Walks, each_in_turn};
+ghost use Rattle.rpl_package.specs.Built.{InGoal, IsGoal, StaysBuilt};
 ghost use Rattle.rpl_package.specs.Goals.{ReadsGoal, ReadsText, pattern_file, sought};
 ghost use Rattle.rpl_package.specs.Loading as L;
 ghost use Rattle.rpl_package.specs.Loading.{world};
@@ -62,6 +63,7 @@ fn sought(alloc: Global, find: bool, e: Expr) -> Result<Expr, NoMemory>
 fn read_pattern(alloc: Global, file: &Chars, text: &str, find: bool) -> Result<Expr, Stop>
     requires { file.now ≡ pattern_file }
     ensures gives { (r : Or Said) → ReadsText false find text.now r → Gives expr_of result r }
+    ensures reads { IfOk result (λ e. ReadsText false find text.now (Ok (expr_of e))) }
     ensures loud { IfErr result IsLoud }
 {
     cut_computes();
@@ -78,20 +80,20 @@ fn read_pattern(alloc: Global, file: &Chars, text: &str, find: bool) -> Result<E
 
 /// The expression of a pattern's text.
 #[tactic(auto, using(rpl_scope::proofs::Stops::told, crate::proofs::Causes::told_loud))]
-fn read_goal(alloc: Global, file: &Chars, goal: Goal<'_>) -> Result<Expr, Stop>
+fn read_goal(alloc: Global, file: &Chars, text: &str, fixed: bool, find: bool) -> Result<Expr, Stop>
     requires { file.now ≡ pattern_file }
-    ensures gives { (r : Or Said) → ReadsGoal goal.entry.fixed goal.entry.find goal.entry.text.now r
-        → Gives expr_of result r }
+    ensures gives { (r : Or Said) → ReadsGoal fixed find text.now r → Gives expr_of result r }
+    ensures goal { IfOk result (λ e. IsGoal (expr_of e)) }
     ensures loud { IfErr result IsLoud }
 {
-    if goal.text.len() > MOST_BYTES {
+    if text.len() > MOST_BYTES {
         return Err(fault_at(alloc, file, 0, LoadKind::FileTooLong));
     }
-    if goal.fixed {
-        let text = Chars::from_str(alloc, goal.text)?;
-        return Ok(sought(alloc, goal.find, Expr::Text(text))?);
+    if fixed {
+        let text = Chars::from_str(alloc, text)?;
+        return Ok(sought(alloc, find, Expr::Text(text))?);
     }
-    read_pattern(alloc, file, goal.text, goal.find)
+    read_pattern(alloc, file, text, find)
 }
 
 /// The import that a name asks for: none where it has no prefix, or the module has the prefix.
@@ -162,12 +164,14 @@ fn enter_name<F: Files>(
     importer: Importer<'_>,
     name: &QName,
 ) -> Result<(), Stop>
-    requires { stock.old.held.items ≡ [] }
+    requires idle { stock.old.held.items ≡ [] }
+    requires goal { InGoal name.now }
     ensures gives { F.tells → let w = world (F.tree files.old) importer.entry.folders.now in
         Walks (λ _. stock_seen stock.new) result
         (pattern_name w importer.entry.file.now top name.now (stock_seen stock.old)) }
     ensures held { OnOk result (stock.new.held.items ≡ stock.old.held.items) }
     ensures kept { (a : L.Stock) → CutsTo top a (stock_seen stock.old) → CutsTo top a (stock_seen stock.new) }
+    ensures built { OnOk result (StaysBuilt top (stock_seen stock.old) (stock_seen stock.new)) }
     ensures files { LeavesFiles F.Source result files.old files.new }
 {
     let asked = wanted_at(alloc, &stock.modules, top, name)?;
@@ -194,13 +198,15 @@ fn enter_names<F: Files>(
     importer: Importer<'_>,
     all: &[&QName],
 ) -> Result<(), Stop>
-    requires { stock.old.held.items ≡ [] }
+    requires idle { stock.old.held.items ≡ [] }
+    requires goal { All InGoal (map (λ q. q.now) all.now) }
     ensures gives { F.tells → let w = world (F.tree files.old) importer.entry.folders.now in
         Walks (λ _. stock_seen stock.new) result
         (each_in_turn (pattern_name w importer.entry.file.now top) (map (λ q. q.now) all.now)
         (stock_seen stock.old)) }
     ensures held { OnOk result (stock.new.held.items ≡ []) }
     ensures kept { (a : L.Stock) → CutsTo top a (stock_seen stock.old) → CutsTo top a (stock_seen stock.new) }
+    ensures built { OnOk result (StaysBuilt top (stock_seen stock.old) (stock_seen stock.new)) }
     ensures files { LeavesFiles F.Source result files.old files.new }
 {
     for name in all {
@@ -248,12 +254,14 @@ fn enter_expr<F: Files>(
     importer: Importer<'_>,
     e: &Expr,
 ) -> Result<(), Stop>
-    requires { stock.old.held.items ≡ [] }
+    requires idle { stock.old.held.items ≡ [] }
+    requires goal { IsGoal (expr_of e.now) }
     ensures gives { F.tells → let w = world (F.tree files.old) importer.entry.folders.now in
         Walks (λ _. stock_seen stock.new) result
         (enter_pattern w importer.entry.file.now top (stock_seen stock.old) (expr_of e.now)) }
     ensures held { OnOk result (stock.new.held.items ≡ []) }
     ensures kept { (a : L.Stock) → CutsTo top a (stock_seen stock.old) → CutsTo top a (stock_seen stock.new) }
+    ensures built { OnOk result (StaysBuilt top (stock_seen stock.old) (stock_seen stock.new)) }
     ensures files { LeavesFiles F.Source result files.old files.new }
 {
     let mut all = Vec::new(alloc);
@@ -282,10 +290,11 @@ pub fn enter_pattern<F: Files>(
         (goal_entered (world (F.tree files.old) folders.now) top (stock_seen stock.old) r) }
     ensures held { OnOk result (stock.new.held.items ≡ []) }
     ensures kept { (a : L.Stock) → CutsTo top a (stock_seen stock.old) → CutsTo top a (stock_seen stock.new) }
+    ensures built { OnOk result (StaysBuilt top (stock_seen stock.old) (stock_seen stock.new)) }
     ensures files { LeavesFiles F.Source result files.old files.new }
 {
     let file = Chars::from_str(alloc, "(pattern)")?;
-    let e = match read_goal(alloc, &file, goal) {
+    let e = match read_goal(alloc, &file, goal.text, goal.fixed, goal.find) {
         Ok(e) => e,
         Err(stop) => return Err(stop),
     };

@@ -1,11 +1,12 @@
 // The module that a text is read as.
-ghost use Rattle.std.specs.Prelude.{◌≡◌, ◌≢◌, ◌≤◌, ℕ, List, length, IfErr};
+ghost use Rattle.std.specs.Prelude.{◌≡◌, ◌≢◌, ◌≤◌, ℕ, List, length, IfErr, IfOk};
 ghost use Rattle.rpl_syntax.specs.Modules.{said};
 ghost use Rattle.rpl_lexer.specs.declared.fault.LexKind.TheVariants.{NoMemory as LexOut};
 ghost use Rattle.rpl_parser.specs.declared.fault.ParseKind.TheVariants.{NoMemory as ParseOut};
 ghost use Rattle.rpl_scope.specs.Faults.{Gives, IsStop, fault_at};
 ghost use Rattle.rpl_scope.specs.declared.fault.LoadKind.TheVariants.{Lex, Parse};
 ghost use Rattle.rpl_scope.specs.declared.fault.Stop.TheVariants.{Memory as OutOfMemory};
+ghost use Rattle.rpl_package.specs.Built.{IsSaid};
 ghost use Rattle.rpl_package.specs.Reading.{IsRead, IsLoud};
 ghost use Rattle.rpl_package.specs.Texts.{parsed, module_text};
 
@@ -71,6 +72,7 @@ pub fn parse(alloc: Global, file: &Chars, text: &str) -> Result<Said, Stop>
 pub fn read_module(alloc: Global, file: &Chars, read: Read) -> Result<Said, Stop>
     ensures gives { (bytes : List ℕ) → IsRead read bytes → Gives said result (module_text file.now bytes) }
     ensures loud { IfErr result IsLoud }
+    ensures said { IfOk result (λ t. IsSaid (said t)) }
 {
     match read {
         Read::Text(text) => parse(alloc, file, &text),

@@ -2,6 +2,7 @@
 ghost use Rattle.std.specs.Prelude.{◌≡◌, ◌<◌, [], ◌∷◌, OnOk, IfOk, Some, None, encode_utf8_all};
 ghost use Rattle.rpl_syntax.specs.Modules.{said};
 ghost use Rattle.rpl_package.specs.Asking.{Walks, and_then};
+ghost use Rattle.rpl_package.specs.Built.{Becomes, IsSaid};
 ghost use Rattle.rpl_scope.specs.Faults.{Gives};
 ghost use Rattle.rpl_package.specs.Loading.{world};
 ghost use Rattle.rpl_package.specs.Roots.{top_head, next, given_name, root_by, load_roots, named_root, root_text};
@@ -49,10 +50,13 @@ fn enter_named<F: Files>(
 ) -> Result<Option<u32>, Stop>
     requires name { text.now.package ≡ Some name.now }
     requires held { state.old.stock.held.items ≡ top_head ∷ [] }
+    requires said { IsSaid (said text.now) }
     ensures gives { F.tells → Walks (λ n. (n, state_seen state.new.stock state.new.own)) result
         (named_root (world (F.tree files.old) folders.now) file.now (said text.now) name.now
         (state_seen state.old.stock state.old.own)) }
     ensures held { OnOk result (state.new.stock.held.items ≡ state.old.stock.held.items) }
+    ensures built { OnOk result (Becomes (top_head ∷ []) (state_seen state.old.stock state.old.own)
+        (state_seen state.new.stock state.new.own)) }
     ensures files { LeavesFiles F.Source result files.old files.new }
 {
     if state.own.prefixes.get(&name.name).is_some() {
@@ -99,10 +103,13 @@ pub fn enter_root<F: Files>(
     text: &Said,
 ) -> Result<Option<u32>, Stop>
     requires held { state.old.stock.held.items ≡ top_head ∷ [] }
+    requires said { IsSaid (said text.now) }
     ensures gives { F.tells → Walks (λ n. (n, state_seen state.new.stock state.new.own)) result
         (root_text (world (F.tree files.old) folders.now) file.now (said text.now) (said text.now).name
         (state_seen state.old.stock state.old.own)) }
     ensures held { OnOk result (state.new.stock.held.items ≡ state.old.stock.held.items) }
+    ensures built { OnOk result (Becomes (top_head ∷ []) (state_seen state.old.stock state.old.own)
+        (state_seen state.new.stock state.new.own)) }
     ensures files { LeavesFiles F.Source result files.old files.new }
 {
     match &text.package {
@@ -137,7 +144,8 @@ pub fn enter_root<F: Files>(
 /// The text of a root that is given itself.
 #[tactic(auto, using(rpl_scope::proofs::Stops::told))]
 fn read_given(alloc: Global, file: &Chars, text: &Chars) -> Result<Said, Stop>
-    ensures { Gives said result (module_text file.now (encode_utf8_all text.now)) }
+    ensures gives { Gives said result (module_text file.now (encode_utf8_all text.now)) }
+    ensures said { IfOk result (λ t. IsSaid (said t)) }
 {
     let bytes = text.as_str();
     if bytes.len() > MOST_BYTES {
@@ -160,6 +168,8 @@ pub fn enter_given<F: Files>(
         (read_root (world (F.tree files.old) folders.now) file.now (encode_utf8_all text.now)
         (state_seen state.old.stock state.old.own)) }
     ensures held { OnOk result (state.new.stock.held.items ≡ state.old.stock.held.items) }
+    ensures built { OnOk result (Becomes (top_head ∷ []) (state_seen state.old.stock state.old.own)
+        (state_seen state.new.stock state.new.own)) }
     ensures files { LeavesFiles F.Source result files.old files.new }
 {
     let said = match read_given(alloc, file, text) {
@@ -186,6 +196,8 @@ pub fn enter_file<F: Files>(
         (and_then (asked_root (world (F.tree files.old) folders.now) path.now)
         (file_root (world (F.tree files.old) folders.now) path.now (state_seen state.old.stock state.old.own))) }
     ensures held { OnOk result (state.new.stock.held.items ≡ state.old.stock.held.items) }
+    ensures built { OnOk result (Becomes (top_head ∷ []) (state_seen state.old.stock state.old.own)
+        (state_seen state.new.stock state.new.own)) }
     ensures files { LeavesFiles F.Source result files.old files.new }
 {
     let read = match read_in(alloc, files, path) {
@@ -235,6 +247,8 @@ fn enter_one<F: Files>(
     ensures gives { F.tells → Walks (λ n. (n, state_seen state.new.stock state.new.own)) result
         (root_by (world (F.tree files.old) folders.now) given root.now (state_seen state.old.stock state.old.own)) }
     ensures held { OnOk result (state.new.stock.held.items ≡ state.old.stock.held.items) }
+    ensures built { OnOk result (Becomes (top_head ∷ []) (state_seen state.old.stock state.old.own)
+        (state_seen state.new.stock state.new.own)) }
     ensures files { LeavesFiles F.Source result files.old files.new }
 {
     match root {
@@ -268,6 +282,8 @@ pub fn enter_roots<F: Files>(
         (load_roots (world (F.tree files.old) folders.now) roots.now
         (record { roots = []; state = state_seen state.old.stock state.old.own })) }
     ensures held { OnOk result (state.new.stock.held.items ≡ state.old.stock.held.items) }
+    ensures built { OnOk result (Becomes (top_head ∷ []) (state_seen state.old.stock state.old.own)
+        (state_seen state.new.stock state.new.own)) }
     ensures files { LeavesFiles F.Source result files.old files.new }
 {
     let mut given = 0;

@@ -1,7 +1,8 @@
 // The set of packages.
 ghost use Rattle.std.specs.Prelude.{◌≡◌, ◌<◌, [], length};
 ghost use Rattle.rpl_scope.specs.Seen.{modules_seen};
-ghost use Rattle.rpl_package.specs.Stocks.{IsTable};
+ghost use Rattle.rpl_package.specs.Built.{IsBuilt, packages};
+ghost use Rattle.rpl_package.specs.Stocks.{IsTable, stock_seen};
 
 use crate::stock::Stock;
 use crate::table::Table;
@@ -18,4 +19,5 @@ pub struct PackageSet {
     ghost idle: { stock.held.items ≡ [] },
     ghost inside: { top < length stock.modules.items },
     ghost told: { IsTable table (modules_seen stock.modules.items) },
+    ghost built: { ∥ IsBuilt (packages (stock_seen stock) top roots.items) ∥₁ },
 }

@@ -1,7 +1,8 @@
 // The walk over a text and all that it imports.
-ghost use Rattle.std.specs.Prelude.{◌≡◌, ◌<◌, ℕ, List, OnOk, IfOk, IfErr, Some, None, length, [], ◌∷◌, ◌++◌};
+ghost use Rattle.std.specs.Prelude.{◌≡◌, ◌<◌, ℕ, All, List, OnOk, IfOk, IfErr, Some, None, length, [], ◌∷◌, ◌++◌};
 ghost use Rattle.rpl_syntax.specs.Modules.{said};
 ghost use Rattle.rpl_package.specs.Asking.{Walks};
+ghost use Rattle.rpl_package.specs.Built.{Becomes, IsAsked, IsSaid, Loads, Makes, Reaches};
 ghost use Rattle.rpl_package.specs.Kept.{Keeps};
 ghost use Rattle.rpl_package.specs.Loading.{world, walk, reach, import_entry, import_entries, checks, own_text};
 ghost use Rattle.rpl_package.specs.Loading.{label_of, label_at, with_text};
@@ -56,12 +57,15 @@ pub fn reach<F: Files>(
     import: &Import,
     depth: usize,
 ) -> Result<u32, Stop>
+    requires asked { IsAsked import.now }
     ensures gives { F.tells → let w = world (F.tree files.old) importer.entry.folders.now in
         Walks (λ n. (n, stock_seen stock.new)) result
         (reach w (walk w depth)
         stock.old.held.items importer.entry.file.now import.now (stock_seen stock.old)) }
     ensures held { OnOk result (stock.new.held.items ≡ stock.old.held.items) }
     ensures kept { Keeps (stock_seen stock.old) (stock_seen stock.new) }
+    ensures built { IfOk result (λ n. Reaches stock.old.held.items import.now.path (stock_seen stock.old)
+        (n, stock_seen stock.new)) }
     ensures files { LeavesFiles F.Source result files.old files.new }
 {
     if is_loading(&stock.held, &import.path) {
@@ -126,6 +130,8 @@ fn load_module<F: Files>(
         path.now bytes) }
     ensures held { OnOk result (stock.new.held.items ≡ stock.old.held.items) }
     ensures kept { Keeps (stock_seen stock.old) (stock_seen stock.new) }
+    ensures built { IfOk result (λ m. Loads stock.old.held.items path.now (stock_seen stock.old)
+        (state_seen stock.new m)) }
     ensures files { LeavesFiles F.Source result files.old files.new }
 {
     let Located { file, read } = found;
@@ -163,13 +169,16 @@ pub fn load_own<F: Files>(
     text: &Said,
     depth: usize,
 ) -> Result<Module, Stop>
-    requires { at ≡ label_at text.now.package }
+    requires at { at ≡ label_at text.now.package }
+    requires said { IsSaid (said text.now) }
     ensures gives { F.tells → let w = world (F.tree files.old) importer.entry.folders.now in
         Walks (λ m. state_seen stock.new m) result
         (own_text w (walk w depth)
         (stock_seen stock.old) stock.old.held.items importer.entry.file.now path label (said text.now)) }
     ensures held { OnOk result (stock.new.held.items ≡ stock.old.held.items) }
     ensures kept { Keeps (stock_seen stock.old) (stock_seen stock.new) }
+    ensures built { IfOk result (λ m. Makes stock.old.held.items path label (stock_seen stock.old)
+        (state_seen stock.new m)) }
     ensures files { LeavesFiles F.Source result files.old files.new }
 {
     if is_taken(stock, &label) {
@@ -197,12 +206,15 @@ pub fn load_text<F: Files>(
     text: &Said,
     depth: usize,
 ) -> Result<(), Stop>
+    requires said { IsSaid (said text.now) }
     ensures gives { F.tells → let w = world (F.tree files.old) importer.entry.folders.now in
         Walks (λ _. state_seen stock.new own.new) result
         (checks w (walk w depth)
         stock.old.held.items importer.entry.file.now (said text.now) (state_seen stock.old own.old)) }
     ensures held { OnOk result (stock.new.held.items ≡ stock.old.held.items) }
     ensures kept { Keeps (stock_seen stock.old) (stock_seen stock.new) }
+    ensures built { OnOk result (Becomes stock.old.held.items (state_seen stock.old own.old)
+        (state_seen stock.new own.new)) }
     ensures files { LeavesFiles F.Source result files.old files.new }
 {
     let number = push_text(alloc, own, importer.file)?;
@@ -228,12 +240,15 @@ pub fn enter_imports<F: Files>(
     imports: &[Import],
     depth: usize,
 ) -> Result<(), Stop>
+    requires asked { All IsAsked imports.now }
     ensures gives { F.tells → let w = world (F.tree files.old) importer.entry.folders.now in
         Walks (λ _. state_seen stock.new own.new) result
         (import_entries w (walk w depth)
         stock.old.held.items importer.entry.file.now imports.now (state_seen stock.old own.old)) }
     ensures held { OnOk result (stock.new.held.items ≡ stock.old.held.items) }
     ensures kept { Keeps (stock_seen stock.old) (stock_seen stock.new) }
+    ensures built { OnOk result (Becomes stock.old.held.items (state_seen stock.old own.old)
+        (state_seen stock.new own.new)) }
     ensures files { LeavesFiles F.Source result files.old files.new }
 {
     for import in imports {
@@ -255,12 +270,15 @@ fn enter_import<F: Files>(
     import: &Import,
     depth: usize,
 ) -> Result<(), Stop>
+    requires asked { IsAsked import.now }
     ensures gives { F.tells → let w = world (F.tree files.old) importer.entry.folders.now in
         Walks (λ _. state_seen stock.new own.new) result
         (import_entry w (walk w depth)
         stock.old.held.items importer.entry.file.now import.now (state_seen stock.old own.old)) }
     ensures held { OnOk result (stock.new.held.items ≡ stock.old.held.items) }
     ensures kept { Keeps (stock_seen stock.old) (stock_seen stock.new) }
+    ensures built { OnOk result (Becomes stock.old.held.items (state_seen stock.old own.old)
+        (state_seen stock.new own.new)) }
     ensures files { LeavesFiles F.Source result files.old files.new }
 {
     let number = match reach(alloc, files, stock, importer, import, depth) {

@@ -1,8 +1,10 @@
 use Rattle.std.proofs.Common.{◌+◌, map, drop, ap, sym, ◌∙◌}
 use Rattle.rpl_scope.proofs.Checking.{front}
+use Rattle.rpl_package.specs.Built.{InGoal}
 use Rattle.rpl_package.specs.Loading.{world}
 use Rattle.rpl_package.specs.Patterns.{pattern_name}
 use Rattle.rpl_package.specs.Stocks.{stock_seen}
+use Rattle.rpl_package.proofs.Building.{one_of}
 use Rattle.rpl_package.proofs.Leaving.{after}
 use Rattle.rpl_package.proofs.Outcomes.{same, may_lead, turn_on, turn_stop}
 use Rattle.rpl_package.proofs.pattern.enter_names.Goals as goal
@@ -35,8 +37,13 @@ loop-name-preserved g c =
       files = after g.F.Source _ _ _ _ _ _ inv.files c.in_default.ensures.files;
       held = c.in_default.ensures.held ∙ inv.held;
       kept = λ a h. c.in_default.ensures.kept a (inv.kept a h);
+      built = λ rs h. c.in_default.ensures.built rs (inv.built rs h);
       left = λ tells.
           turn_on (pattern_name W f i) (map (λ x. x.now) (drop n all)) (map (λ x. x.now) (drop (n + 1) all)) q.now s0 _
           (ap (map (λ x. x.now)) (front all n q c.loop-name-test.true c.name-item.is)) (inv.left tells) (stock_seen c.enter_name.new.stock)
           (ap (λ U. (pattern_name (world U ds) f i q.now s0).answer) (sym inv.files.tree) ∙ c.in_default.ensures.gives tells);
     }
+
+pub enter_name-requires-clause-goal : goal.enter_name-requires-clause-goal
+enter_name-requires-clause-goal g c =
+    one_of c.args.all.now c.loop-name.name-index c.name-item.result (λ q. q.now) InGoal c.loop-name-test.true c.name-item.is c.requires.goal

@@ -1,7 +1,7 @@
 use Rattle.std.proofs.Common.{ap, sym, ◌∙◌}
 use Rattle.std.specs.Prelude.{Ok}
 use Rattle.rpl_syntax.specs.View.{expr_of}
-use Rattle.rpl_package.proofs.Sought.{no_tokens, no_pattern, read_pattern, lex_loud, parse_loud}
+use Rattle.rpl_package.proofs.Sought.{no_tokens, no_pattern, read_pattern, reads_pattern, lex_loud, parse_loud}
 use Rattle.rpl_package.proofs.pattern.read_pattern.Goals as goal
 
 pub returns-in-Err-clause-gives : goal.returns-in-Err-clause-gives
@@ -18,6 +18,15 @@ returns-in-Ok-parse_pattern-clause-gives c = λ r h.
     let x = expr_of c.in-Ok-parse_pattern.e in
     read_pattern c.args.find s ts cut x c.in-Ok-parse_pattern.ensures.ok (λ p a b. c.one_pattern.ensures.apart s ts x p a b) (λ y a b. c.one_pattern.ensures.only s ts y x a b) r h
     ∙ sym (ap Ok c.in_ok-sought-in-Ok-parse_pattern.ensures)
+
+pub returns-in-Ok-parse_pattern-clause-reads : goal.returns-in-Ok-parse_pattern-clause-reads
+returns-in-Ok-parse_pattern-clause-reads c =
+    let s = c.args.text.now in
+    let ts = c.in-Ok.tokens in
+    let cut = c.cut_computes.ensures.cuts s ts c.in-Ok.ensures.tokens in
+    let x = expr_of c.in-Ok-parse_pattern.e in
+    reads_pattern c.args.find s ts cut x c.in-Ok-parse_pattern.ensures.ok (λ p a b. c.one_pattern.ensures.apart s ts x p a b) (λ y a b. c.one_pattern.ensures.only s ts y x a b)
+    _ c.in_ok-sought-in-Ok-parse_pattern.ensures
 
 pub returns-clause-gives : goal.returns-clause-gives
 returns-clause-gives c = λ r h.

@@ -5,6 +5,7 @@ use Rattle.rpl_syntax.specs.Modules.{said}
 use Rattle.rpl_scope.specs.Faults.{Gives}
 use Rattle.rpl_package.specs.Reading.{IsRead}
 use Rattle.rpl_package.specs.Texts.{parsed}
+use Rattle.rpl_package.proofs.Building.{said_by}
 use Rattle.rpl_package.proofs.Readings.{is_parsed}
 use Rattle.rpl_package.proofs.Causes.{all_loud}
 use Rattle.rpl_package.proofs.reading.read_module.Goals as goal
@@ -19,3 +20,8 @@ returns-in-Text-clause-gives c = λ bytes r.
 
 pub returns-in-Text-clause-loud : goal.returns-in-Text-clause-loud
 returns-in-Text-clause-loud c = all_loud said c.parse.result (parsed c.args.file.now c.deref.result.now) c.parse.ensures
+
+pub returns-in-Text-clause-said : goal.returns-in-Text-clause-said
+returns-in-Text-clause-said c =
+    said_by c.args.file.now c.deref.result.now c.parse.result
+    (subst IsUtf8 (sym c.deref.ensures) (IsUtf8-string_bytes c.in-Text.text)) c.parse.ensures

@@ -1,5 +1,7 @@
 use Rattle.std.proofs.Common.{ℕ, List, Option, ap, sym, subst}
+use Rattle.std.proofs.Math.Logic.{∥∥₁_map}
 use Rattle.rpl_scope.specs.Seen.{modules_seen}
+use Rattle.rpl_package.specs.Built.{IsBuilt, packages}
 use Rattle.rpl_package.specs.Loading.{Stock}
 use Rattle.rpl_package.specs.Roots.{Packages}
 use Rattle.rpl_package.specs.Stocks.{IsTable}
@@ -17,6 +19,7 @@ invariant_of-set g c =
       idle = c.cut_back.ensures.held;
       inside = same_inside set.top set.stock c.cut_back.new.stock set.inside back;
       told = subst (IsTable set.table) (sym (ap (λ s. s.modules) back)) set.told;
+      built = subst (λ s. ∥ IsBuilt (packages s set.top set.roots.items) ∥₁) (sym back) set.built;
     }
 
 pub invariant_of-set-in-Err-table_of : goal.invariant_of-set-in-Err-table_of
@@ -28,6 +31,7 @@ invariant_of-set-in-Err-table_of g c =
       idle = c.cut_back-in-Err-table_of.ensures.held;
       inside = same_inside set.top set.stock now set.inside back;
       told = subst (IsTable set.table) (sym (ap (λ s. s.modules) back)) set.told;
+      built = subst (λ s. ∥ IsBuilt (packages s set.top set.roots.items) ∥₁) (sym back) set.built;
     }
 
 pub invariant_of-set-in-Ok-table_of : goal.invariant_of-set-in-Ok-table_of
@@ -37,6 +41,7 @@ invariant_of-set-in-Ok-table_of g c =
       idle = c.in-Ok.ensures.held;
       inside = more_inside set.top set.stock c.enter_pattern.new.stock set.inside c.in-Ok.ensures.kept;
       told = subst (λ l. IsTable c.in-Ok-table_of.table (modules_seen l)) c.deref.ensures.value c.in-Ok-table_of.ensures.ok;
+      built = ∥∥₁_map set.built (c.in-Ok.ensures.built set.roots.items);
     }
 
 pub returns-in-Err-clause-kept : goal.returns-in-Err-clause-kept

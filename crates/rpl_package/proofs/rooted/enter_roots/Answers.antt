@@ -1,11 +1,12 @@
-use Rattle.std.proofs.Common.{◌+◌, ◌++◌, ◌∷◌, [], drop, ap, ap₂, sym, ◌∙◌}
+use Rattle.std.proofs.Common.{◌+◌, ◌++◌, ◌∷◌, [], drop, refl, ap, ap₂, sym, ◌∙◌}
 use Rattle.std.specs.Prelude.{Ok}
 use Rattle.rpl_scope.specs.Faults.{◌>>=◌}
 use Rattle.rpl_package.specs.Asking.{at_once, each_in_turn}
 use Rattle.rpl_package.specs.Loading.{world}
-use Rattle.rpl_package.specs.Roots.{Roots, counted, next, root_by, root_entry}
+use Rattle.rpl_package.specs.Built.{on, same as stays}
+use Rattle.rpl_package.specs.Roots.{Roots, top_head, counted, next, root_by, root_entry}
 use Rattle.rpl_package.specs.Stocks.{state_seen}
-use Rattle.rpl_package.proofs.Leaving.{after}
+use Rattle.rpl_package.proofs.Leaving.{after, still}
 use Rattle.rpl_package.proofs.Outcomes.{same, trail, may_lead, may_then, turn_on, turn_stop}
 use Rattle.rpl_package.proofs.Rooting.{counted_front}
 use Rattle.rpl_package.proofs.rooted.enter_roots.Goals as goal
@@ -40,10 +41,22 @@ loop-root-preserved g c =
     record {
       files = after g.F.Source _ _ _ _ _ _ inv.files c.in-Ok.ensures.files;
       held = c.in-Ok.ensures.held ∙ inv.held;
+      built = on (top_head ∷ []) _ s0 s1 inv.built c.in-Ok.ensures.built;
       left = λ tells.
           let one = ap₂ (λ U j. (root_by (world U ds) j r s0).answer) (sym inv.files.tree) (sym c.next-given.ensures) ∙ c.in-Ok.ensures.gives tells in
           trail _ _ _
           (same _ _ (ap₂ (λ j xs. each_in_turn (root_entry W) (counted j (drop (n + 1) rs)) (record { roots = xs; state = s1 })) c.next-given.ensures c.in_ok-push.ensures.items))
           (turn_on (root_entry W) (counted k (drop n rs)) (counted (next k r) (drop (n + 1) rs)) (next k r, r) st _ (counted_front k rs n r c.loop-root-test.true c.root-item.is) (inv.left tells) st1
           (ap (λ x. x >>= λ t. Ok (record { roots = st.roots ++ t.0 ∷ []; state = t.1 })) one));
+    }
+
+pub loop-root-init : goal.loop-root-init
+loop-root-init g c =
+    let s0 = state_seen c.args.state.now.stock c.args.state.now.own in
+    let W = world (g.F.Source.tree c.args.files.now) c.args.folders.now in
+    record {
+      files = still g.F.Source (tt {0}) c.args.files.now;
+      held = refl;
+      built = stays _ _;
+      left = λ tells. same _ _ (ap (λ xs. each_in_turn (root_entry W) (counted 0 c.args.roots.now) (record { roots = xs; state = s0 })) c.new-into.ensures.items);
     }

@@ -1,19 +1,24 @@
-use Rattle.std.proofs.Common.{drop, length, ◌+◌, true, false, ◌≡◌, ◌≢◌, ◌++◌, ◌∷◌, [], ap, ap₂, sym, subst, ◌∙◌}
+use Rattle.std.proofs.Common.{drop, length, ◌+◌, true, false, ◌≡◌, ◌≢◌, ◌++◌, ◌∷◌, [], refl, ap, ap₂, sym, subst, ◌∙◌}
 use Rattle.std.proofs.Common.{arith}
 use Rattle.std.specs.Prelude.{Ok, nat_lt}
 use Rattle.std.proofs.lemmas.List.{length-map}
+use Rattle.std.proofs.lemmas.List.Elements.{All-get_or}
 use Rattle.std.proofs.lemmas.Bool.Decides.{nat_tests}
-use Rattle.rpl_syntax.specs.Modules.{said}
+use Rattle.rpl_syntax.specs.Modules.{said, entries_of}
+use Rattle.rpl_scope.specs.Imports.{take_in}
+use Rattle.rpl_scope.specs.Statements.{statements}
 use Rattle.rpl_scope.specs.Faults.{IsStop, fault_at}
-use Rattle.rpl_scope.specs.Seen.{module_seen}
+use Rattle.rpl_scope.specs.Seen.{module_seen, modules_seen}
 use Rattle.rpl_scope.specs.declared.fault.LoadKind.TheVariants.{ImportCycle, ImportMissing, Duplicate}
-use Rattle.rpl_package.specs.Loading.{is_loading, world, walk, import_entry}
+use Rattle.rpl_package.specs.Built.{Becomes, IsAsked, on, same as stays}
+use Rattle.rpl_package.specs.Loading.{is_loading, world, walk, reach as reached, brought, import_entry, import_entries, said_of, with_text}
 use Rattle.rpl_package.specs.Stocks.{stock_seen, state_seen}
-use Rattle.rpl_package.proofs.Leaving.{after, unread}
-use Rattle.rpl_package.proofs.Outcomes.{same, may_lead, turn_on, turn_stop}
+use Rattle.rpl_package.proofs.Leaving.{after, still, unread}
+use Rattle.rpl_package.proofs.Building.{asks_by, brings, texts_on}
+use Rattle.rpl_package.proofs.Outcomes.{same, may_lead, may_then, turn_on, turn_stop}
 use Rattle.rpl_package.proofs.Walking.{own_leads, own_taken, read_leads, unread_stops, walk_deep}
 use Rattle.rpl_package.proofs.Walking.{reach_fresh, reach_cycle, reach_missing, reach_full, reach_unread, reach_stopped}
-use Rattle.rpl_package.proofs.Keeping.{keeps_trans}
+use Rattle.rpl_package.proofs.Keeping.{keeps_same, keeps_trans}
 use Rattle.rpl_scope.proofs.Checking.{front}
 use Rattle.rpl_package.proofs.walk.+load.Goals as goal
 use Rattle.rpl_package.proofs.walk.+load.Goals.{reach-then-len-ge-MOST_MODULES-via-then-len-ge-MOST_MODULES, reach-then-len-ge-MOST_MODULES-via-else-len-ge-MOST_MODULES+then-len}
@@ -126,6 +131,7 @@ enter_imports-loop-import-preserved g t c =
       files = after g.F.Source _ _ _ _ _ _ inv.files c.in_default.ensures.files;
       held = c.in_default.ensures.held ∙ inv.held;
       kept = keeps_trans _ _ _ inv.kept c.in_default.ensures.kept;
+      built = on hs _ s0 _ inv.built (subst (λ h. Becomes h s0 (state_seen c.enter_import.new.stock c.enter_import.new.own)) inv.held c.in_default.ensures.built);
       left = λ tells.
           turn_on (import_entry W (walk W d) hs f) (drop n is) (drop (n + 1) is) i s0 _ (front is n i c.loop-import-test.true c.import-item.is) (inv.left tells)
           (state_seen c.enter_import.new.stock c.enter_import.new.own)
@@ -144,7 +150,7 @@ load_own-returns-then-is_taken-clause-gives g t c = λ tells.
     let f = c.args.importer.file.now in
     let taken = sym c.is_taken.ensures ∙ c.if-is_taken.true in
     own_taken W (walk W c.args.depth) (stock_seen c.args.stock.now) c.args.stock.now.held.items f c.args.path c.args.label (said c.args.text.now) taken c.fault_at.result
-    (subst (λ a. IsStop c.fault_at.result (fault_at f a (Duplicate c.args.label))) c.requires c.fault_at.ensures)
+    (subst (λ a. IsStop c.fault_at.result (fault_at f a (Duplicate c.args.label))) c.requires.at c.fault_at.ensures)
 
 pub reach-returns-then-is_loading-clause-gives : goal.reach-returns-then-is_loading-clause-gives
 reach-returns-then-is_loading-clause-gives g t c = λ tells.
@@ -182,3 +188,60 @@ reach-returns-then-len-ge-MOST_MODULES-clause-gives g t c = λ tells.
       | reach-then-len-ge-MOST_MODULES-via-else-len-ge-MOST_MODULES+then-len w ↦ grind (arith, nat_tests, count)
     ] in
     reach_full W (walk W c.args.depth) hs c.args.importer.file.now i S free new c.fault_at-then-len-ge-MOST_MODULES.result c.in-Ok-Some.found.file found.0 found.1 full c.fault_at-then-len-ge-MOST_MODULES.ensures
+
+pub enter_import-returns-clause-built : goal.enter_import-returns-clause-built
+enter_import-returns-clause-built g t c =
+    let S = stock_seen c.reach.new.stock in
+    brings c.args.stock.now.held.items c.args.importer.file.now c.args.import.now (state_seen c.args.stock.now c.args.own.now) (c.in-Ok.number, S) (module_seen c.take_in.new.own) c.requires.asked c.in-Ok.ensures.built
+    (ap (λ l. take_in c.args.importer.file.now c.args.import.now c.in-Ok.number (modules_seen l) (module_seen c.args.own.now)) (sym c.deref.ensures.value) ∙ c.in_default.ensures)
+
+pub enter_imports-loop-import-init : goal.enter_imports-loop-import-init
+enter_imports-loop-import-init g t c = record {
+  files = still g.F.Source (tt {0}) c.args.files.now;
+  held = refl;
+  kept = keeps_same _ _ refl;
+  built = stays _ _;
+  left = λ tells. (refl, λ p h. h);
+}
+
+pub load_text-returns-in-Err-clause-gives : goal.load_text-returns-in-Err-clause-gives
+load_text-returns-in-Err-clause-gives g t c = λ tells.
+    let W = world (g.F.Source.tree c.args.files.now) c.args.importer.folders.now in
+    let d = c.args.depth in
+    let hs = c.args.stock.now.held.items in
+    let f = c.args.importer.file.now in
+    let x = said c.args.text.now in
+    let S = stock_seen c.args.stock.now in
+    let s = c.in-Err.stop in
+    may_then s (import_entries W (walk W d) hs f x.imports (record { stock = S; own = with_text (module_seen c.args.own.now) f })) (said_of f (length c.args.own.now.texts.items) x)
+    (may_lead s _ _ (same _ _ (ap₂ (λ is o. import_entries W (walk W d) hs f is (record { stock = S; own = o })) c.as_slice-imports.ensures c.in_ok-number.ensures.text)) (c.in-Err.ensures.gives tells))
+
+pub load_text-returns-clause-built : goal.load_text-returns-clause-built
+load_text-returns-clause-built g t c =
+    let S = stock_seen c.args.stock.now in
+    let f = c.args.importer.file.now in
+    let m = module_seen c.enter_items.new.own in
+    let a = state_seen c.args.stock.now c.push_text.new.own in
+    let b = state_seen c.enter_imports.new.stock c.enter_imports.new.own in
+    texts_on c.args.stock.now.held.items f c.in_ok-number.number (state_seen c.args.stock.now c.args.own.now) a b (said c.args.text.now) m c.requires.said
+    (ap (λ o. record { stock = S; own = o }) c.in_ok-number.ensures.text) c.in_default.ensures.built
+    (ap₂ (λ l is. statements f c.in_ok-number.number (modules_seen l) (entries_of is) (module_seen c.enter_imports.new.own)) (sym c.deref.ensures.value) (sym c.as_slice-items.ensures) ∙ c.in_default-enter_items.ensures)
+
+pub enter_import-returns-in-Err-clause-gives : goal.enter_import-returns-in-Err-clause-gives
+enter_import-returns-in-Err-clause-gives g t c = λ tells.
+    let W = world (g.F.Source.tree c.args.files.now) c.args.importer.folders.now in
+    let hs = c.args.stock.now.held.items in
+    let f = c.args.importer.file.now in
+    let i = c.args.import.now in
+    let S = stock_seen c.args.stock.now in
+    may_then c.in-Err.stop (reached W (walk W c.args.depth) hs f i S) (brought f i (module_seen c.args.own.now)) (c.in-Err.ensures.gives tells)
+
+pub enter_imports-enter_import-requires : goal.enter_imports-enter_import-requires
+enter_imports-enter_import-requires g t c = λ κs lives.
+    let i = c.import-item.result in
+    let asked = subst IsAsked (sym c.import-item.is) (All-get_or IsAsked c.args.imports.now c.loop-import.import-index i c.loop-import-test.true c.requires.asked) in
+    (omega (arith, c.decreases), (lives, asked))
+
+pub load_text-enter_imports-requires : goal.load_text-enter_imports-requires
+load_text-enter_imports-requires g t c = λ κs lives.
+    (omega (arith, c.decreases), (lives, asks_by (said c.args.text.now) _ c.requires.said c.as_slice-imports.ensures))

@@ -1,6 +1,7 @@
 use Rattle.std.proofs.Common.{◌≡◌, ◌+◌, ◌*◌, drop}
 use Rattle.std.specs.Prelude.{Ok}
 use Rattle.rpl_package.specs.Loading.{world, walk, import_entries}
+use Rattle.rpl_package.specs.Built.{Becomes}
 use Rattle.rpl_package.specs.Kept.{Keeps}
 use Rattle.rpl_package.specs.Stocks.{stock_seen, state_seen}
 use Rattle.rpl_package.specs.inside.Leaving.{LeavesFiles}
@@ -31,6 +32,7 @@ invariant-enter_imports-loop-import g l =
       files : LeavesFiles g.F.Source (Ok (tt {0})) l.fn.files l.files;
       held : l.stock.held.items ≡ l.fn.stock.held.items;
       kept : Keeps (stock_seen l.fn.stock) (stock_seen l.stock);
+      built : Becomes l.fn.stock.held.items (state_seen l.fn.stock l.fn.own) (state_seen l.stock l.own);
       left : g.F.Source.tells → Follows
           (import_entries (world (g.F.Source.tree l.fn.files) l.importer.folders.now) (walk (world (g.F.Source.tree l.fn.files) l.importer.folders.now) l.depth) l.fn.stock.held.items l.importer.file.now (drop l.import-index l.imports) (state_seen l.stock l.own))
           (import_entries (world (g.F.Source.tree l.fn.files) l.importer.folders.now) (walk (world (g.F.Source.tree l.fn.files) l.importer.folders.now) l.depth) l.fn.stock.held.items l.importer.file.now l.imports (state_seen l.fn.stock l.fn.own));
