@@ -138,19 +138,18 @@ asks_at q None i h e = absurd (cc)
 asks_at q (Some m) i h e = by_goal q h (asks_with m q.at q.prefix i e)
 
 -- a text that isn't too long and is read as a pattern
-pub reads_goal : (fixed find : Bool) (s : List ℕ) (e : Expr) → IsUtf8 s → length s ≤ most_bytes
+pub reads_goal : (fixed find : Bool) (s : List ℕ) (e : Expr) → length s ≤ most_bytes
     → ReadsText fixed find s (Ok e) → IsGoal e
-reads_goal fixed find s e u n h = record {
+reads_goal fixed find s e n h = record {
   fixed = fixed;
   find = find;
   text = s;
-  form = u;
   read = record { long = λ m. absurd (omega (arith, n, m)); text = λ k. h };
 }
 
 -- and RPL of the kind
-pub reads_answer : (fixed find : Bool) (s : List ℕ) (r : Result Code Stop) → IsUtf8 s → length s ≤ most_bytes
+pub reads_answer : (fixed find : Bool) (s : List ℕ) (r : Result Code Stop) → length s ≤ most_bytes
     → fixed ≡ false → IfOk r (λ e. ReadsText false find s (Ok (expr_of e))) → IfOk r (λ e. IsGoal (expr_of e))
-reads_answer fixed find s (Ok e) u n is h =
-    reads_goal fixed find s (expr_of e) u n (subst (λ b. ReadsText b find s (Ok (expr_of e))) (sym is) h)
-reads_answer fixed find s (Err x) u n is h = tt
+reads_answer fixed find s (Ok e) n is h =
+    reads_goal fixed find s (expr_of e) n (subst (λ b. ReadsText b find s (Ok (expr_of e))) (sym is) h)
+reads_answer fixed find s (Err x) n is h = tt

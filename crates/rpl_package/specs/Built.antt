@@ -28,7 +28,6 @@ pub record IsGoal (e : Expr) : Type 0 where
   pub fixed : Bool
   pub find : Bool
   pub text : List ℕ
-  pub form : IsUtf8 text
   pub read : ReadsGoal fixed find text (Ok e)
 
 -- the name stands in a pattern that was read
