@@ -30,7 +30,7 @@ use Rattle.rpl_expand.specs.Table.{IsOver}
 use Rattle.rpl_forms.specs.Inlining.{Inners}
 use Rattle.rpl_forms.specs.Rows.{Row, inners_from, inners_of, rows_of}
 use Rattle.rpl_order.proofs.Loaded.{scopes_are_over, tables_are_in_order, told_is_built}
-use Rattle.rpl_order.specs.Built.{IsBuilt}
+use Rattle.rpl_package.specs.Built.{IsBuilt}
 use Rattle.rpl_order.specs.Laws.{IsLoaded, by_pattern, by_roots}
 use Rattle.rpl_package.specs.Goals.{ReadsGoal}
 use Rattle.rpl_package.specs.Loading.{world}

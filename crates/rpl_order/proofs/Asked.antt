@@ -29,7 +29,7 @@ use Rattle.rpl_parser.proofs.Told.{all_said}
 use Rattle.rpl_scope.specs.Bodies.{names, names_all}
 use Rattle.rpl_package.specs.Goals.{ReadsText, ReadsCut, sought}
 use Rattle.rpl_package.specs.Texts.{most_bytes}
-use Rattle.rpl_order.specs.Built.{IsGoal, InGoal}
+use Rattle.rpl_package.specs.Built.{IsGoal, InGoal}
 use Rattle.rpl_order.proofs.Lists.{all_append}
 use Rattle.rpl_order.proofs.Words.{All_named, Named_token, EndsWell, all_named, name_ends}
 

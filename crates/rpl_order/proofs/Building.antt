@@ -5,8 +5,8 @@ use Rattle.rpl_scope.specs.Packages.{nth}
 use Rattle.rpl_package.specs.Loading.{Stock, State, finished, label_of}
 use Rattle.rpl_package.specs.Roots.{Packages, begun, top_head}
 use Rattle.rpl_package.specs.declared.stock.Head.{Head}
-use Rattle.rpl_order.specs.Built.{Becomes, same, on, text, said, again, imported, rooted, opened, headed}
-use Rattle.rpl_order.specs.Built.{Reaches, IsBuilt, by_roots, by_name, packages}
+use Rattle.rpl_package.specs.Built.{Becomes, same, on, text, said, again, imported, rooted, opened, headed}
+use Rattle.rpl_package.specs.Built.{Reaches, IsBuilt, by_roots, by_name, packages}
 use Rattle.rpl_order.proofs.Entering.{statements_in}
 use Rattle.rpl_order.proofs.Goals.{became_on, put_in}
 use Rattle.rpl_order.proofs.Importing.{taken_in}

@@ -9,8 +9,8 @@ use Rattle.rpl_package.specs.Loading.{Stock, State, empty_module, finished, labe
 use Rattle.rpl_package.specs.Patterns.{put_by, replaced, with_module}
 use Rattle.rpl_package.specs.Roots.{Packages, begun, top_head}
 use Rattle.rpl_package.specs.declared.stock.Head.{Head}
-use Rattle.rpl_order.specs.Built.{Becomes, same, on, text, said, again, imported, rooted, opened, headed}
-use Rattle.rpl_order.specs.Built.{IsAsked, Loads, Reaches, IsBuilt, by_roots, by_name, packages}
+use Rattle.rpl_package.specs.Built.{Becomes, same, on, text, said, again, imported, rooted, opened, headed}
+use Rattle.rpl_package.specs.Built.{IsAsked, Loads, Reaches, IsBuilt, by_roots, by_name, packages}
 use Rattle.rpl_order.proofs.FullNames.{star}
 use Rattle.rpl_order.proofs.Goals.{replaced_at}
 use Rattle.rpl_order.proofs.Labels.{AreLabelled, AreFree, labels, free_with, done, label_more}

@@ -6,7 +6,7 @@ use Rattle.std.proofs.lemmas.Slice.Eq.{bytes_eq-Decides}
 use Rattle.rpl_scope.specs.Packages.{Module, first_of, nth, added_at}
 use Rattle.rpl_package.specs.Loading.{Stock, State, finished, is_held, is_taken, label_of}
 use Rattle.rpl_package.specs.declared.stock.Head.{Head}
-use Rattle.rpl_order.specs.Built.{Becomes, same, on, text, said, again, imported, rooted, opened, headed}
+use Rattle.rpl_package.specs.Built.{Becomes, same, on, text, said, again, imported, rooted, opened, headed}
 use Rattle.rpl_order.proofs.FullNames.{star}
 use Rattle.rpl_order.proofs.Lists.{first_more, nth_end}
 use Rattle.rpl_order.proofs.Texts.{label_plain, plain_text}

@@ -18,7 +18,7 @@ use Rattle.rpl_package.specs.Roots.{Packages}
 use Rattle.rpl_package.specs.Tables.{boundary_name, full_name, rows}
 use Rattle.rpl_package.specs.Targets.{binds, binds_halt, halt_by, halt_name, head_of, is_own, then}
 use Rattle.rpl_package.specs.declared.table.Row.{Row}
-use Rattle.rpl_order.specs.Built.{IsBuilt}
+use Rattle.rpl_package.specs.Built.{IsBuilt}
 use Rattle.rpl_order.specs.Laws.{RulesAreDistinct}
 use Rattle.rpl_order.proofs.Distinct.{IsApart, set_apart}
 use Rattle.rpl_order.proofs.FullNames.{HasNoDot, dotted, full_same, mark_has_none, split, star}

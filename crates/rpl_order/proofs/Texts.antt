@@ -37,7 +37,7 @@ use Rattle.rpl_parser.proofs.Walking.{stands_take, stands_drop}
 use Rattle.rpl_package.specs.Loading.{label_of}
 use Rattle.rpl_package.specs.Tables.{boundary_name}
 use Rattle.rpl_package.specs.Texts.{of_cut, of_parse}
-use Rattle.rpl_order.specs.Built.{IsSaid, IsAsked, by_text, by_goal}
+use Rattle.rpl_package.specs.Built.{IsSaid, IsAsked, by_text, by_goal}
 use Rattle.rpl_order.proofs.Asked.{goal_ends}
 use Rattle.rpl_order.proofs.Entering.{AreUnmarked, IsPlainEntry, ArePlainEntries}
 use Rattle.rpl_order.proofs.FullNames.{AreDotless, AreDotlessEntries, HasNoDot, IsDotlessEntry, mark_has_none, star}

@@ -31,10 +31,10 @@ use Rattle.rpl_package.specs.Texts.{parsed, module_text, most_bytes}
 use Rattle.rpl_package.specs.declared.rooted.Root.{Root}
 use Rattle.rpl_package.specs.declared.rooted.Root.TheVariants.{File, Given}
 use Rattle.rpl_package.specs.declared.stock.Head.{Head}
-use Rattle.rpl_order.specs.Built.{IsSaid, IsGoal, InGoal, IsAsked, by_text, by_goal, Becomes, same, on, text, said, again}
-use Rattle.rpl_order.specs.Built.{imported, rooted, Makes, Loads, Reaches}
-use Rattle.rpl_order.specs.Built.{IsBuilt, by_name, packages, StaysBuilt, opened, headed}
-use Rattle.rpl_order.specs.Built as T
+use Rattle.rpl_package.specs.Built.{IsSaid, IsGoal, InGoal, IsAsked, by_text, by_goal, Becomes, same, on, text, said, again}
+use Rattle.rpl_package.specs.Built.{imported, rooted, Makes, Loads, Reaches}
+use Rattle.rpl_package.specs.Built.{IsBuilt, by_name, packages, StaysBuilt, opened, headed}
+use Rattle.rpl_package.specs.Built as T
 use Rattle.rpl_order.specs.Laws.{HasPattern, IsLoaded, by_roots, by_pattern}
 use Rattle.rpl_order.proofs.Labels.{none_of}
 use Rattle.rpl_order.proofs.Steps.{both, passed, unless_fault, else_fault}

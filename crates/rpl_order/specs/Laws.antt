@@ -22,7 +22,7 @@ use Rattle.rpl_package.specs.Targets.{body, resolved}
 use Rattle.rpl_package.specs.declared.rooted.Root.{Root}
 use Rattle.rpl_package.specs.declared.targets.NameFault.{NameFault}
 use Rattle.rpl_package.specs.declared.targets.Target.{Target}
-use Rattle.rpl_order.specs.Built.{IsBuilt}
+use Rattle.rpl_package.specs.Built.{IsBuilt}
 
 -- ---- loaded sets
 

@@ -1,10 +1,11 @@
 //! What holds of every set of packages that is loaded, for the expansion and the checks that come after it.
 //!
 //! It is for those who prepare a command: where the expansion and the check ask for something that holds of every set,
-//! it is known here, and needs no look at run time. A set is built by the steps of loading of texts that were read
-//! (`specs/Built.antt`), and the laws are by induction over these steps: they speak of no file, and hold of sets of real
-//! files too. It holds no code: each function has no parameters and an empty body, and its contract is a law about the
-//! definitions of `rpl_package` and `rpl_expand` alone, whose statement stands in `specs/Laws.antt`.
+//! it is known here, and needs no look at run time. Each set came, by the steps of loading, of texts that were read, and
+//! carries that history (`Built.antt` in `rpl_package`). The laws are by induction over these steps: they speak of no
+//! file, and hold of sets of real files too. It holds no code: each function has no parameters and an empty body, and its
+//! contract is a law about the definitions of `rpl_package` and `rpl_expand` alone, whose statement stands in
+//! `specs/Laws.antt`.
 #![tactic(auto)]
 
 ghost use Rattle.rpl_order.specs.Laws.{LoadedIsBound, ModulesAreApart, OwnNamesAreRules, PatternsResolve};
