@@ -4,7 +4,8 @@
 //! import, expands them to a rule table and the pattern's core, and checks both. What comes of it is said by one
 //! relation, `specs/Prepared.antt`, over the tree of files; a read fault comes only where a read or an open failed, and
 //! every file is closed on the way out. [`load_set`] and [`prepare_rules`] are the same for commands without a pattern.
-//! [`over_rules`] and [`with_root`] look at a core before it is checked, here and where a command makes one of its own.
+//! That the table is in order, and that the pattern's core calls its rules and makes one tree, is known of every set that
+//! is loaded (`rpl_order`). [`over_rules`] and [`with_root`] look at a core that a command makes of its own.
 //!
 //! [`load_line`], [`expand_line`], [`check_line`] and [`compile_line`] are the line by which each fault is told, with
 //! the file and the byte place where it stands: exactly that of `specs/Lines.antt`; docs/COMMAND.md has the texts for

@@ -25,7 +25,6 @@ ghost use Rattle.rpl_package.specs.Sets.{set_seen};
 ghost use Rattle.rpl_simulation.specs.Laws.{IsCapture};
 ghost use Rattle.rpl_syntax.specs.View.{expr_of};
 
-use crate::order::{in_order, over_rules, with_root};
 use crate::prepared::{Prepared, PreparedRules};
 use crate::unready::Unready;
 use crate::{check_line, expand_line};
@@ -36,7 +35,7 @@ use rpl_package::PackageSet;
 use rpl_syntax::Expr;
 use std::alloc::Global;
 
-/// The rule table of a set, unless a rule is too large.
+/// The rule table of a set, which is in order, unless a rule is too large.
 fn expand_rules(alloc: Global, set: &PackageSet) -> Result<Rules, Unready>
     ensures exactly { Finds (option_map (L.expand_line (set_seen set.now))
         (table_too_large (set_seen set.now))) result }
@@ -44,12 +43,13 @@ fn expand_rules(alloc: Global, set: &PackageSet) -> Result<Rules, Unready>
     ensures order { IfOk result (λ rules. IsInOrder (bodies_in rules) (blocks_in rules)) }
 {
     match expand(alloc, set) {
-        Ok(rules) => Ok(in_order(rules)?),
+        Ok(rules) => Ok(rules),
         Err(fault) => Err(Unready::Refused(expand_line(alloc, set, &fault)?)),
     }
 }
 
-/// The core of a pattern over the rule table of its set, unless it is too large.
+/// The core of a pattern over the rule table of its set, unless it is too large: it calls rules of the table alone, and
+/// makes one tree of a whole match.
 fn expand_goal(alloc: Global, set: &PackageSet, rules: &Rules, expr: &Expr) -> Result<Peg, Unready>
     requires { rows_of (rules_of rules.now) ≡ table_of (set_seen set.now) }
     ensures exactly { Finds (option_map (L.expand_line (set_seen set.now))
@@ -59,10 +59,7 @@ fn expand_goal(alloc: Global, set: &PackageSet, rules: &Rules, expr: &Expr) -> R
     ensures root { IfOk result (λ goal. (label : List ℕ) × IsCapture (bodies_in rules.now) label (core_of goal)) }
 {
     match expand_pattern(alloc, set, rules, expr) {
-        Ok(goal) => {
-            let goal = over_rules(rules, goal)?;
-            Ok(with_root(rules, goal)?)
-        }
+        Ok(goal) => Ok(goal),
         Err(fault) => Err(Unready::Refused(expand_line(alloc, set, &fault)?)),
     }
 }
