@@ -147,7 +147,7 @@ reads_goal fixed find s e n h = record {
   read = record { long = λ m. absurd (omega (arith, n, m)); text = λ k. h };
 }
 
--- and RPL of the kind
+-- and so is the answer to a text that is no literal
 pub reads_answer : (fixed find : Bool) (s : List ℕ) (r : Result Code Stop) → length s ≤ most_bytes
     → fixed ≡ false → IfOk r (λ e. ReadsText false find s (Ok (expr_of e))) → IfOk r (λ e. IsGoal (expr_of e))
 reads_answer fixed find s (Ok e) n is h =

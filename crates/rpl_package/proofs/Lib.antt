@@ -16,3 +16,4 @@ pub mod Rows
 pub mod Sought
 pub mod Walking
 pub mod Wanting
+pub mod Within

@@ -35,3 +35,12 @@ module _ (i : ℕ) (first : Stock) where
       let n0 = length-map first.modules.items module_seen in
       let n1 = length-map later.modules.items module_seen in
       omega (arith, lt, more, n0, n1)
+
+  -- and so is what was inside besides
+  pub more_within : (later : Stock) → i < length first.modules.items → ((a : L.Stock) → CutsTo i a (stock_seen first) → CutsTo i a (stock_seen later))
+      → (j : ℕ) → j < length first.modules.items → j < length later.modules.items
+  more_within later lt kept j within =
+      let more = (kept (stock_seen first) (begins lt)).modules in
+      let n0 = length-map first.modules.items module_seen in
+      let n1 = length-map later.modules.items module_seen in
+      omega (arith, within, more, n0, n1)

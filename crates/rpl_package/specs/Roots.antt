@@ -1,6 +1,7 @@
 -- The roots of a command, one after the other, and the set that they make.
-use Rattle.std.specs.Prelude.{ℕ, ◌+◌, nat_lt, if◌then◌else◌, List, [], ◌∷◌, ◌++◌, length, Option, Some, None, Ok}
+use Rattle.std.specs.Prelude.{ℕ, ◌+◌, ◌<◌, nat_lt, if◌then◌else◌, List, [], ◌∷◌, ◌++◌, length, Option, Some, None, Ok}
 use Rattle.std.specs.Prelude.{codes, encode_utf8_all, is_some}
+use Rattle.std.specs.List.{Contains}
 use Rattle.std.specs.Fmt.{decimal}
 use Rattle.rosie_io.specs.Opening.{file_of}
 use Rattle.rpl_syntax.specs.Modules.{Said}
@@ -92,6 +93,10 @@ pub record Packages : Type 0 where
   pub stock : Stock
   pub top : ℕ
   pub roots : List (Option ℕ)
+
+-- the module of each root is one of the first n, unless it is the top module
+abbrev pub AreWithin : List (Option ℕ) → ℕ → Type 0
+AreWithin roots n = (i : ℕ) → Contains roots (Some i) → i < n
 
 abbrev pub begun : Roots
 begun = record {

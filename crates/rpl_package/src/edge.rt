@@ -1,5 +1,5 @@
 // Loading, for those who stand on this crate.
-ghost use Rattle.std.specs.Prelude.{◌≡◌, IfErr, OnErr, false};
+ghost use Rattle.std.specs.Prelude.{◌≡◌, IfErr, IfOk, OnErr, false, length};
 ghost use Rattle.rosie_io.specs.Loading.{NotFewer};
 ghost use Rattle.rpl_syntax.specs.Expression.{Expr as Said};
 ghost use Rattle.rpl_syntax.specs.View.{expr_of};
@@ -49,6 +49,7 @@ pub fn load<F: Files>(
     roots: &Roots,
 ) -> Result<PackageSet, LoadFault>
     ensures gives { F.tells → Answers set_seen result (load (world (F.tree files.old) path.now) roots.now) }
+    ensures many { IfOk result (λ set. length (set_seen set).roots ≡ length roots.now) }
     ensures cause { IsCaused result (F.faults files.old) (F.faults files.new)
         (F.failed_opens files.old) (F.failed_opens files.new) }
     ensures taken { NotFewer (F.taken files.old) (F.taken files.new) }
@@ -78,6 +79,7 @@ pub fn load_pattern<F: Files>(
         → Answers (λ e. (expr_of e, set_seen set.new)) result
         (load_pattern (world (F.tree files.old) path.now) (set_seen set.old) r) }
     ensures kept { OnErr result (set_seen set.new ≡ set_seen set.old) }
+    ensures roots { (set_seen set.new).roots ≡ (set_seen set.old).roots }
     ensures cause { IsCaused result (F.faults files.old) (F.faults files.new)
         (F.failed_opens files.old) (F.failed_opens files.new) }
     ensures taken { NotFewer (F.taken files.old) (F.taken files.new) }

@@ -1,9 +1,9 @@
 // Loading the roots.
-ghost use Rattle.std.specs.Prelude.{◌≡◌, [], ◌∷◌, IfOk, IfErr};
+ghost use Rattle.std.specs.Prelude.{◌≡◌, [], ◌∷◌, IfOk, IfErr, length};
 ghost use Rattle.rpl_package.specs.Asking.{Walks};
 ghost use Rattle.rpl_package.specs.Built.{Becomes};
 ghost use Rattle.rpl_package.specs.Loading.{world};
-ghost use Rattle.rpl_package.specs.Roots.{begun, load, top_head, whole};
+ghost use Rattle.rpl_package.specs.Roots.{AreWithin, begun, load, top_head, whole};
 ghost use Rattle.rpl_package.specs.Sets.{set_seen};
 ghost use Rattle.rpl_package.specs.Stocks.{state_seen};
 ghost use Rattle.rpl_package.specs.inside.Leaving.{LeavesFiles};
@@ -46,6 +46,7 @@ fn whole(
 ) -> Result<PackageSet, Stop>
     requires held { stock.held.items ≡ top_head ∷ [] }
     requires built { Becomes (top_head ∷ []) begun.state (state_seen stock own) }
+    requires within { AreWithin roots.items (length stock.modules.items) }
     ensures ok { IfOk result (λ s. set_seen s ≡ whole (record { roots = roots.items; state = state_seen stock own })) }
     ensures memory { IfErr result (λ s. s ≡ OutOfMemory) }
 {
@@ -75,6 +76,7 @@ pub fn load_set<F: Files>(
     roots: &[Root],
 ) -> Result<PackageSet, Stop>
     ensures gives { F.tells → Walks set_seen result (load (world (F.tree files.old) folders.now) roots.now) }
+    ensures many { IfOk result (λ s. length (set_seen s).roots ≡ length roots.now) }
     ensures files { LeavesFiles F.Source result files.old files.new }
 {
     let mut state = begin(alloc)?;

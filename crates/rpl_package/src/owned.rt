@@ -1,5 +1,5 @@
 // What a set tells of its modules, of its roots, and of a name that a module binds itself.
-ghost use Rattle.std.specs.Prelude.{◌≡◌};
+ghost use Rattle.std.specs.Prelude.{◌≡◌, ◌<◌, IfSome, length};
 ghost use Rattle.rpl_scope.specs.Seen.{modules_seen};
 ghost use Rattle.rpl_package.specs.Owned as O;
 ghost use Rattle.rpl_package.specs.Stocks.{IsTable};
@@ -35,7 +35,8 @@ impl PackageSet {
 
     /// The module into which the root with this number, from 0, was read; None exactly where there is no such root.
     pub fn root_module(&self, root: usize) -> Option<u32>
-        ensures { result ≡ O.root_module (set_seen self.now) root }
+        ensures gives { result ≡ O.root_module (set_seen self.now) root }
+        ensures within { IfSome result (λ n. n < length (set_seen self.now).stock.modules) }
     {
         match self.roots.get(root) {
             None => None,

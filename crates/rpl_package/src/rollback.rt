@@ -90,6 +90,7 @@ pub fn enter_goal<F: Files>(
         → Walks (λ e. (expr_of e, set_seen set.new)) result
         (load_pattern (world (F.tree files.old) folders.now) (set_seen set.old) r) }
     ensures kept { OnErr result (set_seen set.new ≡ set_seen set.old) }
+    ensures roots { (set_seen set.new).roots ≡ (set_seen set.old).roots }
     ensures files { LeavesFiles F.Source result files.old files.new }
 {
     let marks = marks_of(&set.stock, set.top);

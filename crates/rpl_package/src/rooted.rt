@@ -1,11 +1,11 @@
 // The roots of a command, one after the other.
-ghost use Rattle.std.specs.Prelude.{◌≡◌, ◌<◌, [], ◌∷◌, OnOk, IfOk, Some, None, encode_utf8_all};
+ghost use Rattle.std.specs.Prelude.{◌≡◌, ◌<◌, [], ◌∷◌, OnOk, IfOk, IfSome, Some, None, encode_utf8_all, length};
 ghost use Rattle.rpl_syntax.specs.Modules.{said};
 ghost use Rattle.rpl_package.specs.Asking.{Walks, and_then};
 ghost use Rattle.rpl_package.specs.Built.{Becomes, IsSaid};
 ghost use Rattle.rpl_scope.specs.Faults.{Gives};
 ghost use Rattle.rpl_package.specs.Loading.{world};
-ghost use Rattle.rpl_package.specs.Roots.{top_head, next, given_name, root_by, load_roots, named_root, root_text};
+ghost use Rattle.rpl_package.specs.Roots.{AreWithin, top_head, next, given_name, root_by, load_roots, named_root, root_text};
 ghost use Rattle.rpl_package.specs.Roots.{read_root, file_root, asked_root};
 ghost use Rattle.rpl_package.specs.Stocks.{state_seen};
 ghost use Rattle.rpl_package.specs.Texts.{module_text};
@@ -57,6 +57,7 @@ fn enter_named<F: Files>(
     ensures held { OnOk result (state.new.stock.held.items ≡ state.old.stock.held.items) }
     ensures built { OnOk result (Becomes (top_head ∷ []) (state_seen state.old.stock state.old.own)
         (state_seen state.new.stock state.new.own)) }
+    ensures within { IfOk result (λ n. IfSome n (λ i. i < length state.new.stock.modules.items)) }
     ensures files { LeavesFiles F.Source result files.old files.new }
 {
     if state.own.prefixes.get(&name.name).is_some() {
@@ -110,6 +111,7 @@ pub fn enter_root<F: Files>(
     ensures held { OnOk result (state.new.stock.held.items ≡ state.old.stock.held.items) }
     ensures built { OnOk result (Becomes (top_head ∷ []) (state_seen state.old.stock state.old.own)
         (state_seen state.new.stock state.new.own)) }
+    ensures within { IfOk result (λ n. IfSome n (λ i. i < length state.new.stock.modules.items)) }
     ensures files { LeavesFiles F.Source result files.old files.new }
 {
     match &text.package {
@@ -170,6 +172,7 @@ pub fn enter_given<F: Files>(
     ensures held { OnOk result (state.new.stock.held.items ≡ state.old.stock.held.items) }
     ensures built { OnOk result (Becomes (top_head ∷ []) (state_seen state.old.stock state.old.own)
         (state_seen state.new.stock state.new.own)) }
+    ensures within { IfOk result (λ n. IfSome n (λ i. i < length state.new.stock.modules.items)) }
     ensures files { LeavesFiles F.Source result files.old files.new }
 {
     let said = match read_given(alloc, file, text) {
@@ -198,6 +201,7 @@ pub fn enter_file<F: Files>(
     ensures held { OnOk result (state.new.stock.held.items ≡ state.old.stock.held.items) }
     ensures built { OnOk result (Becomes (top_head ∷ []) (state_seen state.old.stock state.old.own)
         (state_seen state.new.stock state.new.own)) }
+    ensures within { IfOk result (λ n. IfSome n (λ i. i < length state.new.stock.modules.items)) }
     ensures files { LeavesFiles F.Source result files.old files.new }
 {
     let read = match read_in(alloc, files, path) {
@@ -249,6 +253,7 @@ fn enter_one<F: Files>(
     ensures held { OnOk result (state.new.stock.held.items ≡ state.old.stock.held.items) }
     ensures built { OnOk result (Becomes (top_head ∷ []) (state_seen state.old.stock state.old.own)
         (state_seen state.new.stock state.new.own)) }
+    ensures within { IfOk result (λ n. IfSome n (λ i. i < length state.new.stock.modules.items)) }
     ensures files { LeavesFiles F.Source result files.old files.new }
 {
     match root {
@@ -284,6 +289,8 @@ pub fn enter_roots<F: Files>(
     ensures held { OnOk result (state.new.stock.held.items ≡ state.old.stock.held.items) }
     ensures built { OnOk result (Becomes (top_head ∷ []) (state_seen state.old.stock state.old.own)
         (state_seen state.new.stock state.new.own)) }
+    ensures many { IfOk result (λ into. length into.items ≡ length roots.now) }
+    ensures within { IfOk result (λ into. AreWithin into.items (length state.new.stock.modules.items)) }
     ensures files { LeavesFiles F.Source result files.old files.new }
 {
     let mut given = 0;

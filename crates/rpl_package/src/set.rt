@@ -2,6 +2,7 @@
 ghost use Rattle.std.specs.Prelude.{◌≡◌, ◌<◌, [], length};
 ghost use Rattle.rpl_scope.specs.Seen.{modules_seen};
 ghost use Rattle.rpl_package.specs.Built.{IsBuilt, packages};
+ghost use Rattle.rpl_package.specs.Roots.{AreWithin};
 ghost use Rattle.rpl_package.specs.Stocks.{IsTable, stock_seen};
 
 use crate::stock::Stock;
@@ -18,6 +19,7 @@ pub struct PackageSet {
     pub(crate) table: Table,
     ghost idle: { stock.held.items ≡ [] },
     ghost inside: { top < length stock.modules.items },
+    ghost within: { AreWithin roots.items (length stock.modules.items) },
     ghost told: { IsTable table (modules_seen stock.modules.items) },
     ghost built: { ∥ IsBuilt (packages (stock_seen stock) top roots.items) ∥₁ },
 }

@@ -22,7 +22,7 @@ returns-clause-prepares c = λ r h.
     let trials = map (trial_of (bodies_of rules) made.subjects.items) made.trials.items in
     let same : bodies (table_of p) ≡ bodies_of rules = sym (ap bodies c.requires) ∙ bodies-rows_of rules in
     let tells =
-    again-tells p c.args.file c.args.budget c.args.text.now r m name (sym c.in-Some.ensures)
+    again-tells p c.args.file c.args.budget c.args.text.now r m name (sym c.in-Some.ensures.gives)
     (sym c.in-Some-package.ensures) h in
     tests-due p m (bench_with c.args.file c.args.budget name) c.args.text.now r c.in_ok-tests.tests trials c.in_ok-tests.ensures.tests
     (λ due is. c.in_ok-subjects.ensures.trials due (subst (λ R. AreTrials R (own p m) c.in_ok-tests.tests due) same is)) tells
@@ -36,7 +36,7 @@ returns-in_err-tests-clause-prepares c = λ r h.
     let u = c.in_err-tests.field-0.0 in
     due_through suite_of c.from_residual-in_err-tests.result u r c.from_residual-in_err-tests.ensures.1
     (refused-due p m c.args.file c.args.budget name c.args.text.now r u c.in_err-tests.ensures.bad
-    (again-tells p c.args.file c.args.budget c.args.text.now r m name (sym c.in-Some.ensures)
+    (again-tells p c.args.file c.args.budget c.args.text.now r m name (sym c.in-Some.ensures.gives)
     (sym c.in-Some-package.ensures) h))
 
 pub returns-in_err-tests-clause-own : goal.returns-in_err-tests-clause-own

@@ -5,7 +5,7 @@ use Rattle.rpl_package.specs.Built.{IsBuilt, packages}
 use Rattle.rpl_package.specs.Loading.{Stock}
 use Rattle.rpl_package.specs.Roots.{Packages}
 use Rattle.rpl_package.specs.Stocks.{IsTable}
-use Rattle.rpl_package.proofs.Returning.{cut_home, same_inside, more_inside}
+use Rattle.rpl_package.proofs.Returning.{cut_home, same_inside, more_inside, more_within}
 use Rattle.rpl_package.proofs.rollback.enter_goal.Goals as goal
 
 abbrev pack : Stock → ℕ → List (Option ℕ) → Packages
@@ -18,6 +18,7 @@ invariant_of-set g c =
     record {
       idle = c.cut_back.ensures.held;
       inside = same_inside set.top set.stock c.cut_back.new.stock set.inside back;
+      within = λ i k. same_inside i set.stock c.cut_back.new.stock (set.within i k) back;
       told = subst (IsTable set.table) (sym (ap (λ s. s.modules) back)) set.told;
       built = subst (λ s. ∥ IsBuilt (packages s set.top set.roots.items) ∥₁) (sym back) set.built;
     }
@@ -30,6 +31,7 @@ invariant_of-set-in-Err-table_of g c =
     record {
       idle = c.cut_back-in-Err-table_of.ensures.held;
       inside = same_inside set.top set.stock now set.inside back;
+      within = λ i k. same_inside i set.stock now (set.within i k) back;
       told = subst (IsTable set.table) (sym (ap (λ s. s.modules) back)) set.told;
       built = subst (λ s. ∥ IsBuilt (packages s set.top set.roots.items) ∥₁) (sym back) set.built;
     }
@@ -40,6 +42,7 @@ invariant_of-set-in-Ok-table_of g c =
     record {
       idle = c.in-Ok.ensures.held;
       inside = more_inside set.top set.stock c.enter_pattern.new.stock set.inside c.in-Ok.ensures.kept;
+      within = λ i k. more_within set.top set.stock c.enter_pattern.new.stock set.inside c.in-Ok.ensures.kept i (set.within i k);
       told = subst (λ l. IsTable c.in-Ok-table_of.table (modules_seen l)) c.deref.ensures.value c.in-Ok-table_of.ensures.ok;
       built = ∥∥₁_map set.built (c.in-Ok.ensures.built set.roots.items);
     }

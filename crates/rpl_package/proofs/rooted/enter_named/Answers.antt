@@ -12,6 +12,7 @@ use Rattle.rpl_package.specs.Stocks.{state_seen}
 use Rattle.rpl_package.proofs.Building.{none_of, roots_on}
 use Rattle.rpl_package.proofs.Outcomes.{may_lead, may_then}
 use Rattle.rpl_package.proofs.Rooting.{named_leads}
+use Rattle.rpl_package.proofs.Within.{finished_within}
 use Rattle.rpl_package.proofs.rooted.enter_named.Goals as goal
 
 pub returns-in-Err-clause-gives : goal.returns-in-Err-clause-gives
@@ -45,3 +46,7 @@ returns-clause-built g c =
     (subst (λ h. Makes h None c.in_ok-label.label s0.stock u) c.requires.held c.in-Ok.ensures.built) in
     roots_on (top_head ∷ []) s0 u (state_seen c.finish.new.stock c.put_prefix.new.own) (said c.args.text.now) q c.in-Ok-finish.number c.requires.said c.requires.name
     (none_of (first_of q.name s0.own.prefixes) free) made c.in-Ok-finish.ensures.number c.in-Ok-finish.ensures.stock c.in_default.ensures.ok
+
+pub returns-clause-within : goal.returns-clause-within
+returns-clause-within g c =
+    finished_within c.load_own.new.stock c.finish.new.stock _ c.in-Ok-finish.number c.in-Ok-finish.ensures.stock c.in-Ok-finish.ensures.number

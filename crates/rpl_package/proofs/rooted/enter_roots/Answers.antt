@@ -1,5 +1,6 @@
-use Rattle.std.proofs.Common.{◌+◌, ◌++◌, ◌∷◌, [], drop, refl, ap, ap₂, sym, ◌∙◌}
+use Rattle.std.proofs.Common.{arith, length, ◌+◌, ◌++◌, ◌∷◌, [], drop, refl, ap, ap₂, sym, ◌∙◌}
 use Rattle.std.specs.Prelude.{Ok}
+use Rattle.std.proofs.lemmas.List.{length-append}
 use Rattle.rpl_scope.specs.Faults.{◌>>=◌}
 use Rattle.rpl_package.specs.Asking.{at_once, each_in_turn}
 use Rattle.rpl_package.specs.Loading.{world}
@@ -9,6 +10,7 @@ use Rattle.rpl_package.specs.Stocks.{state_seen}
 use Rattle.rpl_package.proofs.Leaving.{after, still}
 use Rattle.rpl_package.proofs.Outcomes.{same, trail, may_lead, may_then, turn_on, turn_stop}
 use Rattle.rpl_package.proofs.Rooting.{counted_front}
+use Rattle.rpl_package.proofs.Within.{grows_seen, within_none, within_push}
 use Rattle.rpl_package.proofs.rooted.enter_roots.Goals as goal
 
 pub returns-in-Err-clause-gives : goal.returns-in-Err-clause-gives
@@ -38,10 +40,13 @@ loop-root-preserved g c =
     let st : Roots = record { roots = c.loop-root.into.items; state = s0 } in
     let st1 : Roots = record { roots = c.loop-root.into.items ++ c.in-Ok.number ∷ []; state = s1 } in
     let inv = c.loop-root.invariant in
+    let pushed = ap length c.in_ok-push.ensures.items ∙ length-append c.loop-root.into.items (c.in-Ok.number ∷ []) in
     record {
       files = after g.F.Source _ _ _ _ _ _ inv.files c.in-Ok.ensures.files;
       held = c.in-Ok.ensures.held ∙ inv.held;
       built = on (top_head ∷ []) _ s0 s1 inv.built c.in-Ok.ensures.built;
+      many = omega (arith, inv.many, pushed);
+      within = within_push c.loop-root.into.items _ c.in-Ok.number _ _ c.in_ok-push.ensures.items (grows_seen (top_head ∷ []) c.loop-root.state.stock c.enter_one.new.state.stock s0 s1 c.in-Ok.ensures.built refl refl) inv.within c.in-Ok.ensures.within;
       left = λ tells.
           let one = ap₂ (λ U j. (root_by (world U ds) j r s0).answer) (sym inv.files.tree) (sym c.next-given.ensures) ∙ c.in-Ok.ensures.gives tells in
           trail _ _ _
@@ -58,5 +63,7 @@ loop-root-init g c =
       files = still g.F.Source (tt {0}) c.args.files.now;
       held = refl;
       built = stays _ _;
+      many = ap length c.new-into.ensures.items;
+      within = within_none _ _ c.new-into.ensures.items;
       left = λ tells. same _ _ (ap (λ xs. each_in_turn (root_entry W) (counted 0 c.args.roots.now) (record { roots = xs; state = s0 })) c.new-into.ensures.items);
     }

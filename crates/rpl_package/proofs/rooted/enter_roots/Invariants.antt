@@ -1,9 +1,9 @@
-use Rattle.std.proofs.Common.{◌≡◌, drop, [], ◌∷◌}
+use Rattle.std.proofs.Common.{◌≡◌, drop, length, [], ◌∷◌}
 use Rattle.std.specs.Prelude.{Ok}
 use Rattle.rpl_package.specs.Asking.{each_in_turn}
 use Rattle.rpl_package.specs.Loading.{world}
 use Rattle.rpl_package.specs.Built.{Becomes}
-use Rattle.rpl_package.specs.Roots.{counted, root_entry, top_head}
+use Rattle.rpl_package.specs.Roots.{AreWithin, counted, root_entry, top_head}
 use Rattle.rpl_package.specs.Stocks.{state_seen}
 use Rattle.rpl_package.specs.inside.Leaving.{LeavesFiles}
 use Rattle.rpl_package.proofs.Outcomes.{Follows}
@@ -14,6 +14,8 @@ invariant-loop-root g l =
     record {
       files : LeavesFiles g.F.Source (Ok (tt {0})) l.fn.files l.files;
       held : l.state.stock.held.items ≡ l.fn.state.stock.held.items;
+      many : length l.into.items ≡ l.root-index;
+      within : AreWithin l.into.items (length l.state.stock.modules.items);
       built : Becomes (top_head ∷ []) (state_seen l.fn.state.stock l.fn.state.own) (state_seen l.state.stock l.state.own);
       left : g.F.Source.tells → Follows
           (each_in_turn (root_entry (world (g.F.Source.tree l.fn.files) l.folders)) (counted l.given (drop l.root-index l.roots)) (record { roots = l.into.items; state = state_seen l.state.stock l.state.own }))
