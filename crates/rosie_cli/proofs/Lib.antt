@@ -4,6 +4,8 @@ pub mod Made
 pub mod Expanded
 pub mod Compiled
 pub mod Coded
+pub mod Tested
+pub mod Paying
 pub mod Whole
 pub mod Promised
 pub mod SomeMarks

@@ -12,9 +12,10 @@ use Rattle.rpl_core.specs.Instr.{Instr}
 use Rattle.rpl_core.specs.Programs.{IsCode}
 use Rattle.rosie_cli.specs.CodeFiles.{IsCodeLines}
 use Rattle.rosie_cli.specs.Compiling.{IsCompiled}
-use Rattle.rosie_cli.specs.Planned.{IsPlanned}
+use Rattle.rosie_cli.specs.Planned.{IsPlanned, IsRunning, input_names, matching}
 use Rattle.rosie_cli.specs.Plans.{Plan, Planned, Reads, Writes}
-use Rattle.rosie_cli.specs.Promises.{IsPromised}
+use Rattle.rosie_cli.specs.Report.{report}
+use Rattle.rosie_cli.specs.Promises.{PaysFor, SpellsSafe}
 use Rattle.rosie_cli.specs.Words.{Asked, Refuse, Do}
 
 -- over each tree of files the words come to one plan alone, with the same paths asked for on the way
@@ -35,6 +36,16 @@ is_of_code (Do c) = asks_code c c.what
 abbrev pub SomePlan : Type 0
 SomePlan = (a : Asked) (tree : Tree) → is_of_code a ≡ false → (p : Planned) × IsPlanned a tree p
 
+-- no line and no test of what they come to is said to pass a budget that pays for it
+abbrev pub BudgetLaw : Type 0
+BudgetLaw = (a : Asked) (tree : Tree) (p : Planned) → IsPlanned a tree p → PaysFor p.plan
+
+-- what `compile` writes for a pattern is the spelling of a safe code
+abbrev pub SafeLaw : Type 0
+SafeLaw =
+    (w : Wanted) (tree : Tree) (p : Planned) (bytes : List ℕ) → IsCompiled w tree p → p.plan ≡ Writes bytes
+    → SpellsSafe bytes
+
 -- the plan runs the code of what is wanted, over the tree where that was compiled
 abbrev pub RunsItsCode : Wanted → Tree → (asked : List (List ℕ)) → Settings → List (List ℕ) → Plan → Type 0
 RunsItsCode w tree asked s names plan =
@@ -46,6 +57,17 @@ RunsItsCode w tree asked s names plan =
 abbrev pub RunsWhatIsCompiled : Type 0
 RunsWhatIsCompiled =
     (w : Wanted) (tree : Tree) (p : Planned) (bytes : List ℕ) → IsCompiled w tree p → p.plan ≡ Writes bytes
-    → IsPromised p.plan → length bytes ≤ most_bytes
+    → length bytes ≤ most_bytes
     → (s : Settings) (path : List ℕ) (names : List (List ℕ)) (there : Tree) (q : Planned)
     → file_of path there ≡ Some bytes → IsCodeLines s path names there q → RunsItsCode w tree p.asked s names q.plan
+
+-- So `match` with that file and `match` with the pattern have the same report, whatever the files and the standard
+-- input are then.
+abbrev pub HaveOneReport : Type 0
+HaveOneReport =
+    (w : Wanted) (tree : Tree) (c : Planned) (bytes : List ℕ) → IsCompiled w tree c → c.plan ≡ Writes bytes
+    → length bytes ≤ most_bytes
+    → (s : Settings) (inputs : List (List ℕ)) (p : Planned) → IsRunning (matching s inputs) w tree p
+    → (path : List ℕ) (there : Tree) (q : Planned) → file_of path there ≡ Some bytes
+    → IsCodeLines s path (input_names inputs) there q
+    → (files : Tree) (input : List ℕ) → report q.plan files input ≡ report p.plan files input

@@ -1,6 +1,7 @@
 -- What is promised of a run: when a budget is due, that a written code is safe, and where nothing goes wrong.
 use Rattle.std.specs.Prelude.{ℕ, ◌≡◌, ◌≢◌, Bool, true, false, List, ◌∷◌, ◌++◌, Option, None, Some}
 use Rattle.std.specs.List.{All}
+use Rattle.std.specs.Str.{all_scalars}
 use Rattle.rosie_io.specs.Lines.{lines}
 use Rattle.rosie_io.specs.Opening.{file_of}
 use Rattle.rosie_run.specs.Inputs.{is_standard, reads_standard}
@@ -17,6 +18,15 @@ use Rattle.rosie_cli.specs.Plans.{Plan, Says, Writes, Tries, Reads, Samples, Rep
 use Rattle.rosie_sample.specs.Lines.{sample}
 use Rattle.rosie_session.specs.Limits as S
 use Rattle.rosie_session.specs.Replay.{replay}
+
+-- no line is said to pass its budget that the budget pays for, and no test whose text is of characters
+abbrev pub PaysFor : Plan → Type 0
+PaysFor (Says ps) = Unit {0}
+PaysFor (Writes bytes) = Unit {0}
+PaysFor (Tries b trials) = All (λ t. all_scalars t.test.text ≡ true → T.PaysFor b t.test t.subject) trials
+PaysFor (Reads m whole names) = Pays m
+PaysFor (Samples r) = Pays r.maker
+PaysFor (Replays w) = S.Pays w
 
 -- the bytes spell a safe code
 abbrev pub SpellsSafe : List ℕ → Type 0

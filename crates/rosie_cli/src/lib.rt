@@ -23,6 +23,6 @@ mod sample_plan;
 mod test_plan;
 mod top;
 
-pub use laws::{compiled_is_run, one_plan};
+pub use laws::{budget_law, compiled_is_run, one_plan};
 pub use rosie_run::Status;
 pub use top::rosie;

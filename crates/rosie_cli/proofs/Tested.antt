@@ -1,0 +1,227 @@
+-- No test of a file passes a budget that pays for it.
+use Rattle.std.proofs.Common.{ℕ, zero, suc, ◌≡◌, ◌+◌, ◌*◌, ◌<◌, ◌≤◌, Bool, true, false, cond, List, [], ◌∷◌, ◌++◌}
+use Rattle.std.proofs.Common.{length, refl, sym, ◌∙◌, ap, subst, arith}
+use Rattle.std.specs.Prelude.{Option, Some, None, Ok, Err, codes, map, nat_eq, nat_lt, encode_utf8_all}
+use Rattle.std.specs.List.{All}
+use Rattle.std.specs.Str.{all_scalars}
+use Rattle.std.proofs.lemmas.Bool.{false≢true}
+use Rattle.std.proofs.lemmas.Bool.Decides.{nat_tests}
+use Rattle.std.proofs.lemmas.List.{length-map}
+use Rattle.std.proofs.lemmas.List.Elements.{All-cons, All-nil}
+use Rattle.std.proofs.lemmas.Option.{slice_get_within}
+use Rattle.rosie_io.specs.Opening.{file_of}
+use Rattle.rosie_jobs.specs.Lines.{Job, budget_or, is_over}
+use Rattle.rosie_prepare.specs.Prepared.{OrLine, Passes, TableComes, TableFacts, Tree, bodies, found}
+use Rattle.rosie_prepare.specs.Prepared.{table_too_large, table_unsound}
+use Rattle.rosie_session.proofs.Paying.{goal_whole}
+use Rattle.rosie_verdicts.specs.Limits.{PaysFor}
+use Rattle.rosie_verdicts.specs.Suites.{AreTrials, Comes, ComesAgain, IsSubject, IsSuite, Suite, Tells, bad, tests}
+use Rattle.rosie_verdicts.specs.Suites.{goal_of, loading, read_again}
+use Rattle.rosie_verdicts.specs.Trials.{Bench, Subject, Trial, TooLong, Runs, ran}
+use Rattle.rpl_check.specs.Checked.{IsWhole}
+use Rattle.rpl_check.specs.Faults as C
+use Rattle.rpl_core.specs.Core.{Call, Capture}
+use Rattle.rpl_core.specs.Meaning.{Outcome}
+use Rattle.rpl_core.specs.Outcome.{outcome, work_of}
+use Rattle.rpl_core.specs.Programs.{IsCode, calls}
+use Rattle.rpl_core.specs.Run.{Answer, Matched, Failed, Unfinished}
+use Rattle.rpl_expand.specs.Faults as F
+use Rattle.rpl_expand.specs.Sets.{statements, table_of}
+use Rattle.rpl_order.proofs.Lists.{nth_found}
+use Rattle.rpl_order.proofs.Rows.{located}
+use Rattle.rpl_order.proofs.Tables.{nth_statement}
+use Rattle.rpl_order.specs.Laws.{IsLoaded, by_roots}
+use Rattle.rpl_package.proofs.Numbering.{room_at}
+use Rattle.rpl_package.specs.Loading.{world}
+use Rattle.rpl_package.specs.Owned.{ok_of, own, own_entry, own_rule}
+use Rattle.rpl_package.specs.Roots.{Packages, load}
+use Rattle.rpl_package.specs.Tables.{rows}
+use Rattle.rpl_package.specs.Targets.{halt_name, rule_in, target_by, then}
+use Rattle.rpl_package.specs.declared.rooted.Root.TheVariants.{File}
+use Rattle.rpl_package.specs.declared.targets.Target.{Target}
+use Rattle.rpl_scope.specs.Faults.{Or}
+use Rattle.rpl_scope.specs.Packages.{Module, Rule, first_of, first_rule, nth}
+use Rattle.rpl_scope.specs.declared.module.Entry.{Entry}
+use Rattle.rpl_scope.specs.declared.module.Referent.{Referent}
+use Rattle.rpl_scope.specs.declared.module.Referent.TheVariants.{Own, Of, BuiltIn}
+use Rattle.rpl_simulation.proofs.Answering.{answer_holds}
+use Rattle.rpl_simulation.specs.Laws.{Tells as Answers}
+use Rattle.rpl_unittest.specs.declared.test.Test.{Test}
+use Rattle.rpl_expand.specs.Table as E
+use Rattle.rpl_expand.specs.Table.{Statement, body_of, built_in}
+use Rattle.rpl_forms.specs.Inlining.{Inners, inner}
+use Rattle.rpl_forms.specs.Rows.{inners_from}
+
+same_number : (a b : ℕ) → nat_eq a b ≡ true → a ≡ b
+same_number a b e = grind (arith, nat_tests)
+
+-- ---- the target of a name is a rule of the table
+
+module _ (ms : List Module) (t : Target) where
+  abbrev IsBelow : Type 0
+  IsBelow = t.rule < 2 + length (rows ms)
+
+  rule_below : (i k : ℕ) (m : Module) → nth ms i ≡ Some m → (o : Option Rule) → nth m.rules k ≡ o
+      → ok_of (target_by (first_rule ms i + k) o) ≡ Some t → IsBelow
+  rule_below i k m at None has e = absurd (cc)
+  rule_below i k m at (Some r) has e =
+      let room = room_at 0 0 ms i k m r at has in
+      let same : first_rule ms i + k ≡ t.rule = cc in
+      omega (arith, room, same)
+
+  referent_below : (i : ℕ) (m : Module) → nth ms i ≡ Some m → (x : Referent) → own_rule ms i x ≡ Some t → IsBelow
+  referent_below i m at (Own k) e =
+      let found : rule_in ms i k ≡ nth m.rules k = ap (λ o. then o (λ (x : Module). nth x.rules k)) at in
+      rule_below i k m at (nth m.rules k) refl (ap (λ o. ok_of (target_by (first_rule ms i + k) o)) (sym found) ∙ e)
+  referent_below i m at (Of j k) e = absurd (cc)
+  referent_below i m at BuiltIn e = absurd (cc)
+
+  hidden_below : (i : ℕ) (m : Module) → nth ms i ≡ Some m → (x : Referent) (b : Bool)
+      → cond b None (own_rule ms i x) ≡ Some t → IsBelow
+  hidden_below i m at x true e = absurd (cc)
+  hidden_below i m at x false e = referent_below i m at x e
+
+  entry_below : (i : ℕ) (m : Module) → nth ms i ≡ Some m → (o : Option Entry) → then o (own_entry ms i) ≡ Some t
+      → IsBelow
+  entry_below i m at None e = absurd (cc)
+  entry_below i m at (Some x) e = hidden_below i m at x.referent x.hidden e
+
+  own_below : (i : ℕ) (name : List ℕ) (o : Option Module) → nth ms i ≡ o
+      → then o (λ (m : Module). then (first_of name m.names) (own_entry ms i)) ≡ Some t → IsBelow
+  own_below i name None at e = absurd (cc)
+  own_below i name (Some m) at e = entry_below i m at (first_of name m.names) e
+
+statements_long : (p : Packages) (n : ℕ) → n ≡ length (rows p.stock.modules) → n ≤ length (statements p)
+statements_long p zero e = omega arith
+statements_long p (suc n) e =
+    let w = nth_found (rows p.stock.modules) n (omega (arith, e)) in
+    let l = located 0 0 p.stock.modules n w.0 w.1 in
+    let k = slice_get_within (statements p) n _ (nth_statement p n w.0 w.1 l) in
+    omega (arith, k)
+
+rows_long : (I : Inners) (ss : List Statement) → length (E.rows I ss) ≡ length ss
+rows_long I [] = refl
+rows_long I (s ∷ ss) = ap suc (rows_long (I ++ inner I s.block (body_of I s) ∷ []) ss)
+
+table_long : (p : Packages) → 2 + length (rows p.stock.modules) ≤ length (bodies (table_of p))
+table_long p =
+    let a : length (bodies (table_of p)) ≡ length (table_of p) = length-map (table_of p) (λ r. r.body) in
+    let b : length (table_of p) ≡ suc (suc (length (E.rows (inners_from [] (built_in (halt_name p))) (statements p)))) =
+    refl in
+    let c = rows_long (inners_from [] (built_in (halt_name p))) (statements p) in
+    let d = statements_long p (length (rows p.stock.modules)) refl in
+    omega (arith, a, b, c, d)
+
+-- ---- its goal means something on every text
+
+goal_calls : (t : Target) (b : Bool) (r : ℕ) → calls (cond b (Call t.rule) (Capture (codes "*") (Call t.rule))) r ≡ true
+    → r ≡ t.rule
+goal_calls t true r e = sym (same_number t.rule r e)
+goal_calls t false r e = sym (same_number t.rule r e)
+
+goal_clean : (m h : ℕ → Bool) (t : Target) (b : Bool)
+    → C.goal_fault m h (cond b (Call t.rule) (Capture (codes "*") (Call t.rule))) ≡ None
+goal_clean m h t true = refl
+goal_clean m h t false = refl
+
+module _ (tree : Tree) (folders : List (List ℕ)) (p : Packages) (is : IsLoaded tree folders p) (d : TableFacts p)
+    (small : table_too_large p ≡ None) (none : table_unsound p d ≡ None) where
+  target_whole : (i : ℕ) (name : List ℕ) (t : Target) → own p i name ≡ Some t
+      → IsWhole (bodies (table_of p)) (goal_of t)
+  target_whole i name t e =
+      let below = own_below p.stock.modules t i name (nth p.stock.modules i) refl e in
+      let long = table_long p in
+      goal_whole tree folders p is d small none (goal_of t)
+      (λ r called. let same = goal_calls t t.captures r called in omega (arith, same, below, long))
+      (goal_clean d.empties d.halting t t.captures)
+
+  over_due : (o : Outcome) (b : ℕ) (a : Answer) → is_over a ≡ true → Answers o b a → b < 4 * work_of o + 2
+  over_due o b (Matched n i cs) e h = absurd (false≢true e)
+  over_due o b (Failed n) e h = absurd (false≢true e)
+  over_due o b Unfinished e h = h
+
+  pays_limit : (b : Bench) (t : Test) (job : Job) → IsWhole job.rules job.goal → IsCode job.rules job.goal job.code
+      → all_scalars t.text ≡ true → (long : Bool) → PaysFor b t (cond long TooLong (Runs job))
+  pays_limit b t job whole code chars true = tt
+  pays_limit b t job whole code chars false = λ over.
+      over_due (outcome job.rules job.goal t.text) (budget_or b.budget t.text) (ran b t job) over
+      (answer_holds whole.stays.0 _ _ _ whole.stays.1 code t.text chars (whole.shut t.text) (budget_or b.budget t.text))
+
+  pays_subject : (b : Bench) (t : Test) (i : ℕ) (o : Option Target) → own p i t.name ≡ o → (s : Subject)
+      → IsSubject (bodies (table_of p)) o s → all_scalars t.text ≡ true → PaysFor b t s
+  pays_subject b t i None e s h chars = subst (PaysFor b t) (sym h) tt
+  pays_subject b t i (Some x) e s h chars =
+      let job : Job = record { rules = bodies (table_of p); goal = goal_of x; code = h.0 } in
+      subst (PaysFor b t) (sym h.2)
+      (pays_limit b t job (target_whole i t.name x e) h.1 chars (nat_lt 1048576 (length h.0)))
+
+  abbrev ArePaid : Bench → List Trial → Type 0
+  ArePaid b = All (λ t. all_scalars t.test.text ≡ true → PaysFor b t.test t.subject)
+
+  pays_trials : (b : Bench) (i : ℕ) (ts : List Test) (trials : List Trial)
+      → AreTrials (bodies (table_of p)) (own p i) ts trials → ArePaid b trials
+  pays_trials b i [] trials h = subst (ArePaid b) (sym h) (All-nil _)
+  pays_trials b i (t ∷ ts) trials h =
+      let s = h.0 in
+      subst (ArePaid b) (sym h.4)
+      (All-cons (λ (x : Trial). all_scalars x.test.text ≡ true → PaysFor b x.test x.subject)
+      (record { test = t; subject = s }) h.1
+      (pays_subject b t i (own p i t.name) refl s h.2) (pays_trials b i ts h.1 h.3))
+
+  pays_told : (i : ℕ) (b : Bench) (text : List ℕ) (s : Suite) (o : OrLine Suite) → o ≡ Ok s → Tells p i b text o
+      → ArePaid s.bench s.trials
+  pays_told i b text s o e (tests ts trials has are is) =
+      let same : record { bench = b; trials = trials } ≡ s = cc in
+      subst (λ (x : Suite). ArePaid x.bench x.trials) same (pays_trials b i ts trials are)
+  pays_told i b text s o e (bad line has is) = absurd (cc)
+
+  pays_again : (file : List ℕ) (budget : Option ℕ) (text : OrLine (List ℕ)) (s : Suite)
+      → ComesAgain p file budget text (Ok s) → ArePaid s.bench s.trials
+  pays_again file budget (Err line) s h = absurd (cc)
+  pays_again file budget (Ok text) s h =
+      pays_told h.0 (record { file = encode_utf8_all file; prefix = encode_utf8_all h.1; budget = budget }) text s (Ok s)
+      refl h.4
+
+-- ---- the tests of a file
+
+pays_found : (tree : Tree) (folders : List (List ℕ)) (q p : Packages) → IsLoaded tree folders q → (d : TableFacts q)
+    → table_too_large q ≡ None → (f : Option C.Fault) → table_unsound q d ≡ f → Ok p ≡ found q q f
+    → (file : List ℕ) (budget : Option ℕ) (text : OrLine (List ℕ)) (s : Suite) → ComesAgain p file budget text (Ok s)
+    → All (λ t. all_scalars t.test.text ≡ true → PaysFor s.bench t.test t.subject) s.trials
+pays_found tree folders q p is d small (Some f) none e file budget text s h = absurd (cc)
+pays_found tree folders q p is d small None none e file budget text s h =
+    let same : p ≡ q = cc in
+    pays_again tree folders q is d small none file budget text s
+    (subst (λ x. ComesAgain x file budget text (Ok s)) same h)
+
+pays_passed : (tree : Tree) (folders : List (List ℕ)) (q p : Packages) → IsLoaded tree folders q
+    → (t : Option F.Fault) → table_too_large q ≡ t → Passes q t (table_unsound q) q (Ok p)
+    → (file : List ℕ) (budget : Option ℕ) (text : OrLine (List ℕ)) (s : Suite) → ComesAgain p file budget text (Ok s)
+    → All (λ t. all_scalars t.test.text ≡ true → PaysFor s.bench t.test t.subject) s.trials
+pays_passed tree folders q p is (Some f) small h file budget text s c = absurd (cc)
+pays_passed tree folders q p is None small h file budget text s c =
+    pays_found tree folders q p is h.0 small (table_unsound q h.0) refl h.1 file budget text s c
+
+pays_loaded : (tree : Tree) (folders : List (List ℕ)) (x : Or Packages) (p : Packages) (file : List ℕ)
+    → (load (world tree folders) (File file ∷ [])).answer ≡ x → TableComes x (Ok p)
+    → (budget : Option ℕ) (text : OrLine (List ℕ)) (s : Suite) → ComesAgain p file budget text (Ok s)
+    → All (λ t. all_scalars t.test.text ≡ true → PaysFor s.bench t.test t.subject) s.trials
+pays_loaded tree folders (Err f) p file e h budget text s c = absurd (cc)
+pays_loaded tree folders (Ok q) p file e h budget text s c =
+    pays_passed tree folders q p (by_roots (File file ∷ []) q e) (table_too_large q) refl h file budget text s c
+
+pays_comes : (tree : Tree) (folders : List (List ℕ)) (file : List ℕ) (budget : Option ℕ) (paths asked : List (List ℕ))
+    (o : OrLine Packages) (s : Suite) → TableComes (loading tree folders file).answer o
+    → Comes tree file budget paths asked o (Ok s)
+    → All (λ t. all_scalars t.test.text ≡ true → PaysFor s.bench t.test t.subject) s.trials
+pays_comes tree folders file budget paths asked (Err line) s h c = absurd (cc)
+pays_comes tree folders file budget paths asked (Ok p) s h c =
+    pays_loaded tree folders (loading tree folders file).answer p file refl h budget
+    (read_again file (file_of (encode_utf8_all file) tree)) s c.1
+
+pub suite_pays : (tree : Tree) (folders : List (List ℕ)) (file : List ℕ) (budget : Option ℕ) (asked : List (List ℕ))
+    (s : Suite) → IsSuite tree folders file budget asked (Ok s)
+    → All (λ t. all_scalars t.test.text ≡ true → PaysFor s.bench t.test t.subject) s.trials
+suite_pays tree folders file budget asked s is =
+    pays_comes tree folders file budget (map encode_utf8_all (loading tree folders file).asked) asked is.packages s
+    is.loads is.comes
