@@ -30,8 +30,10 @@ use Rattle.rpl_expand.specs.Sets.{statements, table_of}
 use Rattle.rpl_order.proofs.Lists.{nth_found}
 use Rattle.rpl_order.proofs.Rows.{located}
 use Rattle.rpl_order.proofs.Tables.{nth_statement}
-use Rattle.rpl_order.specs.Laws.{IsLoaded, by_roots}
+use Rattle.rpl_order.proofs.Loaded.{told_is_built}
+use Rattle.rpl_order.specs.Laws.{by_roots}
 use Rattle.rpl_package.proofs.Numbering.{room_at}
+use Rattle.rpl_package.specs.Built.{IsBuilt}
 use Rattle.rpl_package.specs.Loading.{world}
 use Rattle.rpl_package.specs.Owned.{ok_of, own, own_entry, own_rule}
 use Rattle.rpl_package.specs.Roots.{Packages, load}
@@ -124,14 +126,14 @@ goal_clean : (m h : ℕ → Bool) (t : Target) (b : Bool)
 goal_clean m h t true = refl
 goal_clean m h t false = refl
 
-module _ (tree : Tree) (folders : List (List ℕ)) (p : Packages) (is : IsLoaded tree folders p) (d : TableFacts p)
-    (small : table_too_large p ≡ None) (none : table_unsound p d ≡ None) where
+module _ (p : Packages) (is : IsBuilt p) (d : TableFacts p) (small : table_too_large p ≡ None)
+    (none : table_unsound p d ≡ None) where
   target_whole : (i : ℕ) (name : List ℕ) (t : Target) → own p i name ≡ Some t
       → IsWhole (bodies (table_of p)) (goal_of t)
   target_whole i name t e =
       let below = own_below p.stock.modules t i name (nth p.stock.modules i) refl e in
       let long = table_long p in
-      goal_whole tree folders p is d small none (goal_of t)
+      goal_whole p is d small none (goal_of t)
       (λ r called. let same = goal_calls t t.captures r called in omega (arith, same, below, long))
       (goal_clean d.empties d.halting t t.captures)
 
@@ -184,23 +186,23 @@ module _ (tree : Tree) (folders : List (List ℕ)) (p : Packages) (is : IsLoaded
 
 -- ---- the tests of a file
 
-pays_found : (tree : Tree) (folders : List (List ℕ)) (q p : Packages) → IsLoaded tree folders q → (d : TableFacts q)
+pays_found : (q p : Packages) → IsBuilt q → (d : TableFacts q)
     → table_too_large q ≡ None → (f : Option C.Fault) → table_unsound q d ≡ f → Ok p ≡ found q q f
     → (file : List ℕ) (budget : Option ℕ) (text : OrLine (List ℕ)) (s : Suite) → ComesAgain p file budget text (Ok s)
     → All (λ t. all_scalars t.test.text ≡ true → PaysFor s.bench t.test t.subject) s.trials
-pays_found tree folders q p is d small (Some f) none e file budget text s h = absurd (cc)
-pays_found tree folders q p is d small None none e file budget text s h =
+pays_found q p is d small (Some f) none e file budget text s h = absurd (cc)
+pays_found q p is d small None none e file budget text s h =
     let same : p ≡ q = cc in
-    pays_again tree folders q is d small none file budget text s
+    pays_again q is d small none file budget text s
     (subst (λ x. ComesAgain x file budget text (Ok s)) same h)
 
-pays_passed : (tree : Tree) (folders : List (List ℕ)) (q p : Packages) → IsLoaded tree folders q
-    → (t : Option F.Fault) → table_too_large q ≡ t → Passes q t (table_unsound q) q (Ok p)
+pays_passed : (q p : Packages) → IsBuilt q → (t : Option F.Fault) → table_too_large q ≡ t
+    → Passes q t (table_unsound q) q (Ok p)
     → (file : List ℕ) (budget : Option ℕ) (text : OrLine (List ℕ)) (s : Suite) → ComesAgain p file budget text (Ok s)
     → All (λ t. all_scalars t.test.text ≡ true → PaysFor s.bench t.test t.subject) s.trials
-pays_passed tree folders q p is (Some f) small h file budget text s c = absurd (cc)
-pays_passed tree folders q p is None small h file budget text s c =
-    pays_found tree folders q p is h.0 small (table_unsound q h.0) refl h.1 file budget text s c
+pays_passed q p is (Some f) small h file budget text s c = absurd (cc)
+pays_passed q p is None small h file budget text s c =
+    pays_found q p is h.0 small (table_unsound q h.0) refl h.1 file budget text s c
 
 pays_loaded : (tree : Tree) (folders : List (List ℕ)) (x : Or Packages) (p : Packages) (file : List ℕ)
     → (load (world tree folders) (File file ∷ [])).answer ≡ x → TableComes x (Ok p)
@@ -208,7 +210,8 @@ pays_loaded : (tree : Tree) (folders : List (List ℕ)) (x : Or Packages) (p : P
     → All (λ t. all_scalars t.test.text ≡ true → PaysFor s.bench t.test t.subject) s.trials
 pays_loaded tree folders (Err f) p file e h budget text s c = absurd (cc)
 pays_loaded tree folders (Ok q) p file e h budget text s c =
-    pays_passed tree folders q p (by_roots (File file ∷ []) q e) (table_too_large q) refl h file budget text s c
+    let is = told_is_built tree folders q (by_roots (File file ∷ []) q e) in
+    pays_passed q p is (table_too_large q) refl h file budget text s c
 
 pays_comes : (tree : Tree) (folders : List (List ℕ)) (file : List ℕ) (budget : Option ℕ) (paths asked : List (List ℕ))
     (o : OrLine Packages) (s : Suite) → TableComes (loading tree folders file).answer o
