@@ -60,7 +60,7 @@ pub fn budget_or(given: Option<u64>, line: &str) -> u64
     }
 }
 
-/// Makes the trees of these captures, unless a style prints the same of all trees.
+/// Makes the trees of these captures, unless a style prints the same of all trees: then those of an earlier line stay.
 fn make_trees(forest: &mut Forest, captures: &[Caught], style: Style) -> Result<(), NoMemory>
     ensures { OnOk result (IgnoresTrees style ⊎ BuildsEach captures.now forest.new) }
 {

@@ -36,10 +36,6 @@ parts Subs line f = texts line (below_root f)
 parts Plain line f = take 1 (texts line f)
 parts TrueOrFalse line f = codes "true" ∷ []
 
--- whatever the trees of a match are, the same is printed of it
-abbrev pub IgnoresTrees : Style → Type 0
-IgnoresTrees style = (line : List ℕ) (f g : Forest) → parts style line f ≡ parts style line g
-
 -- the same where there is no match
 abbrev pub none : Style → List (List ℕ)
 none TrueOrFalse = codes "false" ∷ []
@@ -48,6 +44,10 @@ none _ = []
 abbrev pub parts_of : Style → List ℕ → Option Forest → List (List ℕ)
 parts_of style line None = none style
 parts_of style line (Some f) = parts style line f
+
+-- whatever the trees of a match are, the same is printed of it
+abbrev pub IgnoresTrees : Style → Type 0
+IgnoresTrees style = (line : List ℕ) (f g : Forest) → parts style line f ≡ parts style line g
 
 -- each part with a line feed
 abbrev pub line_by_line : List (List ℕ) → List ℕ
