@@ -135,10 +135,7 @@ pub fn enter_root<F: Files>(
             if state.stock.modules.len() + 1 >= MOST_MODULES {
                 return Err(fault_at(alloc, file, name.at, LoadKind::TooManyPackages));
             }
-            match enter_named(alloc, files, folders, state, file, name, text) {
-                Ok(number) => Ok(number),
-                Err(stop) => Err(stop),
-            }
+            enter_named(alloc, files, folders, state, file, name, text)
         }
     }
 }
@@ -179,10 +176,7 @@ pub fn enter_given<F: Files>(
         Ok(said) => said,
         Err(stop) => return Err(stop),
     };
-    match enter_root(alloc, files, folders, state, file, &said) {
-        Ok(number) => Ok(number),
-        Err(stop) => Err(stop),
-    }
+    enter_root(alloc, files, folders, state, file, &said)
 }
 
 /// A root that is the file at this path.
@@ -257,18 +251,10 @@ fn enter_one<F: Files>(
     ensures files { LeavesFiles F.Source result files.old files.new }
 {
     match root {
-        Root::File(path) => {
-            match enter_file(alloc, files, folders, state, path) {
-                Ok(number) => Ok(number),
-                Err(stop) => Err(stop),
-            }
-        }
+        Root::File(path) => enter_file(alloc, files, folders, state, path),
         Root::Given(text) => {
             let name = given_name(alloc, given)?;
-            match enter_given(alloc, files, folders, state, &name, text) {
-                Ok(number) => Ok(number),
-                Err(stop) => Err(stop),
-            }
+            enter_given(alloc, files, folders, state, &name, text)
         }
     }
 }
