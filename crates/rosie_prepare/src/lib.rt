@@ -5,7 +5,7 @@
 //! relation, `specs/Prepared.antt`, over the tree of files; a read fault comes only where a read or an open failed, and
 //! every file is closed on the way out. [`load_set`] and [`prepare_rules`] are the same for commands without a pattern.
 //! That the table is in order, and that the pattern's core calls its rules and makes one tree, is known of every set that
-//! is loaded (`rpl_order`). [`over_rules`] and [`with_root`] look at a core that a command makes of its own.
+//! is loaded (`rpl_order`).
 //!
 //! [`load_line`], [`expand_line`], [`check_line`] and [`compile_line`] are the line by which each fault is told, with
 //! the file and the byte place where it stands: exactly that of `specs/Lines.antt`; docs/COMMAND.md has the texts for
@@ -15,7 +15,6 @@
 mod edge;
 mod laws;
 mod load;
-mod order;
 mod prepared;
 mod rules;
 mod steps;
@@ -26,7 +25,6 @@ mod wanted;
 pub use edge::{load_set, prepare, prepare_rules};
 pub use laws::one_preparation;
 pub use load::load_line;
-pub use order::{over_rules, with_root};
 pub use prepared::{Prepared, PreparedRules};
 pub use rpl_text::NoMemory;
 pub use rules::{check_line, compile_line, expand_line};

@@ -8,3 +8,5 @@ pub mod Once
 pub mod Some
 pub mod Loads
 pub mod Entries
+pub mod Called
+pub mod Owned

@@ -1,6 +1,7 @@
 // What tests are tried with, once for each rule.
 ghost use Rattle.std.specs.Prelude.{◌≡◌, ◌<◌, [], get_or, length, List, Option, IfOk, IfSome, OnOk};
 ghost use Rattle.rpl_core.specs.Table.{bodies_of};
+ghost use Rattle.rpl_order.specs.Laws.{IsRuleOf};
 ghost use Rattle.rosie_verdicts.specs.Tried.{nothing, subject_of};
 ghost use Rattle.rosie_verdicts.specs.Suites.{IsSubject};
 ghost use Rattle.rosie_verdicts.specs.Trials as T;
@@ -42,6 +43,7 @@ pub(crate) struct Entry {
 
 /// What the tests of a target are tried with.
 fn subject_of(alloc: Global, rules: &Checked, target: Option<Target>) -> Result<Subject, NoMemory>
+    requires { IfSome target (λ t. ∥ IsRuleOf (bodies_of rules.now) t ∥₁) }
     ensures subject { IfOk result (λ s. (due : T.Subject) → IsSubject (bodies_of rules.now) target due
         → due ≡ subject_of (bodies_of rules.now) s) }
     ensures ready { IfOk result (λ s. ∥ IsReady (subject_of (bodies_of rules.now) s) ∥₁) }
@@ -106,7 +108,8 @@ impl Subjects {
         rules: &Checked,
         target: Option<Target>,
     ) -> Result<usize, NoMemory>
-        requires { AreSound (bodies_of rules.now) self.old.entries.items }
+        requires target { IfSome target (λ t. ∥ IsRuleOf (bodies_of rules.now) t ∥₁) }
+        requires sound { AreSound (bodies_of rules.now) self.old.entries.items }
         ensures sound { OnOk result (AreSound (bodies_of rules.now) self.new.entries.items) }
         ensures grows { OnOk result (Grows self.old.entries.items self.new.entries.items) }
         ensures stands { IfOk result (StandsAt self.new.entries.items target) }

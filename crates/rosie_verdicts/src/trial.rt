@@ -2,6 +2,8 @@
 ghost use Rattle.std.specs.Prelude.{◌≡◌, ◌<◌, length, map, List, IfOk};
 ghost use Rattle.std.specs.List.{All};
 ghost use Rattle.rpl_core.specs.Table.{bodies_of};
+ghost use Rattle.rpl_expand.specs.Sets.{table_of};
+ghost use Rattle.rpl_forms.specs.Rows.{rows_of};
 ghost use Rattle.rpl_package.specs.Owned.{own};
 ghost use Rattle.rpl_package.specs.Sets.{set_seen};
 ghost use Rattle.rosie_verdicts.specs.Tried.{trial_of};
@@ -53,6 +55,7 @@ pub(crate) fn trials_of(
     number: u32,
     tests: Tests,
 ) -> Result<Trials, NoMemory>
+    requires { rows_of rules.now ≡ table_of (set_seen set.now) }
     ensures trials { IfOk result (λ ts. (due : List T.Trial)
         → AreTrials (bodies_of rules.now) (own (set_seen set.now) number) tests due
         → due ≡ map (trial_of (bodies_of rules.now) ts.subjects.items) ts.trials.items) }

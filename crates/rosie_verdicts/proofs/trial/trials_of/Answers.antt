@@ -11,7 +11,15 @@ use Rattle.rosie_verdicts.specs.inside.Ready.{AreReady}
 use Rattle.rosie_verdicts.specs.declared.trial.Trial.{Trial}
 use Rattle.rosie_verdicts.proofs.Entries.{ArePlaced, placed-next, subject-at, subject-ready, trials-grow}
 use Rattle.rosie_verdicts.proofs.Tried.{Passed, all-next, ready-next}
+use Rattle.rosie_verdicts.proofs.Owned.{rule_of_own}
 use Rattle.rosie_verdicts.proofs.trial.trials_of.Goals as goal
+
+-- the target of a name of a module is a rule of the table
+pub place_for-requires-clause-target : goal.place_for-requires-clause-target
+place_for-requires-clause-target c =
+    let p = set_seen c.args.set.now in
+    rule_of_own p c.args.rules.now c.args.number _ c.args.set.now.built c.requires c.own-target.result
+    c.own-target.ensures
 
 pub loop-test-preserved : goal.loop-test-preserved
 loop-test-preserved c =

@@ -10,7 +10,7 @@ returns-in-Some-get_mut-clause-sound c =
     let is = c.in_ok-subject.ensures in
     subst (AreSound R) (sym c.in_ok-push.ensures.items)
     (sound-next R c.args.self.now.entries.items (record { target = c.args.target; subject = c.in_ok-subject.subject })
-    c.requires is.subject is.ready)
+    c.requires.sound is.subject is.ready)
 
 pub returns-in_default-get_mut-clause-sound : goal.returns-in_default-get_mut-clause-sound
 returns-in_default-get_mut-clause-sound c =
@@ -18,4 +18,4 @@ returns-in_default-get_mut-clause-sound c =
     let is = c.in_ok-subject.ensures in
     subst (AreSound R) (sym c.in_ok-push.ensures.items)
     (sound-next R c.args.self.now.entries.items (record { target = c.args.target; subject = c.in_ok-subject.subject })
-    c.requires is.subject is.ready)
+    c.requires.sound is.subject is.ready)
