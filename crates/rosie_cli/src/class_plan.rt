@@ -33,7 +33,9 @@ pub(crate) fn plan_class(alloc: Global, name: &Chars) -> Result<Plan, Unready>
                 let line = format!(in alloc; "rosie: unknown class: {name}\n")?;
                 Err(Unready::Refused(line))
             }
-            _ => Err(Unready::NoMemory),
+            SetFault::NoMemory => Err(Unready::NoMemory),
+            SetFault::BadRange { .. } => unreachable!(),
+            SetFault::BadSet { .. } => unreachable!(),
         },
     }
 }
