@@ -1,11 +1,11 @@
 // What stands for the bytes of a line in strings of JSON.
-ghost use Rattle.std.specs.Prelude.{◌≡◌, ◌<◌, ◌≤◌, ◌++◌, true, length, take, slice_range, OnOk};
+ghost use Rattle.std.specs.Prelude.{◌≡◌, ◌<◌, ◌≤◌, ◌+◌, ◌++◌, length, drop, slice_range, OnOk};
 ghost use Rattle.std.specs.Char.{digit_char};
 ghost use Rattle.json.specs.Print.{escape, escape_byte, escape_letter};
 ghost use Rattle.rpl_print.specs.Quoted as Q;
 ghost use Rattle.rpl_encode.specs.inside.Escapes.{AreOf};
 
-use crate::node_text::part_of;
+use crate::node_text::{part_of, write_before};
 use rpl_core::NoMemory;
 use rpl_print::is_plain;
 
@@ -50,46 +50,55 @@ impl Escapes {
     }
 }
 
-/// Adds what stands for these bytes in a string of JSON.
-pub(crate) fn put_bytes(out: &mut Vec<u8>, bytes: &[u8]) -> Result<(), NoMemory>
-    ensures { OnOk result (out.new.items ≡ out.old.items ++ escape bytes.now) }
-{
-    if is_plain(bytes) {
-        return out.extend_from_slice(bytes);
-    }
-    put_runs(out, bytes)
-}
+/// So many bytes are escaped at a time, and what stands for all of them has room in so many.
+const CHUNK: usize = 64;
 
-/// The same, where a byte needs an escape: the bytes before it together, and then that one, until none is left.
-fn put_runs(out: &mut Vec<u8>, bytes: &[u8]) -> Result<(), NoMemory>
+const ROOM: usize = 6 * CHUNK;
+
+/// Adds what stands for these bytes in a string of JSON. They are taken a few at a time: a list that grows is slow where
+/// little is added at once, and in a line of JSON few bytes stand between two quotes.
+pub(crate) fn put_bytes(out: &mut Vec<u8>, bytes: &[u8]) -> Result<(), NoMemory>
     ensures { OnOk result (out.new.items ≡ out.old.items ++ escape bytes.now) }
 {
     let mut rest = bytes;
     while rest.len() > 0 {
-        let count = plain_front(rest);
-        if count == 0 {
-            put_byte(out, rest[0])?;
-            let (_first, behind) = rest.split_at(1);
-            rest = behind;
-            continue;
-        }
-        let (front, behind) = rest.split_at(count);
-        out.extend_from_slice(front)?;
+        let (front, behind) = rest.split_at(rest.len().min(CHUNK));
+        put_chunk(out, front)?;
         rest = behind;
     }
     Ok(())
 }
 
-/// How many bytes at the front need no escape.
-fn plain_front(bytes: &[u8]) -> usize
-    ensures within { result ≤ length bytes.now }
-    ensures plain { Q.is_plain (take result bytes.now) ≡ true }
+/// The same of a few bytes. Where one needs an escape, all is put together in a buffer, from its end.
+fn put_chunk(out: &mut Vec<u8>, bytes: &[u8]) -> Result<(), NoMemory>
+    requires { length bytes.now ≤ 64 }
+    ensures { OnOk result (out.new.items ≡ out.old.items ++ escape bytes.now) }
 {
-    let mut count = 0;
-    while count < bytes.len() && is_plain_byte(bytes[count]) {
-        count += 1;
+    if is_plain(bytes) {
+        return out.extend_from_slice(bytes);
     }
-    count
+    let mut buffer = [0; ROOM];
+    let mut at = ROOM;
+    let mut left = bytes.len();
+    while left > 0 {
+        left -= 1;
+        at = write_escaped(bytes[left], &mut buffer, at);
+    }
+    out.extend_from_slice(&buffer[at..])
+}
+
+/// Writes what stands for a byte so that it ends at `end`, and tells where that starts.
+#[inline(always)]
+fn write_escaped(byte: u8, buffer: &mut [u8], end: usize) -> usize
+    requires { (6 ≤ end) × (end ≤ length buffer.old) }
+    ensures start { (result ≤ end) × (end ≤ result + 6) }
+    ensures long { length buffer.new ≡ length buffer.old }
+    ensures written { drop result buffer.new ≡ escape_byte byte ++ drop end buffer.old }
+{
+    if is_plain_byte(byte) {
+        return write_before(&[byte], buffer, end);
+    }
+    write_escape(byte, buffer, end)
 }
 
 /// Whether the byte needs no escape.
@@ -100,19 +109,22 @@ fn is_plain_byte(byte: u8) -> bool
     byte >= 0x20 && byte != b'"' && byte != b'\\'
 }
 
-/// Adds what stands for a byte.
-fn put_byte(out: &mut Vec<u8>, byte: u8) -> Result<(), NoMemory>
-    ensures { OnOk result (out.new.items ≡ out.old.items ++ escape_byte byte) }
+/// The same, also where the byte needs an escape.
+fn write_escape(byte: u8, buffer: &mut [u8], end: usize) -> usize
+    requires { (6 ≤ end) × (end ≤ length buffer.old) }
+    ensures start { (result ≤ end) × (end ≤ result + 6) }
+    ensures long { length buffer.new ≡ length buffer.old }
+    ensures written { drop result buffer.new ≡ escape_byte byte ++ drop end buffer.old }
 {
     let letter = short_escape(byte);
     if letter > 0 {
-        return out.extend_from_slice(&[b'\\', letter]);
+        return write_before(&[b'\\', letter], buffer, end);
     }
     if byte < 0x20 {
         let digits = [b'\\', b'u', b'0', b'0', digit(byte / 16), digit(byte % 16)];
-        return out.extend_from_slice(&digits);
+        return write_before(&digits, buffer, end);
     }
-    out.extend_from_slice(&[byte])
+    write_before(&[byte], buffer, end)
 }
 
 /// The letter of the byte's short escape, or 0 where it has none.

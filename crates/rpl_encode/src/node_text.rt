@@ -147,9 +147,10 @@ const ROOM: usize = 64;
 
 /// Writes the bytes so that they end at `end`, and tells where they start.
 #[inline(always)]
-fn write_before(bytes: &[u8], buffer: &mut [u8], end: usize) -> usize
+pub(crate) fn write_before(bytes: &[u8], buffer: &mut [u8], end: usize) -> usize
     requires { (length bytes.now ≤ end) × (end ≤ length buffer.old) }
     ensures start { result + length bytes.now ≡ end }
+    ensures long { length buffer.new ≡ length buffer.old }
     ensures written { drop result buffer.new ≡ bytes.now ++ drop end buffer.old }
 {
     let start = end - bytes.len();

@@ -1,7 +1,7 @@
 use Rattle.std.proofs.Common.{◌≡◌, sym, rules}
 use Rattle.json.specs.Print.{escape}
 use Rattle.rpl_print.proofs.Plain.{escape_plain}
-use Rattle.rpl_encode.proofs.escapes.put_bytes.Goals as goal
+use Rattle.rpl_encode.proofs.escapes.put_chunk.Goals as goal
 
 pub returns-then-is_plain : goal.returns-then-is_plain
 returns-then-is_plain c =

@@ -1,6 +1,6 @@
 use Rattle.std.proofs.Common.{◌≡◌, ◌++◌, length}
 use Rattle.json.specs.Print.{escape}
-use Rattle.rpl_encode.proofs.escapes.put_runs.Given as goal
+use Rattle.rpl_encode.proofs.escapes.put_bytes.Given as goal
 
 -- what is written, with what stands for the bytes that are left, is the whole
 abbrev pub invariant-loop-rest : goal.invariant-loop-rest
