@@ -10,3 +10,4 @@ pub mod Loads
 pub mod Entries
 pub mod Called
 pub mod Owned
+pub mod Texts

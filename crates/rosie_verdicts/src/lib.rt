@@ -18,7 +18,7 @@ mod tester;
 mod trial;
 mod verdict;
 
-pub use laws::one_suite;
+pub use laws::{one_suite, texts_law};
 pub use loading::load_suite;
 pub use suite::Suite;
 pub use verdict::Verdict;

@@ -2,7 +2,7 @@ pub mod Types
 pub mod Reading
 mod Texts
 mod Examples
-mod Behind
+pub mod Behind
 mod Told
 mod More
 pub mod Single
