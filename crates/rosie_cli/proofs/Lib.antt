@@ -8,6 +8,7 @@ pub mod Tested
 pub mod Paying
 pub mod Whole
 pub mod Promised
+pub mod Calls
 pub mod SomeMarks
 pub mod SomeOrder
 pub mod SomePlan

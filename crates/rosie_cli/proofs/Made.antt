@@ -1,6 +1,6 @@
 -- From the steps of planning to a plan.
 use Rattle.std.proofs.Common.{◌≡◌, ◌≤◌, ℕ, List, refl, sym, ◌∙◌, ap, subst, arith}
-use Rattle.std.specs.Prelude.{Result, Ok, Err, IfErr, IfOk, IsErrAnd, None, Some, string_bytes}
+use Rattle.std.specs.Prelude.{Result, Ok, Err, IfErr, IsErrAnd, None, Some, string_bytes}
 use Rattle.rosie_prepare.specs.Lines.{compile_line}
 use Rattle.rosie_io.specs.Loading.{NotFewer}
 use Rattle.rosie_io.specs.declared.outside.Source.{Ghosts}
@@ -14,7 +14,6 @@ use Rattle.rpl_codegen.specs.declared.whole.CompileFault.{CompileFault}
 use Rattle.rpl_codegen.specs.declared.whole.CompileFault.TheVariants as C
 use Rattle.rosie_cli.specs.Plans as P
 use Rattle.rosie_cli.specs.Plans.{Planned, refusal}
-use Rattle.rosie_cli.specs.Promises.{IsPromised}
 use Rattle.rosie_cli.specs.declared.plan.Plan.{Plan}
 use Rattle.rosie_cli.specs.inside.Planning.{due_of, plan_of, IsMade, Leaves, Plans}
 
@@ -67,11 +66,10 @@ same_cause (ReadFault path) f0 f1 own still = absurd own
 -- where the step that comes last reads no file
 pub leaves-own : {F : Type 0} (S : Ghosts F) (r : Result Plan Unready) (old new : F) → NotFewer (S.taken old) (S.taken new)
     → S.tree new ≡ S.tree old → Still (moment_of S old) (moment_of S new)
-    → IfOk r (λ plan. IsPromised (plan_of plan)) → IfErr r IsOwn → Leaves S r old new
-leaves-own S (Ok plan) old new taken tree still due own =
-    record { due = due; cause = still; taken = taken; tree = tree }
-leaves-own S (Err u) old new taken tree still due own =
-    record { due = tt; cause = same_cause u (moment_of S old) (moment_of S new) own still; taken = taken; tree = tree }
+    → IfErr r IsOwn → Leaves S r old new
+leaves-own S (Ok plan) old new taken tree still own = record { cause = still; taken = taken; tree = tree }
+leaves-own S (Err u) old new taken tree still own =
+    record { cause = same_cause u (moment_of S old) (moment_of S new) own still; taken = taken; tree = tree }
 
 -- and where reading went wrong
 pub leaves-through : {F : Type 0} (S : Ghosts F) (r : Result Plan Unready) (old new : F)
@@ -80,7 +78,6 @@ pub leaves-through : {F : Type 0} (S : Ghosts F) (r : Result Plan Unready) (old 
 leaves-through S (Ok plan) old new taken tree u h cause = absurd h
 leaves-through S (Err e) old new taken tree u h cause =
     record {
-      due = tt;
       cause = subst (λ v. Counts v (moment_of S old) (moment_of S new)) (sym h) cause;
       taken = taken;
       tree = tree;

@@ -3,18 +3,19 @@ use Rattle.std.proofs.Common.{ℕ, zero, suc, ◌≡◌, ◌+◌, ◌*◌, ◌<�
 use Rattle.std.proofs.Common.{length, refl, sym, ◌∙◌, ap, subst, arith}
 use Rattle.std.specs.Prelude.{Option, Some, None, Ok, Err, codes, map, nat_eq, nat_lt, encode_utf8_all}
 use Rattle.std.specs.List.{All}
-use Rattle.std.specs.Str.{all_scalars}
+use Rattle.std.specs.Str.{all_scalars, is_utf8}
 use Rattle.std.proofs.lemmas.Bool.{false≢true}
 use Rattle.std.proofs.lemmas.Bool.Decides.{nat_tests}
 use Rattle.std.proofs.lemmas.List.{length-map}
-use Rattle.std.proofs.lemmas.List.Elements.{All-cons, All-nil}
+use Rattle.std.proofs.lemmas.List.Elements.{All-cons, All-head, All-nil, All-tail}
 use Rattle.std.proofs.lemmas.Option.{slice_get_within}
 use Rattle.rosie_io.specs.Opening.{file_of}
 use Rattle.rosie_jobs.specs.Lines.{Job, budget_or, is_over}
 use Rattle.rosie_prepare.specs.Prepared.{OrLine, Passes, TableComes, TableFacts, Tree, bodies, found}
 use Rattle.rosie_prepare.specs.Prepared.{table_too_large, table_unsound}
 use Rattle.rosie_session.proofs.Paying.{goal_whole}
-use Rattle.rosie_verdicts.specs.Limits.{PaysFor}
+use Rattle.rosie_verdicts.proofs.Texts.{tests_are_of_text}
+use Rattle.rosie_verdicts.specs.Limits.{Pays, PaysFor}
 use Rattle.rosie_verdicts.specs.Suites.{AreTrials, Comes, ComesAgain, IsSubject, IsSuite, Suite, Tells, bad, tests}
 use Rattle.rosie_verdicts.specs.Suites.{goal_of, loading, read_again}
 use Rattle.rosie_verdicts.specs.Trials.{Bench, Subject, Trial, TooLong, Runs, ran}
@@ -38,6 +39,7 @@ use Rattle.rpl_package.specs.Loading.{world}
 use Rattle.rpl_package.specs.Owned.{ok_of, own, own_entry, own_rule}
 use Rattle.rpl_package.specs.Roots.{Packages, load}
 use Rattle.rpl_package.specs.Tables.{rows}
+use Rattle.rpl_package.specs.Texts.{most_bytes}
 use Rattle.rpl_package.specs.Targets.{halt_name, rule_in, target_by, then}
 use Rattle.rpl_package.specs.declared.rooted.Root.TheVariants.{File}
 use Rattle.rpl_package.specs.declared.targets.Target.{Target}
@@ -114,6 +116,22 @@ table_long p =
     let d = statements_long p (length (rows p.stock.modules)) refl in
     omega (arith, a, b, c, d)
 
+-- ---- what is read again is a text
+
+abbrev IsText : OrLine (List ℕ) → Type 0
+IsText (Err line) = Unit {0}
+IsText (Ok bytes) = is_utf8 bytes ≡ true
+
+text_by : (bytes long_line other_line : List ℕ) (long utf8 : Bool) → is_utf8 bytes ≡ utf8
+    → IsText (cond long (Err long_line) (cond utf8 (Ok bytes) (Err other_line)))
+text_by bytes long_line other_line true utf8 u = tt
+text_by bytes long_line other_line false true u = u
+text_by bytes long_line other_line false false u = tt
+
+text_read : (file : List ℕ) (o : Option (List ℕ)) → IsText (read_again file o)
+text_read file None = tt
+text_read file (Some bytes) = text_by bytes _ _ (nat_lt most_bytes (length bytes)) (is_utf8 bytes) refl
+
 -- ---- its goal means something on every text
 
 goal_calls : (t : Target) (b : Bool) (r : ℕ) → calls (cond b (Call t.rule) (Capture (codes "*") (Call t.rule))) r ≡ true
@@ -157,74 +175,77 @@ module _ (p : Packages) (is : IsBuilt p) (d : TableFacts p) (small : table_too_l
       subst (PaysFor b t) (sym h.2)
       (pays_limit b t job (target_whole i t.name x e) h.1 chars (nat_lt 1048576 (length h.0)))
 
-  abbrev ArePaid : Bench → List Trial → Type 0
-  ArePaid b = All (λ t. all_scalars t.test.text ≡ true → PaysFor b t.test t.subject)
-
   pays_trials : (b : Bench) (i : ℕ) (ts : List Test) (trials : List Trial)
-      → AreTrials (bodies (table_of p)) (own p i) ts trials → ArePaid b trials
-  pays_trials b i [] trials h = subst (ArePaid b) (sym h) (All-nil _)
-  pays_trials b i (t ∷ ts) trials h =
+      → All (λ (t : Test). all_scalars t.text ≡ true) ts → AreTrials (bodies (table_of p)) (own p i) ts trials
+      → Pays b trials
+  pays_trials b i [] trials chars h = subst (Pays b) (sym h) (All-nil _)
+  pays_trials b i (t ∷ ts) trials chars h =
       let s = h.0 in
-      subst (ArePaid b) (sym h.4)
-      (All-cons (λ (x : Trial). all_scalars x.test.text ≡ true → PaysFor b x.test x.subject)
-      (record { test = t; subject = s }) h.1
-      (pays_subject b t i (own p i t.name) refl s h.2) (pays_trials b i ts h.1 h.3))
+      let text = All-head (λ (t : Test). all_scalars t.text ≡ true) t ts chars in
+      let more = All-tail (λ (t : Test). all_scalars t.text ≡ true) t ts chars in
+      subst (Pays b) (sym h.4)
+      (All-cons (λ (x : Trial). PaysFor b x.test x.subject) (record { test = t; subject = s }) h.1
+      (pays_subject b t i (own p i t.name) refl s h.2 text) (pays_trials b i ts h.1 more h.3))
 
-  pays_told : (i : ℕ) (b : Bench) (text : List ℕ) (s : Suite) (o : OrLine Suite) → o ≡ Ok s → Tells p i b text o
-      → ArePaid s.bench s.trials
-  pays_told i b text s o e (tests ts trials has are is) =
+  pays_told : (i : ℕ) (b : Bench) (text : List ℕ) (s : Suite) (o : OrLine Suite) → is_utf8 text ≡ true → o ≡ Ok s
+      → Tells p i b text o → Pays s.bench s.trials
+  pays_told i b text s o u e (tests ts trials has are is) =
       let same : record { bench = b; trials = trials } ≡ s = cc in
-      subst (λ (x : Suite). ArePaid x.bench x.trials) same (pays_trials b i ts trials are)
-  pays_told i b text s o e (bad line has is) = absurd (cc)
+      subst (λ (x : Suite). Pays x.bench x.trials) same
+      (pays_trials b i ts trials (tests_are_of_text text ts u has) are)
+  pays_told i b text s o u e (bad line has is) = absurd (cc)
 
-  pays_again : (file : List ℕ) (budget : Option ℕ) (text : OrLine (List ℕ)) (s : Suite)
-      → ComesAgain p file budget text (Ok s) → ArePaid s.bench s.trials
-  pays_again file budget (Err line) s h = absurd (cc)
-  pays_again file budget (Ok text) s h =
+  pays_again : (file : List ℕ) (budget : Option ℕ) (text : OrLine (List ℕ)) (s : Suite) → IsText text
+      → ComesAgain p file budget text (Ok s) → Pays s.bench s.trials
+  pays_again file budget (Err line) s u h = absurd (cc)
+  pays_again file budget (Ok text) s u h =
       pays_told h.0 (record { file = encode_utf8_all file; prefix = encode_utf8_all h.1; budget = budget }) text s (Ok s)
-      refl h.4
+      u refl h.4
 
 -- ---- the tests of a file
 
 pays_found : (q p : Packages) → IsBuilt q → (d : TableFacts q)
     → table_too_large q ≡ None → (f : Option C.Fault) → table_unsound q d ≡ f → Ok p ≡ found q q f
-    → (file : List ℕ) (budget : Option ℕ) (text : OrLine (List ℕ)) (s : Suite) → ComesAgain p file budget text (Ok s)
-    → All (λ t. all_scalars t.test.text ≡ true → PaysFor s.bench t.test t.subject) s.trials
-pays_found q p is d small (Some f) none e file budget text s h = absurd (cc)
-pays_found q p is d small None none e file budget text s h =
+    → (file : List ℕ) (budget : Option ℕ) (text : OrLine (List ℕ)) (s : Suite) → IsText text
+    → ComesAgain p file budget text (Ok s)
+    → Pays s.bench s.trials
+pays_found q p is d small (Some f) none e file budget text s u h = absurd (cc)
+pays_found q p is d small None none e file budget text s u h =
     let same : p ≡ q = cc in
-    pays_again q is d small none file budget text s
+    pays_again q is d small none file budget text s u
     (subst (λ x. ComesAgain x file budget text (Ok s)) same h)
 
 pays_passed : (q p : Packages) → IsBuilt q → (t : Option F.Fault) → table_too_large q ≡ t
     → Passes q t (table_unsound q) q (Ok p)
-    → (file : List ℕ) (budget : Option ℕ) (text : OrLine (List ℕ)) (s : Suite) → ComesAgain p file budget text (Ok s)
-    → All (λ t. all_scalars t.test.text ≡ true → PaysFor s.bench t.test t.subject) s.trials
-pays_passed q p is (Some f) small h file budget text s c = absurd (cc)
-pays_passed q p is None small h file budget text s c =
-    pays_found q p is h.0 small (table_unsound q h.0) refl h.1 file budget text s c
+    → (file : List ℕ) (budget : Option ℕ) (text : OrLine (List ℕ)) (s : Suite) → IsText text
+    → ComesAgain p file budget text (Ok s)
+    → Pays s.bench s.trials
+pays_passed q p is (Some f) small h file budget text s u c = absurd (cc)
+pays_passed q p is None small h file budget text s u c =
+    pays_found q p is h.0 small (table_unsound q h.0) refl h.1 file budget text s u c
 
 pays_loaded : (tree : Tree) (folders : List (List ℕ)) (x : Or Packages) (p : Packages) (file : List ℕ)
     → (load (world tree folders) (File file ∷ [])).answer ≡ x → TableComes x (Ok p)
-    → (budget : Option ℕ) (text : OrLine (List ℕ)) (s : Suite) → ComesAgain p file budget text (Ok s)
-    → All (λ t. all_scalars t.test.text ≡ true → PaysFor s.bench t.test t.subject) s.trials
-pays_loaded tree folders (Err f) p file e h budget text s c = absurd (cc)
-pays_loaded tree folders (Ok q) p file e h budget text s c =
+    → (budget : Option ℕ) (text : OrLine (List ℕ)) (s : Suite) → IsText text → ComesAgain p file budget text (Ok s)
+    → Pays s.bench s.trials
+pays_loaded tree folders (Err f) p file e h budget text s u c = absurd (cc)
+pays_loaded tree folders (Ok q) p file e h budget text s u c =
     let is = told_is_built tree folders q (by_roots (File file ∷ []) q e) in
-    pays_passed q p is (table_too_large q) refl h file budget text s c
+    pays_passed q p is (table_too_large q) refl h file budget text s u c
 
 pays_comes : (tree : Tree) (folders : List (List ℕ)) (file : List ℕ) (budget : Option ℕ) (paths asked : List (List ℕ))
     (o : OrLine Packages) (s : Suite) → TableComes (loading tree folders file).answer o
     → Comes tree file budget paths asked o (Ok s)
-    → All (λ t. all_scalars t.test.text ≡ true → PaysFor s.bench t.test t.subject) s.trials
+    → Pays s.bench s.trials
 pays_comes tree folders file budget paths asked (Err line) s h c = absurd (cc)
 pays_comes tree folders file budget paths asked (Ok p) s h c =
     pays_loaded tree folders (loading tree folders file).answer p file refl h budget
-    (read_again file (file_of (encode_utf8_all file) tree)) s c.1
+    (read_again file (file_of (encode_utf8_all file) tree)) s
+    (text_read file (file_of (encode_utf8_all file) tree)) c.1
 
 pub suite_pays : (tree : Tree) (folders : List (List ℕ)) (file : List ℕ) (budget : Option ℕ) (asked : List (List ℕ))
     (s : Suite) → IsSuite tree folders file budget asked (Ok s)
-    → All (λ t. all_scalars t.test.text ≡ true → PaysFor s.bench t.test t.subject) s.trials
+    → Pays s.bench s.trials
 suite_pays tree folders file budget asked s is =
     pays_comes tree folders file budget (map encode_utf8_all (loading tree folders file).asked) asked is.packages s
     is.loads is.comes

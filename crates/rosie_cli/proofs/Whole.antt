@@ -1,5 +1,5 @@
 -- From a plan to its run, and to what is told of it.
-use Rattle.std.proofs.Common.{ℕ, ◌≡◌, ◌≢◌, inl, inr, ◌-◌, ◌^◌, ◌<◌, ◌≤◌, Bool, true, false, List, [], ◌∷◌, ◌++◌}
+use Rattle.std.proofs.Common.{ℕ, ◌≡◌, ◌≢◌, inl, inr, ◌-◌, ◌^◌, ◌<◌, ◌≤◌, Bool, true, false, cond, List, [], ◌∷◌, ◌++◌}
 use Rattle.std.proofs.Common.{length, refl, sym, ◌∙◌, ap, subst, arith}
 use Rattle.std.specs.Prelude.{Result, Ok, Err, IfOk, codes}
 use Rattle.std.specs.List.{Contains}
@@ -7,11 +7,11 @@ use Rattle.std.proofs.lemmas.Bool.{false≢true}
 use Rattle.rosie_io.specs.Counts.{Rose}
 use Rattle.rosie_run.specs.Causes.{ReadsCause, OutputCause}
 use Rattle.rosie_run.specs.Headline.{CameToEnd, AreShort, Headline, IsComplete}
-use Rattle.rosie_run.specs.Inputs.{inputs_pieces, reads_standard}
+use Rattle.rosie_run.specs.Inputs.{AreTold, inputs_pieces, is_standard, reads_standard}
 use Rattle.rosie_run.specs.Outputs.{Telling, Texts}
 use Rattle.rosie_run.specs.Report.{Piece, has, is_stop, is_fault, stop_piece}
 use Rattle.rosie_run.specs.Runs.{Breaks, Runs, IsCutOf, GoesOn}
-use Rattle.rosie_run.specs.Sources.{Moment, RoseIn}
+use Rattle.rosie_run.specs.Sources.{Moment, RoseIn, Span}
 use Rattle.rosie_run.specs.Where.{Nowhere, not_opened, opened, InInputs, in_file, in_standard, in_loading, in_inputs}
 use Rattle.rosie_run.specs.Statuses.{flags_status}
 use Rattle.rosie_run.specs.Closing.{Closes, why_status}
@@ -32,16 +32,15 @@ use Rattle.rosie_jobs.specs.Lines.{reading}
 use Rattle.rosie_jobs.specs.Makers.{Maker, makes_of}
 use Rattle.rosie_verdicts.specs.Trials.{Bench, Trial, suite_pieces}
 use Rattle.rosie_cli.specs.Planned.{IsPlanned, IsPlannedAs}
-use Rattle.rosie_cli.specs.Plans.{Plan, Says, Writes, Tries, Reads, Planned, Span, refusal, Samples, Replays}
+use Rattle.rosie_cli.specs.Plans.{Plan, Says, Writes, Tries, Reads, Planned, refusal, Samples, Replays}
 use Rattle.rosie_words.specs.declared.command.Command.{Command}
 use Rattle.rosie_session.specs.Loading.{Loading}
 use Rattle.rosie_session.specs.Replay.{replay}
 use Rattle.rosie_session.specs.Where.{InSession, in_lines, in_load}
 use Rattle.rosie_cli.specs.Plans.{pieces, inputs_of, LeavesInput, ReadsInput, among, stood}
-use Rattle.rosie_cli.specs.Promises.{HasRun}
 use Rattle.rosie_cli.specs.Report.{IsAnswer, KnowsFiles, KnowsInputs}
 use Rattle.rosie_cli.specs.Words.{Asked, Refuse, Do, IsRefused}
-use Rattle.rosie_cli.specs.inside.Planning.{IsSaid, HasStepped}
+use Rattle.rosie_cli.specs.inside.Planning.{IsSaid}
 
 -- a run that a piece ended doesn't go on
 pub goes-stop : (s : Result Tally Ended) (P : Type 0) → IfOk s (λ t. t.stop ≡ true) → GoesOn s P
@@ -132,6 +131,17 @@ match-runs s W m whole names names' r plan tree i f a b is n e h =
     subst (λ x. Runs s W (pieces x tree i.before.rest) (among x tree i f) a b) (sym is)
     (subst (λ x. Runs s W (pieces (Reads m whole x) tree i.before.rest) (among (Reads m whole x) tree i f) a b) n read)
 
+-- whose inputs are told
+pub told-names : (names names' : List (List ℕ)) (files input : Type 0) → names' ≡ names → AreTold names files input
+    → AreTold names' files input
+told-names names names' files input e h = subst (λ x. AreTold x files input) (sym e) h
+
+pub names-go : (s : Result Tally Ended) (plan : Plan) (names names' : List (List ℕ)) (P : Type 0)
+    → inputs_of plan ≡ names → names' ≡ names → GoesOn s (reads_standard names' ≡ true → P)
+    → GoesOn s (ReadsInput plan → P)
+names-go s plan names names' P e f h =
+    subst (λ x. GoesOn s (reads_standard x ≡ true → P)) (f ∙ sym e) h
+
 -- and over the same tests
 pub test-runs : (s : Result Tally Ended) (W : Telling) (bench : Bench) (trials : List Trial) (plan : Plan)
     (tree : List (List ℕ × List ℕ)) (i f : Span) (a b : Texts) → plan ≡ Tries bench trials
@@ -167,11 +177,37 @@ read-of (Err E.NoMemory) s W b d P c is goes = absurd (subst CameToEnd c.1 is)
 read-of (Err E.WriteFault) s W b d P c is goes = absurd (subst CameToEnd c.1 is)
 read-of (Err (E.Cut why text)) s W b d P c is goes = elim c.1 [ inl e ↦ absurd (read_why why (subst CameToEnd e.0 is)) | inr e ↦ absurd (subst CameToEnd e.0 is) ]
 
+-- the standard input is among the inputs where one of them has its name
+or_true : (b c : Bool) → c ≡ true → cond b true c ≡ true
+or_true true c e = refl
+or_true false c e = e
+
+reads_at : (front back : List (List ℕ)) (file : List ℕ) → is_standard file ≡ true
+    → reads_standard (front ++ file ∷ back) ≡ true
+unfolding reads_standard
+reads_at [] back file e = ap (λ b. cond b true (reads_standard back)) e
+reads_at (x ∷ front) back file e =
+    or_true (is_standard x) (reads_standard (front ++ file ∷ back)) (reads_at front back file e)
+
+-- a session reads it
+session_reads : reads_standard (codes "-" ∷ []) ≡ true
+unfolding reads_standard
+session_reads = refl
+
 -- no input has as many bytes as are read
-inputs_not_spent : (names : List (List ℕ)) (before : List (List ℕ) → ℕ) (tree : List (List ℕ × List ℕ)) (whole : Bool) (i0 i1 f0 f1 : Moment) (file : List ℕ) (k : ℕ) → length i0.rest < 2 ^ 32 → AreShort names tree → InInputs names before tree whole i0 i1 f0 f1 Y.Spent file k → ⊥
+IsShort : List (List ℕ) → List ℕ → Type 0
+IsShort names rest = reads_standard names ≡ true → length rest < 2 ^ 32
+
+inputs_not_spent : (names : List (List ℕ)) (before : List (List ℕ) → ℕ) (tree : List (List ℕ × List ℕ)) (whole : Bool)
+    (i0 i1 f0 f1 : Moment) (file : List ℕ) (k : ℕ) → IsShort names i0.rest → AreShort names tree
+    → InInputs names before tree whole i0 i1 f0 f1 Y.Spent file k → ⊥
+unfolding IsShort
 inputs_not_spent names before tree whole i0 i1 f0 f1 file k short files (in_file front back n is isn't (not_opened e rose z) x) = absurd (cc)
 inputs_not_spent names before tree whole i0 i1 f0 f1 file k short files (in_file front back n n' isn't (opened got o e at z long) x) = let l = long refl in let m = files front back file (got ++ f1.rest) n' at in absurd (omega arith)
-inputs_not_spent names before tree whole i0 i1 f0 f1 file k short files (in_standard front back n is isn't first x e) = let l = x.long refl in absurd (omega arith)
+inputs_not_spent names before tree whole i0 i1 f0 f1 file k short files (in_standard front back n is isn't first x e) =
+    let l = x.long refl in
+    let m = short (ap reads_standard is ∙ reads_at front back file isn't) in
+    absurd (omega arith)
 
 session_not_spent : (w : Loading) (input : List ℕ) (i0 i1 f0 f1 : Moment) (file : List ℕ) (k : ℕ)
     → length i0.rest < 2 ^ 32 → InSession w input i0 i1 f0 f1 Y.Spent file k → ⊥
@@ -179,7 +215,8 @@ session_not_spent w input i0 i1 f0 f1 file k short (in_lines x) = let l = x.1.lo
 session_not_spent w input i0 i1 f0 f1 file k short (in_load t at asks is rose) = absurd (cc)
 
 among_not_spent : (plan : Plan) (tree : List (List ℕ × List ℕ)) (i f : Span) (file : List ℕ) (k : ℕ)
-    → length i.before.rest < 2 ^ 32 → AreShort (inputs_of plan) tree → among plan tree i f Y.Spent file k → ⊥
+    → IsShort (inputs_of plan) i.before.rest → AreShort (inputs_of plan) tree → among plan tree i f Y.Spent file k → ⊥
+unfolding IsShort
 among_not_spent (Says ps) tree i f file k short files x = x
 among_not_spent (Writes bytes) tree i f file k short files x = x
 among_not_spent (Tries b trials) tree i f file k short files x = x
@@ -188,25 +225,14 @@ among_not_spent (Reads m whole names) tree i f file k short files x =
     whole i.before i.after f.before f.after file k short files x
 among_not_spent (Samples r) tree i f file k short files x = x
 among_not_spent (Replays w) tree i f file k short files x =
-    session_not_spent w i.before.rest i.before i.after f.before f.after file k short x
+    session_not_spent w i.before.rest i.before i.after f.before f.after file k (short session_reads) x
 
 pub not-spent : (p : Planned) (tree : List (List ℕ × List ℕ)) (i f : Span) (file : List ℕ) (k : ℕ)
-    → length i.before.rest < 2 ^ 32 → AreShort (inputs_of p.plan) tree → stood p tree i f Y.Spent file k → ⊥
+    → (reads_standard (inputs_of p.plan) ≡ true → length i.before.rest < 2 ^ 32) → AreShort (inputs_of p.plan) tree
+    → stood p tree i f Y.Spent file k → ⊥
+unfolding IsShort
 not-spent p tree i f file k short files (in_loading at e rose z) = absurd (cc)
 not-spent p tree i f file k short files (in_inputs x) = among_not_spent p.plan tree i f file k short files x
-
--- what is told of all is told of what a command reads
-pub knows_files : (asked : Asked) (files : Type 0) → files → KnowsFiles asked files
-knows_files (Refuse text) files f = tt
-knows_files (Do c) files f = f
-
-pub knows_inputs : (plan : Plan) (files input : Type 0) → files → input → KnowsInputs plan files input
-knows_inputs (Says ps) files input f i = tt
-knows_inputs (Writes bytes) files input f i = tt
-knows_inputs (Tries b trials) files input f i = tt
-knows_inputs (Reads m whole names) files input f i = (f, i)
-knows_inputs (Samples r) files input f i = tt
-knows_inputs (Replays w) files input f i = (f, i)
 
 -- words that are refused have a plan that says so
 pub refused-plan : (a : Asked) (text : List ℕ) (tree : List (List ℕ × List ℕ)) (p : Planned) → Refuse text ≡ a
@@ -243,47 +269,15 @@ pub session-goes : (s : Result Tally Ended) (p : Planned) (P : Type 0) → GoesO
 session-goes (Ok tally) p P h = λ goes _. h goes
 session-goes (Err e) p P h = tt
 
--- the run of a plan came to an end of its own, or the machine made a step
-ran_flags : (s f h : Bool) (status : Status) (n0 n1 : ℕ) → status ≡ flags_status s f h → HasRun status n0 n1
-ran_flags true f h status n0 n1 e = subst (λ x. HasRun x n0 n1) (sym e) tt
-ran_flags false true h status n0 n1 e = subst (λ x. HasRun x n0 n1) (sym e) tt
-ran_flags false false true status n0 n1 e = subst (λ x. HasRun x n0 n1) (sym e) tt
-ran_flags false false false status n0 n1 e = subst (λ x. HasRun x n0 n1) (sym e) tt
-
-stepped_why : (why : Why) (n0 n1 : ℕ) → HasRun (why_status why) n0 n1 → n1 ≢ n0
-stepped_why Y.ReadFault n0 n1 h = h
-stepped_why Y.Spent n0 n1 h = h
-
-pub stepped-of : (r : Result Tally Ended) (s : Status) (W : Telling) (b d : Texts) (n0 n1 : ℕ) → Closes r s W b d
-    → HasRun s n0 n1 → HasStepped r n0 n1
-stepped-of (Ok tally) s W b d n0 n1 c ran = tt
-stepped-of (Err E.NoMemory) s W b d n0 n1 c ran = subst (λ x. HasRun x n0 n1) c.1 ran
-stepped-of (Err E.WriteFault) s W b d n0 n1 c ran = subst (λ x. HasRun x n0 n1) c.1 ran
-stepped-of (Err (E.Cut why text)) s W b d n0 n1 c ran = elim c.1 [
-  | inl e ↦ stepped_why why n0 n1 (subst (λ x. HasRun x n0 n1) e.0 ran)
-  | inr e ↦ subst (λ x. HasRun x n0 n1) e.0 ran
-]
-
--- where nothing goes wrong there is an answer, if a run that comes to its end has no fault
+-- where nothing goes wrong there is an answer
 module _ (W : Telling) (ps : List Piece) (Where : Why → List ℕ → ℕ → Type 0) (a b : Texts) (i0 i1 f0 f1 : Moment)
-    (o0 o1 e0 e1 n0 n1 : ℕ) (i : RoseIn i0 i1 → ⊥) (f : RoseIn f0 f1 → ⊥) (o : Rose o0 o1 → ⊥) (e : Rose e0 e1 → ⊥)
+    (o0 o1 e0 e1 : ℕ) (i : RoseIn i0 i1 → ⊥) (f : RoseIn f0 f1 → ⊥) (o : Rose o0 o1 → ⊥) (e : Rose e0 e1 → ⊥)
     (few : (file : List ℕ) (k : ℕ) → Where Y.Spent file k → ⊥) where
-  pub completes-if : (answer : Status)
-      → (HasRun answer n0 n1 → (has is_stop ps ≡ false) × (has is_fault ps ≡ false))
+  pub completes-if : (answer : Status) → has is_stop ps ≡ false → has is_fault ps ≡ false
       → Headline answer W ps Where a b → ReadsCause answer i0 i1 f0 f1 → OutputCause answer o0 o1 e0 e1
       → IsComplete answer ps
-  completes-if Matched ok h r w =
-      completes W ps Where a b i0 i1 f0 f1 o0 o1 e0 e1 i f o e few (ok tt).0 (ok tt).1 Matched h r w
-  completes-if NoMatch ok h r w =
-      completes W ps Where a b i0 i1 f0 f1 o0 o1 e0 e1 i f o e few (ok tt).0 (ok tt).1 NoMatch h r w
-  completes-if Refused ok h r w =
-      completes W ps Where a b i0 i1 f0 f1 o0 o1 e0 e1 i f o e few (ok tt).0 (ok tt).1 Refused h r w
-  completes-if LineFault ok h r w =
-      completes W ps Where a b i0 i1 f0 f1 o0 o1 e0 e1 i f o e few (ok tt).0 (ok tt).1 LineFault h r w
-  completes-if ReadFault ok h r w = elim r.2 [ inl x ↦ absurd (i x) | inr x ↦ absurd (f x) ]
-  completes-if Spent ok h r w = absurd (few h.file h.k h.stood)
-  completes-if WriteFault ok h r w = elim w.2 [ inl x ↦ absurd (o x) | inr x ↦ absurd (e x) ]
-  completes-if NoMemory ok h r w = tt
+  completes-if answer stays clean h r w =
+      completes W ps Where a b i0 i1 f0 f1 o0 o1 e0 e1 i f o e few stays clean answer h r w
 
   -- where no read and no write goes wrong the answer is the report's
   pub answers-all : (answer : Status) → Headline answer W ps Where a b → ReadsCause answer i0 i1 f0 f1
@@ -302,11 +296,6 @@ module _ (W : Telling) (ps : List Piece) (Where : Why → List ℕ → ℕ → T
 pub unread-names : (plan : Plan) (names names' : List (List ℕ)) → inputs_of plan ≡ names → names' ≡ names
     → LeavesInput plan → reads_standard names' ≡ false
 unread-names plan names names' e f n = ap reads_standard (f ∙ sym e) ∙ n
-
--- a session reads it
-session_reads : reads_standard (codes "-" ∷ []) ≡ true
-unfolding reads_standard
-session_reads = refl
 
 pub session-reads : (p : Planned) (w : Loading) → p ≡ session_planned w → LeavesInput p.plan → ⊥
 session-reads p w is n =

@@ -15,7 +15,7 @@ use Rattle.rosie_cli.specs.Compiling.{IsCompiled}
 use Rattle.rosie_cli.specs.Planned.{IsPlanned, IsRunning, input_names, matching}
 use Rattle.rosie_cli.specs.Plans.{Plan, Planned, Reads, Writes}
 use Rattle.rosie_cli.specs.Report.{report}
-use Rattle.rosie_cli.specs.Promises.{PaysFor, SpellsSafe}
+use Rattle.rosie_cli.specs.Promises.{IsPromised, SpellsSafe}
 use Rattle.rosie_cli.specs.Words.{Asked, Refuse, Do}
 
 -- over each tree of files the words come to one plan alone, with the same paths asked for on the way
@@ -36,9 +36,10 @@ is_of_code (Do c) = asks_code c c.what
 abbrev pub SomePlan : Type 0
 SomePlan = (a : Asked) (tree : Tree) → is_of_code a ≡ false → (p : Planned) × IsPlanned a tree p
 
--- no line and no test of what they come to is said to pass a budget that pays for it
-abbrev pub BudgetLaw : Type 0
-BudgetLaw = (a : Asked) (tree : Tree) (p : Planned) → IsPlanned a tree p → PaysFor p.plan
+-- no line and no test of what they come to is said to pass a budget that pays for it, and a code that is written as a
+-- file is safe
+abbrev pub PromiseLaw : Type 0
+PromiseLaw = (a : Asked) (tree : Tree) (p : Planned) → IsPlanned a tree p → IsPromised p.plan
 
 -- what `compile` writes for a pattern is the spelling of a safe code
 abbrev pub SafeLaw : Type 0

@@ -11,5 +11,6 @@ pub mod Replaying
 pub mod Planned
 pub mod Report
 pub mod Promises
+pub mod Rosie
 pub mod Laws
 pub mod inside

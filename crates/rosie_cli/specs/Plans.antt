@@ -2,7 +2,7 @@
 use Rattle.std.specs.Prelude.{ℕ, ◌≡◌, false, true, Bool, List, [], ◌∷◌, codes, length}
 use Rattle.rosie_run.specs.Inputs.{inputs_pieces, reads_standard}
 use Rattle.rosie_run.specs.Report.{Piece, stop_piece, text_piece}
-use Rattle.rosie_run.specs.Sources.{Moment, moment}
+use Rattle.rosie_run.specs.Sources.{Span}
 use Rattle.rosie_run.specs.Where.{InInputs, InRun, Nowhere}
 use Rattle.rosie_run.specs.declared.ended.Why.{Why}
 use Rattle.rosie_jobs.specs.Lines.{reading}
@@ -61,15 +61,6 @@ ReadsInput plan = reads_standard (inputs_of plan) ≡ true
 -- the standard input isn't among them
 abbrev pub LeavesInput : Plan → Type 0
 LeavesInput plan = reads_standard (inputs_of plan) ≡ false
-
--- a source before and after a run
-pub record Span : Type 0 where
-  pub before : Moment
-  pub after : Moment
-
-abbrev pub span : {S : Type 0} → (S → List ℕ) → (S → ℕ) → (S → ℕ) → (S → ℕ) → S → S → Span
-span rest taken faults opens a b =
-    record { before = moment rest taken faults opens a; after = moment rest taken faults opens b }
 
 -- where reading may end the run of a plan: among its inputs, or in a file that a line of a session asks for. `input` is
 -- the standard input

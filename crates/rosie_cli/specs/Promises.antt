@@ -1,13 +1,10 @@
--- What is promised of a run: when a budget is due, that a written code is safe, and where nothing goes wrong.
-use Rattle.std.specs.Prelude.{ℕ, ◌≡◌, ◌≢◌, Bool, true, false, List, ◌∷◌, ◌++◌, Option, None, Some}
+-- What is promised of a plan: when a budget is due, and that a written code is safe; and where nothing goes wrong.
+use Rattle.std.specs.Prelude.{ℕ, ◌≡◌, Bool, true, false, List, ◌∷◌, ◌++◌, Option, None, Some}
 use Rattle.std.specs.List.{All}
-use Rattle.std.specs.Str.{all_scalars}
 use Rattle.rosie_io.specs.Lines.{lines}
 use Rattle.rosie_io.specs.Opening.{file_of}
 use Rattle.rosie_run.specs.Inputs.{is_standard, reads_standard}
 use Rattle.rosie_run.specs.Report.{has, is_stop, is_fault}
-use Rattle.rosie_run.specs.declared.status.Status.{Status}
-use Rattle.rosie_run.specs.declared.status.Status.TheVariants.{Matched, NoMatch, Refused, LineFault}
 use Rattle.rpl_codefile.specs.Spelling.{Spells}
 use Rattle.rpl_core.specs.Instr.{Instr}
 use Rattle.rpl_safe.specs.Safe.{IsSafe}
@@ -18,15 +15,6 @@ use Rattle.rosie_cli.specs.Plans.{Plan, Says, Writes, Tries, Reads, Samples, Rep
 use Rattle.rosie_sample.specs.Lines.{sample}
 use Rattle.rosie_session.specs.Limits as S
 use Rattle.rosie_session.specs.Replay.{replay}
-
--- no line is said to pass its budget that the budget pays for, and no test whose text is of characters
-abbrev pub PaysFor : Plan → Type 0
-PaysFor (Says ps) = Unit {0}
-PaysFor (Writes bytes) = Unit {0}
-PaysFor (Tries b trials) = All (λ t. all_scalars t.test.text ≡ true → T.PaysFor b t.test t.subject) trials
-PaysFor (Reads m whole names) = Pays m
-PaysFor (Samples r) = Pays r.maker
-PaysFor (Replays w) = S.Pays w
 
 -- the bytes spell a safe code
 abbrev pub SpellsSafe : List ℕ → Type 0
@@ -41,14 +29,6 @@ IsPromised (Tries b trials) = T.Pays b trials
 IsPromised (Reads m whole names) = Pays m
 IsPromised (Samples r) = Pays r.maker
 IsPromised (Replays w) = S.Pays w
-
--- the run came to the end of its report, or the machine made a step: so many were made before, and so many now
-abbrev pub HasRun : Status → (before now : ℕ) → Type 0
-HasRun Matched before now = Unit {0}
-HasRun NoMatch before now = Unit {0}
-HasRun Refused before now = Unit {0}
-HasRun LineFault before now = Unit {0}
-HasRun _ before now = now ≢ before
 
 -- an input that isn't missing, and whose lines are allowed
 abbrev pub SoundFile : Maker → Bool → Option (List ℕ) → Type 0

@@ -1,5 +1,6 @@
 -- The report of a run: what a plan writes over the tree of files and the standard input.
 use Rattle.std.specs.Prelude.{ℕ, List, ◌≡◌, ◌⊎◌}
+use Rattle.rosie_run.specs.Inputs.{AreTold}
 use Rattle.rosie_run.specs.Report.{Piece, up_to_stop, status_of}
 use Rattle.rosie_cli.specs.Plans.{Plan, Says, Writes, Tries, Reads, pieces, Samples, Replays}
 use Rattle.rosie_run.specs.declared.status.Status.{Status}
@@ -14,12 +15,13 @@ report plan tree input = up_to_stop (pieces plan tree input)
 abbrev pub IsAnswer : Status → List Piece → Type 0
 IsAnswer answer ps = (answer ≡ status_of ps) ⊎ (answer ≡ NoMemory)
 
--- what is read is told: the files for a command, and the standard input where lines are read
+-- what is read for a plan is told: the standard input and the files, each where it is among the inputs; for a session
+-- both, since its lines load files
 abbrev pub KnowsInputs : Plan → Type 0 → Type 0 → Type 0
 KnowsInputs (Says ps) files input = Unit {0}
 KnowsInputs (Writes bytes) files input = Unit {0}
 KnowsInputs (Tries b trials) files input = Unit {0}
-KnowsInputs (Reads m whole names) files input = files × input
+KnowsInputs (Reads m whole names) files input = AreTold names files input
 KnowsInputs (Samples r) files input = Unit {0}
 KnowsInputs (Replays w) files input = files × input
 

@@ -1,11 +1,10 @@
 //! The plan of the class with a name.
 
-ghost use Rattle.std.specs.Prelude.{IfErr, IfOk};
+ghost use Rattle.std.specs.Prelude.{IfErr};
 ghost use Rattle.rosie_prepare.specs.inside.Steps.{IsOwn};
 ghost use Rattle.rpl_classes.specs.Classes.{set_named};
 ghost use Rattle.rosie_cli.specs.Classes.{class_plan};
-ghost use Rattle.rosie_cli.specs.Promises.{IsPromised};
-ghost use Rattle.rosie_cli.specs.inside.Planning.{plan_of, IsMade};
+ghost use Rattle.rosie_cli.specs.inside.Planning.{IsMade};
 
 use crate::plan::Plan;
 use rosie_prepare::Unready;
@@ -18,7 +17,6 @@ use std::alloc::Global;
 /// The ranges of the set with a name, a line for each; a name that stands for nothing is refused.
 pub(crate) fn plan_class(alloc: Global, name: &Chars) -> Result<Plan, Unready>
     ensures makes { IsMade result (class_plan name.now (set_named name.now)) }
-    ensures due { IfOk result (λ plan. IsPromised (plan_of plan)) }
     ensures own { IfErr result IsOwn }
 {
     match Set::named(alloc, name.as_str()) {

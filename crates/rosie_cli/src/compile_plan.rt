@@ -1,12 +1,11 @@
 //! The plan of `compile`.
 
-ghost use Rattle.std.specs.Prelude.{Ok, IfErr, IfOk};
+ghost use Rattle.std.specs.Prelude.{Ok, IfErr};
 ghost use Rattle.rosie_prepare.specs.Views.{ready_seen, wanted_seen};
 ghost use Rattle.rosie_prepare.specs.inside.Steps.{IsOwn};
 ghost use Rattle.rosie_cli.specs.Compiling.{Compiles, IsCompiled};
 ghost use Rattle.rosie_cli.specs.Plans.{Planned};
-ghost use Rattle.rosie_cli.specs.Promises.{IsPromised};
-ghost use Rattle.rosie_cli.specs.inside.Planning.{plan_of, IsReady, Leaves, Makes, Plans};
+ghost use Rattle.rosie_cli.specs.inside.Planning.{IsReady, Leaves, Makes, Plans};
 
 use crate::plan::{Plan, uncompiled};
 use rosie_io::Files;
@@ -19,7 +18,6 @@ use std::alloc::Global;
 fn plan_file(alloc: Global, ready: &Prepared) -> Result<Plan, Unready>
     requires { IsReady ready.now }
     ensures makes { Makes result (Compiles (Ok (ready_seen ready.now))) }
-    ensures due { IfOk result (λ plan. IsPromised (plan_of plan)) }
     ensures own { IfErr result IsOwn }
 {
     match compile(alloc, &ready.rules, &ready.goal) {

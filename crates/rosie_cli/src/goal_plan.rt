@@ -12,7 +12,6 @@ ghost use Rattle.rpl_core.specs.View.{core_of};
 ghost use Rattle.rpl_forms.specs.Rows.{Row};
 ghost use Rattle.rosie_cli.specs.Planned.{full_names, input_names, IsRun, IsRunning};
 ghost use Rattle.rosie_cli.specs.Plans.{Planned};
-ghost use Rattle.rosie_cli.specs.Promises.{IsPromised};
 ghost use Rattle.rosie_cli.specs.inside.Planning.{plan_of, run_of, IsReady, Leaves, Makes, Plans};
 
 use crate::plan::{Plan, uncompiled};
@@ -61,9 +60,8 @@ pub(crate) fn input_names(alloc: Global, mut inputs: Paths) -> Result<Paths, NoM
 
 /// The plan of a goal that has its code.
 fn plan_job(alloc: Global, job: Job, purpose: Purpose) -> Result<Plan, NoMemory>
-    ensures plans { IfOk result (λ plan. (rules : List Row) → full_names rules ≡ rule_names job
+    ensures { IfOk result (λ plan. (rules : List Row) → full_names rules ≡ rule_names job
         → run_of purpose rules (job_of job) ≡ plan_of plan) }
-    ensures due { IfOk result (λ plan. IsPromised (plan_of plan)) }
 {
     match purpose {
         Purpose::Match { settings, inputs } => {
@@ -108,7 +106,6 @@ fn compile_goal(alloc: Global, ready: Prepared) -> Result<Job, CompileFault>
 fn plan_ready(alloc: Global, ready: Prepared, purpose: Purpose) -> Result<Plan, Unready>
     requires { IsReady ready }
     ensures makes { Makes result (IsRun (run_of purpose) (Ok (ready_seen ready))) }
-    ensures due { IfOk result (λ plan. IsPromised (plan_of plan)) }
     ensures own { IfErr result IsOwn }
 {
     match compile_goal(alloc, ready) {

@@ -1,6 +1,6 @@
 //! What holds of the commands together, by the definitions alone.
 
-ghost use Rattle.rosie_cli.specs.Laws.{BudgetLaw, HaveOneReport, OnePlan, RunsWhatIsCompiled, SafeLaw, SomePlan};
+ghost use Rattle.rosie_cli.specs.Laws.{HaveOneReport, OnePlan, PromiseLaw, RunsWhatIsCompiled, SafeLaw, SomePlan};
 
 /// Over each tree of files the words come to one plan alone; and they do come to one, unless they ask for a code file,
 /// where only a run shows it.
@@ -9,9 +9,10 @@ pub fn one_plan()
     ensures some { SomePlan }
 {}
 
-/// No line and no test is said to pass its budget that the budget pays for.
-pub fn budget_law()
-    ensures { BudgetLaw }
+/// Whatever the words are, no line and no test is said to pass its budget that the budget pays for, and a code that is
+/// written as a file is safe.
+pub fn promise_law()
+    ensures { PromiseLaw }
 {}
 
 /// What `compile` writes for a pattern is the spelling of a safe code. It is run by `match` as the very code of that

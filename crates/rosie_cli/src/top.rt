@@ -1,24 +1,23 @@
 //! The top call: the words are read, their command is planned, the plan runs, and the run is ended. A session runs
 //! without a plan.
 
-ghost use Rattle.std.specs.Prelude.{◌≡◌, ◌≢◌, ◌<◌, ◌^◌, ◌∷◌, [], ℕ, length, string_bytes, IfErr};
-ghost use Rattle.rosie_io.specs.Counts.{Rose};
+ghost use Rattle.std.specs.Prelude.{◌≡◌, ◌≢◌, ◌∷◌, [], ℕ, string_bytes, IfErr};
 ghost use Rattle.rosie_jobs.specs.Lines.{reading};
-ghost use Rattle.rosie_run.specs.Causes.{SourcesCause, WritesCause, OutputCause, ReadsCause, IsFlushed};
-ghost use Rattle.rosie_run.specs.Headline.{Headline, CameToEnd, IsComplete, AreShort};
-ghost use Rattle.rosie_run.specs.Outputs.{texts};
+ghost use Rattle.rosie_run.specs.Causes.{SourcesCause, WritesCause, IsFlushed};
+ghost use Rattle.rosie_run.specs.Outputs.{shown, telling};
 ghost use Rattle.rosie_run.specs.Report.{stop_piece};
 ghost use Rattle.rosie_run.specs.Runs.{Runs, GoesOn, IsNoCut};
-ghost use Rattle.rosie_run.specs.Sources.{moment, RoseIn};
+ghost use Rattle.rosie_run.specs.Sources.{moment_of, span_of};
 ghost use Rattle.rosie_run.specs.Where.{Nowhere};
 ghost use Rattle.rosie_words.specs.Reading.{words_of};
 ghost use Rattle.rosie_words.specs.declared.command.What.TheVariants as W;
 ghost use Rattle.rosie_cli.specs.Planned.{IsPlanned, IsPlannedAs};
-ghost use Rattle.rosie_cli.specs.Plans.{Planned, pieces, inputs_of, LeavesInput, ReadsInput, span, among, stood};
-ghost use Rattle.rosie_cli.specs.Promises.{IsPromised, HasRun, IsSound};
-ghost use Rattle.rosie_cli.specs.Report.{report, IsAnswer, KnowsFiles, KnowsInputs};
+ghost use Rattle.rosie_cli.specs.Plans.{Planned, pieces, LeavesInput, ReadsInput, among, stood};
+ghost use Rattle.rosie_cli.specs.Replaying.{IsReplayed};
+ghost use Rattle.rosie_cli.specs.Report.{KnowsFiles, KnowsInputs};
+ghost use Rattle.rosie_cli.specs.Rosie.{Answers, call};
 ghost use Rattle.rosie_cli.specs.Words.{asked, IsRefused};
-ghost use Rattle.rosie_cli.specs.inside.Planning.{plan_of, IsSaid, HasStepped};
+ghost use Rattle.rosie_cli.specs.inside.Planning.{plan_of, IsSaid};
 
 use crate::asked::{Asked, ask};
 use crate::plan::Plan;
@@ -30,6 +29,7 @@ use rosie_run::{Ended, Mark, Reading, Status, Tally, Why, cut, finish, run_input
 use rosie_session::run_session;
 use rosie_words::{Command, What};
 use rpl_machine::Steps;
+use rpl_package::LibPath;
 use rpl_print::text_of;
 use std::alloc::Global;
 use std::sync::ledger::Ledger;
@@ -46,10 +46,10 @@ fn reading(whole: bool) -> Reading
 
 /// Refuses the words, with this line.
 fn refuse<O: Sink, E: Sink>(line: String, out: &mut O, err: &mut E) -> Result<Tally, Ended>
-    ensures runs { (n : ℕ) → Runs result (record { out = O.tells; err = E.tells; counts = O.counts })
+    ensures runs { (n : ℕ) → Runs result (telling O.Sink E.Sink)
         (stop_piece (string_bytes line) ∷ []) Nowhere
-        (texts O.written O.number E.written out.old err.old n)
-        (texts O.written O.number E.written out.new err.new n) }
+        (shown O.Sink E.Sink out.old err.old n)
+        (shown O.Sink E.Sink out.new err.new n) }
     ensures no_cut { IfErr result IsNoCut }
     ensures sinks { WritesCause result (O.faults out.old) (O.faults out.new) (E.faults err.old) (E.faults err.new) }
 {
@@ -67,18 +67,19 @@ fn run_plan<F: Files, I: Source, O: Sink, E: Sink, L: Ledger>(
     steps: &mut Steps<L>,
 ) -> Result<Tally, Ended>
     ensures runs { KnowsInputs (plan_of plan.old) F.tells I.tells → Runs result
-        (record { out = O.tells; err = E.tells; counts = O.counts })
+        (telling O.Sink E.Sink)
         (pieces (plan_of plan.old) (F.tree files.old) (I.rest input.old))
         (among (plan_of plan.old) (F.tree files.old)
-        (span I.rest I.taken I.faults I.failed_opens input.old input.new)
-        (span F.rest F.taken F.faults F.failed_opens files.old files.new))
-        (texts O.written O.number E.written out.old err.old steps.old)
-        (texts O.written O.number E.written out.new err.new steps.new) }
-    ensures rest { F.tells → I.tells → GoesOn result (ReadsInput (plan_of plan.old) → I.rest input.new ≡ []) }
-    ensures cause { SourcesCause result (moment I.rest I.taken I.faults I.failed_opens input.old)
-        (moment I.rest I.taken I.faults I.failed_opens input.new)
-        (moment F.rest F.taken F.faults F.failed_opens files.old)
-        (moment F.rest F.taken F.faults F.failed_opens files.new) }
+        (span_of I.Source input.old input.new)
+        (span_of F.Source files.old files.new))
+        (shown O.Sink E.Sink out.old err.old steps.old)
+        (shown O.Sink E.Sink out.new err.new steps.new) }
+    ensures rest { KnowsInputs (plan_of plan.old) F.tells I.tells → GoesOn result
+        (ReadsInput (plan_of plan.old) → I.rest input.new ≡ []) }
+    ensures cause { SourcesCause result (moment_of I.Source input.old)
+        (moment_of I.Source input.new)
+        (moment_of F.Source files.old)
+        (moment_of F.Source files.new) }
     ensures sinks { WritesCause result (O.faults out.old) (O.faults out.new) (E.faults err.old) (E.faults err.new) }
     ensures untouched { IsSaid (plan_of plan.old) → (files.new ≡ files.old) × (input.new ≡ input.old) }
     ensures unread { LeavesInput (plan_of plan.old) → input.new ≡ input.old }
@@ -119,23 +120,21 @@ fn run_planned<F: Files, I: Source, O: Sink, E: Sink, L: Ledger>(
     requires { command.what ≢ W.Repl }
     ensures runs { F.tells → (p : Planned) → IsPlannedAs command command.what (F.tree files.old) p
         → KnowsInputs p.plan F.tells I.tells
-        → Runs result (record { out = O.tells; err = E.tells; counts = O.counts })
+        → Runs result (telling O.Sink E.Sink)
         (pieces p.plan (F.tree files.old) (I.rest input.old))
         (stood p (F.tree files.old)
-        (span I.rest I.taken I.faults I.failed_opens input.old input.new)
-        (span F.rest F.taken F.faults F.failed_opens files.old files.new))
-        (texts O.written O.number E.written out.old err.old steps.old)
-        (texts O.written O.number E.written out.new err.new steps.new) }
-    ensures due { F.tells → (p : Planned) → IsPlannedAs command command.what (F.tree files.old) p
-        → HasStepped result steps.old steps.new → IsPromised p.plan }
-    ensures rest { F.tells → I.tells → (p : Planned) → IsPlannedAs command command.what (F.tree files.old) p
-        → GoesOn result (ReadsInput p.plan → I.rest input.new ≡ []) }
+        (span_of I.Source input.old input.new)
+        (span_of F.Source files.old files.new))
+        (shown O.Sink E.Sink out.old err.old steps.old)
+        (shown O.Sink E.Sink out.new err.new steps.new) }
+    ensures rest { F.tells → (p : Planned) → IsPlannedAs command command.what (F.tree files.old) p
+        → KnowsInputs p.plan F.tells I.tells → GoesOn result (ReadsInput p.plan → I.rest input.new ≡ []) }
     ensures unread { F.tells → (p : Planned) → IsPlannedAs command command.what (F.tree files.old) p
         → LeavesInput p.plan → input.new ≡ input.old }
-    ensures cause { SourcesCause result (moment I.rest I.taken I.faults I.failed_opens input.old)
-        (moment I.rest I.taken I.faults I.failed_opens input.new)
-        (moment F.rest F.taken F.faults F.failed_opens files.old)
-        (moment F.rest F.taken F.faults F.failed_opens files.new) }
+    ensures cause { SourcesCause result (moment_of I.Source input.old)
+        (moment_of I.Source input.new)
+        (moment_of F.Source files.old)
+        (moment_of F.Source files.new) }
     ensures sinks { WritesCause result (O.faults out.old) (O.faults out.new) (E.faults err.old) (E.faults err.new) }
 {
     match plan_command(alloc, command, files) {
@@ -148,7 +147,28 @@ fn run_planned<F: Files, I: Source, O: Sink, E: Sink, L: Ledger>(
     }
 }
 
-/// Does what a command says, but for its end. A session has no plan: it reads its files as its lines come.
+/// Runs a session: each line of the input is a command, and is answered before the next is waited for. Imports are
+/// looked for in the folders, and `steps` counts the machine's steps.
+pub fn session<F: Files, I: Source, O: Sink, E: Sink, L: Ledger>(
+    alloc: Global,
+    files: &mut F,
+    folders: &LibPath,
+    input: &mut I,
+    out: &mut O,
+    err: &mut E,
+    steps: &mut Steps<L>,
+) -> Status
+    ensures answers { Answers (call F.Source I.Source O.Sink E.Sink
+        (IsReplayed folders.now (F.tree files.old)) F.tells files.old files.new
+        input.old input.new out.old out.new err.old err.new steps.old steps.new result) }
+    ensures out_flushed { O.counts → IsFlushed result (O.number out.new) (O.flushed out.new) }
+    ensures err_flushed { E.counts → IsFlushed result (E.number err.new) (E.flushed err.new) }
+{
+    let run = run_session(alloc, folders, files, input, out, err, steps);
+    finish(out, err, run)
+}
+
+/// Does what a command says. A session has no plan: it reads its files as its lines come.
 fn run_command<F: Files, I: Source, O: Sink, E: Sink, L: Ledger>(
     alloc: Global,
     command: Command,
@@ -157,73 +177,21 @@ fn run_command<F: Files, I: Source, O: Sink, E: Sink, L: Ledger>(
     out: &mut O,
     err: &mut E,
     steps: &mut Steps<L>,
-) -> Result<Tally, Ended>
-    ensures runs { F.tells → (p : Planned) → IsPlannedAs command command.what (F.tree files.old) p
-        → KnowsInputs p.plan F.tells I.tells
-        → Runs result (record { out = O.tells; err = E.tells; counts = O.counts })
-        (pieces p.plan (F.tree files.old) (I.rest input.old))
-        (stood p (F.tree files.old)
-        (span I.rest I.taken I.faults I.failed_opens input.old input.new)
-        (span F.rest F.taken F.faults F.failed_opens files.old files.new))
-        (texts O.written O.number E.written out.old err.old steps.old)
-        (texts O.written O.number E.written out.new err.new steps.new) }
-    ensures due { F.tells → (p : Planned) → IsPlannedAs command command.what (F.tree files.old) p
-        → HasStepped result steps.old steps.new → IsPromised p.plan }
-    ensures rest { F.tells → I.tells → (p : Planned) → IsPlannedAs command command.what (F.tree files.old) p
-        → GoesOn result (ReadsInput p.plan → I.rest input.new ≡ []) }
+) -> Status
+    ensures answers { Answers (call F.Source I.Source O.Sink E.Sink
+        (IsPlannedAs command command.what (F.tree files.old)) F.tells files.old files.new
+        input.old input.new out.old out.new err.old err.new steps.old steps.new result) }
     ensures unread { F.tells → (p : Planned) → IsPlannedAs command command.what (F.tree files.old) p
         → LeavesInput p.plan → input.new ≡ input.old }
-    ensures cause { SourcesCause result (moment I.rest I.taken I.faults I.failed_opens input.old)
-        (moment I.rest I.taken I.faults I.failed_opens input.new)
-        (moment F.rest F.taken F.faults F.failed_opens files.old)
-        (moment F.rest F.taken F.faults F.failed_opens files.new) }
-    ensures sinks { WritesCause result (O.faults out.old) (O.faults out.new) (E.faults err.old) (E.faults err.new) }
+    ensures out_flushed { O.counts → IsFlushed result (O.number out.new) (O.flushed out.new) }
+    ensures err_flushed { E.counts → IsFlushed result (E.number err.new) (E.flushed err.new) }
 {
     match command.what {
-        What::Repl => run_session(alloc, &command.folders, files, input, out, err, steps),
-        _ => run_planned(alloc, command, files, input, out, err, steps),
-    }
-}
-
-/// Does what the words say, but for its end.
-fn run_words<F: Files, I: Source, O: Sink, E: Sink, L: Ledger>(
-    alloc: Global,
-    words: &[String],
-    files: &mut F,
-    input: &mut I,
-    out: &mut O,
-    err: &mut E,
-    steps: &mut Steps<L>,
-) -> Result<Tally, Ended>
-    ensures runs { (p : Planned) → KnowsFiles (asked (words_of words.now)) F.tells
-        → IsPlanned (asked (words_of words.now)) (F.tree files.old) p → KnowsInputs p.plan F.tells I.tells
-        → Runs result (record { out = O.tells; err = E.tells; counts = O.counts })
-        (pieces p.plan (F.tree files.old) (I.rest input.old))
-        (stood p (F.tree files.old)
-        (span I.rest I.taken I.faults I.failed_opens input.old input.new)
-        (span F.rest F.taken F.faults F.failed_opens files.old files.new))
-        (texts O.written O.number E.written out.old err.old steps.old)
-        (texts O.written O.number E.written out.new err.new steps.new) }
-    ensures due { (p : Planned) → KnowsFiles (asked (words_of words.now)) F.tells
-        → IsPlanned (asked (words_of words.now)) (F.tree files.old) p → HasStepped result steps.old steps.new
-        → IsPromised p.plan }
-    ensures rest { F.tells → I.tells → (p : Planned) → IsPlanned (asked (words_of words.now)) (F.tree files.old) p
-        → GoesOn result (ReadsInput p.plan → I.rest input.new ≡ []) }
-    ensures unread { (p : Planned) → KnowsFiles (asked (words_of words.now)) F.tells
-        → IsPlanned (asked (words_of words.now)) (F.tree files.old) p → LeavesInput p.plan → input.new ≡ input.old }
-    ensures cause { SourcesCause result (moment I.rest I.taken I.faults I.failed_opens input.old)
-        (moment I.rest I.taken I.faults I.failed_opens input.new)
-        (moment F.rest F.taken F.faults F.failed_opens files.old)
-        (moment F.rest F.taken F.faults F.failed_opens files.new) }
-    ensures sinks { WritesCause result (O.faults out.old) (O.faults out.new) (E.faults err.old) (E.faults err.new) }
-    ensures untouched { IsRefused (asked (words_of words.now)) → (files.new ≡ files.old) × (input.new ≡ input.old) }
-{
-    match ask(alloc, words) {
-        Ok(asked) => match asked {
-            Asked::Refuse(text) => refuse(text, out, err),
-            Asked::Do(command) => run_command(alloc, command, files, input, out, err, steps),
-        },
-        Err(_) => Err(Ended::NoMemory),
+        What::Repl => session(alloc, files, &command.folders, input, out, err, steps),
+        _ => {
+            let run = run_planned(alloc, command, files, input, out, err, steps);
+            finish(out, err, run)
+        }
     }
 }
 
@@ -238,65 +206,28 @@ pub fn rosie<F: Files, I: Source, O: Sink, E: Sink, L: Ledger>(
     err: &mut E,
     steps: &mut Steps<L>,
 ) -> Status
-    // What the answer tells of the report of what the words come to: all of it is written, or its first pieces and why
-    // reading ended the run, or a front of it.
-    ensures headline { (p : Planned) → KnowsFiles (asked (words_of words.now)) F.tells
-        → IsPlanned (asked (words_of words.now)) (F.tree files.old) p → KnowsInputs p.plan F.tells I.tells
-        → Headline result (record { out = O.tells; err = E.tells; counts = O.counts })
-        (report p.plan (F.tree files.old) (I.rest input.old))
-        (stood p (F.tree files.old)
-        (span I.rest I.taken I.faults I.failed_opens input.old input.new)
-        (span F.rest F.taken F.faults F.failed_opens files.old files.new))
-        (texts O.written O.number E.written out.old err.old steps.old)
-        (texts O.written O.number E.written out.new err.new steps.new) }
+    // What is written, answered and read, by the report of what the words come to: `specs/Rosie.antt`.
+    ensures answers { Answers (call F.Source I.Source O.Sink E.Sink
+        (IsPlanned (asked (words_of words.now)) (F.tree files.old)) (KnowsFiles (asked (words_of words.now)) F.tells)
+        files.old files.new input.old input.new out.old out.new err.old err.new steps.old steps.new result) }
 
-    // Where it came to its end, the standard input was read to its end, if it is among the inputs; if it isn't, nothing of
-    // it was read. Words that are refused open nothing either.
-    ensures read { F.tells → I.tells → (p : Planned) → IsPlanned (asked (words_of words.now)) (F.tree files.old) p
-        → CameToEnd result → ReadsInput p.plan → I.rest input.new ≡ [] }
+    // Where the standard input isn't among the inputs, nothing of it is read. Words that are refused open nothing.
     ensures unread { (p : Planned) → KnowsFiles (asked (words_of words.now)) F.tells
         → IsPlanned (asked (words_of words.now)) (F.tree files.old) p → LeavesInput p.plan → input.new ≡ input.old }
     ensures untouched { IsRefused (asked (words_of words.now)) → (files.new ≡ files.old) × (input.new ≡ input.old) }
 
-    // No line is said to pass its budget that the budget pays for, and a code that is written as a file is safe. Where
-    // no read and no write goes wrong, the answer is the report's; and where nothing goes wrong, that tells of a match.
-    ensures promised { (p : Planned) → KnowsFiles (asked (words_of words.now)) F.tells
-        → IsPlanned (asked (words_of words.now)) (F.tree files.old) p → HasRun result steps.old steps.new
-        → IsPromised p.plan }
-    ensures answers { F.tells → I.tells → (p : Planned)
-        → IsPlanned (asked (words_of words.now)) (F.tree files.old) p
-        → ¬ RoseIn (moment I.rest I.taken I.faults I.failed_opens input.old)
-        (moment I.rest I.taken I.faults I.failed_opens input.new)
-        → ¬ RoseIn (moment F.rest F.taken F.faults F.failed_opens files.old)
-        (moment F.rest F.taken F.faults F.failed_opens files.new)
-        → ¬ Rose (O.faults out.old) (O.faults out.new)
-        → ¬ Rose (E.faults err.old) (E.faults err.new)
-        → length (I.rest input.old) < 2 ^ 32
-        → AreShort (inputs_of p.plan) (F.tree files.old)
-        → IsAnswer result (report p.plan (F.tree files.old) (I.rest input.old)) }
-    ensures complete { F.tells → I.tells → (p : Planned)
-        → IsPlanned (asked (words_of words.now)) (F.tree files.old) p
-        → ¬ RoseIn (moment I.rest I.taken I.faults I.failed_opens input.old)
-        (moment I.rest I.taken I.faults I.failed_opens input.new)
-        → ¬ RoseIn (moment F.rest F.taken F.faults F.failed_opens files.old)
-        (moment F.rest F.taken F.faults F.failed_opens files.new)
-        → ¬ Rose (O.faults out.old) (O.faults out.new)
-        → ¬ Rose (E.faults err.old) (E.faults err.new)
-        → length (I.rest input.old) < 2 ^ 32
-        → AreShort (inputs_of p.plan) (F.tree files.old)
-        → IsSound p.plan (F.tree files.old) (I.rest input.old)
-        → IsComplete result (report p.plan (F.tree files.old) (I.rest input.old)) }
-
-    // Of every stream: no fault is answered without its cause, and all is flushed unless a write failed or memory was
-    // wanting.
-    ensures reads { ReadsCause result (moment I.rest I.taken I.faults I.failed_opens input.old)
-        (moment I.rest I.taken I.faults I.failed_opens input.new)
-        (moment F.rest F.taken F.faults F.failed_opens files.old)
-        (moment F.rest F.taken F.faults F.failed_opens files.new) }
-    ensures writes { OutputCause result (O.faults out.old) (O.faults out.new) (E.faults err.old) (E.faults err.new) }
+    // All is flushed, unless a write failed or memory was wanting.
     ensures out_flushed { O.counts → IsFlushed result (O.number out.new) (O.flushed out.new) }
     ensures err_flushed { E.counts → IsFlushed result (E.number err.new) (E.flushed err.new) }
 {
-    let run = run_words(alloc, words, files, input, out, err, steps);
-    finish(out, err, run)
+    match ask(alloc, words) {
+        Ok(asked) => match asked {
+            Asked::Refuse(text) => {
+                let run = refuse(text, out, err);
+                finish(out, err, run)
+            }
+            Asked::Do(command) => run_command(alloc, command, files, input, out, err, steps),
+        },
+        Err(_) => finish(out, err, Err(Ended::NoMemory)),
+    }
 }

@@ -3,7 +3,7 @@ use Rattle.std.proofs.Common.{ℕ, zero, suc, ◌≡◌, ◌+◌, ◌-◌, ◌^�
 use Rattle.std.proofs.lemmas.Bool.{false≢true}
 use Rattle.std.proofs.lemmas.List.{append-nil, drop_more, drop_all}
 use Rattle.rosie_io.specs.Counts.{Rose}
-use Rattle.rosie_run.specs.Inputs.{is_standard, one_pieces, left_after, left_all, inputs_pieces, reads_standard, names_of}
+use Rattle.rosie_run.specs.Inputs.{is_standard, one_pieces, left_after, left_all, inputs_pieces, reads_file, reads_standard, names_of}
 use Rattle.rosie_run.specs.Lines.{Makes}
 use Rattle.rosie_run.specs.Outputs.{Telling, Texts, Wrote, Stands}
 use Rattle.rosie_run.specs.Report.{Piece, has, is_stop, up_to_stop, tally_of, added}
@@ -112,6 +112,41 @@ reads_drop f (x ∷ xs) (suc i) h = reads_drop f xs i (reads_cons (f x) (names_o
 
 pub not-standard : {Z : Type 0} (f : Z → List ℕ) (xs : List Z) (i : ℕ) (name : List ℕ) (more : List (List ℕ)) → names_of f (drop i xs) ≡ name ∷ more → reads_standard (names_of f xs) ≡ false → is_standard name ≡ false
 not-standard f xs i name more next h = (reads_cons name more (sym (ap reads_standard next) ∙ reads_drop f xs i h)).0
+
+-- one that stands there is among them
+true_by : (a b : Bool) → (a ≡ false → b ≡ false) → b ≡ true → a ≡ true
+true_by true b h e = refl
+true_by false b h e = absurd (false≢true (sym (h refl) ∙ e))
+
+pub standard-there : {Z : Type 0} (f : Z → List ℕ) (xs : List Z) (i : ℕ) (name : List ℕ) (more : List (List ℕ))
+    → names_of f (drop i xs) ≡ name ∷ more → is_standard name ≡ true → reads_standard (names_of f xs) ≡ true
+standard-there f xs i name more next is =
+    true_by (reads_standard (names_of f xs)) (is_standard name) (λ n. not-standard f xs i name more next n) is
+
+files_head : (standard : Bool) (rest : Bool) → cond standard rest true ≡ false → (standard ≡ true) × (rest ≡ false)
+files_head true rest h = (refl, h)
+files_head false rest h = absurd (false≢true (sym h))
+
+files_cons : (name : List ℕ) (more : List (List ℕ)) → reads_file (name ∷ more) ≡ false
+    → (is_standard name ≡ true) × (reads_file more ≡ false)
+unfolding reads_file
+files_cons name more h = files_head (is_standard name) (reads_file more) h
+
+files_drop : {Z : Type 0} (f : Z → List ℕ) (xs : List Z) (i : ℕ) → reads_file (names_of f xs) ≡ false
+    → reads_file (names_of f (drop i xs)) ≡ false
+files_drop f xs zero h = h
+files_drop f [] (suc i) h = h
+files_drop f (x ∷ xs) (suc i) h = files_drop f xs i (files_cons (f x) (names_of f xs) h).1
+
+file_by : (a b : Bool) → (a ≡ false → b ≡ true) → b ≡ false → a ≡ true
+file_by true b h e = refl
+file_by false b h e = absurd (false≢true (sym e ∙ h refl))
+
+pub file-there : {Z : Type 0} (f : Z → List ℕ) (xs : List Z) (i : ℕ) (name : List ℕ) (more : List (List ℕ))
+    → names_of f (drop i xs) ≡ name ∷ more → is_standard name ≡ false → reads_file (names_of f xs) ≡ true
+file-there f xs i name more next isn't =
+    file_by (reads_file (names_of f xs)) (is_standard name)
+    (λ n. (files_cons name more (sym (ap reads_file next) ∙ files_drop f xs i n)).0) isn't
 
 pub untouched-on : {I : Type 0} (standard read read' : Bool) (i0 i i' : I) → (standard ≡ true → read' ≡ true) → (standard ≡ false → (read' ≡ read) × (i' ≡ i)) → (read ≡ false → i ≡ i0) → read' ≡ false → i' ≡ i0
 untouched-on true read read' i0 i i' is isn't h e = absurd (false≢true (sym e ∙ is refl))

@@ -1,10 +1,13 @@
 -- What the answer of a run says of its report.
 use Rattle.rosie_run.specs.declared.ended.Why.TheVariants as Y
+use Rattle.rosie_io.specs.Counts.{Rose}
 use Rattle.rosie_io.specs.Opening.{file_of}
+use Rattle.rosie_run.specs.Inputs.{reads_standard}
 use Rattle.rosie_run.specs.Lines.{input_fault}
-use Rattle.rosie_run.specs.Outputs.{Fronts, IsFront, Telling, Texts, Wrote}
+use Rattle.rosie_run.specs.Outputs.{Failures, Fronts, IsFront, Telling, Texts, Wrote}
 use Rattle.rosie_run.specs.Report.{Piece, errs, has, is_hit, is_stop, outs, status_of}
 use Rattle.rosie_run.specs.Runs.{why_text}
+use Rattle.rosie_run.specs.Sources.{RoseIn, Span}
 use Rattle.rosie_run.specs.declared.ended.Why.{Why}
 use Rattle.rosie_run.specs.declared.status.Status.TheVariants.{Matched, NoMatch, Refused, LineFault, ReadFault}
 use Rattle.rosie_run.specs.declared.status.Status.TheVariants.{WriteFault, NoMemory, Spent}
@@ -69,3 +72,13 @@ abbrev pub AreShort : List (List ℕ) → List (List ℕ × List ℕ) → Type 0
 AreShort names tree =
     (front back : List (List ℕ)) (path bytes : List ℕ) → names ≡ front ++ path ∷ back → file_of path tree ≡ Some bytes
     → length bytes < 2 ^ 32
+
+-- no read and no write goes wrong, and each of the inputs has fewer bytes than are read
+pub record NothingFails (names : List (List ℕ)) (tree : List (List ℕ × List ℕ)) (input files : Span)
+    (old new : Failures) : Type 0 where
+  pub input_reads : RoseIn input.before input.after → ⊥
+  pub files_read : RoseIn files.before files.after → ⊥
+  pub out_writes : Rose old.out new.out → ⊥
+  pub err_writes : Rose old.err new.err → ⊥
+  pub input_short : reads_standard names ≡ true → length input.before.rest < 2 ^ 32
+  pub files_short : AreShort names tree

@@ -3,7 +3,8 @@ use Rattle.rosie_io.specs.Opening.{file_of}
 use Rattle.rosie_run.specs.Lines.{Makes, input_fault, input_pieces}
 use Rattle.rosie_run.specs.Report.{Piece, stop_piece}
 use Rattle.rosie_run.specs.declared.lines.Reading.{Reading}
-use Rattle.std.specs.Prelude.{if◌then◌else◌, ◌++◌, ◌∷◌, Bool, List, None, Option, Some, [], codes, false, map, true, ℕ}
+use Rattle.std.specs.Prelude.{if◌then◌else◌, ◌≡◌, ◌++◌, ◌∷◌, Bool, List, None, Option, Some, [], codes, false, map}
+use Rattle.std.specs.Prelude.{true, ℕ}
 use Rattle.std.specs.Str.{bytes_eq}
 
 -- the name of the standard input
@@ -34,6 +35,16 @@ inputs_pieces makes r tree left (name ∷ more) =
 unfoldable pub reads_standard : List (List ℕ) → Bool
 reads_standard [] = false
 reads_standard (name ∷ more) = if is_standard name then true else reads_standard more
+
+-- a file is among them
+unfoldable pub reads_file : List (List ℕ) → Bool
+reads_file [] = false
+reads_file (name ∷ more) = if is_standard name then reads_file more else true
+
+-- what is read of them is told: the standard input and the files, each where it is among them
+pub record AreTold (names : List (List ℕ)) (files input : Type 0) : Type 0 where
+  pub of_input : reads_standard names ≡ true → input
+  pub of_files : reads_file names ≡ true → files
 
 -- the texts of some names
 abbrev pub names_of : {Z : Type 0} → (Z → List ℕ) → List Z → List (List ℕ)

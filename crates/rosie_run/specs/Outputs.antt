@@ -1,5 +1,6 @@
 -- What stands on the outputs, and what pieces add to it.
 use Rattle.rosie_io.specs.Counts.{capped}
+use Rattle.rosie_io.specs.declared.outside.Sink.{Ghosts}
 use Rattle.rosie_run.specs.Report.{Piece, costs, errs, has, is_stop, outs, tally_of}
 use Rattle.rosie_run.specs.declared.tally.Tally.{Tally}
 use Rattle.std.specs.Prelude.{◌++◌, ◌+◌, ◌≡◌, ◌≤◌, ◌⊎◌, List, false, length, take, ℕ}
@@ -19,6 +20,20 @@ pub record Texts : Type 0 where
 
 abbrev pub texts : {O E : Type 0} → (O → List ℕ) → (O → ℕ) → (E → List ℕ) → O → E → ℕ → Texts
 texts written number written' o e n = record { out = written o; err = written' e; number = number o; steps = n }
+
+-- what the two outputs tell, what stands on them, and how many of their writes and flushes failed
+abbrev pub telling : {O E : Type 0} → Ghosts O → Ghosts E → Telling
+telling O E = record { out = O.tells; err = E.tells; counts = O.counts }
+
+abbrev pub shown : {O E : Type 0} → Ghosts O → Ghosts E → O → E → ℕ → Texts
+shown O E o e n = texts O.written O.number E.written o e n
+
+pub record Failures : Type 0 where
+  pub out : ℕ
+  pub err : ℕ
+
+abbrev pub failures : {O E : Type 0} → Ghosts O → Ghosts E → O → E → Failures
+failures O E o e = record { out = O.faults o; err = E.faults e }
 
 -- just these pieces were added
 pub record Wrote (T : Telling) (ps : List Piece) (a b : Texts) : Type 0 where

@@ -17,6 +17,14 @@ moment rest taken faults opens s = record { rest = rest s; taken = taken s; faul
 abbrev pub moment_of : {S : Type 0} → Ghosts S → S → Moment
 moment_of S s = moment S.rest S.taken S.faults S.failed_opens s
 
+-- a source before and after a call
+pub record Span : Type 0 where
+  pub before : Moment
+  pub after : Moment
+
+abbrev pub span_of : {S : Type 0} → Ghosts S → S → S → Span
+span_of S a b = record { before = moment_of S a; after = moment_of S b }
+
 -- so many bytes were taken, or the number stands at the greatest u64
 abbrev pub TookMany : ℕ → ℕ → Type 0
 TookMany before now = now < 2 ^ 64 - 1 → before + 2 ^ 32 ≤ now

@@ -1,7 +1,7 @@
 // How a run ends.
 ghost use Rattle.std.specs.Prelude.{ℕ, ◌≡◌};
 ghost use Rattle.rosie_run.specs.Causes.{IsFlushed};
-ghost use Rattle.rosie_run.specs.Outputs.{texts};
+ghost use Rattle.rosie_run.specs.Outputs.{shown, telling};
 ghost use Rattle.rosie_run.specs.Closing.{Closes, ClosesCause};
 
 use crate::write::{close_with, flush_both};
@@ -10,9 +10,9 @@ use rosie_io::Sink;
 
 /// Ends a run: says why reading ended it, where it did, and flushes all that was written.
 pub fn finish<O: Sink, E: Sink>(out: &mut O, err: &mut E, run: Result<Tally, Ended>) -> Status
-    ensures closes { (n : ℕ) → Closes run result (record { out = O.tells; err = E.tells; counts = O.counts })
-        (texts O.written O.number E.written out.old err.old n)
-        (texts O.written O.number E.written out.new err.new n) }
+    ensures closes { (n : ℕ) → Closes run result (telling O.Sink E.Sink)
+        (shown O.Sink E.Sink out.old err.old n)
+        (shown O.Sink E.Sink out.new err.new n) }
     ensures cause { ClosesCause run result (O.faults out.old) (O.faults out.new) (E.faults err.old)
         (E.faults err.new) }
     ensures out_flushed { O.counts → IsFlushed result (O.number out.new) (O.flushed out.new) }

@@ -6,11 +6,11 @@ ghost use Rattle.rosie_io.specs.Answering.{Keeps};
 ghost use Rattle.rosie_io.specs.Opening.{file_of};
 ghost use Rattle.rosie_run.specs.Causes.{FilesCause, SourcesCause, WritesCause};
 ghost use Rattle.rosie_run.specs.Inputs.{is_standard, file_pieces, one_pieces, left_after, inputs_pieces};
-ghost use Rattle.rosie_run.specs.Inputs.{reads_standard, names_of};
+ghost use Rattle.rosie_run.specs.Inputs.{AreTold, reads_standard, names_of};
 ghost use Rattle.rosie_run.specs.Lines.{input_pieces};
-ghost use Rattle.rosie_run.specs.Outputs.{texts};
+ghost use Rattle.rosie_run.specs.Outputs.{shown, telling};
 ghost use Rattle.rosie_run.specs.Runs.{Runs, GoesOn};
-ghost use Rattle.rosie_run.specs.Sources.{moment, moment_of};
+ghost use Rattle.rosie_run.specs.Sources.{moment_of};
 ghost use Rattle.rosie_run.specs.Where.{InNamed, InFileNamed, InOne, InInputs};
 ghost use Rattle.rosie_run.specs.inside.Causes.{IsEndedBy};
 
@@ -51,16 +51,16 @@ pub fn run_source<J: LineJob, S: Source, O: Sink, E: Sink, L: Ledger>(
 ) -> Result<Tally, Ended>
     ensures keeps { Keeps reader.old reader.new }
     ensures same { J.makes job.new ≡ J.makes job.old }
-    ensures runs { S.tells → Runs result (record { out = O.tells; err = E.tells; counts = O.counts })
+    ensures runs { S.tells → Runs result (telling O.Sink E.Sink)
         (input_pieces (J.makes job.old) (record { whole = reader.old.whole; most = reader.old.most }) file.now
         (S.rest source.old))
-        (InNamed file.now reader.old.whole (moment S.rest S.taken S.faults S.failed_opens source.old)
-        (moment S.rest S.taken S.faults S.failed_opens source.new))
-        (texts O.written O.number E.written out.old err.old steps.old)
-        (texts O.written O.number E.written out.new err.new steps.new) }
+        (InNamed file.now reader.old.whole (moment_of S.Source source.old)
+        (moment_of S.Source source.new))
+        (shown O.Sink E.Sink out.old err.old steps.old)
+        (shown O.Sink E.Sink out.new err.new steps.new) }
     ensures rest { S.tells → GoesOn result (S.rest source.new ≡ []) }
-    ensures cause { FilesCause result (moment S.rest S.taken S.faults S.failed_opens source.old)
-        (moment S.rest S.taken S.faults S.failed_opens source.new) }
+    ensures cause { FilesCause result (moment_of S.Source source.old)
+        (moment_of S.Source source.new) }
     ensures sinks { WritesCause result (O.faults out.old) (O.faults out.new) (E.faults err.old) (E.faults err.new) }
     ensures taken { S.taken source.new < 2 ^ 64 - 1 → S.taken source.old ≤ S.taken source.new }
     ensures tree { S.tree source.new ≡ S.tree source.old }
@@ -84,13 +84,13 @@ fn run_file<J: LineJob, F: Files, O: Sink, E: Sink, L: Ledger>(
     err: &mut E,
     steps: &mut Steps<L>,
 ) -> Result<Tally, Ended>
-    ensures runs { F.tells → Runs result (record { out = O.tells; err = E.tells; counts = O.counts })
+    ensures runs { F.tells → Runs result (telling O.Sink E.Sink)
         (file_pieces (J.makes job.old) (record { whole = reader.old.whole; most = reader.old.most }) path.now
         (file_of path.now (F.tree files.old)))
         (InFileNamed path.now (F.tree files.old) reader.old.whole
         (moment_of F.Source files.old) (moment_of F.Source files.new))
-        (texts O.written O.number E.written out.old err.old steps.old)
-        (texts O.written O.number E.written out.new err.new steps.new) }
+        (shown O.Sink E.Sink out.old err.old steps.old)
+        (shown O.Sink E.Sink out.new err.new steps.new) }
     ensures cause { FilesCause result (moment_of F.Source files.old) (moment_of F.Source files.new) }
     ensures sinks { WritesCause result (O.faults out.old) (O.faults out.new) (E.faults err.old) (E.faults err.new) }
     ensures taken { F.taken files.new < 2 ^ 64 - 1 → F.taken files.old ≤ F.taken files.new }
@@ -131,16 +131,17 @@ fn run_one<J: LineJob, F: Files, I: Source, O: Sink, E: Sink, L: Ledger>(
     err: &mut E,
     steps: &mut Steps<L>,
 ) -> Result<Tally, Ended>
-    ensures runs { F.tells → I.tells → (read.old ≡ true → I.rest input.old ≡ []) → Runs result
-        (record { out = O.tells; err = E.tells; counts = O.counts })
+    ensures runs { (is_standard name.now ≡ false → F.tells) → (is_standard name.now ≡ true → I.tells)
+        → (read.old ≡ true → I.rest input.old ≡ []) → Runs result
+        (telling O.Sink E.Sink)
         (one_pieces (J.makes job.old) (record { whole = reader.old.whole; most = reader.old.most })
         (F.tree files.old) (I.rest input.old) name.now)
         (InOne name.now read.old (F.tree files.old) reader.old.whole
         (moment_of I.Source input.old) (moment_of I.Source input.new)
         (moment_of F.Source files.old) (moment_of F.Source files.new))
-        (texts O.written O.number E.written out.old err.old steps.old)
-        (texts O.written O.number E.written out.new err.new steps.new) }
-    ensures rest { I.tells → (read.old ≡ true → I.rest input.old ≡ []) → GoesOn result
+        (shown O.Sink E.Sink out.old err.old steps.old)
+        (shown O.Sink E.Sink out.new err.new steps.new) }
+    ensures rest { (is_standard name.now ≡ true → I.tells) → (read.old ≡ true → I.rest input.old ≡ []) → GoesOn result
         (I.rest input.new ≡ left_after name.now (I.rest input.old)) }
     ensures cause { SourcesCause result (moment_of I.Source input.old) (moment_of I.Source input.new)
         (moment_of F.Source files.old) (moment_of F.Source files.new) }
@@ -184,25 +185,25 @@ pub fn run_inputs<J: LineJob, F: Files, I: Source, O: Sink, E: Sink, L: Ledger>(
 ) -> Result<Tally, Ended>
     requires { reading.most ≤ 2 ^ 30 }
     ensures same { J.makes job.new ≡ J.makes job.old }
-    ensures runs { F.tells → I.tells → Runs result (record { out = O.tells; err = E.tells; counts = O.counts })
+    ensures runs { AreTold (names_of encode_utf8_all names.now) F.tells I.tells → Runs result (telling O.Sink E.Sink)
         (inputs_pieces (J.makes job.old) reading (F.tree files.old) (I.rest input.old)
         (names_of encode_utf8_all names.now))
         (InInputs (names_of encode_utf8_all names.now) (λ front. length
         (inputs_pieces (J.makes job.old) reading (F.tree files.old) (I.rest input.old) front))
         (F.tree files.old) reading.whole
-        (moment I.rest I.taken I.faults I.failed_opens input.old)
-        (moment I.rest I.taken I.faults I.failed_opens input.new)
-        (moment F.rest F.taken F.faults F.failed_opens files.old)
-        (moment F.rest F.taken F.faults F.failed_opens files.new))
-        (texts O.written O.number E.written out.old err.old steps.old)
-        (texts O.written O.number E.written out.new err.new steps.new) }
-    ensures rest { F.tells → I.tells → GoesOn result (reads_standard (names_of encode_utf8_all names.now) ≡ true
-        → I.rest input.new ≡ []) }
+        (moment_of I.Source input.old)
+        (moment_of I.Source input.new)
+        (moment_of F.Source files.old)
+        (moment_of F.Source files.new))
+        (shown O.Sink E.Sink out.old err.old steps.old)
+        (shown O.Sink E.Sink out.new err.new steps.new) }
+    ensures rest { AreTold (names_of encode_utf8_all names.now) F.tells I.tells → GoesOn result
+        (reads_standard (names_of encode_utf8_all names.now) ≡ true → I.rest input.new ≡ []) }
     ensures unread { reads_standard (names_of encode_utf8_all names.now) ≡ false → input.new ≡ input.old }
-    ensures cause { SourcesCause result (moment I.rest I.taken I.faults I.failed_opens input.old)
-        (moment I.rest I.taken I.faults I.failed_opens input.new)
-        (moment F.rest F.taken F.faults F.failed_opens files.old)
-        (moment F.rest F.taken F.faults F.failed_opens files.new) }
+    ensures cause { SourcesCause result (moment_of I.Source input.old)
+        (moment_of I.Source input.new)
+        (moment_of F.Source files.old)
+        (moment_of F.Source files.new) }
     ensures sinks { WritesCause result (O.faults out.old) (O.faults out.new) (E.faults err.old) (E.faults err.new) }
     ensures tree { F.tree files.new ≡ F.tree files.old }
 {

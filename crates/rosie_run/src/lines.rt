@@ -6,7 +6,7 @@ ghost use Rattle.rosie_io.specs.Appending.{Appends};
 ghost use Rattle.rosie_io.specs.Counts.{capped};
 ghost use Rattle.rosie_io.specs.Gathering.{left, Reads};
 ghost use Rattle.rosie_run.specs.Lines.{input_pieces, line_fault};
-ghost use Rattle.rosie_run.specs.Outputs.{OutFirst, texts};
+ghost use Rattle.rosie_run.specs.Outputs.{OutFirst, shown, telling};
 ghost use Rattle.rosie_run.specs.inside.Causes.{BothCause, SinksCause, SourceCause, SpentCause, IsOfReading};
 ghost use Rattle.rosie_run.specs.inside.Passing.{MakesLine, CountsLine, StopsLine, RunsInput, ComesOf, SaysFault};
 ghost use Rattle.rosie_run.specs.inside.Passing.{made_out, made_err, made_mark};
@@ -159,12 +159,12 @@ pub(crate) fn run_input<J: LineJob, S: Source, O: Sink, E: Sink, L: Ledger>(
     steps: &mut Steps<L>,
 ) -> Result<Tally, Trouble>
     ensures same { J.makes job.new ≡ J.makes job.old }
-    ensures runs { S.tells → RunsInput result (record { out = O.tells; err = E.tells; counts = O.counts })
+    ensures runs { S.tells → RunsInput result (telling O.Sink E.Sink)
         (input_pieces (J.makes job.old) (record { whole = reader.old.whole; most = reader.old.most })
         file.now (S.rest source.old)) reader.old.whole
         (S.rest source.old) (S.rest source.new)
-        (texts O.written O.number E.written out.old err.old steps.old)
-        (texts O.written O.number E.written out.new err.new steps.new) }
+        (shown O.Sink E.Sink out.old err.old steps.old)
+        (shown O.Sink E.Sink out.new err.new steps.new) }
     ensures keeps { Keeps reader.old reader.new }
     ensures cause { SourceCause result (S.faults source.old) (S.faults source.new) }
     ensures sinks { SinksCause result (O.faults out.old) (O.faults out.new) (E.faults err.old) (E.faults err.new) }

@@ -1,7 +1,7 @@
 // A piece that no input is read for.
 ghost use Rattle.std.specs.Prelude.{ℕ, ◌≡◌, [], ◌∷◌, string_bytes, IfErr, IfOk};
 ghost use Rattle.rosie_run.specs.Causes.{WritesCause};
-ghost use Rattle.rosie_run.specs.Outputs.{texts};
+ghost use Rattle.rosie_run.specs.Outputs.{shown, telling};
 ghost use Rattle.rosie_run.specs.Report.{is_stop};
 ghost use Rattle.rosie_run.specs.Runs.{Runs, IsCutOf, IsNoCut};
 ghost use Rattle.rosie_run.specs.Where.{Nowhere};
@@ -19,10 +19,10 @@ pub fn say<O: Sink, E: Sink>(
     err_text: &[u8],
     mark: Mark,
 ) -> Result<Tally, Ended>
-    ensures runs { (n : ℕ) → Runs result (record { out = O.tells; err = E.tells; counts = O.counts })
+    ensures runs { (n : ℕ) → Runs result (telling O.Sink E.Sink)
         (record { out = out_text.now; err = err_text.now; mark = mark; cost = 0 } ∷ []) Nowhere
-        (texts O.written O.number E.written out.old err.old n)
-        (texts O.written O.number E.written out.new err.new n) }
+        (shown O.Sink E.Sink out.old err.old n)
+        (shown O.Sink E.Sink out.new err.new n) }
     ensures stops { IfOk result (λ tally. tally.stop ≡ is_stop mark) }
     ensures no_cut { IfErr result IsNoCut }
     ensures sinks { WritesCause result (O.faults out.old) (O.faults out.new) (E.faults err.old) (E.faults err.new) }

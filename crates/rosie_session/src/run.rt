@@ -7,9 +7,9 @@ ghost use Rattle.rosie_io.specs.Gathering.{Reads, left};
 ghost use Rattle.rosie_io.specs.Loading.{NotFewer};
 ghost use Rattle.rosie_repl.specs.States.{session_of};
 ghost use Rattle.rosie_run.specs.Causes.{SourcesCause, WritesCause};
-ghost use Rattle.rosie_run.specs.Outputs.{OutFirst, texts};
+ghost use Rattle.rosie_run.specs.Outputs.{OutFirst, shown, telling};
 ghost use Rattle.rosie_run.specs.Runs.{GoesOn, Runs};
-ghost use Rattle.rosie_run.specs.Sources.{moment, moment_of};
+ghost use Rattle.rosie_run.specs.Sources.{moment_of};
 ghost use Rattle.rosie_run.specs.inside.Causes.{BothCause};
 ghost use Rattle.rosie_session.specs.Loading.{IsLoading, Loading};
 ghost use Rattle.rosie_session.specs.Replay.{replay};
@@ -121,10 +121,10 @@ fn run_lines<F: Files, I: Source, O: Sink, E: Sink, L: Ledger>(
     steps: &mut Steps<L>,
 ) -> Result<Tally, Halt>
     ensures runs { F.tells → I.tells → (w : Loading) → IsLoading (F.tree files.old) folders.now w
-        → RunsLines result (record { out = O.tells; err = E.tells; counts = O.counts }) w
+        → RunsLines result (telling O.Sink E.Sink) w
         (I.rest input.old) (I.rest input.new)
-        (texts O.written O.number E.written out.old err.old steps.old)
-        (texts O.written O.number E.written out.new err.new steps.new) }
+        (shown O.Sink E.Sink out.old err.old steps.old)
+        (shown O.Sink E.Sink out.new err.new steps.new) }
     ensures cause { InputCause result (I.faults input.old) (I.faults input.new) }
     ensures spent { SpentCause result (I.taken input.old) (I.taken input.new) }
     ensures files { FilesBy result (moment_of F.Source files.old) (moment_of F.Source files.new) }
@@ -169,20 +169,20 @@ pub fn run_session<F: Files, I: Source, O: Sink, E: Sink, L: Ledger>(
     steps: &mut Steps<L>,
 ) -> Result<Tally, Ended>
     ensures runs { F.tells → I.tells → (w : Loading) → IsLoading (F.tree files.old) folders.now w
-        → Runs result (record { out = O.tells; err = E.tells; counts = O.counts })
+        → Runs result (telling O.Sink E.Sink)
         (replay w (I.rest input.old))
         (InSession w (I.rest input.old)
-        (moment I.rest I.taken I.faults I.failed_opens input.old)
-        (moment I.rest I.taken I.faults I.failed_opens input.new)
-        (moment F.rest F.taken F.faults F.failed_opens files.old)
-        (moment F.rest F.taken F.faults F.failed_opens files.new))
-        (texts O.written O.number E.written out.old err.old steps.old)
-        (texts O.written O.number E.written out.new err.new steps.new) }
+        (moment_of I.Source input.old)
+        (moment_of I.Source input.new)
+        (moment_of F.Source files.old)
+        (moment_of F.Source files.new))
+        (shown O.Sink E.Sink out.old err.old steps.old)
+        (shown O.Sink E.Sink out.new err.new steps.new) }
     ensures rest { F.tells → I.tells → GoesOn result (I.rest input.new ≡ []) }
-    ensures cause { SourcesCause result (moment I.rest I.taken I.faults I.failed_opens input.old)
-        (moment I.rest I.taken I.faults I.failed_opens input.new)
-        (moment F.rest F.taken F.faults F.failed_opens files.old)
-        (moment F.rest F.taken F.faults F.failed_opens files.new) }
+    ensures cause { SourcesCause result (moment_of I.Source input.old)
+        (moment_of I.Source input.new)
+        (moment_of F.Source files.old)
+        (moment_of F.Source files.new) }
     ensures sinks { WritesCause result (O.faults out.old) (O.faults out.new) (E.faults err.old) (E.faults err.new) }
     ensures tree { F.tree files.new ≡ F.tree files.old }
 {

@@ -1,5 +1,5 @@
 -- How contracts see a plan, and what comes of making one.
-use Rattle.std.specs.Prelude.{◌≡◌, ◌≢◌, ℕ, List, Option, None, Some, Result, Ok, Err, IfErr, IfOk}
+use Rattle.std.specs.Prelude.{◌≡◌, ℕ, List, Option, None, Some, Result, Ok, Err, IfErr}
 use Rattle.std.specs.Prelude.{string_bytes, encode_utf8_all}
 use Rattle.rosie_prepare.specs.Lines.{Line, compile_line}
 use Rattle.rosie_io.specs.Loading.{NotFewer}
@@ -12,8 +12,6 @@ use Rattle.rosie_prepare.specs.declared.unready.Unready.{Unready}
 use Rattle.rosie_prepare.specs.declared.unready.Unready.TheVariants as U
 use Rattle.rosie_run.specs.Inputs.{names_of}
 use Rattle.rosie_run.specs.Sources.{moment_of}
-use Rattle.rosie_run.specs.declared.ended.Ended.{Ended}
-use Rattle.rosie_run.specs.declared.tally.Tally.{Tally}
 use Rattle.rosie_sample.specs.Runs.{sampled_of}
 use Rattle.rosie_verdicts.specs.Seen.{bench_of, trials_of}
 use Rattle.rpl_check.specs.Checked.{IsWhole}
@@ -26,7 +24,6 @@ use Rattle.rpl_forms.specs.Rows.{Row}
 use Rattle.rpl_simulation.specs.Laws.{IsCapture}
 use Rattle.rosie_cli.specs.Planned.{matching, sampling, tracing}
 use Rattle.rosie_cli.specs.Plans as P
-use Rattle.rosie_cli.specs.Promises.{IsPromised}
 use Rattle.rosie_cli.specs.declared.goal_plan.Purpose.{Purpose}
 use Rattle.rosie_cli.specs.declared.goal_plan.Purpose.TheVariants as R
 use Rattle.rosie_cli.specs.declared.plan.Plan.{Plan}
@@ -72,10 +69,8 @@ Makes result IsMeant = (p : P.Plan) → IsMeant p → IsMade result p
 abbrev pub Plans : Result Plan Unready → P.Planned → Type 0
 Plans result p = IsMade result p.plan × IfErr result (λ u. IsAsked u p.asked)
 
--- What planning leaves: a plan that keeps its promise, and files that were only read. A read failed only where a count
--- of failures rose.
+-- What planning leaves: files that were only read. A read failed only where a count of failures rose.
 pub record Leaves {F : Type 0} (S : Ghosts F) (result : Result Plan Unready) (old new : F) : Type 0 where
-  pub due : IfOk result (λ plan. IsPromised (plan_of plan))
   pub cause : HasCause result (moment_of S old) (moment_of S new)
   pub taken : NotFewer (S.taken old) (S.taken new)
   pub tree : S.tree new ≡ S.tree old
@@ -88,8 +83,3 @@ IsSaid (P.Tries b trials) = Unit {0}
 IsSaid (P.Reads m whole names) = ⊥
 IsSaid (P.Samples r) = Unit {0}
 IsSaid (P.Replays w) = ⊥
-
--- the run of a plan came to an end of its own, or the machine made a step
-abbrev pub HasStepped : Result Tally Ended → (before now : ℕ) → Type 0
-HasStepped (Ok tally) before now = Unit {0}
-HasStepped (Err ended) before now = now ≢ before

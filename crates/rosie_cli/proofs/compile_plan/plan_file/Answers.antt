@@ -27,11 +27,6 @@ returns-in_ok-write_code-in-Ok-clause-makes c = λ p is.
     file_plan (ready_seen ready) (bodies_of ready.rules) (bodies-rows_of ready.rules) p is (instructions program)
     c.in-Ok.ensures.code fits _ c.in_ok-write_code-in-Ok.ensures
 
-pub returns-in_ok-write_code-in-Ok-clause-due : goal.returns-in_ok-write_code-in-Ok-clause-due
-returns-in_ok-write_code-in-Ok-clause-due c =
-    let root = c.requires.root in
-    (instructions c.in-Ok.program, c.in_ok-write_code-in-Ok.ensures, c.in-Ok.ensures.safe root.0 root.1)
-
 pub returns-in-Err-clause-makes : goal.returns-in-Err-clause-makes
 returns-in-Err-clause-makes c = λ p is.
     let ready = c.args.ready.now in

@@ -13,7 +13,7 @@ returns-clause-plans g c = λ t p is.
 pub returns-clause-leaves : goal.returns-clause-leaves
 returns-clause-leaves g c =
     let before = c.in_ok-ready.ensures in
-    leaves-own g.F.Source c.plan_ready.result _ _ before.taken before.tree before.cause c.plan_ready.ensures.due
+    leaves-own g.F.Source c.plan_ready.result _ _ before.taken before.tree before.cause
     c.plan_ready.ensures.own
 
 pub returns-in_err-ready-clause-plans : goal.returns-in_err-ready-clause-plans

@@ -1,25 +1,23 @@
-use Rattle.std.proofs.Common.{◌∙◌, ap, sym, subst}
+use Rattle.std.proofs.Common.{◌∙◌, ap, sym}
 use Rattle.std.specs.Prelude.{encode_utf8_all}
 use Rattle.rosie_jobs.specs.Jobs.{job_of, matcher_of, tracer_of}
-use Rattle.rosie_jobs.specs.Limits.{Pays}
 use Rattle.rosie_jobs.specs.Makers.{Matches, Traces}
 use Rattle.rosie_run.specs.Inputs.{names_of}
-use Rattle.rosie_sample.specs.Runs.{Sampled}
 use Rattle.rosie_cli.specs.Planned.{full_names, input_names}
 use Rattle.rosie_cli.specs.Plans.{Samples}
 use Rattle.rosie_cli.proofs.Limits.{reads-same}
 use Rattle.rosie_cli.proofs.goal_plan.plan_job.Goals as goal
 
-pub returns-in_ok-job-in-Match-clause-plans : goal.returns-in_ok-job-in-Match-clause-plans
-returns-in_ok-job-in-Match-clause-plans c = λ rules named.
+pub returns-in_ok-job-in-Match : goal.returns-in_ok-job-in-Match
+returns-in_ok-job-in-Match c = λ rules named.
     let m = c.in-Match in
     rw m.is
     (reads-same (Matches m.settings (job_of c.args.job)) (matcher_of c.in_ok-job-in-Match.job) m.settings.whole
     (input_names m.inputs) (names_of encode_utf8_all c.in_ok-names-in-Match.names) c.in_ok-job-in-Match.ensures.maker
     c.in_ok-names-in-Match.ensures)
 
-pub returns-in_ok-names-in-Trace-clause-plans : goal.returns-in_ok-names-in-Trace-clause-plans
-returns-in_ok-names-in-Trace-clause-plans c = λ rules named.
+pub returns-in_ok-names-in-Trace : goal.returns-in_ok-names-in-Trace
+returns-in_ok-names-in-Trace c = λ rules named.
     let m = c.in-Trace in
     let job = job_of c.args.job in
     rw m.is
@@ -27,13 +25,9 @@ returns-in_ok-names-in-Trace-clause-plans c = λ rules named.
     (input_names m.inputs) (names_of encode_utf8_all c.in_ok-names-in-Trace.names)
     (c.new-job.ensures.maker ∙ ap (λ x. Traces m.limit x job) (sym named)) c.in_ok-names-in-Trace.ensures)
 
-pub returns-in_ok-job-in-Sample-clause-plans : goal.returns-in_ok-job-in-Sample-clause-plans
-returns-in_ok-job-in-Sample-clause-plans c = λ rules named.
+pub returns-in_ok-job-in-Sample : goal.returns-in_ok-job-in-Sample
+returns-in_ok-job-in-Sample c = λ rules named.
     let m = c.in-Sample in
     rw m.is
     (ap (λ x. Samples (record { maker = x; seed = m.seed; lines = m.lines })) (sym c.in_ok-job-in-Sample.ensures.maker)
     ∙ ap Samples (sym c.new-run.ensures))
-
-pub returns-in_ok-job-in-Sample-clause-due : goal.returns-in_ok-job-in-Sample-clause-due
-returns-in_ok-job-in-Sample-clause-due c =
-    subst (λ (run : Sampled). Pays run.maker) (sym c.new-run.ensures) c.in_ok-job-in-Sample.ensures.due

@@ -10,4 +10,4 @@ returns-in-Class-clause-plans g c = λ t p is.
 pub returns-in-Class-clause-leaves : goal.returns-in-Class-clause-leaves
 returns-in-Class-clause-leaves g c =
     leaves-own g.F.Source c.plan_class.result c.args.files.now c.args.files.now (λ lt. omega arith) refl (record { faults = refl; opens = refl })
-    c.plan_class.ensures.due c.plan_class.ensures.own
+    c.plan_class.ensures.own

@@ -1,55 +1,51 @@
-use Rattle.rosie_run.proofs.Headlines.{headline, output-cause, reads-cause}
+use Rattle.std.proofs.Common.{refl}
+use Rattle.std.specs.Prelude.{Err, string_bytes}
+use Rattle.rosie_run.specs.Outputs.{failures, shown}
+use Rattle.rosie_run.specs.declared.ended.Ended.TheVariants as E
+use Rattle.rosie_run.proofs.Pieces.{fronts-none}
 use Rattle.rosie_words.specs.Reading.{words_of}
-use Rattle.rosie_cli.specs.Report.{report}
+use Rattle.rosie_cli.specs.Plans.{refusal}
 use Rattle.rosie_cli.specs.Words.{asked}
-use Rattle.rosie_cli.proofs.Promised.{no-stop, no-fault}
-use Rattle.rosie_cli.proofs.Whole.{answers-all, read-of, not-spent, knows_files, knows_inputs, stepped-of, completes-if}
+use Rattle.rosie_cli.proofs.Calls.{answers-by, answers-of, untouched-cause}
+use Rattle.rosie_cli.proofs.Paying.{promise_holds}
+use Rattle.rosie_cli.proofs.Whole.{do-goes-on, do-knows, do-planned, planned-goes, refused-plan, refused-runs, said-goes}
 use Rattle.rosie_cli.proofs.top.rosie.Goals as goal
 
-pub returns-clause-headline : goal.returns-clause-headline
-unfolding report
-returns-clause-headline g c = λ p files is inputs.
-    headline _ _ _ c.run_words-run.result c.finish.result _ _ _ (c.run_words-run.ensures.runs p files is inputs)
-    (c.finish.ensures.closes c.run_words-run.new.steps)
-
-pub returns-clause-read : goal.returns-clause-read
-returns-clause-read g c = λ t u p is came asks.
-    (read-of c.run_words-run.result c.finish.result _ _ _ _ (c.finish.ensures.closes 0) came
-    (c.run_words-run.ensures.rest t u p is)) asks
-
-pub returns-clause-reads : goal.returns-clause-reads
-returns-clause-reads g c =
-    reads-cause c.run_words-run.result c.finish.result _ _ _ _ _ _ _ (c.finish.ensures.closes 0)
-    c.run_words-run.ensures.cause
-
-pub returns-clause-writes : goal.returns-clause-writes
-returns-clause-writes g c =
-    output-cause c.run_words-run.result c.finish.result _ _ _ _ _ _ _ _ _ (c.finish.ensures.closes 0)
-    c.run_words-run.ensures.sinks c.finish.ensures.cause
-
-pub returns-clause-promised : goal.returns-clause-promised
-returns-clause-promised g c = λ p files is ran.
-    c.run_words-run.ensures.due p files is
-    (stepped-of c.run_words-run.result c.finish.result _ _ _ c.args.steps.now c.run_words-run.new.steps
-    (c.finish.ensures.closes 0) ran)
-
-pub returns-clause-answers : goal.returns-clause-answers
-returns-clause-answers g c = λ t u p is i f o e short files.
-    let known = knows_files (asked (words_of c.args.words.now)) _ t in
-    answers-all _ _ _ _ _ _ _ _ _ _ _ _ _ c.args.steps.now c.run_words-run.new.steps i f o e
-    (λ file k x. not-spent p (g.F.Source.tree c.args.files.now) _ _ file k short files x) c.finish.result
-    (returns-clause-headline g c p known is (knows_inputs p.plan _ _ t u)) (returns-clause-reads g c)
-    (returns-clause-writes g c)
-
-pub returns-clause-complete : goal.returns-clause-complete
-returns-clause-complete g c = λ t u p is i f o e short files sound.
+pub returns-in-Refuse-clause-answers : goal.returns-in-Refuse-clause-answers
+returns-in-Refuse-clause-answers g c =
+    let text = string_bytes c.in-Refuse.text in
     let a = asked (words_of c.args.words.now) in
-    let tree = g.F.Source.tree c.args.files.now in
-    let input = g.I.Source.rest c.args.input.now in
-    let known = knows_files a _ t in
-    completes-if _ _ _ _ _ _ _ _ _ _ _ _ _ c.args.steps.now c.run_words-run.new.steps i f o e
-    (λ file k x. not-spent p tree _ _ file k short files x) c.finish.result
-    (λ ran. let due = returns-clause-promised g c p known is ran in
-    (no-stop p.plan tree input due sound, no-fault p.plan tree input due sound))
-    (returns-clause-headline g c p known is (knows_inputs p.plan _ _ t u))
-    (returns-clause-reads g c) (returns-clause-writes g c)
+    let e = rw c.in-Refuse.is at c.in-Ok.ensures in
+    let r = c.refuse-run.result in
+    answers-of _ r _ _ (c.finish.ensures.closes c.args.steps.now) (untouched-cause r c.refuse-run.ensures.no_cut _ _)
+    c.refuse-run.ensures.sinks c.finish.ensures.cause
+    (λ p known is inputs. refused-runs r _ p text _ _ _ _ _ (refused-plan a text _ p e is)
+    (c.refuse-run.ensures.runs c.args.steps.now))
+    (λ p known is inputs. planned-goes r p (refusal text) _ (refused-plan a text _ p e is) (said-goes r (refusal text) _ tt))
+    (λ p is. promise_holds a _ p is)
+
+pub returns-in-Err-clause-answers : goal.returns-in-Err-clause-answers
+returns-in-Err-clause-answers g c =
+    answers-of _ (Err E.NoMemory) (shown g.O.Sink g.E.Sink c.args.out.now c.args.err.now c.args.steps.now)
+    (failures g.O.Sink g.E.Sink c.args.out.now c.args.err.now) (c.finish-in-Err.ensures.closes c.args.steps.now)
+    (untouched-cause (Err E.NoMemory) tt _ _) (refl, refl) c.finish-in-Err.ensures.cause
+    (λ p known is inputs. fronts-none _ _ _) (λ p known is inputs. tt)
+    (λ p is. promise_holds (asked (words_of c.args.words.now)) _ p is)
+
+pub returns-in-Do-clause-answers : goal.returns-in-Do-clause-answers
+returns-in-Do-clause-answers g c =
+    let a = asked (words_of c.args.words.now) in
+    let e = rw c.in-Do.is at c.in-Ok.ensures in
+    answers-by _ _ _ (λ files. do-knows a c.in-Do.command _ e files) (λ p is. do-planned a c.in-Do.command _ p e is)
+    c.run_command.ensures.answers
+
+pub returns-in-Do-clause-untouched : goal.returns-in-Do-clause-untouched
+returns-in-Do-clause-untouched g c = λ refused.
+    let e = rw c.in-Do.is at c.in-Ok.ensures in
+    absurd (do-goes-on (asked (words_of c.args.words.now)) c.in-Do.command e refused)
+
+pub returns-in-Do-clause-unread : goal.returns-in-Do-clause-unread
+returns-in-Do-clause-unread g c = λ p files is.
+    let a = asked (words_of c.args.words.now) in
+    let e = rw c.in-Do.is at c.in-Ok.ensures in
+    c.run_command.ensures.unread (do-knows a c.in-Do.command _ e files) p (do-planned a c.in-Do.command _ p e is)

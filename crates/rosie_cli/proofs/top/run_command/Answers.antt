@@ -1,30 +1,19 @@
-use Rattle.std.proofs.Common.{sym, subst}
-use Rattle.std.specs.List.{Contains}
-use Rattle.std.specs.Prelude.{string_bytes}
-use Rattle.rosie_run.proofs.Pieces.{fronts-none}
-use Rattle.rosie_session.proofs.Paying.{pays_holds}
-use Rattle.rosie_cli.specs.Plans.{Plan, Planned, refusal}
-use Rattle.rosie_cli.specs.Promises.{IsPromised}
-use Rattle.rosie_cli.specs.Report.{KnowsInputs}
-use Rattle.rosie_cli.specs.inside.Planning.{plan_of}
-use Rattle.rosie_cli.proofs.Whole.{planned-runs, planned-goes, refused-runs, said-goes, session-goes, session-reads, session-runs, unread}
+use Rattle.rosie_cli.proofs.Calls.{answers-by, answers-of}
+use Rattle.rosie_cli.proofs.Paying.{pays_planned}
+use Rattle.rosie_cli.proofs.Whole.{session-reads}
 use Rattle.rosie_cli.proofs.top.run_command.Goals as goal
 
-pub returns-in-Repl-clause-runs : goal.returns-in-Repl-clause-runs
-returns-in-Repl-clause-runs g c = λ t p is inputs.
-    let s = rw c.in-Repl.is at is in
-    let tells = subst (λ (q : Planned). KnowsInputs q.plan g.F.Source.tells g.I.Source.tells) s.plan inputs in
-    session-runs c.run_session.result _ p s.loading _ _ _ _ _ s.plan
-    (c.run_session.ensures.runs tells.0 tells.1 s.loading s.loads)
-
-pub returns-in-Repl-clause-due : goal.returns-in-Repl-clause-due
-returns-in-Repl-clause-due g c = λ t p is stepped.
-    let s = rw c.in-Repl.is at is in
-    subst (λ (q : Planned). IsPromised q.plan) (sym s.plan) (pays_holds _ _ s.loading s.loads)
-
-pub returns-in-Repl-clause-rest : goal.returns-in-Repl-clause-rest
-returns-in-Repl-clause-rest g c = λ t u p is. session-goes c.run_session.result p _ (c.run_session.ensures.rest t u)
+pub returns-in-Repl-clause-answers : goal.returns-in-Repl-clause-answers
+returns-in-Repl-clause-answers g c =
+    answers-by _ _ _ (λ t. t) (λ p is. rw c.in-Repl.is at is) c.session.ensures.answers
 
 pub returns-in-Repl-clause-unread : goal.returns-in-Repl-clause-unread
 returns-in-Repl-clause-unread g c = λ t p is n.
     let s = rw c.in-Repl.is at is in absurd (session-reads p s.loading s.plan n)
+
+pub returns-in_default-clause-answers : goal.returns-in_default-clause-answers
+returns-in_default-clause-answers g c =
+    let e = c.run_planned-run.ensures in
+    answers-of _ c.run_planned-run.result _ _ (c.finish.ensures.closes c.run_planned-run.new.steps) e.cause e.sinks
+    c.finish.ensures.cause (λ p t is inputs. e.runs t p is inputs) (λ p t is inputs. e.rest t p is inputs)
+    (λ p is. pays_planned c.args.command c.args.command.what _ p is)

@@ -6,16 +6,16 @@ use Rattle.rosie_cli.specs.Plans.{inputs_of}
 use Rattle.rosie_cli.specs.Report.{KnowsInputs}
 use Rattle.rosie_cli.specs.inside.Planning.{plan_of, IsSaid}
 use Rattle.rosie_verdicts.specs.Seen.{bench_of, trials_of}
-use Rattle.rosie_cli.proofs.Whole.{said-goes, match-runs, test-runs, unread-names}
+use Rattle.rosie_cli.proofs.Whole.{match-runs, names-go, said-goes, test-runs, told-names, unread-names}
 use Rattle.rosie_cli.proofs.top.run_plan.Goals as goal
 
 pub returns-in-Answer-clause-rest : goal.returns-in-Answer-clause-rest
-returns-in-Answer-clause-rest g c = λ t u.
+returns-in-Answer-clause-rest g c = λ knows.
     said-goes c.say.result (plan_of c.args.plan.now) _
     (subst (λ x. IsSaid (plan_of x)) (sym c.in-Answer.is) tt)
 
 pub returns-in-Write-clause-rest : goal.returns-in-Write-clause-rest
-returns-in-Write-clause-rest g c = λ t u.
+returns-in-Write-clause-rest g c = λ knows.
     said-goes c.say-in-Write.result (plan_of c.args.plan.now) _
     (subst (λ x. IsSaid (plan_of x)) (sym c.in-Write.is) tt)
 
@@ -25,11 +25,11 @@ returns-in-Test-clause-runs g c = λ knows.
     (g.F.Source.tree c.args.files.now) _ _ _ _ (ap plan_of c.in-Test.is) c.run.ensures.runs
 
 pub returns-in-Test-clause-rest : goal.returns-in-Test-clause-rest
-returns-in-Test-clause-rest g c = λ t u.
+returns-in-Test-clause-rest g c = λ knows.
     said-goes c.run.result (plan_of c.args.plan.now) _ (subst (λ x. IsSaid (plan_of x)) (sym c.in-Test.is) tt)
 
 pub returns-in-Sample-clause-rest : goal.returns-in-Sample-clause-rest
-returns-in-Sample-clause-rest g c = λ t u.
+returns-in-Sample-clause-rest g c = λ knows.
     said-goes c.run-in-Sample.result (plan_of c.args.plan.now) _
     (subst (λ x. IsSaid (plan_of x)) (sym c.in-Sample.is) tt)
 
@@ -41,7 +41,7 @@ returns-in-Match-clause-runs g c = λ knows.
     (names_of encode_utf8_all c.as_slice-names.result.now) _ (plan_of c.args.plan.now)
     (g.F.Source.tree c.args.files.now) _ _ _ _ (ap plan_of m.is)
     (ap (names_of encode_utf8_all) c.as_slice-names.ensures) c.reading-reading.ensures
-    (c.run_inputs.ensures.runs tells.0 tells.1)
+    (c.run_inputs.ensures.runs (told-names _ _ _ _ (ap (names_of encode_utf8_all) c.as_slice-names.ensures) tells))
 
 pub returns-in-Trace-clause-runs : goal.returns-in-Trace-clause-runs
 returns-in-Trace-clause-runs g c = λ knows.
@@ -51,7 +51,7 @@ returns-in-Trace-clause-runs g c = λ knows.
     (names_of encode_utf8_all c.as_slice-names-in-Trace.result.now) _ (plan_of c.args.plan.now)
     (g.F.Source.tree c.args.files.now) _ _ _ _ (ap plan_of m.is)
     (ap (names_of encode_utf8_all) c.as_slice-names-in-Trace.ensures) c.reading-reading-in-Trace.ensures
-    (c.run_inputs-in-Trace.ensures.runs tells.0 tells.1)
+    (c.run_inputs-in-Trace.ensures.runs (told-names _ _ _ _ (ap (names_of encode_utf8_all) c.as_slice-names-in-Trace.ensures) tells))
 
 pub returns-in-Run-clause-runs : goal.returns-in-Run-clause-runs
 returns-in-Run-clause-runs g c = λ knows.
@@ -61,7 +61,7 @@ returns-in-Run-clause-runs g c = λ knows.
     (names_of encode_utf8_all c.as_slice-names-in-Run.result.now) _ (plan_of c.args.plan.now)
     (g.F.Source.tree c.args.files.now) _ _ _ _ (ap plan_of m.is)
     (ap (names_of encode_utf8_all) c.as_slice-names-in-Run.ensures) c.reading-reading-in-Run.ensures
-    (c.run_inputs-in-Run.ensures.runs tells.0 tells.1)
+    (c.run_inputs-in-Run.ensures.runs (told-names _ _ _ _ (ap (names_of encode_utf8_all) c.as_slice-names-in-Run.ensures) tells))
 
 pub returns-in-Match-clause-unread : goal.returns-in-Match-clause-unread
 returns-in-Match-clause-unread g c = λ n.
@@ -83,3 +83,30 @@ returns-in-Run-clause-unread g c = λ n.
     c.run_inputs-in-Run.ensures.unread (unread-names (plan_of c.args.plan.now) (names_of encode_utf8_all m.names)
     (names_of encode_utf8_all c.as_slice-names-in-Run.result.now) (ap (λ x. inputs_of (plan_of x)) m.is)
     (ap (names_of encode_utf8_all) c.as_slice-names-in-Run.ensures) n)
+
+pub returns-in-Match-clause-rest : goal.returns-in-Match-clause-rest
+returns-in-Match-clause-rest g c = λ knows.
+    let m = c.in-Match in
+    let tells = subst (λ x. KnowsInputs (plan_of x) g.F.Source.tells g.I.Source.tells) m.is knows in
+    let same = ap (names_of encode_utf8_all) c.as_slice-names.ensures in
+    names-go c.run_inputs.result (plan_of c.args.plan.now) (names_of encode_utf8_all m.names)
+    (names_of encode_utf8_all c.as_slice-names.result.now) _ (ap (λ x. inputs_of (plan_of x)) m.is) same
+    (c.run_inputs.ensures.rest (told-names _ _ _ _ same tells))
+
+pub returns-in-Trace-clause-rest : goal.returns-in-Trace-clause-rest
+returns-in-Trace-clause-rest g c = λ knows.
+    let m = c.in-Trace in
+    let tells = subst (λ x. KnowsInputs (plan_of x) g.F.Source.tells g.I.Source.tells) m.is knows in
+    let same = ap (names_of encode_utf8_all) c.as_slice-names-in-Trace.ensures in
+    names-go c.run_inputs-in-Trace.result (plan_of c.args.plan.now) (names_of encode_utf8_all m.names)
+    (names_of encode_utf8_all c.as_slice-names-in-Trace.result.now) _ (ap (λ x. inputs_of (plan_of x)) m.is) same
+    (c.run_inputs-in-Trace.ensures.rest (told-names _ _ _ _ same tells))
+
+pub returns-in-Run-clause-rest : goal.returns-in-Run-clause-rest
+returns-in-Run-clause-rest g c = λ knows.
+    let m = c.in-Run in
+    let tells = subst (λ x. KnowsInputs (plan_of x) g.F.Source.tells g.I.Source.tells) m.is knows in
+    let same = ap (names_of encode_utf8_all) c.as_slice-names-in-Run.ensures in
+    names-go c.run_inputs-in-Run.result (plan_of c.args.plan.now) (names_of encode_utf8_all m.names)
+    (names_of encode_utf8_all c.as_slice-names-in-Run.result.now) _ (ap (λ x. inputs_of (plan_of x)) m.is) same
+    (c.run_inputs-in-Run.ensures.rest (told-names _ _ _ _ same tells))

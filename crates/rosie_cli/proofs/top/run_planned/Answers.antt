@@ -4,7 +4,6 @@ use Rattle.std.specs.Prelude.{string_bytes}
 use Rattle.rosie_run.proofs.Pieces.{fronts-none}
 use Rattle.rosie_session.proofs.Paying.{pays_holds}
 use Rattle.rosie_cli.specs.Plans.{LeavesInput, Plan, Planned, refusal}
-use Rattle.rosie_cli.specs.Promises.{IsPromised}
 use Rattle.rosie_cli.specs.Report.{KnowsInputs}
 use Rattle.rosie_cli.specs.inside.Planning.{plan_of}
 use Rattle.rosie_cli.proofs.Whole.{planned-runs, planned-goes, refused-runs, said-goes, session-goes, session-runs, unread}
@@ -19,14 +18,11 @@ returns-in-Ok-clause-runs g c = λ t p is inputs.
     left.cause.opens left.taken
     (c.run_plan.ensures.runs (subst (λ x. KnowsInputs x g.F.Source.tells g.I.Source.tells) same inputs))
 
-pub returns-in-Ok-clause-due : goal.returns-in-Ok-clause-due
-returns-in-Ok-clause-due g c = λ t p is stepped.
-    let e = c.in-Ok.ensures in subst IsPromised (sym (e.plans t p is).0) e.leaves.due
-
 pub returns-in-Ok-clause-rest : goal.returns-in-Ok-clause-rest
-returns-in-Ok-clause-rest g c = λ t u p is.
-    planned-goes c.run_plan.result p (plan_of c.in-Ok.plan) _ (c.in-Ok.ensures.plans t p is).0
-    (c.run_plan.ensures.rest t u)
+returns-in-Ok-clause-rest g c = λ t p is inputs.
+    let same = (c.in-Ok.ensures.plans t p is).0 in
+    planned-goes c.run_plan.result p (plan_of c.in-Ok.plan) _ same
+    (c.run_plan.ensures.rest (subst (λ x. KnowsInputs x g.F.Source.tells g.I.Source.tells) same inputs))
 
 pub returns-in-NoMemory-clause-runs : goal.returns-in-NoMemory-clause-runs
 returns-in-NoMemory-clause-runs g c = λ t p is inputs. fronts-none _ _ _
@@ -37,12 +33,8 @@ returns-in-Refused-clause-runs g c = λ t p is inputs.
     refused-runs c.refuse.result _ p (string_bytes c.in-Refused.line) _ _ _ _ _ plans.0
     (c.refuse.ensures.runs c.args.steps.now)
 
-pub returns-in-Refused-clause-due : goal.returns-in-Refused-clause-due
-returns-in-Refused-clause-due g c = λ t p is stepped.
-    let plans = rw c.in-Refused.is at (c.in-Err.ensures.plans t p is) in subst IsPromised (sym plans.0) tt
-
 pub returns-in-Refused-clause-rest : goal.returns-in-Refused-clause-rest
-returns-in-Refused-clause-rest g c = λ t u p is.
+returns-in-Refused-clause-rest g c = λ t p is inputs.
     let plan = refusal (string_bytes c.in-Refused.line) in
     let plans = rw c.in-Refused.is at (c.in-Err.ensures.plans t p is) in
     planned-goes c.refuse.result p plan _ plans.0 (said-goes c.refuse.result plan _ tt)

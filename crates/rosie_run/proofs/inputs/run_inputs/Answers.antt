@@ -1,10 +1,10 @@
-use Rattle.std.proofs.Common.{refl, ap, ◌∙◌, arith}
+use Rattle.std.proofs.Common.{◌≡◌, true, false, refl, ap, ◌∙◌, arith}
 use Rattle.std.specs.Prelude.{encode_utf8_all}
 use Rattle.rosie_io.specs.Reader.{Reader}
 use Rattle.rosie_run.proofs.Pieces.{fronts-none}
-use Rattle.rosie_run.specs.Inputs.{is_standard}
+use Rattle.rosie_run.specs.Inputs.{AreTold, is_standard, names_of}
 use Rattle.rosie_run.specs.Sources.{moment}
-use Rattle.rosie_run.proofs.Inward.{names-next, names-none, not-standard, once-on, untouched-on, reached-start, reached-on, part-goes, reached-stop, reached-break, reached-end}
+use Rattle.rosie_run.proofs.Inward.{file-there, names-next, names-none, not-standard, standard-there, once-on, untouched-on, reached-start, reached-on, part-goes, reached-stop, reached-break, reached-end}
 use Rattle.rosie_run.proofs.inputs.run_inputs.Goals as goal
 
 pub inputs-init : goal.inputs-init
@@ -12,8 +12,8 @@ inputs-init g c = record {
   parts = ap (λ (x : Reader). x.whole) c.in-Ok.ensures;
   most = ap (λ (x : Reader). x.most) c.in-Ok.ensures;
   same = refl;
-  reached = λ t u. reached-start _ _ _ _ _ _ _ _ _ _ refl refl (g.met.O.Sink.number_fits c.args.out.now) c.new-tally.ensures;
-  once = λ t u e. absurd (cc);
+  reached = λ k. reached-start _ _ _ _ _ _ _ _ _ _ refl refl (g.met.O.Sink.number_fits c.args.out.now) c.new-tally.ensures;
+  once = λ k e. absurd (cc);
   untouched = λ _. refl;
   unread = λ _. refl;
   input_faults = refl;
@@ -32,17 +32,21 @@ inputs-preserved g c =
     let e = c.in-Ok-run_one.ensures in
     let i = c.inputs.invariant in
     let next = names-next (encode_utf8_all) c.args.names.now c.inputs.name-index c.name-item.result c.text_of.result.now c.inputs-test.true c.name-item.is c.text_of.ensures in
+    let files : AreTold (names_of encode_utf8_all c.args.names.now) g.F.Source.tells g.I.Source.tells → is_standard c.text_of.result.now ≡ false → g.F.Source.tells =
+    λ k n. k.of_files (file-there (encode_utf8_all) c.args.names.now c.inputs.name-index c.text_of.result.now _ next n) in
+    let input : AreTold (names_of encode_utf8_all c.args.names.now) g.F.Source.tells g.I.Source.tells → is_standard c.text_of.result.now ≡ true → g.I.Source.tells =
+    λ k n. k.of_input (standard-there (encode_utf8_all) c.args.names.now c.inputs.name-index c.text_of.result.now _ next n) in
     record {
       parts = e.keeps.whole ∙ i.parts;
       most = e.keeps.most ∙ i.most;
       same = e.same ∙ i.same;
-      reached = λ t u.
-          let w = rw (i.same, i.tree, i.parts, i.most) at (e.runs t u (i.once t u)) in
-          reached-on _ _ _ _ _ _ (g.I.Source.rest c.inputs.input) c.text_of.result.now _ _ c.inputs.read c.inputs.tally _ _ (i.reached t u) next _ c.in-Ok-run_one.part c.and-tally.result w c.and-tally.ensures (g.I.Source.rest c.run_one.new.input) c.run_one.new.read c.if-tally.false (e.rest u (i.once t u)) e.reads (λ n. (e.stays n).0);
-      once = λ t u is.
-          let w = rw (i.same, i.tree, i.parts, i.most) at (e.runs t u (i.once t u)) in
-          let off = part-goes _ _ _ _ _ _ (g.I.Source.rest c.inputs.input) c.text_of.result.now _ _ c.inputs.read c.inputs.tally _ _ (i.reached t u) next _ c.in-Ok-run_one.part c.and-tally.result w c.and-tally.ensures c.if-tally.false in
-          once-on c.text_of.result.now (g.I.Source.rest c.inputs.input) _ c.inputs.read c.run_one.new.read (e.rest u (i.once t u) off) (λ n. (e.stays n).0) (i.once t u) is;
+      reached = λ k.
+          let w = rw (i.same, i.tree, i.parts, i.most) at (e.runs (files k) (input k) (i.once k)) in
+          reached-on _ _ _ _ _ _ (g.I.Source.rest c.inputs.input) c.text_of.result.now _ _ c.inputs.read c.inputs.tally _ _ (i.reached k) next _ c.in-Ok-run_one.part c.and-tally.result w c.and-tally.ensures (g.I.Source.rest c.run_one.new.input) c.run_one.new.read c.if-tally.false (e.rest (input k) (i.once k)) e.reads (λ n. (e.stays n).0);
+      once = λ k is.
+          let w = rw (i.same, i.tree, i.parts, i.most) at (e.runs (files k) (input k) (i.once k)) in
+          let off = part-goes _ _ _ _ _ _ (g.I.Source.rest c.inputs.input) c.text_of.result.now _ _ c.inputs.read c.inputs.tally _ _ (i.reached k) next _ c.in-Ok-run_one.part c.and-tally.result w c.and-tally.ensures c.if-tally.false in
+          once-on c.text_of.result.now (g.I.Source.rest c.inputs.input) _ c.inputs.read c.run_one.new.read (e.rest (input k) (i.once k) off) (λ n. (e.stays n).0) (i.once k) is;
       untouched = untouched-on (is_standard c.text_of.result.now) c.inputs.read c.run_one.new.read _ _ _ e.reads e.stays i.untouched;
       unread = λ n. (e.stays (not-standard (encode_utf8_all) c.args.names.now c.inputs.name-index c.text_of.result.now _ next n)).1 ∙ i.unread n;
       input_faults = e.cause.0.faults ∙ i.input_faults;
@@ -57,27 +61,35 @@ inputs-preserved g c =
     }
 
 pub returns-then-tally-clause-runs : goal.returns-then-tally-clause-runs
-returns-then-tally-clause-runs g c = λ t u.
+returns-then-tally-clause-runs g c = λ k.
     let e = c.in-Ok-run_one.ensures in
     let i = c.inputs.invariant in
     let next = names-next (encode_utf8_all) c.args.names.now c.inputs.name-index c.name-item.result c.text_of.result.now c.inputs-test.true c.name-item.is c.text_of.ensures in
-    let w = rw (i.same, i.tree, i.parts, i.most) at (e.runs t u (i.once t u)) in
-    reached-stop _ _ _ _ _ _ (g.I.Source.rest c.inputs.input) c.text_of.result.now _ _ c.inputs.read c.inputs.tally _ _ (i.reached t u) next _ c.in-Ok-run_one.part c.and-tally.result w c.and-tally.ensures c.if-tally.true
+    let files : AreTold (names_of encode_utf8_all c.args.names.now) g.F.Source.tells g.I.Source.tells → is_standard c.text_of.result.now ≡ false → g.F.Source.tells =
+    λ k n. k.of_files (file-there (encode_utf8_all) c.args.names.now c.inputs.name-index c.text_of.result.now _ next n) in
+    let input : AreTold (names_of encode_utf8_all c.args.names.now) g.F.Source.tells g.I.Source.tells → is_standard c.text_of.result.now ≡ true → g.I.Source.tells =
+    λ k n. k.of_input (standard-there (encode_utf8_all) c.args.names.now c.inputs.name-index c.text_of.result.now _ next n) in
+    let w = rw (i.same, i.tree, i.parts, i.most) at (e.runs (files k) (input k) (i.once k)) in
+    reached-stop _ _ _ _ _ _ (g.I.Source.rest c.inputs.input) c.text_of.result.now _ _ c.inputs.read c.inputs.tally _ _ (i.reached k) next _ c.in-Ok-run_one.part c.and-tally.result w c.and-tally.ensures c.if-tally.true
 
 pub returns-in-Err-clause-runs : goal.returns-in-Err-clause-runs
-returns-in-Err-clause-runs g c = λ t u.
+returns-in-Err-clause-runs g c = λ k.
     let i = c.inputs.invariant in
     let next = names-next (encode_utf8_all) c.args.names.now c.inputs.name-index c.name-item.result c.text_of.result.now c.inputs-test.true c.name-item.is c.text_of.ensures in
-    let w = rw (i.same, i.tree, i.parts, i.most) at (c.in-Err.ensures.runs t u (i.once t u)) in
-    reached-break _ _ _ _ _ _ (g.I.Source.rest c.inputs.input) c.text_of.result.now _ _ c.inputs.read c.inputs.tally _ _ (i.reached t u) next _ _ _ _ (moment g.F.Source.rest g.F.Source.taken g.F.Source.faults g.F.Source.failed_opens c.inputs.files) _
+    let files : AreTold (names_of encode_utf8_all c.args.names.now) g.F.Source.tells g.I.Source.tells → is_standard c.text_of.result.now ≡ false → g.F.Source.tells =
+    λ k n. k.of_files (file-there (encode_utf8_all) c.args.names.now c.inputs.name-index c.text_of.result.now _ next n) in
+    let input : AreTold (names_of encode_utf8_all c.args.names.now) g.F.Source.tells g.I.Source.tells → is_standard c.text_of.result.now ≡ true → g.I.Source.tells =
+    λ k n. k.of_input (standard-there (encode_utf8_all) c.args.names.now c.inputs.name-index c.text_of.result.now _ next n) in
+    let w = rw (i.same, i.tree, i.parts, i.most) at (c.in-Err.ensures.runs (files k) (input k) (i.once k)) in
+    reached-break _ _ _ _ _ _ (g.I.Source.rest c.inputs.input) c.text_of.result.now _ _ c.inputs.read c.inputs.tally _ _ (i.reached k) next _ _ _ _ (moment g.F.Source.rest g.F.Source.taken g.F.Source.faults g.F.Source.failed_opens c.inputs.files) _
     (λ n. ap (moment g.I.Source.rest g.I.Source.taken g.I.Source.faults g.I.Source.failed_opens) (i.untouched n)) i.files_faults i.files_opens i.files_taken c.in-Err.ended _ w
 
 pub returns-clause-runs : goal.returns-clause-runs
-returns-clause-runs g c = λ t u.
-    reached-end _ _ _ _ _ _ _ _ _ _ _ _ (c.inputs.invariant.reached t u) (names-none (encode_utf8_all) c.args.names.now c.inputs.name-index c.inputs-test.false)
+returns-clause-runs g c = λ k.
+    reached-end _ _ _ _ _ _ _ _ _ _ _ _ (c.inputs.invariant.reached k) (names-none (encode_utf8_all) c.args.names.now c.inputs.name-index c.inputs-test.false)
 
 pub returns-in_default-clause-runs : goal.returns-in_default-clause-runs
-returns-in_default-clause-runs g c = λ t u. fronts-none _ _ _
+returns-in_default-clause-runs g c = λ k. fronts-none _ _ _
 
 pub returns-then-tally-clause-unread : goal.returns-then-tally-clause-unread
 returns-then-tally-clause-unread g c = λ n.

@@ -1,6 +1,6 @@
 use Rattle.std.proofs.Common.{◌≡◌, ◌-◌, ◌^◌, ◌≤◌, ◌<◌, true, false, [], drop}
 use Rattle.std.specs.Prelude.{encode_utf8_all}
-use Rattle.rosie_run.specs.Inputs.{names_of, reads_standard}
+use Rattle.rosie_run.specs.Inputs.{AreTold, names_of, reads_standard}
 use Rattle.rosie_run.specs.Outputs.{texts}
 use Rattle.rosie_run.specs.inside.Reaching.{Reached}
 use Rattle.rosie_run.proofs.inputs.run_inputs.Given as goal
@@ -11,10 +11,10 @@ invariant-inputs g l = record {
   parts : l.reader.whole ≡ l.fn.reading.whole;
   most : l.reader.most ≡ l.fn.reading.most;
   same : g.J.LineJob.makes l.job ≡ g.J.LineJob.makes l.initial.job;
-  reached : g.F.Source.tells → g.I.Source.tells → Reached (record { out = g.O.Sink.tells; err = g.E.Sink.tells; counts = g.O.Sink.counts }) (g.J.LineJob.makes l.initial.job) l.fn.reading (g.F.Source.tree l.initial.files)
+  reached : AreTold (names_of encode_utf8_all l.names) g.F.Source.tells g.I.Source.tells → Reached (record { out = g.O.Sink.tells; err = g.E.Sink.tells; counts = g.O.Sink.counts }) (g.J.LineJob.makes l.initial.job) l.fn.reading (g.F.Source.tree l.initial.files)
       (g.I.Source.rest l.initial.input) (g.I.Source.rest l.input) (names_of encode_utf8_all l.names) (names_of encode_utf8_all (drop l.name-index l.names)) l.read l.tally
       (texts g.O.Sink.written g.O.Sink.number g.E.Sink.written l.initial.out l.initial.err l.initial.steps) (texts g.O.Sink.written g.O.Sink.number g.E.Sink.written l.out l.err l.steps);
-  once : g.F.Source.tells → g.I.Source.tells → l.read ≡ true → g.I.Source.rest l.input ≡ [];
+  once : AreTold (names_of encode_utf8_all l.names) g.F.Source.tells g.I.Source.tells → l.read ≡ true → g.I.Source.rest l.input ≡ [];
   untouched : l.read ≡ false → l.input ≡ l.initial.input;
   unread : reads_standard (names_of encode_utf8_all l.names) ≡ false → l.input ≡ l.initial.input;
   input_faults : g.I.Source.faults l.input ≡ g.I.Source.faults l.initial.input;

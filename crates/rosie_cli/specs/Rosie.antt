@@ -1,0 +1,81 @@
+-- What a call of `rosie` leaves, sentence by sentence. This is the place to begin.
+--
+-- The words come to a plan over the tree of files (`IsPlanned`), and the report is what that plan writes over the tree
+-- and the standard input, piece by piece, up to a piece that ends the run. `Headline` says what each answer tells of
+-- it. What holds of every plan, whether it is run or not, stands in `Laws`.
+use Rattle.std.specs.Prelude.{ℕ, ◌≡◌, List, []}
+use Rattle.rosie_io.specs.declared.outside.Sink as K
+use Rattle.rosie_io.specs.declared.outside.Source as S
+use Rattle.rosie_run.specs.Causes.{OutputCause, ReadsCause}
+use Rattle.rosie_run.specs.Headline.{CameToEnd, Headline, IsComplete, NothingFails}
+use Rattle.rosie_run.specs.Outputs.{Failures, Telling, Texts, failures, shown, telling}
+use Rattle.rosie_run.specs.Report.{Piece}
+use Rattle.rosie_run.specs.Sources.{Span, span_of}
+use Rattle.rosie_run.specs.declared.status.Status.{Status}
+use Rattle.rosie_cli.specs.Plans.{Planned, ReadsInput, inputs_of, stood}
+use Rattle.rosie_cli.specs.Promises.{IsSound}
+use Rattle.rosie_cli.specs.Report.{IsAnswer, KnowsInputs, report}
+
+-- A call: what it comes to, and whether that is known; what its files and its streams tell, and where they stand before
+-- and after, with the machine's steps; and its answer.
+pub record Call : Type 1 where
+  pub comes : Planned → Type 0
+  pub known : Type 0
+  pub tree : List (List ℕ × List ℕ)
+  pub files_tell : Type 0
+  pub input_tells : Type 0
+  pub tells : Telling
+  pub files : Span
+  pub input : Span
+  pub before : Texts
+  pub after : Texts
+  pub failed : Failures
+  pub fails : Failures
+  pub answer : Status
+
+-- the call whose files, standard input and outputs are these before and after, with so many steps
+abbrev pub call :
+    {F I O E : Type 0} → S.Ghosts F → S.Ghosts I → K.Ghosts O → K.Ghosts E → (comes : Planned → Type 0)
+    → (known : Type 0) → F → F → I → I → O → O → E → E → ℕ → ℕ → Status → Call
+call F I O E comes known f f' i i' o o' e e' n n' answer = record {
+  comes = comes;
+  known = known;
+  tree = F.tree f;
+  files_tell = F.tells;
+  input_tells = I.tells;
+  tells = telling O E;
+  files = span_of F f f';
+  input = span_of I i i';
+  before = shown O E o e n;
+  after = shown O E o' e' n';
+  failed = failures O E o e;
+  fails = failures O E o' e';
+  answer = answer;
+}
+
+-- it comes to this plan, which is known, and whose inputs are told
+pub record Comes (c : Call) (p : Planned) : Type 0 where
+  pub known : c.known
+  pub is : c.comes p
+  pub inputs : KnowsInputs p.plan c.files_tell c.input_tells
+
+abbrev pub report_of : Call → Planned → List Piece
+report_of c p = report p.plan c.tree c.input.before.rest
+
+abbrev pub Undisturbed : Call → Planned → Type 0
+Undisturbed c p = NothingFails (inputs_of p.plan) c.tree c.input c.files c.failed c.fails
+
+pub record Answers (c : Call) : Type 0 where
+  -- all of the report is written, or its first pieces and why reading ended the run, or a front of it
+  pub headline : (p : Planned) → Comes c p
+      → Headline c.answer c.tells (report_of c p) (stood p c.tree c.input c.files) c.before c.after
+  -- where the run came to its end, the standard input was read to its end, if it is among the inputs
+  pub read : (p : Planned) → Comes c p → CameToEnd c.answer → ReadsInput p.plan → c.input.after.rest ≡ []
+  -- where no read and no write goes wrong the answer is the report's; over lines that every limit allows, it tells
+  -- whether one matches
+  pub answers : (p : Planned) → Comes c p → Undisturbed c p → IsAnswer c.answer (report_of c p)
+  pub complete : (p : Planned) → Comes c p → Undisturbed c p → IsSound p.plan c.tree c.input.before.rest
+      → IsComplete c.answer (report_of c p)
+  -- whatever is told: no fault is answered without its cause
+  pub reads : ReadsCause c.answer c.input.before c.input.after c.files.before c.files.after
+  pub writes : OutputCause c.answer c.failed.out c.fails.out c.failed.err c.fails.err
