@@ -162,6 +162,11 @@ all_without a = ap (λ l. without l a) (sym norm_whole) ∙ same_members-same _ 
     ∙ ap (λ x. is_char c && (x && not (in_ranges a c))) (norm_members ((0, 0x10_ffff) ∷ []) c ∙ whole c)
     ∙ drop_whole (is_char c) (not (in_ranges a c)) ∙ sym (others_members a c))
 
+-- what holds of a list holds of what was made, where that is the list
+pub made_has : {E : Type 0} (P : List Range → Type 0) (r : Result (List Range) E) (l : List Range) → P l → IfOk r (λ s. s ≡ l) → IfOk r P
+made_has P (Ok s) l h e = subst P (sym e) h
+made_has P (Err _) l h e = tt
+
 -- the members of a set that was made, where it was
 pub range_made : {E : Type 0} (low high : ℕ) (r : Result (List Range) E) → IfOk r (λ s. s ≡ norm ((low, high) ∷ [])) → IfOk r (λ s. HasJust s (λ c. nat_le low c && nat_le c high))
 range_made low high (Ok s) e = range_just low high s e

@@ -1,4 +1,4 @@
-// A set of characters: its ranges, and two masks for the test of an ASCII character.
+// A set of characters: its ranges, which its copies share, and two masks for the test of an ASCII character.
 ghost use Rattle.std.specs.Prelude.{◌≡◌, ℕ, ◌≤◌, ◌||◌, ◌&&◌, ◌↔◌, [], ◌∷◌, ◌++◌, not, nat_eq, nat_le, IfOk};
 ghost use Rattle.std.specs.Prelude.{IfSome, OnOk, IsTrue, chars, true, false};
 ghost use Rattle.std.specs.Option.{option_map};
@@ -20,13 +20,15 @@ use regex_class::{Class, ClassRange};
 use rpl_unicode::{ClassFault, RangeList, characters, class_ranges, folds_of};
 use std::alloc::Global;
 use std::marker::Model;
+use std::rc::Rc;
 
 /// A set of characters.
 ///
-/// Contracts see it as its list of ranges, in numbers of characters with both ends.
+/// Contracts see it as its list of ranges, in numbers of characters with both ends. The ranges of a set and of its
+/// copies stand in memory once.
 #[derive(Debug, Drop)]
 pub struct Set {
-    class: Class,
+    class: Rc<Class>,
     /// The members from 0 to 63, and those from 64 to 127, as bits.
     masks: [u64; 2],
 }
@@ -38,29 +40,31 @@ impl Model for Set {
 
     ghost Value = { List Range };
 
-    ghost view = { λ a. a.class.ranges.items };
+    ghost view = { λ a. a.class.value.ranges.items };
 
-    ghost invariant = { λ a. IsNormal a.class.ranges.items
-        × ((j : ℕ) → j < 2 → IsBitmap (64 * j) a.class.ranges.items (get_or a.masks j 0)) };
+    ghost invariant = { λ a. IsNormal a.class.value.ranges.items
+        × ((j : ℕ) → j < 2 → IsBitmap (64 * j) a.class.value.ranges.items (get_or a.masks j 0)) };
 }
 
 /// The set of a class that is normal, with its masks.
-fn sealed(class: Class) -> Set
+fn sealed(alloc: Global, class: Class) -> Result<Set, NoMemory>
     requires { IsNormal class.ranges.items }
-    ensures { result ≡ class.ranges.items }
+    ensures { IfOk result (λ s. s ≡ class.ranges.items) }
 {
     let masks = [bitmap(&class, 0), bitmap(&class, 64)];
-    Set { class, masks }
+    match Rc::new(alloc, class) {
+        Ok(class) => Ok(Set { class, masks }),
+        Err(_) => Err(NoMemory),
+    }
 }
 
 /// The set with a list of ranges that is normal.
-fn listed(list: RangeList) -> Set
+fn listed(alloc: Global, list: RangeList) -> Result<Set, NoMemory>
     requires { IsNormal list }
-    ensures { result ≡ list }
+    ensures { IfOk result (λ s. s ≡ list) }
 {
-    sealed(Class {
-        ranges: list.into_vec(),
-    })
+    let ranges = list.into_vec();
+    sealed(alloc, Class { ranges })
 }
 
 /// What a name stands for in Unicode.
@@ -68,7 +72,10 @@ fn unicode_set(alloc: Global, name: &str) -> Result<Set, SetFault>
     ensures { IsNamed (option_map set_of (members (chars name.now))) result }
 {
     match class_ranges(alloc, name) {
-        Ok(list) => Ok(listed(list)),
+        Ok(list) => match listed(alloc, list) {
+            Ok(set) => Ok(set),
+            Err(_) => Err(SetFault::NoMemory),
+        },
         Err(ClassFault::NoMemory) => Err(SetFault::NoMemory),
         Err(ClassFault::UnknownClass) => Err(SetFault::UnknownClass { at: 0 }),
     }
@@ -100,11 +107,20 @@ fn with_cases(alloc: Global, class: &Class) -> Result<Vec<ClassRange>, NoMemory>
 }
 
 impl Set {
+    /// The class that the set and its copies share.
+    #[inline(always)]
+    fn class(&self) -> &Class
+        ensures same { result.now.ranges.items ≡ self.now }
+        ensures normal { IsNormal self.now }
+    {
+        Rc::as_ref(&self.class)
+    }
+
     /// The set with no member.
     pub fn empty(alloc: Global) -> Result<Set, NoMemory>
         ensures { IfOk result (λ s. s ≡ []) }
     {
-        Ok(sealed(Class::empty(alloc)))
+        sealed(alloc, Class::empty(alloc))
     }
 
     /// The set of all characters.
@@ -121,7 +137,7 @@ impl Set {
         ensures normal { IfOk result IsNormal }
         ensures members { IfOk result (λ s. HasJust s (in_ranges ranges.now)) }
     {
-        Ok(listed(characters(alloc, ranges)?))
+        listed(alloc, characters(alloc, ranges)?)
     }
 
     /// The characters from `low` to `high`, both included.
@@ -154,9 +170,9 @@ impl Set {
         ensures normal { IfOk result IsNormal }
         ensures members { IfOk result (λ s. HasJust s (λ c. in_ranges self.now c || in_ranges other.now c)) }
     {
-        let mut ranges = Vec::from_slice(alloc, &self.class.ranges)?;
-        ranges.extend_from_slice(&other.class.ranges)?;
-        Ok(sealed(Class::new(ranges)?))
+        let mut ranges = Vec::from_slice(alloc, &self.class().ranges)?;
+        ranges.extend_from_slice(&other.class().ranges)?;
+        sealed(alloc, Class::new(ranges)?)
     }
 
     /// The characters that are not in the set.
@@ -175,8 +191,7 @@ impl Set {
         ensures normal { IfOk result IsNormal }
         ensures members { IfOk result (λ s. HasJust s (λ c. in_ranges self.now c && not (in_ranges other.now c))) }
     {
-        let own = self.copy(alloc)?;
-        Ok(sealed(own.class.difference(&other.class)?))
+        sealed(alloc, self.class().difference(other.class())?)
     }
 
     /// The characters that are in both.
@@ -185,8 +200,7 @@ impl Set {
         ensures normal { IfOk result IsNormal }
         ensures members { IfOk result (λ s. HasJust s (λ c. in_ranges self.now c && in_ranges other.now c)) }
     {
-        let own = self.copy(alloc)?;
-        Ok(sealed(own.class.intersection(&other.class)?))
+        sealed(alloc, self.class().intersection(other.class())?)
     }
 
     /// The set with the other case of each ASCII letter in it.
@@ -196,8 +210,8 @@ impl Set {
         ensures members { let own = self.now in
             IfOk result (λ s. HasJust s (λ c. in_ranges own c || in_ranges own (other_case c))) }
     {
-        let ranges = with_cases(alloc, &self.class)?;
-        Ok(sealed(Class::new(ranges)?))
+        let ranges = with_cases(alloc, self.class())?;
+        sealed(alloc, Class::new(ranges)?)
     }
 
     /// The set with all characters that share a simple folding with one in it, in any script. One character stands
@@ -207,17 +221,15 @@ impl Set {
         ensures normal { IfOk result IsNormal }
         ensures members { IfOk result (λ s. HasJust s (folds_with (in_ranges self.now))) }
     {
-        Ok(listed(folds_of(alloc, &self.class.ranges)?))
+        listed(alloc, folds_of(alloc, &self.class().ranges)?)
     }
 
-    /// The same set once more.
-    pub fn copy(&self, alloc: Global) -> Result<Set, NoMemory>
+    /// The same set once more. It shares the ranges, so no memory is taken.
+    pub fn copy(&self, _alloc: Global) -> Result<Set, NoMemory>
         ensures { IfOk result (λ s. s ≡ self.now) }
     {
-        let ranges = Vec::from_slice(alloc, &self.class.ranges)?;
-        let class = Class { ranges };
         Ok(Set {
-            class,
+            class: self.class.clone()?,
             masks: self.masks,
         })
     }
@@ -226,7 +238,7 @@ impl Set {
     pub fn same(&self, other: &Set) -> bool
         ensures { IsTrue result ↔ (self.now ≡ other.now) }
     {
-        self.class.ranges == other.class.ranges
+        self.class().ranges == other.class().ranges
     }
 
     /// Whether the character is in the set. For an ASCII character this is one test of a bit.
@@ -238,7 +250,7 @@ impl Set {
         if number < 128 {
             (self.masks[(number / 64) as usize] >> (number % 64)) & 1 != 0
         } else {
-            self.class.contains(number)
+            self.class().contains(number)
         }
     }
 
@@ -265,6 +277,6 @@ impl Set {
         ensures same { result.now ≡ self.now }
         ensures normal { IsNormal self.now }
     {
-        &self.class.ranges
+        &self.class().ranges
     }
 }

@@ -14,7 +14,7 @@ range_decides x y = (
 
 pub returns : goal.returns
 returns c =
-    let d = pointwise_decides range_decides c.self.inside.class.ranges.items c.other.inside.class.ranges.items in (
-      λ e. sym c.self.view_is ∙ d.0 (sym c.eq.ensures ∙ e) ∙ c.other.view_is,
-      λ e. c.eq.ensures ∙ d.1 (c.self.view_is ∙ e ∙ sym c.other.view_is),
+    let d = pointwise_decides range_decides c.class.result.now.ranges.items c.class-2.result.now.ranges.items in (
+      λ e. sym c.class.ensures.same ∙ d.0 (sym c.eq.ensures ∙ e) ∙ c.class-2.ensures.same,
+      λ e. c.eq.ensures ∙ d.1 (c.class.ensures.same ∙ e ∙ sym c.class-2.ensures.same),
     )

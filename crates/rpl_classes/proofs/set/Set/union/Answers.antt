@@ -1,25 +1,28 @@
-use Rattle.std.proofs.Common.{◌≡◌, ◌++◌, subst, sym, ap₂, ◌∙◌, rules}
-use Rattle.rpl_classes.specs.Sets.{IsNormal}
+use Rattle.std.proofs.Common.{◌≡◌, ◌++◌, subst, sym, ap, ◌∙◌, rules}
+use Rattle.std.specs.Prelude.{◌||◌}
+use Rattle.regex_class.specs.Ranges.{in_ranges}
+use Rattle.rpl_classes.specs.Sets.{IsNormal, HasJust}
 use Rattle.rpl_classes.specs.Norm.{norm}
-use Rattle.rpl_classes.proofs.Operations.{union_from_class, union_just}
+use Rattle.rpl_classes.proofs.Operations.{union_from_class, union_just, made_has}
 use Rattle.rpl_classes.proofs.Normal.{norm_normal}
 use Rattle.rpl_classes.proofs.set.Set.union.Goals as goal
 
 pub sealed-requires : goal.sealed-requires
 sealed-requires c =
-    let all : c.extend_from_slice.new.self.items ≡ c.self.inside.class.ranges.items ++ c.other.inside.class.ranges.items = search rules in
-    let e = union_from_class _ _ _ _ c.self.invariant.0 c.other.invariant.0 all c.in_ok-new.field-0.canonical c.in_ok-new.ensures in
+    let own = subst IsNormal (sym c.class.ensures.same) c.class.ensures.normal in
+    let more = subst IsNormal (sym c.class-2.ensures.same) c.class-2.ensures.normal in
+    let all : c.extend_from_slice.new.self.items ≡ c.class.result.now.ranges.items ++ c.class-2.result.now.ranges.items = search rules in
+    let e = union_from_class _ _ _ _ own more all c.in_ok-new.field-0.canonical c.in_ok-new.ensures in
     subst IsNormal (sym e) (norm_normal _)
 
-pub returns-clause-ranges : goal.returns-clause-ranges
-returns-clause-ranges c =
-    let all : c.extend_from_slice.new.self.items ≡ c.self.inside.class.ranges.items ++ c.other.inside.class.ranges.items = search rules in
-    c.sealed.ensures ∙ union_from_class _ _ _ _ c.self.invariant.0 c.other.invariant.0 all c.in_ok-new.field-0.canonical c.in_ok-new.ensures
-    ∙ ap₂ (λ a b. norm (a ++ b)) c.self.view_is c.other.view_is
-
-pub returns-clause-members : goal.returns-clause-members
-returns-clause-members c =
-    let all : c.extend_from_slice.new.self.items ≡ c.self.inside.class.ranges.items ++ c.other.inside.class.ranges.items = search rules in
-    union_just c.args.self.now c.args.other.now c.sealed.result
-    (c.sealed.ensures ∙ union_from_class _ _ _ _ c.self.invariant.0 c.other.invariant.0 all c.in_ok-new.field-0.canonical c.in_ok-new.ensures
-    ∙ ap₂ (λ a b. norm (a ++ b)) c.self.view_is c.other.view_is)
+pub returns : goal.returns
+returns c =
+    let own = subst IsNormal (sym c.class.ensures.same) c.class.ensures.normal in
+    let more = subst IsNormal (sym c.class-2.ensures.same) c.class-2.ensures.normal in
+    let all : c.extend_from_slice.new.self.items ≡ c.class.result.now.ranges.items ++ c.class-2.result.now.ranges.items = search rules in
+    let e = union_from_class _ _ _ _ own more all c.in_ok-new.field-0.canonical c.in_ok-new.ensures in
+    let is = e ∙ ap (λ l. norm (l ++ c.class-2.result.now.ranges.items)) c.class.ensures.same ∙ ap (λ l. norm (c.args.self.now ++ l)) c.class-2.ensures.same in record {
+      ranges = made_has (λ s. s ≡ norm (c.args.self.now ++ c.args.other.now)) c.sealed.result _ is c.sealed.ensures;
+      normal = made_has IsNormal c.sealed.result _ (subst IsNormal (sym is) (norm_normal _)) c.sealed.ensures;
+      members = made_has (λ s. HasJust s (λ x. in_ranges c.args.self.now x || in_ranges c.args.other.now x)) c.sealed.result _ (union_just c.args.self.now c.args.other.now _ is) c.sealed.ensures;
+    }
