@@ -1,5 +1,5 @@
 // From roots and a pattern to what can be run.
-ghost use Rattle.std.specs.Prelude.{◌≡◌, ℕ, List, IfErr, IfOk, encode_utf8_all, false, map};
+ghost use Rattle.std.specs.Prelude.{◌≡◌, ℕ, List, IfErr, IfOk, encode_utf8_all, false, length, map};
 ghost use Rattle.rosie_io.specs.Loading.{NotFewer};
 ghost use Rattle.rosie_prepare.specs.Answers.{HasCause, IsAsked, Prepares};
 ghost use Rattle.rosie_prepare.specs.Prepared.{IsPrepared, OrLine, Ready, TableComes, set_of};
@@ -39,6 +39,7 @@ fn load_roots<F: Files>(
     roots: &Roots,
 ) -> Result<PackageSet, Unready>
     ensures gives { F.tells → Leads set_seen result (load (world (F.tree files.old) folders.now) roots.now) }
+    ensures many { IfOk result (λ set. length (set_seen set).roots ≡ length roots.now) }
     ensures cause { HasCause result (moment F.rest F.taken F.faults F.failed_opens files.old)
         (moment F.rest F.taken F.faults F.failed_opens files.new) }
     ensures taken { NotFewer (F.taken files.old) (F.taken files.new) }
@@ -109,6 +110,7 @@ pub fn prepare_rules<F: Files>(
         → TableComes (load (world (F.tree files.old) folders.now) roots.now).answer r
         → Prepares (λ p. set_seen p.set) result r }
     ensures table { IfOk result (λ p. rows_of p.rules ≡ table_of (set_seen p.set)) }
+    ensures many { IfOk result (λ p. length (set_seen p.set).roots ≡ length roots.now) }
     ensures asked { F.tells → IfErr result (λ u. IsAsked u
         (map encode_utf8_all (load (world (F.tree files.old) folders.now) roots.now).asked)) }
     ensures cause { HasCause result (moment F.rest F.taken F.faults F.failed_opens files.old)

@@ -102,6 +102,7 @@ pub(crate) fn pass_rules(alloc: Global, set: PackageSet) -> Result<PreparedRules
         → Passes (set_seen set) (table_too_large (set_seen set)) (table_unsound (set_seen set)) (set_seen set) r
         → Prepares (λ p. set_seen p.set) result r }
     ensures table { IfOk result (λ p. rows_of p.rules ≡ table_of (set_seen p.set)) }
+    ensures set { IfOk result (λ p. set_seen p.set ≡ set_seen set) }
     ensures own { IfErr result IsOwn }
 {
     let rules = expand_rules(alloc, &set)?;

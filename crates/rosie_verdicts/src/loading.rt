@@ -1,5 +1,5 @@
 // From a file to its tests, each with what it is tried with.
-ghost use Rattle.std.specs.Prelude.{◌≡◌, ◌∷◌, [], ℕ, List, Ok, IfErr, IfOk, false};
+ghost use Rattle.std.specs.Prelude.{◌≡◌, ◌<◌, ◌∷◌, [], ℕ, List, Ok, IfErr, IfOk, false, length};
 ghost use Rattle.rosie_io.specs.Loading.{NotFewer};
 ghost use Rattle.rosie_prepare.specs.Answers.{HasCause, IsAsked, Prepares};
 ghost use Rattle.rosie_prepare.specs.Prepared.{OrLine};
@@ -60,17 +60,18 @@ fn suite_over(
     budget: Option<u64>,
     text: &str,
 ) -> Result<Suite, Unready>
-    requires { rows_of ready.rules ≡ table_of (set_seen ready.set) }
+    requires rows { rows_of ready.rules ≡ table_of (set_seen ready.set) }
+    requires root { 0 < length (set_seen ready.set).roots }
     ensures prepares { (r : OrLine S.Suite) → S.ComesAgain (set_seen ready.set) file budget (Ok text.now) r
         → Prepares suite_of result r }
     ensures own { IfErr result IsOwn }
 {
     let PreparedRules { set, rules } = ready;
     let Some(number) = set.root_module(0) else {
-        return Err(Unready::NoMemory);
+        unreachable!()
     };
     let Some(name) = set.package(number) else {
-        return Err(Unready::NoMemory);
+        unreachable!()
     };
     let prefix = Chars::from_str(alloc, name)?;
     let tests = tests_in(alloc, &file, text)?;
