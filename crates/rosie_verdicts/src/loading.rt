@@ -1,5 +1,7 @@
 // From a file to its tests, each with what it is tried with.
-ghost use Rattle.std.specs.Prelude.{◌≡◌, ◌<◌, ◌∷◌, [], ℕ, List, Ok, IfErr, IfOk, false, length};
+ghost use Rattle.std.specs.Prelude.{◌≡◌, ◌<◌, ◌≤◌, ◌∷◌, [], ℕ, List, Ok, IfErr, IfOk, encode_utf8_all};
+ghost use Rattle.std.specs.Prelude.{false, length};
+ghost use Rattle.std.specs.List.{All};
 ghost use Rattle.rosie_io.specs.Loading.{NotFewer};
 ghost use Rattle.rosie_prepare.specs.Answers.{HasCause, IsAsked, Prepares};
 ghost use Rattle.rosie_prepare.specs.Prepared.{OrLine};
@@ -38,6 +40,7 @@ fn one_root(alloc: Global, file: &Chars) -> Result<Roots, NoMemory>
 /// The tests that the comments of the file's text say, or the line of the first bad one.
 fn tests_in(alloc: Global, file: &Chars, text: &str) -> Result<Tests, Unready>
     ensures tests { IfOk result (HasTests text.now) }
+    ensures short { IfOk result (λ tests. All (λ t. length (encode_utf8_all t.text) ≤ length text.now) tests) }
     ensures bad { IfErr result (IsBadTest file.now text.now) }
 {
     match read_tests(alloc, text) {
@@ -62,6 +65,7 @@ fn suite_over(
 ) -> Result<Suite, Unready>
     requires rows { rows_of ready.rules ≡ table_of (set_seen ready.set) }
     requires root { 0 < length (set_seen ready.set).roots }
+    requires short { length text.now ≤ 1048576 }
     ensures prepares { (r : OrLine S.Suite) → S.ComesAgain (set_seen ready.set) file budget (Ok text.now) r
         → Prepares suite_of result r }
     ensures own { IfErr result IsOwn }

@@ -1,5 +1,5 @@
 // The second reading of the file.
-ghost use Rattle.std.specs.Prelude.{◌≡◌, ◌∷◌, [], IfErr, encode_utf8_all, false, string_bytes};
+ghost use Rattle.std.specs.Prelude.{◌≡◌, ◌≤◌, ◌∷◌, [], IfErr, IfOk, encode_utf8_all, false, length, string_bytes};
 ghost use Rattle.rosie_prepare.specs.Lines.{load_line};
 ghost use Rattle.rosie_io.specs.Loading.{NotFewer};
 ghost use Rattle.rosie_io.specs.Opening.{file_of};
@@ -16,7 +16,7 @@ use rpl_text::Chars;
 use std::alloc::Global;
 
 /// The most bytes of an RPL file.
-pub(crate) const MOST_BYTES: usize = 1_048_576;
+const MOST_BYTES: usize = 1_048_576;
 
 /// The refusal of the file as a whole, if there is memory for its line.
 fn refused(alloc: Global, file: &Chars, kind: LoadKind) -> Unready
@@ -40,6 +40,7 @@ pub(crate) fn read_again<F: Files>(
 ) -> Result<String, Unready>
     ensures reads { F.tells → Rereads string_bytes result file.now
         (file_of (encode_utf8_all file.now) (F.tree files.old)) }
+    ensures short { IfOk result (λ text. length (string_bytes text) ≤ 1048576) }
     ensures asked { IfErr result (λ u. IsAsked u (encode_utf8_all file.now ∷ [])) }
     ensures cause { HasCause result (moment F.rest F.taken F.faults F.failed_opens files.old)
         (moment F.rest F.taken F.faults F.failed_opens files.new) }

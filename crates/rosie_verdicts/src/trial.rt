@@ -1,5 +1,5 @@
 // A test, and what it is tried with.
-ghost use Rattle.std.specs.Prelude.{◌≡◌, ◌<◌, length, map, List, IfOk};
+ghost use Rattle.std.specs.Prelude.{◌≡◌, ◌<◌, ◌≤◌, encode_utf8_all, length, map, List, IfOk};
 ghost use Rattle.std.specs.List.{All};
 ghost use Rattle.rpl_core.specs.Table.{bodies_of};
 ghost use Rattle.rpl_expand.specs.Sets.{table_of};
@@ -11,13 +11,12 @@ ghost use Rattle.rosie_verdicts.specs.Suites.{AreTrials};
 ghost use Rattle.rosie_verdicts.specs.Trials as T;
 ghost use Rattle.rosie_verdicts.specs.inside.Ready.{AreReady, IsText};
 
-use crate::reading::MOST_BYTES;
 use crate::subject::{Entry, Subjects};
 use rosie_run::NoMemory;
 use rpl_check::Checked;
 use rpl_package::PackageSet;
 use rpl_unittest::{Test, Tests};
-use std::alloc::{AllocError, Global};
+use std::alloc::Global;
 
 /// A test, and what it is tried with.
 #[derive(Drop)]
@@ -34,17 +33,15 @@ pub(crate) struct Trials {
     pub(crate) trials: Vec<Trial>,
 }
 
-/// The test itself. No text is longer than its file, since no escape is shorter than what it stands for; where one
-/// were, there would be no answer but want of memory.
-fn with_short_text(test: Test) -> Result<Test, NoMemory>
-    ensures same { IfOk result (λ t. t ≡ test) }
-    ensures short { IfOk result (λ t. IsText t.text) }
+/// The test itself, whose text is one of a file.
+fn with_text(test: Test) -> Test
+    requires { length (encode_utf8_all test.text) ≤ 1048576 }
+    ensures same { result ≡ test }
+    ensures text { IsText result.text }
 {
-    let text = test.text.as_str();
-    if text.len() > MOST_BYTES {
-        return Err(AllocError);
-    }
-    Ok(test)
+    // That it is of characters alone is known of what is looked at.
+    let _text = test.text.as_str();
+    test
 }
 
 /// What each test is tried with, by the names of the module with this number.
@@ -55,7 +52,8 @@ pub(crate) fn trials_of(
     number: u32,
     tests: Tests,
 ) -> Result<Trials, NoMemory>
-    requires { rows_of rules.now ≡ table_of (set_seen set.now) }
+    requires rows { rows_of rules.now ≡ table_of (set_seen set.now) }
+    requires short { All (λ t. length (encode_utf8_all t.text) ≤ 1048576) tests }
     ensures trials { IfOk result (λ ts. (due : List T.Trial)
         → AreTrials (bodies_of rules.now) (own (set_seen set.now) number) tests due
         → due ≡ map (trial_of (bodies_of rules.now) ts.subjects.items) ts.trials.items) }
@@ -66,7 +64,7 @@ pub(crate) fn trials_of(
     let mut subjects = Subjects::new(alloc, rules)?;
     let mut trials = Vec::new(alloc);
     for test in tests.into_vec() {
-        let test = with_short_text(test)?;
+        let test = with_text(test);
         let target = set.own(number, test.name.as_str());
         let subject = subjects.place_for(alloc, rules, target)?;
         trials.push(Trial { test, subject })?;

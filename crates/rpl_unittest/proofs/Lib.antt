@@ -5,4 +5,5 @@ mod Examples
 pub mod Behind
 mod Told
 mod More
+mod Short
 pub mod Single

@@ -1,11 +1,11 @@
 -- The nodes of one tree.
-use Rattle.std.proofs.Common.{◌≡◌, ℕ, zero, suc, ◌+◌, ◌<◌, ◌≤◌, List, [], ◌∷◌, ◌++◌, length, take, drop, Option, Some}
-use Rattle.std.proofs.Common.{None, refl, sym, ap, subst, ◌∙◌, arith, length-append, append-nil}
+use Rattle.std.proofs.Common.{◌≡◌, ℕ, zero, suc, ◌≤◌, List, [], ◌∷◌, ◌++◌, length, take, drop, Option, Some}
+use Rattle.std.proofs.Common.{None, refl, sym, ap, ◌∙◌, arith, append-nil}
 use Rattle.std.proofs.lemmas.List.{length-drop}
 use Rattle.rpl_core.specs.Forest.{Forest, NoTree, Tree, Noted}
 use Rattle.rpl_core.specs.declared.caught.Caught.{Caught}
 use Rattle.std.specs.Prelude.{All}
-use Rattle.rpl_tree.specs.Trees.{IsLeaf, Write, nothing, a_tree, a_note, Builds, node_as, trees_of, forest_of}
+use Rattle.rpl_tree.specs.Trees.{IsLeaf, Write, nothing, a_tree, a_note, node_as, trees_of, forest_of}
 use Rattle.rpl_tree.specs.declared.node.Node.{Node}
 use Rattle.rpl_unittest.specs.Laws.{BuiltAsOneTree}
 use Rattle.rpl_unittest.specs.Verdicts.{AreOneTree}

@@ -1,5 +1,6 @@
 // The tests of a text.
-ghost use Rattle.std.specs.Prelude.{◌≡◌, IfOk, IfErr};
+ghost use Rattle.std.specs.Prelude.{◌≡◌, ◌≤◌, IfOk, IfErr, encode_utf8_all, length};
+ghost use Rattle.std.specs.List.{All};
 ghost use Rattle.rpl_unittest.specs.Comments.{HasTests};
 ghost use Rattle.rpl_unittest.specs.Faults.{IsFault};
 
@@ -41,6 +42,7 @@ impl From<NoMemory> for TestFault {
 /// or `includes` or `excludes` with a part, and one quoted text or more with commas between them.
 pub fn read_tests(alloc: Global, text: &str) -> Result<Tests, TestFault>
     ensures tests { IfOk result (HasTests text.now) }
+    ensures short { IfOk result (λ tests. All (λ t. length (encode_utf8_all t.text) ≤ length text.now) tests) }
     ensures bad { IfErr result (IsFault text.now) }
 {
     let mut tests = Tests::new(alloc);

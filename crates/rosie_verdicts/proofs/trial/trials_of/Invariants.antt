@@ -1,5 +1,6 @@
-use Rattle.std.proofs.Common.{◌≡◌, List, length}
-use Rattle.std.specs.Prelude.{map}
+use Rattle.std.proofs.Common.{◌≡◌, ◌≤◌, List, length}
+use Rattle.std.specs.Prelude.{encode_utf8_all, map}
+use Rattle.std.specs.List.{All}
 use Rattle.std.specs.Vec.Iter.{into_iter_items, into_iter_len}
 use Rattle.rpl_core.specs.Table.{bodies_of}
 use Rattle.rpl_package.specs.Owned.{own}
@@ -13,7 +14,7 @@ use Rattle.rosie_verdicts.proofs.Entries.{ArePlaced}
 use Rattle.rosie_verdicts.proofs.Tried.{Passed}
 use Rattle.rosie_verdicts.proofs.trial.trials_of.Given as goal
 
--- of the trials that are due, those of the tests so far are made, and each is ready
+-- of the trials that are due, those of the tests so far are made, and each is ready; no text that is left is too long
 abbrev pub invariant-loop-test : goal.invariant-loop-test
 invariant-loop-test l = record {
   passed : (due : List Trial) → AreTrials (bodies_of l.rules) (own (set_seen l.set) l.number) l.fn.tests due
@@ -22,5 +23,6 @@ invariant-loop-test l = record {
   ready : ∥ AreReady (map (trial_of (bodies_of l.rules) l.subjects.entries.items) l.trials.items) ∥₁;
   placed : ArePlaced l.subjects.entries.items l.trials.items;
   sound : AreSound (bodies_of l.rules) l.subjects.entries.items;
+  short : All (λ t. length (encode_utf8_all t.text) ≤ 1048576) (into_iter_items l.test-iterator);
   left : into_iter_len l.test-iterator ≡ length (into_iter_items l.test-iterator);
 }

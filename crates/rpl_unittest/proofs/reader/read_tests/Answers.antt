@@ -4,6 +4,7 @@ use Rattle.std.proofs.lemmas.Iterator.Splits.{YieldsList-from_str_split}
 use Rattle.std.proofs.lemmas.Iterator.Consumers.{YieldsList-turn, YieldsList-end, YieldsList-so_far}
 use Rattle.rpl_unittest.specs.Comments.{AllSay, lines_of}
 use Rattle.rpl_unittest.proofs.More.{unsaid, told_more, told_bad, says_in}
+use Rattle.rpl_unittest.proofs.Short.{tests_short}
 use Rattle.rpl_unittest.proofs.reader.read_tests.Goals as goal
 
 pub returns-then-not-branch-clause-bad : goal.returns-then-not-branch-clause-bad
@@ -59,3 +60,10 @@ returns-clause-tests c =
     let road = YieldsList-from_str_split 10 w (lit< tt) (cc) (cc) (cc) in
     let t = YieldsList-end road c.loop-line.yielded _ c.loop-line.yielded_by _ _ c.in-None.is c.next.ensures.steps in
     subst (λ ls. AllSay 1 ls c.loop-line.tests) t.0 c.loop-line.invariant.3
+
+pub returns-clause-short : goal.returns-clause-short
+returns-clause-short c =
+    let w = c.args.text.now in
+    let road = YieldsList-from_str_split 10 w (lit< tt) (cc) (cc) (cc) in
+    let t = YieldsList-end road c.loop-line.yielded _ c.loop-line.yielded_by _ _ c.in-None.is c.next.ensures.steps in
+    tests_short w c.loop-line.tests c.utf8.text (subst (λ ls. AllSay 1 ls c.loop-line.tests) t.0 c.loop-line.invariant.3)
