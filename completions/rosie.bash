@@ -1,6 +1,6 @@
 # Completion of rosie for bash: commands, options, styles, classes, files, and names of packages in a pattern.
 
-# The names that a pattern may go on with, where NAME is begun: those of its package behind a dot, and else the packages and what the roots
+# The names that a pattern may go on with, where NAME is begun: those of its package after a dot, and else the packages and what the roots
 # bind. _rosie_names FOLDERS NAME [ROOT ..]
 _rosie_names() {
     local folders=$1 name=$2 folder file
@@ -37,7 +37,7 @@ _rosie() {
     [[ $piece == [=:]* ]] && piece=
     kept=${word%"$piece"}
 
-    # The words before it: the command, the number of arguments behind it, and the option that wants this word.
+    # The words before it: the command, the number of arguments after it, and the option that wants this word.
     for item in "${words[@]:1}"; do
         if [[ -n $wants ]]; then
             # Quotes of the shell round a value are taken off, and nothing else of it is resolved.

@@ -8,7 +8,7 @@ function __rosie_for
     or not __fish_seen_subcommand_from $__rosie_commands
 end
 
-# What a pattern may go on with, where it ends with a name that is begun: the names of its package behind a dot, and else the packages.
+# What a pattern may go on with, where it ends with a name that is begun: the names of its package after a dot, and else the packages.
 function __rosie_names
     set -l token (commandline -ct)
     set -l name (string match -r '[A-Za-z][A-Za-z0-9_]*(?:\.[A-Za-z0-9_]*)?$' -- $token)

@@ -8,7 +8,7 @@ use Rattle.rosie_run.specs.Runs.{GoesOn, IsNoCut, Runs}
 use Rattle.rosie_run.specs.Sources.{Moment, NoFewer, Still}
 use Rattle.rosie_run.specs.declared.ended.Ended.{Ended}
 use Rattle.rosie_run.specs.declared.ended.Ended.TheVariants as E
-use Rattle.rosie_run.specs.declared.ended.Why.TheVariants as Y
+use Rattle.rosie_run.specs.declared.ended.ReadStop.TheVariants as Y
 use Rattle.rosie_run.specs.declared.tally.Tally.{Tally}
 use Rattle.rosie_run.proofs.Headlines.{headline, output-cause, reads-cause}
 use Rattle.rosie_run.specs.Causes.{OutputCause, ReadsCause}

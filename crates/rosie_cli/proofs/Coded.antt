@@ -9,13 +9,13 @@ use Rattle.rosie_io.specs.Opening.{file_of}
 use Rattle.rosie_jobs.proofs.Alike.{runs_as_its_goal}
 use Rattle.rosie_jobs.proofs.One.{one_loading_holds}
 use Rattle.rosie_jobs.specs.Lines.{Job, code_makes, match_makes, reading}
-use Rattle.rosie_jobs.specs.Loaded.{IsLoaded, OrLine, most_bytes}
+use Rattle.rosie_jobs.specs.Loaded.{IsLoaded, OrLine, max_code_bytes}
 use Rattle.rosie_jobs.specs.Makers.{Matches, Runs}
 use Rattle.rosie_jobs.specs.Meant.{IsMeant}
 use Rattle.rosie_jobs.specs.declared.settings.Settings.{Settings}
 use Rattle.rosie_prepare.proofs.OneAnswer.{one_answer}
 use Rattle.rosie_prepare.specs.Lines.{compile_line}
-use Rattle.rosie_prepare.specs.Prepared.{IsPrepared, OrLine as OrRefused, Ready, Tree, Wanted, bodies}
+use Rattle.rosie_prepare.specs.Prepared.{IsPrepared, OrLine as OrRefused, Ready, Tree, PatternRequest, bodies}
 use Rattle.rosie_run.specs.Inputs.{file_pieces, inputs_pieces, is_standard, left_after, one_pieces}
 use Rattle.rosie_run.specs.Lines.{Makes, input_pieces, line_fault, line_piece, pieces_from}
 use Rattle.rosie_run.specs.Report.{Piece, fault_piece, up_to_stop}
@@ -30,11 +30,11 @@ use Rattle.rpl_core.specs.Numbers.{instr_of}
 use Rattle.rpl_core.specs.Programs.{IsCode}
 use Rattle.rpl_safe.proofs.Whole.{code_is_safe_holds}
 use Rattle.rpl_safe.specs.Safe.{IsSafe}
-use Rattle.rpl_simulation.proofs.Answering.{answer_holds}
+use Rattle.rpl_compile_laws.proofs.Answering.{answer_holds}
 use Rattle.rosie_cli.specs.CodeFiles.{IsCodeLines, code_plan}
 use Rattle.rosie_cli.specs.Compiling.{Compiles, IsCompiled}
 use Rattle.rosie_cli.specs.Laws.{HaveOneReport, RunsWhatIsCompiled, SafeLaw}
-use Rattle.rosie_cli.specs.Planned.{IsRun, IsRunning, input_names, job_with, matching, within_limit}
+use Rattle.rosie_cli.specs.Planned.{IsRun, IsRunning, input_names, job_with, matching, plan_unless_long}
 use Rattle.rosie_cli.specs.Plans.{Plan, Planned, Says, Writes, Tries, Reads, Samples, Replays, refusal}
 use Rattle.rosie_cli.specs.Promises.{SpellsSafe}
 use Rattle.rosie_cli.specs.Report.{report}
@@ -73,7 +73,7 @@ safe_too : (code : List Instr) (bytes : List ℕ) → Spells code bytes → Spel
 safe_too code bytes spells other = subst IsSafe (one_reading_holds other.0 code bytes other.1 spells) other.2
 
 -- the code that is written is the goal's
-compiled_safe : (w : Wanted) (tree : Tree) (p : Planned) (bytes : List ℕ) → p.plan ≡ Writes bytes
+compiled_safe : (w : PatternRequest) (tree : Tree) (p : Planned) (bytes : List ℕ) → p.plan ≡ Writes bytes
     → (ready : OrRefused Ready) → IsPrepared tree w p.asked ready → Compiles ready p.plan → SpellsSafe bytes
 compiled_safe w tree p bytes writes (Err line) is e = absurd (not_saying p bytes _ writes e tt)
 compiled_safe w tree p bytes writes (Ok r) is c =
@@ -91,7 +91,7 @@ pub code_is_safe : SafeLaw
 code_is_safe w tree p bytes is writes = compiled_safe w tree p bytes writes is.ready is.prepares is.compiles
 
 -- the plan runs the code of what is wanted, which the bytes spell
-record Ran (w : Wanted) (tree : Tree) (asked : List (List ℕ)) (bytes : List ℕ) (s : Settings) (names : List (List ℕ))
+record Ran (w : PatternRequest) (tree : Tree) (asked : List (List ℕ)) (bytes : List ℕ) (s : Settings) (names : List (List ℕ))
     (plan : Plan) : Type 0 where
   ready : Ready
   code : List Instr
@@ -100,8 +100,8 @@ record Ran (w : Wanted) (tree : Tree) (asked : List (List ℕ)) (bytes : List �
   spells : Spells code bytes
   runs : plan ≡ Reads (Runs s code) s.whole names
 
-module _ (w : Wanted) (tree : Tree) (p : Planned) (bytes : List ℕ) (writes : p.plan ≡ Writes bytes)
-    (safe : SpellsSafe bytes) (fits : length bytes ≤ most_bytes) (s : Settings) (path : List ℕ)
+module _ (w : PatternRequest) (tree : Tree) (p : Planned) (bytes : List ℕ) (writes : p.plan ≡ Writes bytes)
+    (safe : SpellsSafe bytes) (fits : length bytes ≤ max_code_bytes) (s : Settings) (path : List ℕ)
     (names : List (List ℕ)) (there : Tree) (q : Planned) (lies : file_of path there ≡ Some bytes)
     (runs : IsCodeLines s path names there q) where
   code_runs : (code : List Instr) → Spells code bytes → q.plan ≡ code_plan s names (Ok code)
@@ -118,8 +118,8 @@ module _ (w : Wanted) (tree : Tree) (p : Planned) (bytes : List ℕ) (writes : p
       record { ready = r; code = c.0; prepares = is; compiled = c.1; spells = spells; runs = code_runs c.0 spells })
       c.2
 
-ran_file : (w : Wanted) (tree : Tree) (p : Planned) (bytes : List ℕ) → IsCompiled w tree p → p.plan ≡ Writes bytes
-    → length bytes ≤ most_bytes → (s : Settings) (path : List ℕ) (names : List (List ℕ)) (there : Tree) (q : Planned)
+ran_file : (w : PatternRequest) (tree : Tree) (p : Planned) (bytes : List ℕ) → IsCompiled w tree p → p.plan ≡ Writes bytes
+    → length bytes ≤ max_code_bytes → (s : Settings) (path : List ℕ) (names : List (List ℕ)) (there : Tree) (q : Planned)
     → file_of path there ≡ Some bytes → IsCodeLines s path names there q → Ran w tree p.asked bytes s names q.plan
 ran_file w tree p bytes is writes fits s path names there q lies runs =
     run_ready w tree p bytes writes (code_is_safe w tree p bytes is writes) fits s path names there q lies runs is.ready
@@ -181,7 +181,7 @@ same_report s job names meant files input =
     (λ file k line u. sym (runs_as_its_goal s job meant file k line u)) files input names)
 
 -- a code within its limit is what is matched
-module _ (w : Wanted) (tree : Tree) (s : Settings) (inputs : List (List ℕ)) (files : Tree) (input : List ℕ)
+module _ (w : PatternRequest) (tree : Tree) (s : Settings) (inputs : List (List ℕ)) (files : Tree) (input : List ℕ)
     (asked : List (List ℕ)) (code : List Instr) (q : Plan) (within : length code ≤ 1048576)
     (runs : q ≡ Reads (Runs s code) s.whole (input_names inputs)) where
   matched_as : (r : Ready) → IsWhole (bodies r.rules) r.goal → IsCode (bodies r.rules) r.goal code → (p : Plan)
@@ -191,7 +191,7 @@ module _ (w : Wanted) (tree : Tree) (s : Settings) (inputs : List (List ℕ)) (f
       let same : h.0 ≡ code = code_holds (bodies r.rules) r.goal h.0 code h.1 is in
       let test : nat_lt 1048576 (length code) ≡ false = grind (arith, within) in
       let plan : p ≡ Reads (Matches s job) s.whole (input_names inputs) =
-      h.2 ∙ ap (λ (c : List Instr). within_limit (matching s inputs r.rules (job_with r c)) c) same
+      h.2 ∙ ap (λ (c : List Instr). plan_unless_long (matching s inputs r.rules (job_with r c)) c) same
       ∙ ap (λ b. cond b (refusal compile_line) (matching s inputs r.rules job)) test in
       let meant : IsMeant job = λ t chars b.
       answer_holds whole.stays.0 _ _ _ whole.stays.1 is t chars (whole.shut t) b in

@@ -3,14 +3,14 @@ use Rattle.std.proofs.Common.{ℕ, ◌≡◌, ◌≤◌, Bool, true, false, cond
 use Rattle.std.specs.Prelude.{Ok, nat_lt}
 use Rattle.rosie_prepare.specs.Lines.{compile_line}
 use Rattle.rosie_prepare.specs.Prepared.{Ready, bodies}
-use Rattle.rosie_show.specs.Expansions.{IsExpansion}
-use Rattle.rosie_show.proofs.Rows.{one_pattern_text}
+use Rattle.rosie_inspect.specs.Expansions.{IsExpansion}
+use Rattle.rosie_inspect.proofs.Rows.{one_pattern_text}
 use Rattle.rpl_core.specs.Core.{Core}
 use Rattle.rpl_core.specs.Instr.{Instr}
 use Rattle.rpl_core.specs.Programs.{IsCode}
 use Rattle.rpl_core.proofs.Codes.{code_holds}
 use Rattle.rpl_codegen.specs.Compiled.{HasLongCode}
-use Rattle.rosie_show.specs.Listing.{lines}
+use Rattle.rosie_inspect.specs.Listing.{lines}
 use Rattle.rosie_cli.specs.Expanding.{Expands, with_code}
 use Rattle.rosie_cli.specs.Plans.{Plan, refusal, whole_answer}
 

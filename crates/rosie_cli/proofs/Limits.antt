@@ -14,14 +14,14 @@ use Rattle.rpl_core.specs.declared.rules.Rule.{Rule}
 use Rattle.rpl_core.proofs.Codes.{code_holds}
 use Rattle.rpl_codegen.specs.Compiled.{HasLongCode}
 use Rattle.rpl_forms.specs.Rows.{Row, rows_of}
-use Rattle.rosie_cli.specs.Planned.{full_names, within_limit, IsRun}
+use Rattle.rosie_cli.specs.Planned.{full_names, plan_unless_long, IsRun}
 use Rattle.rosie_cli.specs.Plans.{Plan, Reads, refusal}
 
 -- what is ready has the rules R, as cores, and runs by the plan p
 module _ (run : List Row → Job → Plan) (r : Ready) (R : List Core) (same : bodies r.rules ≡ R) (p : Plan)
     (is : IsRun run (Ok r) p) where
   abbrev plan_with : List Core → Core → List Instr → Plan
-  plan_with S g code = within_limit (run r.rules (record { rules = S; goal = g; code = code })) code
+  plan_with S g code = plan_unless_long (run r.rules (record { rules = S; goal = g; code = code })) code
 
   coded : (code : List Instr) → IsCode R r.goal code → p ≡ plan_with R r.goal code
   coded code h =

@@ -6,11 +6,11 @@ use Rattle.rosie_jobs.proofs.One.{one_loading_holds}
 use Rattle.rosie_io.specs.Opening.{file_of}
 use Rattle.rosie_jobs.specs.Lines.{Job}
 use Rattle.rosie_jobs.specs.declared.settings.Settings.{Settings}
-use Rattle.rosie_prepare.specs.Prepared.{Tree, Wanted, Ready, OrLine, bodies}
+use Rattle.rosie_prepare.specs.Prepared.{Tree, PatternRequest, Ready, OrLine, bodies}
 use Rattle.rosie_prepare.proofs.OneAnswer.{one_answer, one_table}
-use Rattle.rosie_show.proofs.Rows.{one_pattern_text}
-use Rattle.rosie_show.proofs.Texts.{one_text}
-use Rattle.rosie_verdicts.proofs.Once.{one-suite}
+use Rattle.rosie_inspect.proofs.Rows.{one_pattern_text}
+use Rattle.rosie_inspect.proofs.Texts.{one_text}
+use Rattle.rosie_unittest.proofs.Once.{one-suite}
 use Rattle.rosie_words.specs.declared.command.Command.{Command}
 use Rattle.rosie_words.specs.declared.command.What.{What}
 use Rattle.rosie_words.specs.declared.command.What.TheVariants as W
@@ -30,7 +30,7 @@ use Rattle.rosie_cli.specs.Expanding.{Expands, IsExpanded, with_code}
 use Rattle.rosie_cli.specs.Laws.{OnePlan}
 use Rattle.rosie_cli.specs.Listing.{IsListed, Lists}
 use Rattle.rosie_cli.specs.Options.{settings_of}
-use Rattle.rosie_cli.specs.Planned.{input_names, job_with, matching, sample_wanted, sampling, tracing, wanted, within_limit}
+use Rattle.rosie_cli.specs.Planned.{input_names, job_with, matching, sample_request, sampling, tracing, request, plan_unless_long}
 use Rattle.rosie_cli.specs.Planned.{IsMatch, IsPlannedAs, IsRun, IsRunning}
 use Rattle.rosie_cli.specs.Plans.{Plan, Planned, Writes, whole_answer}
 use Rattle.rosie_cli.specs.Testing.{IsTesting, tried}
@@ -41,7 +41,7 @@ use Rattle.rosie_cli.proofs.Replayed.{one_replayed}
 one_run : (run : List Row → Job → Plan) (r : OrLine Ready) (p q : Plan) → IsRun run r p → IsRun run r q → p ≡ q
 one_run run (Err line) p q x y = x ∙ sym y
 one_run run (Ok r) p q x y =
-    x.2 ∙ ap (λ c. within_limit (run r.rules (job_with r c)) c) (code_holds (bodies r.rules) r.goal x.0 y.0 x.1 y.1)
+    x.2 ∙ ap (λ c. plan_unless_long (run r.rules (job_with r c)) c) (code_holds (bodies r.rules) r.goal x.0 y.0 x.1 y.1)
     ∙ sym y.2
 
 one_shown : (wants_code : Bool) (r : OrLine Ready) (p q : Plan) → Expands wants_code r p → Expands wants_code r q → p ≡ q
@@ -87,21 +87,21 @@ unfolding planned_with
 planned_same p q e f = ap (λ x. planned_with x p.plan) e ∙ ap (planned_with q.asked) f
 
 -- the plans
-one_running : (run : List Row → Job → Plan) (w : Wanted) (tree : Tree) (p q : Planned) → IsRunning run w tree p
+one_running : (run : List Row → Job → Plan) (w : PatternRequest) (tree : Tree) (p q : Planned) → IsRunning run w tree p
     → IsRunning run w tree q → p ≡ q
 one_running run w tree p q x y =
     let same = one_answer tree w p.asked q.asked x.ready y.ready x.prepares y.prepares in
     let runs = subst (λ r. IsRun run r q.plan) (sym same.1) y.runs in
     planned_same p q same.0 (one_run run x.ready p.plan q.plan x.runs runs)
 
-one_expanded : (w : Wanted) (wants_code : Bool) (tree : Tree) (p q : Planned) → IsExpanded w wants_code tree p
+one_expanded : (w : PatternRequest) (wants_code : Bool) (tree : Tree) (p q : Planned) → IsExpanded w wants_code tree p
     → IsExpanded w wants_code tree q → p ≡ q
 one_expanded w wants_code tree p q x y =
     let same = one_answer tree w p.asked q.asked x.ready y.ready x.prepares y.prepares in
     let expands = subst (λ r. Expands wants_code r q.plan) (sym same.1) y.expands in
     planned_same p q same.0 (one_shown wants_code x.ready p.plan q.plan x.expands expands)
 
-one_code_file : (w : Wanted) (tree : Tree) (p q : Planned) → IsCompiled w tree p → IsCompiled w tree q → p ≡ q
+one_code_file : (w : PatternRequest) (tree : Tree) (p q : Planned) → IsCompiled w tree p → IsCompiled w tree q → p ≡ q
 one_code_file w tree p q x y =
     let same = one_answer tree w p.asked q.asked x.ready y.ready x.prepares y.prepares in
     let compiles = subst (λ r. Compiles r q.plan) (sym same.1) y.compiles in
@@ -116,7 +116,7 @@ one_code_run s path names tree p q x y =
 one_match : (c : Command) (file : Option (List ℕ)) (pattern : List ℕ) (inputs : List (List ℕ)) (tree : Tree)
     (p q : Planned) → IsMatch c file pattern inputs tree p → IsMatch c file pattern inputs tree q → p ≡ q
 one_match c None pattern inputs tree p q x y =
-    one_running (matching (settings_of c) inputs) (wanted c pattern false) tree p q x y
+    one_running (matching (settings_of c) inputs) (request c pattern false) tree p q x y
 one_match c (Some path) pattern inputs tree p q x y =
     one_code_run (settings_of c) (encode_utf8_all path) (input_names inputs) tree p q x y
 
@@ -137,15 +137,15 @@ one_what : (c : Command) (what : What) (tree : Tree) (p q : Planned) → IsPlann
     → IsPlannedAs c what tree q → p ≡ q
 one_what c (W.Match pattern inputs) tree p q x y = one_match c c.code_file pattern inputs tree p q x y
 one_what c (W.Grep pattern inputs) tree p q x y =
-    one_running (matching (settings_of c) inputs) (wanted c pattern true) tree p q x y
+    one_running (matching (settings_of c) inputs) (request c pattern true) tree p q x y
 one_what c (W.Test file) tree p q x y = one_tested c.folders file c.budget tree p q x y
 one_what c W.List tree p q x y = one_listed c.roots c.folders tree p q x y
-one_what c (W.Expand pattern) tree p q x y = one_expanded (wanted c pattern false) c.code tree p q x y
-one_what c (W.Compile pattern) tree p q x y = one_code_file (wanted c pattern false) tree p q x y
+one_what c (W.Expand pattern) tree p q x y = one_expanded (request c pattern false) c.code tree p q x y
+one_what c (W.Compile pattern) tree p q x y = one_code_file (request c pattern false) tree p q x y
 one_what c (W.Trace pattern inputs) tree p q x y =
-    one_running (tracing c.limit c.whole inputs) (wanted c pattern false) tree p q x y
+    one_running (tracing c.limit c.whole inputs) (request c pattern false) tree p q x y
 one_what c (W.Sample seed lines) tree p q x y =
-    one_running (sampling (settings_of c) seed lines) (sample_wanted c.folders) tree p q x y
+    one_running (sampling (settings_of c) seed lines) (sample_request c.folders) tree p q x y
 one_what c W.Repl tree p q x y = one_replayed c.folders tree p q x y
 one_what c (W.Class name) tree p q x y = x ∙ sym y
 

@@ -7,10 +7,10 @@ use Rattle.rosie_jobs.specs.Lines.{Job}
 use Rattle.rosie_jobs.specs.Loaded as L
 use Rattle.rosie_jobs.specs.declared.settings.Settings.{Settings}
 use Rattle.rosie_prepare.specs.Lines.{compile_line}
-use Rattle.rosie_prepare.specs.Prepared.{IsPrepared, OrLine, Ready, Tree, Wanted, bodies}
+use Rattle.rosie_prepare.specs.Prepared.{IsPrepared, OrLine, Ready, Tree, PatternRequest, bodies}
 use Rattle.rosie_session.proofs.Paying.{fit_prepared, pays_code, pays_holds}
-use Rattle.rosie_show.specs.Listing.{lines}
-use Rattle.rosie_verdicts.specs.Suites.{IsSuite, Suite}
+use Rattle.rosie_inspect.specs.Listing.{lines}
+use Rattle.rosie_unittest.specs.Suites.{IsSuite, Suite}
 use Rattle.rosie_words.specs.declared.command.Command.{Command}
 use Rattle.rosie_words.specs.declared.command.What.{What}
 use Rattle.rosie_words.specs.declared.command.What.TheVariants as W
@@ -25,7 +25,7 @@ use Rattle.rosie_cli.specs.Laws.{PromiseLaw}
 use Rattle.rosie_cli.specs.Listing.{IsListed, Lists}
 use Rattle.rosie_cli.specs.Options.{settings_of}
 use Rattle.rosie_cli.specs.Planned.{IsMatch, IsPlannedAs, IsRun, IsRunning, input_names, job_with, matching}
-use Rattle.rosie_cli.specs.Planned.{sample_wanted, sampling, tracing, wanted, within_limit}
+use Rattle.rosie_cli.specs.Planned.{sample_request, sampling, tracing, request, plan_unless_long}
 use Rattle.rosie_cli.specs.Plans.{Plan, Planned, Writes, refusal, whole_answer}
 use Rattle.rosie_cli.specs.Promises.{IsPromised}
 use Rattle.rosie_cli.specs.Replaying.{IsReplayed}
@@ -46,28 +46,28 @@ within false line plan h = h
 
 module _ (run : List Row → Job → Plan)
     (good : (rows : List Row) (job : Job) → ((s : Settings) → J.PaysFor s job) → IsPromised (run rows job)) where
-  pays_ready : (w : Wanted) (tree : Tree) (asked : List (List ℕ)) (o : OrLine Ready) (plan : Plan)
+  pays_ready : (w : PatternRequest) (tree : Tree) (asked : List (List ℕ)) (o : OrLine Ready) (plan : Plan)
       → IsPrepared tree w asked o → IsRun run o plan → IsPromised plan
   pays_ready w tree asked (Err line) plan is runs = by_plan plan (refusal line) runs tt
   pays_ready w tree asked (Ok r) plan is runs =
       let fit = fit_prepared tree w asked r is in
       let job = job_with r runs.0 in
-      by_plan plan (within_limit (run r.rules job) runs.0) runs.2
+      by_plan plan (plan_unless_long (run r.rules job) runs.0) runs.2
       (within (nat_lt 1048576 (length runs.0)) compile_line (run r.rules job)
       (good r.rules job (λ s. pays_code s (bodies r.rules) r.goal runs.0 fit.whole runs.1)))
 
-  pays_running : (w : Wanted) (tree : Tree) (p : Planned) → IsRunning run w tree p → IsPromised p.plan
+  pays_running : (w : PatternRequest) (tree : Tree) (p : Planned) → IsRunning run w tree p → IsPromised p.plan
   pays_running w tree p is = pays_ready w tree p.asked is.ready p.plan is.prepares is.runs
 
-pays_match : (s : Settings) (inputs : List (List ℕ)) (w : Wanted) (tree : Tree) (p : Planned)
+pays_match : (s : Settings) (inputs : List (List ℕ)) (w : PatternRequest) (tree : Tree) (p : Planned)
     → IsRunning (matching s inputs) w tree p → IsPromised p.plan
 pays_match s inputs w tree p is = pays_running (matching s inputs) (λ rows job h. h s) w tree p is
 
-pays_trace : (limit : ℕ) (whole : Bool) (inputs : List (List ℕ)) (w : Wanted) (tree : Tree) (p : Planned)
+pays_trace : (limit : ℕ) (whole : Bool) (inputs : List (List ℕ)) (w : PatternRequest) (tree : Tree) (p : Planned)
     → IsRunning (tracing limit whole inputs) w tree p → IsPromised p.plan
 pays_trace limit whole inputs w tree p is = pays_running (tracing limit whole inputs) (λ rows job h. tt) w tree p is
 
-pays_sample : (s : Settings) (seed lines : ℕ) (w : Wanted) (tree : Tree) (p : Planned)
+pays_sample : (s : Settings) (seed lines : ℕ) (w : PatternRequest) (tree : Tree) (p : Planned)
     → IsRunning (sampling s seed lines) w tree p → IsPromised p.plan
 pays_sample s seed lines w tree p is = pays_running (sampling s seed lines) (λ rows job h. h s) w tree p is
 
@@ -97,7 +97,7 @@ pays_shown true (Ok r) plan h =
     by_plan plan (with_code h.0 code) h.2.2
     (within (nat_lt 1048576 (length code)) compile_line (whole_answer (h.0 ++ lines 0 code)) tt)
 
-pays_compiled : (w : Wanted) (tree : Tree) (p : Planned) → IsCompiled w tree p → (o : OrLine Ready)
+pays_compiled : (w : PatternRequest) (tree : Tree) (p : Planned) → IsCompiled w tree p → (o : OrLine Ready)
     → Compiles o p.plan → IsPromised p.plan
 pays_compiled w tree p is (Err line) h = by_plan p.plan (refusal line) h tt
 pays_compiled w tree p is (Ok r) h = ⊎_elim
@@ -118,25 +118,25 @@ pays_session folders tree p is =
 pays_matched : (c : Command) (o : Option (List ℕ)) (pattern : List ℕ) (inputs : List (List ℕ)) (tree : Tree)
     (p : Planned) → IsMatch c o pattern inputs tree p → IsPromised p.plan
 pays_matched c None pattern inputs tree p is =
-    pays_match (settings_of c) inputs (wanted c pattern false) tree p is
+    pays_match (settings_of c) inputs (request c pattern false) tree p is
 pays_matched c (Some path) pattern inputs tree p is =
     pays_file (settings_of c) (encode_utf8_all path) (input_names inputs) tree p is
 
 pub pays_planned : (c : Command) (what : What) (tree : Tree) (p : Planned) → IsPlannedAs c what tree p → IsPromised p.plan
 pays_planned c (W.Match pattern inputs) tree p is = pays_matched c c.code_file pattern inputs tree p is
 pays_planned c (W.Grep pattern inputs) tree p is =
-    pays_match (settings_of c) inputs (wanted c pattern true) tree p is
+    pays_match (settings_of c) inputs (request c pattern true) tree p is
 pays_planned c (W.Test file) tree p is = pays_tests c.folders file c.budget tree p is.suite is.comes is.tries
 pays_planned c (W.Class name) tree p is =
     subst (λ (q : Planned). IsPromised q.plan) (sym is) (pays_class name (set_named name))
 pays_planned c W.List tree p is = pays_named is.packages p.plan is.lists
 pays_planned c (W.Expand pattern) tree p is = pays_shown c.code is.ready p.plan is.expands
 pays_planned c (W.Compile pattern) tree p is =
-    pays_compiled (wanted c pattern false) tree p is is.ready is.compiles
+    pays_compiled (request c pattern false) tree p is is.ready is.compiles
 pays_planned c (W.Trace pattern inputs) tree p is =
-    pays_trace c.limit c.whole inputs (wanted c pattern false) tree p is
+    pays_trace c.limit c.whole inputs (request c pattern false) tree p is
 pays_planned c (W.Sample seed lines) tree p is =
-    pays_sample (settings_of c) seed lines (sample_wanted c.folders) tree p is
+    pays_sample (settings_of c) seed lines (sample_request c.folders) tree p is
 pays_planned c W.Repl tree p is = pays_session c.folders tree p is
 
 pub promise_holds : PromiseLaw

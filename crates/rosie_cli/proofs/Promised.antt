@@ -16,7 +16,7 @@ use Rattle.rosie_jobs.specs.Lines.{reading}
 use Rattle.rosie_jobs.specs.Limits.{Pays, IsAllowed}
 use Rattle.rosie_jobs.specs.Makers.{Maker, makes_of}
 use Rattle.rosie_jobs.proofs.Allowed.{IsGood, good_made, short_line, text_line}
-use Rattle.rosie_verdicts.proofs.Paid.{suite-clean}
+use Rattle.rosie_unittest.proofs.Paid.{suite-clean}
 use Rattle.rosie_cli.specs.Plans.{Plan, Says, Writes, Tries, Reads, pieces, Samples, Replays}
 use Rattle.rosie_sample.specs.Counting.{counts_piece, line_pieces, muted, sample_pieces}
 use Rattle.rosie_sample.specs.Lines.{sample}

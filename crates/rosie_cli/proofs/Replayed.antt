@@ -4,9 +4,9 @@ use Rattle.std.specs.Prelude.{Ok, Err, map, encode_utf8_all}
 use mathlib.Core.Path.{fun_ext}
 use Rattle.rosie_jobs.specs.Lines.{Job}
 use Rattle.rosie_prepare.proofs.SomeAnswer.{some_answer, some_table}
-use Rattle.rosie_prepare.specs.Prepared.{OrLine, Ready, Tree, Wanted, bodies}
+use Rattle.rosie_prepare.specs.Prepared.{OrLine, Ready, Tree, PatternRequest, bodies}
 use Rattle.rosie_session.proofs.OneLoad.{one_holds}
-use Rattle.rosie_session.specs.Loading.{Compiles, IsGoalLoad, IsLoad, IsLoading, Load, Loading, given, wanted, within_limit}
+use Rattle.rosie_session.specs.Loading.{Compiles, IsGoalLoad, IsLoad, IsLoading, Load, Loading, given, request, job_unless_long}
 use Rattle.rpl_package.specs.Loading.{world}
 use Rattle.rpl_package.specs.Roots.{Packages, load}
 use Rattle.rosie_cli.specs.Plans.{Planned, Replays}
@@ -27,9 +27,9 @@ some_compiled : (r : OrLine Ready) → (answer : OrLine Job) × Compiles r answe
 some_compiled (Err line) = (Err line, refl)
 some_compiled (Ok r) =
     let s = some_code (bodies r.rules) r.goal in
-    (within_limit (record { rules = bodies r.rules; goal = r.goal; code = s.0 }), (s.0, s.1, refl))
+    (job_unless_long (record { rules = bodies r.rules; goal = r.goal; code = s.0 }), (s.0, s.1, refl))
 
-some_goal : (tree : Tree) (v : Wanted) → (l : Load Job) × IsGoalLoad tree v l
+some_goal : (tree : Tree) (v : PatternRequest) → (l : Load Job) × IsGoalLoad tree v l
 some_goal tree v =
     let a = some_answer tree v in
     let c = some_compiled a.1 in (
@@ -41,11 +41,11 @@ some_loading : (tree : Tree) (folders : List (List ℕ)) → (w : Loading) × Is
 some_loading tree folders = (
   record {
     texts = λ texts. (some_load tree folders texts).0;
-    goal = λ texts pattern. (some_goal tree (wanted folders texts pattern)).0;
+    goal = λ texts pattern. (some_goal tree (request folders texts pattern)).0;
   },
   record {
     texts = λ texts. (some_load tree folders texts).1;
-    goals = λ texts pattern. (some_goal tree (wanted folders texts pattern)).1;
+    goals = λ texts pattern. (some_goal tree (request folders texts pattern)).1;
   },
 )
 

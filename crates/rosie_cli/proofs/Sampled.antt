@@ -1,19 +1,19 @@
 -- What a sample wants, as it is prepared.
 use Rattle.std.proofs.Common.{ℕ, ◌≡◌, false, List, [], ◌∷◌, sym, ◌∙◌, ap, subst}
 use Rattle.std.specs.Prelude.{chars}
-use Rattle.rosie_prepare.specs.Prepared.{IsPrepared, OrLine, Ready, Tree, Wanted}
+use Rattle.rosie_prepare.specs.Prepared.{IsPrepared, OrLine, Ready, Tree, PatternRequest}
 use Rattle.rosie_sample.specs.Counting.{sample_pattern, sample_rules}
 use Rattle.rpl_package.specs.declared.rooted.Root.{Root}
 use Rattle.rpl_package.specs.declared.rooted.Root.TheVariants.{Given}
-use Rattle.rosie_cli.specs.Planned.{sample_wanted}
+use Rattle.rosie_cli.specs.Planned.{sample_request}
 
-abbrev wanted_with : (roots : List Root) → (folders : List (List ℕ)) → (text : List ℕ) → Wanted
+abbrev wanted_with : (roots : List Root) → (folders : List (List ℕ)) → (text : List ℕ) → PatternRequest
 wanted_with roots folders text =
     record { roots = roots; folders = folders; text = text; fixed = false; find = false }
 
-pub wanted-sample : (roots : List Root) (folders : List (List ℕ)) (text : List ℕ) (tree : Tree)
+pub request-sample : (roots : List Root) (folders : List (List ℕ)) (text : List ℕ) (tree : Tree)
     (asked : List (List ℕ)) (ready : OrLine Ready) → roots ≡ Given (chars sample_rules) ∷ [] → text ≡ sample_pattern
-    → IsPrepared tree (sample_wanted folders) asked ready → IsPrepared tree (wanted_with roots folders text) asked ready
-wanted-sample roots folders text tree asked ready e f h =
+    → IsPrepared tree (sample_request folders) asked ready → IsPrepared tree (wanted_with roots folders text) asked ready
+request-sample roots folders text tree asked ready e f h =
     subst (λ w. IsPrepared tree w asked ready)
     (ap (λ r. wanted_with r folders sample_pattern) (sym e) ∙ ap (wanted_with roots folders) (sym f)) h

@@ -29,7 +29,7 @@ module _ {X : Type 0} (lt : X → X → Bool) (o : IsStrictWeakOrder lt) where
       let P : ℕ → Type 0 = λ j. lt (get_or (y ∷ zs) j d) (get_or zs k d) ≡ false in
       subst P e (up (suc k) d (omega arith) (omega arith))
 
-  -- x behind those that are less
+  -- x after those that are less
   put : X → List X → List X
   put x [] = x ∷ []
   put x (y ∷ ys) = cond (lt y x) (y ∷ put x ys) (x ∷ y ∷ ys)

@@ -7,12 +7,12 @@ use Rattle.std.specs.Ordering.{is_lt, nat_cmp}
 use Rattle.std.proofs.lemmas.Cmp.{nat_list_cmp_total}
 use Rattle.std.proofs.lemmas.List.Sorted.{ranks_by}
 use Rattle.rosie_jobs.specs.Lines.{Job}
-use Rattle.rosie_prepare.specs.Prepared.{Tree, Wanted, Ready, OrLine, bodies}
+use Rattle.rosie_prepare.specs.Prepared.{Tree, PatternRequest, Ready, OrLine, bodies}
 use Rattle.rosie_prepare.proofs.SomeAnswer.{some_answer, some_table}
-use Rattle.rosie_show.specs.Expansions as E
-use Rattle.rosie_show.specs.Expansions.{IsExpansion}
-use Rattle.rosie_show.specs.Names.{name_line, IsNamesText}
-use Rattle.rosie_verdicts.proofs.Some.{some_suite}
+use Rattle.rosie_inspect.specs.Expansions as E
+use Rattle.rosie_inspect.specs.Expansions.{IsExpansion}
+use Rattle.rosie_inspect.specs.Names.{name_line, IsNamesText}
+use Rattle.rosie_unittest.proofs.Some.{some_suite}
 use Rattle.rosie_words.specs.declared.command.Command.{Command}
 use Rattle.rosie_words.specs.declared.command.What.{What}
 use Rattle.rosie_words.specs.declared.command.What.TheVariants as W
@@ -28,7 +28,7 @@ use Rattle.rosie_cli.specs.Expanding.{Expands, IsExpanded, with_code}
 use Rattle.rosie_cli.specs.Laws.{SomePlan, asks_code}
 use Rattle.rosie_cli.specs.Listing.{IsListed, Lists}
 use Rattle.rosie_cli.specs.Options.{settings_of}
-use Rattle.rosie_cli.specs.Planned.{job_with, matching, sample_wanted, sampling, tracing, wanted, within_limit}
+use Rattle.rosie_cli.specs.Planned.{job_with, matching, sample_request, sampling, tracing, request, plan_unless_long}
 use Rattle.rosie_cli.specs.Planned.{IsMatch, IsPlannedAs, IsRun, IsRunning}
 use Rattle.rosie_cli.specs.Plans.{Plan, Planned, refusal, whole_answer}
 use Rattle.rosie_cli.specs.Testing.{IsTesting, tried}
@@ -42,7 +42,7 @@ some_run : (run : List Row → Job → Plan) (r : OrLine Ready) → (p : Plan) �
 some_run run (Err line) = (refusal line, refl)
 some_run run (Ok r) =
     let c = some_code (bodies r.rules) r.goal in
-    (within_limit (run r.rules (job_with r c.0)) c.0, (c.0, c.1, refl))
+    (plan_unless_long (run r.rules (job_with r c.0)) c.0, (c.0, c.1, refl))
 
 some_expansion : (r : Ready) → (text : List ℕ) × IsExpansion r.rules r.expr r.goal text
 some_expansion r =
@@ -70,13 +70,13 @@ some_names (Err line) = (refusal line, refl)
 some_names (Ok packages) = let t = some_text (all_listed packages) in (whole_answer t.0, (t.0, t.1, refl))
 
 -- the plans
-running_some : (run : List Row → Job → Plan) (w : Wanted) (tree : Tree) → (p : Planned) × IsRunning run w tree p
+running_some : (run : List Row → Job → Plan) (w : PatternRequest) (tree : Tree) → (p : Planned) × IsRunning run w tree p
 running_some run w tree =
     let r = some_answer tree w in
     let p = some_run run r.1 in
     (record { asked = r.0; plan = p.0 }, record { ready = r.1; prepares = r.2; runs = p.1 })
 
-expanded_some : (w : Wanted) (wants_code : Bool) (tree : Tree) → (p : Planned) × IsExpanded w wants_code tree p
+expanded_some : (w : PatternRequest) (wants_code : Bool) (tree : Tree) → (p : Planned) × IsExpanded w wants_code tree p
 expanded_some w wants_code tree =
     let r = some_answer tree w in
     let p = some_shown wants_code r.1 in
@@ -98,22 +98,22 @@ tested_some folders file budget tree =
 
 match_some : (c : Command) (file : Option (List ℕ)) (pattern : List ℕ) (inputs : List (List ℕ)) (tree : Tree)
     → is_some file ≡ false → (p : Planned) × IsMatch c file pattern inputs tree p
-match_some c None pattern inputs tree e = running_some (matching (settings_of c) inputs) (wanted c pattern false) tree
+match_some c None pattern inputs tree e = running_some (matching (settings_of c) inputs) (request c pattern false) tree
 match_some c (Some path) pattern inputs tree e = absurd (cc)
 
 what_some : (c : Command) (what : What) (tree : Tree) → asks_code c what ≡ false
     → (p : Planned) × IsPlannedAs c what tree p
 what_some c (W.Match pattern inputs) tree e = match_some c c.code_file pattern inputs tree e
 what_some c (W.Compile pattern) tree e = absurd (cc)
-what_some c (W.Grep pattern inputs) tree e = running_some (matching (settings_of c) inputs) (wanted c pattern true) tree
+what_some c (W.Grep pattern inputs) tree e = running_some (matching (settings_of c) inputs) (request c pattern true) tree
 what_some c (W.Test file) tree e = tested_some c.folders file c.budget tree
 what_some c (W.Class name) tree e = (record { asked = []; plan = class_plan name (set_named name) }, refl)
 what_some c W.List tree e = listed_some c.roots c.folders tree
-what_some c (W.Expand pattern) tree e = expanded_some (wanted c pattern false) c.code tree
+what_some c (W.Expand pattern) tree e = expanded_some (request c pattern false) c.code tree
 what_some c (W.Trace pattern inputs) tree e =
-    running_some (tracing c.limit c.whole inputs) (wanted c pattern false) tree
+    running_some (tracing c.limit c.whole inputs) (request c pattern false) tree
 what_some c (W.Sample seed lines) tree e =
-    running_some (sampling (settings_of c) seed lines) (sample_wanted c.folders) tree
+    running_some (sampling (settings_of c) seed lines) (sample_request c.folders) tree
 what_some c W.Repl tree e = some_replayed c.folders tree
 
 pub some_plan : SomePlan

@@ -14,11 +14,11 @@ use Rattle.rosie_jobs.specs.Lines.{Job, budget_or, is_over}
 use Rattle.rosie_prepare.specs.Prepared.{OrLine, Passes, TableComes, TableFacts, Tree, bodies, found}
 use Rattle.rosie_prepare.specs.Prepared.{table_too_large, table_unsound}
 use Rattle.rosie_session.proofs.Paying.{goal_whole}
-use Rattle.rosie_verdicts.proofs.Texts.{tests_are_of_text}
-use Rattle.rosie_verdicts.specs.Limits.{Pays, PaysFor}
-use Rattle.rosie_verdicts.specs.Suites.{AreTrials, Comes, ComesAgain, IsSubject, IsSuite, Suite, Tells, bad, tests}
-use Rattle.rosie_verdicts.specs.Suites.{goal_of, loading, read_again}
-use Rattle.rosie_verdicts.specs.Trials.{Bench, Subject, Trial, TooLong, Runs, ran}
+use Rattle.rosie_unittest.proofs.Texts.{tests_are_of_text}
+use Rattle.rosie_unittest.specs.Limits.{SuitePays, TestPays}
+use Rattle.rosie_unittest.specs.Suites.{AreTrials, Comes, ComesAgain, IsSubject, IsSuite, Suite, Tells, bad, tests}
+use Rattle.rosie_unittest.specs.Suites.{goal_of, loading, read_again}
+use Rattle.rosie_unittest.specs.Trials.{Bench, Subject, Trial, TooLong, Runs, ran}
 use Rattle.rpl_check.specs.Checked.{IsWhole}
 use Rattle.rpl_check.specs.Faults as C
 use Rattle.rpl_core.specs.Core.{Call, Capture}
@@ -28,18 +28,18 @@ use Rattle.rpl_core.specs.Programs.{IsCode, calls}
 use Rattle.rpl_core.specs.Run.{Answer, Matched, Failed, Unfinished}
 use Rattle.rpl_expand.specs.Faults as F
 use Rattle.rpl_expand.specs.Sets.{statements, table_of}
-use Rattle.rpl_order.proofs.Lists.{nth_found}
-use Rattle.rpl_order.proofs.Rows.{located}
-use Rattle.rpl_order.proofs.Tables.{nth_statement}
-use Rattle.rpl_order.proofs.Loaded.{told_is_built}
-use Rattle.rpl_order.specs.Laws.{by_roots}
+use Rattle.rpl_load_laws.proofs.Lists.{nth_found}
+use Rattle.rpl_load_laws.proofs.Rows.{located}
+use Rattle.rpl_load_laws.proofs.Tables.{nth_statement}
+use Rattle.rpl_load_laws.proofs.Loaded.{told_is_built}
+use Rattle.rpl_load_laws.specs.Laws.{by_roots}
 use Rattle.rpl_package.proofs.Numbering.{room_at}
 use Rattle.rpl_package.specs.Built.{IsBuilt}
 use Rattle.rpl_package.specs.Loading.{world}
 use Rattle.rpl_package.specs.Owned.{ok_of, own, own_entry, own_rule}
 use Rattle.rpl_package.specs.Roots.{Packages, load}
 use Rattle.rpl_package.specs.Tables.{rows}
-use Rattle.rpl_package.specs.Texts.{most_bytes}
+use Rattle.rpl_package.specs.Texts.{max_text_bytes}
 use Rattle.rpl_package.specs.Targets.{halt_name, rule_in, target_by, then}
 use Rattle.rpl_package.specs.declared.rooted.Root.TheVariants.{File}
 use Rattle.rpl_package.specs.declared.targets.Target.{Target}
@@ -48,8 +48,8 @@ use Rattle.rpl_scope.specs.Packages.{Module, Rule, first_of, first_rule, nth}
 use Rattle.rpl_scope.specs.declared.module.Entry.{Entry}
 use Rattle.rpl_scope.specs.declared.module.Referent.{Referent}
 use Rattle.rpl_scope.specs.declared.module.Referent.TheVariants.{Own, Of, BuiltIn}
-use Rattle.rpl_simulation.proofs.Answering.{answer_holds}
-use Rattle.rpl_simulation.specs.Laws.{Tells as Answers}
+use Rattle.rpl_compile_laws.proofs.Answering.{answer_holds}
+use Rattle.rpl_compile_laws.specs.Laws.{Tells as Answers}
 use Rattle.rpl_unittest.specs.declared.test.Test.{Test}
 use Rattle.rpl_expand.specs.Table as E
 use Rattle.rpl_expand.specs.Table.{Statement, body_of, built_in}
@@ -130,7 +130,7 @@ text_by bytes long_line other_line false false u = tt
 
 text_read : (file : List ℕ) (o : Option (List ℕ)) → IsText (read_again file o)
 text_read file None = tt
-text_read file (Some bytes) = text_by bytes _ _ (nat_lt most_bytes (length bytes)) (is_utf8 bytes) refl
+text_read file (Some bytes) = text_by bytes _ _ (nat_lt max_text_bytes (length bytes)) (is_utf8 bytes) refl
 
 -- ---- its goal means something on every text
 
@@ -161,42 +161,42 @@ module _ (p : Packages) (is : IsBuilt p) (d : TableFacts p) (small : table_too_l
   over_due o b Unfinished e h = h
 
   pays_limit : (b : Bench) (t : Test) (job : Job) → IsWhole job.rules job.goal → IsCode job.rules job.goal job.code
-      → all_scalars t.text ≡ true → (long : Bool) → PaysFor b t (cond long TooLong (Runs job))
+      → all_scalars t.text ≡ true → (long : Bool) → TestPays b t (cond long TooLong (Runs job))
   pays_limit b t job whole code chars true = tt
   pays_limit b t job whole code chars false = λ over.
       over_due (outcome job.rules job.goal t.text) (budget_or b.budget t.text) (ran b t job) over
       (answer_holds whole.stays.0 _ _ _ whole.stays.1 code t.text chars (whole.shut t.text) (budget_or b.budget t.text))
 
   pays_subject : (b : Bench) (t : Test) (i : ℕ) (o : Option Target) → own p i t.name ≡ o → (s : Subject)
-      → IsSubject (bodies (table_of p)) o s → all_scalars t.text ≡ true → PaysFor b t s
-  pays_subject b t i None e s h chars = subst (PaysFor b t) (sym h) tt
+      → IsSubject (bodies (table_of p)) o s → all_scalars t.text ≡ true → TestPays b t s
+  pays_subject b t i None e s h chars = subst (TestPays b t) (sym h) tt
   pays_subject b t i (Some x) e s h chars =
       let job : Job = record { rules = bodies (table_of p); goal = goal_of x; code = h.0 } in
-      subst (PaysFor b t) (sym h.2)
+      subst (TestPays b t) (sym h.2)
       (pays_limit b t job (target_whole i t.name x e) h.1 chars (nat_lt 1048576 (length h.0)))
 
   pays_trials : (b : Bench) (i : ℕ) (ts : List Test) (trials : List Trial)
       → All (λ (t : Test). all_scalars t.text ≡ true) ts → AreTrials (bodies (table_of p)) (own p i) ts trials
-      → Pays b trials
-  pays_trials b i [] trials chars h = subst (Pays b) (sym h) (All-nil _)
+      → SuitePays b trials
+  pays_trials b i [] trials chars h = subst (SuitePays b) (sym h) (All-nil _)
   pays_trials b i (t ∷ ts) trials chars h =
       let s = h.0 in
       let text = All-head (λ (t : Test). all_scalars t.text ≡ true) t ts chars in
       let more = All-tail (λ (t : Test). all_scalars t.text ≡ true) t ts chars in
-      subst (Pays b) (sym h.4)
-      (All-cons (λ (x : Trial). PaysFor b x.test x.subject) (record { test = t; subject = s }) h.1
+      subst (SuitePays b) (sym h.4)
+      (All-cons (λ (x : Trial). TestPays b x.test x.subject) (record { test = t; subject = s }) h.1
       (pays_subject b t i (own p i t.name) refl s h.2 text) (pays_trials b i ts h.1 more h.3))
 
   pays_told : (i : ℕ) (b : Bench) (text : List ℕ) (s : Suite) (o : OrLine Suite) → is_utf8 text ≡ true → o ≡ Ok s
-      → Tells p i b text o → Pays s.bench s.trials
+      → Tells p i b text o → SuitePays s.bench s.trials
   pays_told i b text s o u e (tests ts trials has are is) =
       let same : record { bench = b; trials = trials } ≡ s = cc in
-      subst (λ (x : Suite). Pays x.bench x.trials) same
+      subst (λ (x : Suite). SuitePays x.bench x.trials) same
       (pays_trials b i ts trials (tests_are_of_text text ts u has) are)
   pays_told i b text s o u e (bad line has is) = absurd (cc)
 
   pays_again : (file : List ℕ) (budget : Option ℕ) (text : OrLine (List ℕ)) (s : Suite) → IsText text
-      → ComesAgain p file budget text (Ok s) → Pays s.bench s.trials
+      → ComesAgain p file budget text (Ok s) → SuitePays s.bench s.trials
   pays_again file budget (Err line) s u h = absurd (cc)
   pays_again file budget (Ok text) s u h =
       pays_told h.0 (record { file = encode_utf8_all file; prefix = encode_utf8_all h.1; budget = budget }) text s (Ok s)
@@ -208,7 +208,7 @@ pays_found : (q p : Packages) → IsBuilt q → (d : TableFacts q)
     → table_too_large q ≡ None → (f : Option C.Fault) → table_unsound q d ≡ f → Ok p ≡ found q q f
     → (file : List ℕ) (budget : Option ℕ) (text : OrLine (List ℕ)) (s : Suite) → IsText text
     → ComesAgain p file budget text (Ok s)
-    → Pays s.bench s.trials
+    → SuitePays s.bench s.trials
 pays_found q p is d small (Some f) none e file budget text s u h = absurd (cc)
 pays_found q p is d small None none e file budget text s u h =
     let same : p ≡ q = cc in
@@ -219,7 +219,7 @@ pays_passed : (q p : Packages) → IsBuilt q → (t : Option F.Fault) → table_
     → Passes q t (table_unsound q) q (Ok p)
     → (file : List ℕ) (budget : Option ℕ) (text : OrLine (List ℕ)) (s : Suite) → IsText text
     → ComesAgain p file budget text (Ok s)
-    → Pays s.bench s.trials
+    → SuitePays s.bench s.trials
 pays_passed q p is (Some f) small h file budget text s u c = absurd (cc)
 pays_passed q p is None small h file budget text s u c =
     pays_found q p is h.0 small (table_unsound q h.0) refl h.1 file budget text s u c
@@ -227,7 +227,7 @@ pays_passed q p is None small h file budget text s u c =
 pays_loaded : (tree : Tree) (folders : List (List ℕ)) (x : Or Packages) (p : Packages) (file : List ℕ)
     → (load (world tree folders) (File file ∷ [])).answer ≡ x → TableComes x (Ok p)
     → (budget : Option ℕ) (text : OrLine (List ℕ)) (s : Suite) → IsText text → ComesAgain p file budget text (Ok s)
-    → Pays s.bench s.trials
+    → SuitePays s.bench s.trials
 pays_loaded tree folders (Err f) p file e h budget text s u c = absurd (cc)
 pays_loaded tree folders (Ok q) p file e h budget text s u c =
     let is = told_is_built tree folders q (by_roots (File file ∷ []) q e) in
@@ -236,7 +236,7 @@ pays_loaded tree folders (Ok q) p file e h budget text s u c =
 pays_comes : (tree : Tree) (folders : List (List ℕ)) (file : List ℕ) (budget : Option ℕ) (paths asked : List (List ℕ))
     (o : OrLine Packages) (s : Suite) → TableComes (loading tree folders file).answer o
     → Comes tree file budget paths asked o (Ok s)
-    → Pays s.bench s.trials
+    → SuitePays s.bench s.trials
 pays_comes tree folders file budget paths asked (Err line) s h c = absurd (cc)
 pays_comes tree folders file budget paths asked (Ok p) s h c =
     pays_loaded tree folders (loading tree folders file).answer p file refl h budget
@@ -245,7 +245,7 @@ pays_comes tree folders file budget paths asked (Ok p) s h c =
 
 pub suite_pays : (tree : Tree) (folders : List (List ℕ)) (file : List ℕ) (budget : Option ℕ) (asked : List (List ℕ))
     (s : Suite) → IsSuite tree folders file budget asked (Ok s)
-    → Pays s.bench s.trials
+    → SuitePays s.bench s.trials
 suite_pays tree folders file budget asked s is =
     pays_comes tree folders file budget (map encode_utf8_all (loading tree folders file).asked) asked is.packages s
     is.loads is.comes

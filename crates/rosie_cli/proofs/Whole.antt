@@ -14,12 +14,12 @@ use Rattle.rosie_run.specs.Runs.{Breaks, Runs, IsCutOf, GoesOn}
 use Rattle.rosie_run.specs.Sources.{Moment, RoseIn, Span}
 use Rattle.rosie_run.specs.Where.{Nowhere, not_opened, opened, InInputs, in_file, in_standard, in_loading, in_inputs}
 use Rattle.rosie_run.specs.Statuses.{flags_status}
-use Rattle.rosie_run.specs.Closing.{Closes, why_status}
+use Rattle.rosie_run.specs.Closing.{Closes, stop_status}
 use Rattle.rosie_run.specs.declared.lines.Reading.{Reading}
 use Rattle.rosie_run.specs.declared.ended.Ended.{Ended}
 use Rattle.rosie_run.specs.declared.ended.Ended.TheVariants as E
-use Rattle.rosie_run.specs.declared.ended.Why.{Why}
-use Rattle.rosie_run.specs.declared.ended.Why.TheVariants as Y
+use Rattle.rosie_run.specs.declared.ended.ReadStop.{ReadStop}
+use Rattle.rosie_run.specs.declared.ended.ReadStop.TheVariants as Y
 use Rattle.rosie_run.specs.declared.status.Status.{Status}
 use Rattle.rosie_run.specs.declared.status.Status.TheVariants.{Matched, NoMatch, Refused, LineFault}
 use Rattle.rosie_run.specs.declared.status.Status.TheVariants.{ReadFault, WriteFault, NoMemory, Spent}
@@ -30,7 +30,7 @@ use Rattle.rosie_run.proofs.Inward.{file_later}
 use Rattle.rosie_run.proofs.Pieces.{has-nil, wrote-none}
 use Rattle.rosie_jobs.specs.Lines.{reading}
 use Rattle.rosie_jobs.specs.Makers.{Maker, makes_of}
-use Rattle.rosie_verdicts.specs.Trials.{Bench, Trial, suite_pieces}
+use Rattle.rosie_unittest.specs.Trials.{Bench, Trial, suite_pieces}
 use Rattle.rosie_cli.specs.Planned.{IsPlanned, IsPlannedAs}
 use Rattle.rosie_cli.specs.Plans.{Plan, Says, Writes, Tries, Reads, Planned, refusal, Samples, Replays}
 use Rattle.rosie_words.specs.declared.command.Command.{Command}
@@ -48,7 +48,7 @@ goes-stop (Ok tally) P h = λ goes. absurd (false≢true (sym goes ∙ h))
 goes-stop (Err e) P h = tt
 
 -- the counts before, and over more
-inputs_later : (names : List (List ℕ)) (before : List (List ℕ) → ℕ) (tree : List (List ℕ × List ℕ)) (whole : Bool) (i0 i1 f0 f f1 : Moment) (why : Why) (file : List ℕ) (k : ℕ) → f.faults ≡ f0.faults → f.opens ≡ f0.opens → (f.taken < 2 ^ 64 - 1 → f0.taken ≤ f.taken) → InInputs names before tree whole i0 i1 f f1 why file k → InInputs names before tree whole i0 i1 f0 f1 why file k
+inputs_later : (names : List (List ℕ)) (before : List (List ℕ) → ℕ) (tree : List (List ℕ × List ℕ)) (whole : Bool) (i0 i1 f0 f f1 : Moment) (why : ReadStop) (file : List ℕ) (k : ℕ) → f.faults ≡ f0.faults → f.opens ≡ f0.opens → (f.taken < 2 ^ 64 - 1 → f0.taken ≤ f.taken) → InInputs names before tree whole i0 i1 f f1 why file k → InInputs names before tree whole i0 i1 f0 f1 why file k
 inputs_later names before tree whole i0 i1 f0 f f1 why file k faults opens taken (in_file front back n is isn't x e) = in_file front back n is isn't (file_later tree whole f0 f f1 why file n faults opens taken x) e
 inputs_later names before tree whole i0 i1 f0 f f1 why file k faults opens taken (in_standard front back n is isn't first x e) = in_standard front back n is isn't first x e
 
@@ -56,14 +56,14 @@ rose_later : (f0 f f1 : Moment) → f.faults ≡ f0.faults → f.opens ≡ f0.op
 rose_later f0 f f1 faults opens (inl r) = inl (subst (λ x. Rose x f1.faults) faults r)
 rose_later f0 f f1 faults opens (inr r) = inr (subst (λ x. Rose x f1.opens) opens r)
 
-session_later : (w : Loading) (input : List ℕ) (i0 i1 f0 f f1 : Moment) (why : Why) (file : List ℕ) (k : ℕ)
+session_later : (w : Loading) (input : List ℕ) (i0 i1 f0 f f1 : Moment) (why : ReadStop) (file : List ℕ) (k : ℕ)
     → f.faults ≡ f0.faults → f.opens ≡ f0.opens → InSession w input i0 i1 f f1 why file k
     → InSession w input i0 i1 f0 f1 why file k
 session_later w input i0 i1 f0 f f1 why file k faults opens (in_lines x) = in_lines x
 session_later w input i0 i1 f0 f f1 why file k faults opens (in_load t at asks is rose) =
     in_load t at asks is (rose_later f0 f f1 faults opens rose)
 
-among_later : (plan : Plan) (tree : List (List ℕ × List ℕ)) (i : Span) (f0 f f1 : Moment) (why : Why)
+among_later : (plan : Plan) (tree : List (List ℕ × List ℕ)) (i : Span) (f0 f f1 : Moment) (why : ReadStop)
     (file : List ℕ) (k : ℕ) → f.faults ≡ f0.faults → f.opens ≡ f0.opens
     → (f.taken < 2 ^ 64 - 1 → f0.taken ≤ f.taken) → among plan tree i (record { before = f; after = f1 }) why file k
     → among plan tree i (record { before = f0; after = f1 }) why file k
@@ -167,7 +167,7 @@ read_flags : (s f h : Bool) → CameToEnd (flags_status s f h) → s ≡ false
 read_flags true f h is = absurd is
 read_flags false f h is = refl
 
-read_why : (why : Why) → CameToEnd (why_status why) → ⊥
+read_why : (why : ReadStop) → CameToEnd (stop_status why) → ⊥
 read_why Y.ReadFault is = is
 read_why Y.Spent is = is
 
@@ -270,7 +270,7 @@ session-goes (Ok tally) p P h = λ goes _. h goes
 session-goes (Err e) p P h = tt
 
 -- where nothing goes wrong there is an answer
-module _ (W : Telling) (ps : List Piece) (Where : Why → List ℕ → ℕ → Type 0) (a b : Texts) (i0 i1 f0 f1 : Moment)
+module _ (W : Telling) (ps : List Piece) (Where : ReadStop → List ℕ → ℕ → Type 0) (a b : Texts) (i0 i1 f0 f1 : Moment)
     (o0 o1 e0 e1 : ℕ) (i : RoseIn i0 i1 → ⊥) (f : RoseIn f0 f1 → ⊥) (o : Rose o0 o1 → ⊥) (e : Rose e0 e1 → ⊥)
     (few : (file : List ℕ) (k : ℕ) → Where Y.Spent file k → ⊥) where
   pub completes-if : (answer : Status) → has is_stop ps ≡ false → has is_fault ps ≡ false

@@ -6,7 +6,7 @@ use Rattle.rosie_jobs.specs.Makers.{Runs}
 use Rattle.rosie_jobs.specs.declared.settings.Settings.{Settings}
 use Rattle.rosie_cli.specs.Plans.{Plan, Planned, Reads, refusal}
 
--- the code that is loaded runs on each line of these inputs; where none is, that is told
+-- the code that is loaded runs on each line of these inputs; where none is, that is reported
 abbrev pub code_plan : Settings → List (List ℕ) → OrLine → Plan
 code_plan s names (Err line) = refusal line
 code_plan s names (Ok code) = Reads (Runs s code) s.whole names

@@ -1,7 +1,7 @@
 -- The plan of `compile`.
 use Rattle.std.specs.Prelude.{◌≡◌, ◌<◌, ◌⊎◌, ℕ, List, length, Ok, Err}
 use Rattle.rosie_prepare.specs.Lines.{compile_line}
-use Rattle.rosie_prepare.specs.Prepared.{IsPrepared, OrLine, Ready, Tree, Wanted, bodies}
+use Rattle.rosie_prepare.specs.Prepared.{IsPrepared, OrLine, Ready, Tree, PatternRequest, bodies}
 use Rattle.rpl_codefile.specs.Spelling.{Spells}
 use Rattle.rpl_core.specs.Instr.{Instr}
 use Rattle.rpl_core.specs.Programs.{IsCode}
@@ -19,7 +19,7 @@ Compiles (Err line) plan = plan ≡ refusal line
 Compiles (Ok r) plan = (code : List Instr) × IsCode (bodies r.rules) r.goal code × IsWritten code plan
 
 -- the plan of `compile`
-pub record IsCompiled (w : Wanted) (tree : Tree) (p : Planned) : Type 0 where
+pub record IsCompiled (w : PatternRequest) (tree : Tree) (p : Planned) : Type 0 where
   pub ready : OrLine Ready
   pub prepares : IsPrepared tree w p.asked ready
   pub compiles : Compiles ready p.plan

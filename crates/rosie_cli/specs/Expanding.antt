@@ -1,11 +1,11 @@
 -- The plan of `expand`.
 use Rattle.std.specs.Prelude.{◌≡◌, ℕ, Bool, true, false, List, ◌++◌, Ok, Err, nat_lt, length, if◌then◌else◌}
 use Rattle.rosie_prepare.specs.Lines.{compile_line}
-use Rattle.rosie_prepare.specs.Prepared.{IsPrepared, OrLine, Ready, Tree, Wanted, bodies}
-use Rattle.rosie_show.specs.Expansions.{IsExpansion}
+use Rattle.rosie_prepare.specs.Prepared.{IsPrepared, OrLine, Ready, Tree, PatternRequest, bodies}
+use Rattle.rosie_inspect.specs.Expansions.{IsExpansion}
 use Rattle.rpl_core.specs.Instr.{Instr}
 use Rattle.rpl_core.specs.Programs.{IsCode}
-use Rattle.rosie_show.specs.Listing.{lines}
+use Rattle.rosie_inspect.specs.Listing.{lines}
 use Rattle.rosie_cli.specs.Plans.{Plan, Planned, refusal, whole_answer}
 
 -- the text with the lines of its program, unless the code is too long
@@ -26,7 +26,7 @@ Expands wants_code (Ok r) plan =
     (text : List ℕ) × IsExpansion r.rules r.expr r.goal text × Shows wants_code r text plan
 
 -- the plan of `expand`, with `--code` or without it
-pub record IsExpanded (w : Wanted) (wants_code : Bool) (tree : Tree) (p : Planned) : Type 0 where
+pub record IsExpanded (w : PatternRequest) (wants_code : Bool) (tree : Tree) (p : Planned) : Type 0 where
   pub ready : OrLine Ready
   pub prepares : IsPrepared tree w p.asked ready
   pub expands : Expands wants_code ready p.plan

@@ -1,10 +1,10 @@
 -- What holds of all words, and of `compile` and `match` together.
 use Rattle.std.specs.Prelude.{◌≡◌, ◌≤◌, ℕ, Bool, true, false, List, Ok, Some, length, is_some}
-use Rattle.rosie_jobs.specs.Loaded.{most_bytes}
+use Rattle.rosie_jobs.specs.Loaded.{max_code_bytes}
 use Rattle.rosie_io.specs.Opening.{file_of}
 use Rattle.rosie_jobs.specs.Makers.{Runs}
 use Rattle.rosie_jobs.specs.declared.settings.Settings.{Settings}
-use Rattle.rosie_prepare.specs.Prepared.{IsPrepared, Ready, Tree, Wanted, bodies}
+use Rattle.rosie_prepare.specs.Prepared.{IsPrepared, Ready, Tree, PatternRequest, bodies}
 use Rattle.rosie_words.specs.declared.command.Command.{Command}
 use Rattle.rosie_words.specs.declared.command.What.{What}
 use Rattle.rosie_words.specs.declared.command.What.TheVariants as W
@@ -44,11 +44,11 @@ PromiseLaw = (a : Asked) (tree : Tree) (p : Planned) → IsPlanned a tree p → 
 -- what `compile` writes for a pattern is the spelling of a safe code
 abbrev pub SafeLaw : Type 0
 SafeLaw =
-    (w : Wanted) (tree : Tree) (p : Planned) (bytes : List ℕ) → IsCompiled w tree p → p.plan ≡ Writes bytes
+    (w : PatternRequest) (tree : Tree) (p : Planned) (bytes : List ℕ) → IsCompiled w tree p → p.plan ≡ Writes bytes
     → SpellsSafe bytes
 
 -- the plan runs the code of what is wanted, over the tree where that was compiled
-abbrev pub RunsItsCode : Wanted → Tree → (asked : List (List ℕ)) → Settings → List (List ℕ) → Plan → Type 0
+abbrev pub RunsItsCode : PatternRequest → Tree → (asked : List (List ℕ)) → Settings → List (List ℕ) → Plan → Type 0
 RunsItsCode w tree asked s names plan =
     (r : Ready) × (code : List Instr) × IsPrepared tree w asked (Ok r) × IsCode (bodies r.rules) r.goal code
     × (plan ≡ Reads (Runs s code) s.whole names)
@@ -57,8 +57,8 @@ RunsItsCode w tree asked s names plan =
 -- as a file; unless they are too long for one.
 abbrev pub RunsWhatIsCompiled : Type 0
 RunsWhatIsCompiled =
-    (w : Wanted) (tree : Tree) (p : Planned) (bytes : List ℕ) → IsCompiled w tree p → p.plan ≡ Writes bytes
-    → length bytes ≤ most_bytes
+    (w : PatternRequest) (tree : Tree) (p : Planned) (bytes : List ℕ) → IsCompiled w tree p → p.plan ≡ Writes bytes
+    → length bytes ≤ max_code_bytes
     → (s : Settings) (path : List ℕ) (names : List (List ℕ)) (there : Tree) (q : Planned)
     → file_of path there ≡ Some bytes → IsCodeLines s path names there q → RunsItsCode w tree p.asked s names q.plan
 
@@ -66,8 +66,8 @@ RunsWhatIsCompiled =
 -- input are then.
 abbrev pub HaveOneReport : Type 0
 HaveOneReport =
-    (w : Wanted) (tree : Tree) (c : Planned) (bytes : List ℕ) → IsCompiled w tree c → c.plan ≡ Writes bytes
-    → length bytes ≤ most_bytes
+    (w : PatternRequest) (tree : Tree) (c : Planned) (bytes : List ℕ) → IsCompiled w tree c → c.plan ≡ Writes bytes
+    → length bytes ≤ max_code_bytes
     → (s : Settings) (inputs : List (List ℕ)) (p : Planned) → IsRunning (matching s inputs) w tree p
     → (path : List ℕ) (there : Tree) (q : Planned) → file_of path there ≡ Some bytes
     → IsCodeLines s path (input_names inputs) there q

@@ -1,7 +1,7 @@
 -- The plan of `list`.
 use Rattle.std.specs.Prelude.{◌≡◌, ℕ, List, Ok, Err, map, encode_utf8_all}
 use Rattle.rosie_prepare.specs.Prepared.{OrLine, TableComes, Tree}
-use Rattle.rosie_show.specs.Names.{IsNamesText}
+use Rattle.rosie_inspect.specs.Names.{IsNamesText}
 use Rattle.rpl_package.specs.Loading.{world}
 use Rattle.rpl_package.specs.Names.{all_listed}
 use Rattle.rpl_package.specs.Roots.{Packages, load}

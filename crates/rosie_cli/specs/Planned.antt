@@ -2,7 +2,7 @@
 use Rattle.std.specs.Prelude.{ℕ, ◌≡◌, Bool, true, false, nat_lt, if◌then◌else◌, map, List, [], ◌∷◌, length}
 use Rattle.std.specs.Prelude.{Ok, Err, Option, Some, None, chars, codes, encode_utf8_all}
 use Rattle.rosie_prepare.specs.Lines.{compile_line}
-use Rattle.rosie_prepare.specs.Prepared.{Tree, Wanted, Ready, OrLine, IsPrepared, bodies}
+use Rattle.rosie_prepare.specs.Prepared.{Tree, PatternRequest, Ready, OrLine, IsPrepared, bodies}
 use Rattle.rosie_words.specs.declared.command.Command.{Command}
 use Rattle.rosie_words.specs.declared.command.What.{What}
 use Rattle.rosie_words.specs.declared.command.What.TheVariants as W
@@ -39,18 +39,18 @@ abbrev pub job_with : Ready → List Instr → Job
 job_with r code = record { rules = bodies r.rules; goal = r.goal; code = code }
 
 -- what is prepared runs by the plan of its rules and its job; where it isn't, or where its code is too long, that is
--- told
-abbrev pub within_limit : Plan → List Instr → Plan
-within_limit plan code = if nat_lt 1048576 (length code) then refusal compile_line else plan
+-- reported
+abbrev pub plan_unless_long : Plan → List Instr → Plan
+plan_unless_long plan code = if nat_lt 1048576 (length code) then refusal compile_line else plan
 
 abbrev pub IsRun : (List Row → Job → Plan) → OrLine Ready → Plan → Type 0
 IsRun run (Err line) plan = plan ≡ refusal line
 IsRun run (Ok r) plan =
     (code : List Instr) × IsCode (bodies r.rules) r.goal code
-    × (plan ≡ within_limit (run r.rules (job_with r code)) code)
+    × (plan ≡ plan_unless_long (run r.rules (job_with r code)) code)
 
 -- the plan of a command that runs a pattern
-pub record IsRunning (run : List Row → Job → Plan) (w : Wanted) (tree : Tree) (p : Planned) : Type 0 where
+pub record IsRunning (run : List Row → Job → Plan) (w : PatternRequest) (tree : Tree) (p : Planned) : Type 0 where
   pub ready : OrLine Ready
   pub prepares : IsPrepared tree w p.asked ready
   pub runs : IsRun run ready p.plan
@@ -70,8 +70,8 @@ abbrev pub sampling : Settings → (seed lines : ℕ) → List Row → Job → P
 sampling s seed lines rules job = Samples (record { maker = Matches s job; seed = seed; lines = lines })
 
 -- what a command wants of its pattern, which it matches from the start of a line or looks for
-abbrev pub wanted : Command → List ℕ → (find : Bool) → Wanted
-wanted c pattern find = record {
+abbrev pub request : Command → List ℕ → (find : Bool) → PatternRequest
+request c pattern find = record {
   roots = c.roots;
   folders = c.folders;
   text = encode_utf8_all pattern;
@@ -80,8 +80,8 @@ wanted c pattern find = record {
 }
 
 -- a sample has rules and a pattern of its own
-abbrev pub sample_wanted : (folders : List (List ℕ)) → Wanted
-sample_wanted folders = record {
+abbrev pub sample_request : (folders : List (List ℕ)) → PatternRequest
+sample_request folders = record {
   roots = Given (chars sample_rules) ∷ [];
   folders = folders;
   text = sample_pattern;
@@ -91,7 +91,7 @@ sample_wanted folders = record {
 
 -- the plan of `match`: of its pattern, or of its code file
 abbrev pub IsMatch : Command → Option (List ℕ) → List ℕ → List (List ℕ) → Tree → Planned → Type 0
-IsMatch c None pattern inputs tree p = IsRunning (matching (settings_of c) inputs) (wanted c pattern false) tree p
+IsMatch c None pattern inputs tree p = IsRunning (matching (settings_of c) inputs) (request c pattern false) tree p
 IsMatch c (Some path) pattern inputs tree p =
     IsCodeLines (settings_of c) (encode_utf8_all path) (input_names inputs) tree p
 
@@ -99,16 +99,16 @@ IsMatch c (Some path) pattern inputs tree p =
 abbrev pub IsPlannedAs : Command → What → Tree → Planned → Type 0
 IsPlannedAs c (W.Match pattern inputs) tree p = IsMatch c c.code_file pattern inputs tree p
 IsPlannedAs c (W.Grep pattern inputs) tree p =
-    IsRunning (matching (settings_of c) inputs) (wanted c pattern true) tree p
+    IsRunning (matching (settings_of c) inputs) (request c pattern true) tree p
 IsPlannedAs c (W.Test file) tree p = IsTesting c.folders file c.budget tree p
 IsPlannedAs c (W.Class name) tree p = p ≡ record { asked = []; plan = class_plan name (set_named name) }
 IsPlannedAs c W.List tree p = IsListed c.roots c.folders tree p
-IsPlannedAs c (W.Expand pattern) tree p = IsExpanded (wanted c pattern false) c.code tree p
-IsPlannedAs c (W.Compile pattern) tree p = IsCompiled (wanted c pattern false) tree p
+IsPlannedAs c (W.Expand pattern) tree p = IsExpanded (request c pattern false) c.code tree p
+IsPlannedAs c (W.Compile pattern) tree p = IsCompiled (request c pattern false) tree p
 IsPlannedAs c (W.Trace pattern inputs) tree p =
-    IsRunning (tracing c.limit c.whole inputs) (wanted c pattern false) tree p
+    IsRunning (tracing c.limit c.whole inputs) (request c pattern false) tree p
 IsPlannedAs c (W.Sample seed lines) tree p =
-    IsRunning (sampling (settings_of c) seed lines) (sample_wanted c.folders) tree p
+    IsRunning (sampling (settings_of c) seed lines) (sample_request c.folders) tree p
 IsPlannedAs c W.Repl tree p = IsReplayed c.folders tree p
 
 -- and of all words

@@ -4,7 +4,7 @@ use Rattle.rosie_run.specs.Inputs.{inputs_pieces, reads_standard}
 use Rattle.rosie_run.specs.Report.{Piece, stop_piece, text_piece}
 use Rattle.rosie_run.specs.Sources.{Span}
 use Rattle.rosie_run.specs.Where.{InInputs, InRun, Nowhere}
-use Rattle.rosie_run.specs.declared.ended.Why.{Why}
+use Rattle.rosie_run.specs.declared.ended.ReadStop.{ReadStop}
 use Rattle.rosie_jobs.specs.Lines.{reading}
 use Rattle.rosie_jobs.specs.Makers.{Maker, makes_of}
 use Rattle.rosie_sample.specs.Counting.{sample_pieces}
@@ -12,7 +12,7 @@ use Rattle.rosie_sample.specs.Runs.{Sampled}
 use Rattle.rosie_session.specs.Loading.{Loading}
 use Rattle.rosie_session.specs.Replay.{replay}
 use Rattle.rosie_session.specs.Where.{InSession}
-use Rattle.rosie_verdicts.specs.Trials.{Bench, Trial, suite_pieces}
+use Rattle.rosie_unittest.specs.Trials.{Bench, Trial, suite_pieces}
 
 -- pieces for which no input is read, the bytes of a code file that is the whole answer, the tests of a file, a piece
 -- for each line of the inputs with these names, what the lines of a sample come to, or a session over the standard
@@ -64,7 +64,7 @@ LeavesInput plan = reads_standard (inputs_of plan) ≡ false
 
 -- where reading may end the run of a plan: among its inputs, or in a file that a line of a session asks for. `input` is
 -- the standard input
-abbrev pub among : Plan → List (List ℕ × List ℕ) → (input files : Span) → Why → List ℕ → ℕ → Type 0
+abbrev pub among : Plan → List (List ℕ × List ℕ) → (input files : Span) → ReadStop → List ℕ → ℕ → Type 0
 among (Says ps) tree input files = Nowhere
 among (Writes bytes) tree input files = Nowhere
 among (Tries b trials) tree input files = Nowhere
@@ -76,5 +76,5 @@ among (Replays w) tree input files =
     InSession w input.before.rest input.before input.after files.before files.after
 
 -- and on the way to it, where one of the paths is read
-abbrev pub stood : Planned → List (List ℕ × List ℕ) → (input files : Span) → Why → List ℕ → ℕ → Type 0
+abbrev pub stood : Planned → List (List ℕ × List ℕ) → (input files : Span) → ReadStop → List ℕ → ℕ → Type 0
 stood p tree input files = InRun p.asked (among p.plan tree input files) files.before files.after

@@ -10,7 +10,7 @@ use Rattle.rpl_core.specs.Instr.{Instr}
 use Rattle.rpl_safe.specs.Safe.{IsSafe}
 use Rattle.rosie_jobs.specs.Limits.{Pays, IsAllowed}
 use Rattle.rosie_jobs.specs.Makers.{Maker}
-use Rattle.rosie_verdicts.specs.Limits as T
+use Rattle.rosie_unittest.specs.Limits as T
 use Rattle.rosie_cli.specs.Plans.{Plan, Says, Writes, Tries, Reads, Samples, Replays}
 use Rattle.rosie_sample.specs.Lines.{sample}
 use Rattle.rosie_session.specs.Limits as S
@@ -25,10 +25,10 @@ SpellsSafe bytes = (code : List Instr) × Spells code bytes × IsSafe code
 abbrev pub IsPromised : Plan → Type 0
 IsPromised (Says ps) = Unit {0}
 IsPromised (Writes bytes) = SpellsSafe bytes
-IsPromised (Tries b trials) = T.Pays b trials
+IsPromised (Tries b trials) = T.SuitePays b trials
 IsPromised (Reads m whole names) = Pays m
 IsPromised (Samples r) = Pays r.maker
-IsPromised (Replays w) = S.Pays w
+IsPromised (Replays w) = S.SessionPays w
 
 -- an input that isn't missing, and whose lines are allowed
 abbrev pub SoundFile : Maker → Bool → Option (List ℕ) → Type 0

@@ -11,7 +11,7 @@ use Rattle.rosie_cli.specs.Words.{Asked, Refuse, Do}
 unfoldable pub report : Plan → List (List ℕ × List ℕ) → List ℕ → List Piece
 report plan tree input = up_to_stop (pieces plan tree input)
 
--- the answer is the status of the report, unless memory was wanting
+-- the answer is the status of the report, unless memory ran out
 abbrev pub IsAnswer : Status → List Piece → Type 0
 IsAnswer answer ps = (answer ≡ status_of ps) ⊎ (answer ≡ NoMemory)
 

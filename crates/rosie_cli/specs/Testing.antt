@@ -1,10 +1,10 @@
 -- The plan of `test`.
 use Rattle.std.specs.Prelude.{◌≡◌, ℕ, List, Option, Ok, Err}
 use Rattle.rosie_prepare.specs.Prepared.{OrLine, Tree}
-use Rattle.rosie_verdicts.specs.Suites.{IsSuite, Suite}
+use Rattle.rosie_unittest.specs.Suites.{IsSuite, Suite}
 use Rattle.rosie_cli.specs.Plans.{Plan, Planned, Tries, refusal}
 
--- the tests of a file are tried, or the line of the first fault is told
+-- the tests of a file are tried, or the line of the first fault is reported
 abbrev pub tried : OrLine Suite → Plan
 tried (Err line) = refusal line
 tried (Ok s) = Tries s.bench s.trials

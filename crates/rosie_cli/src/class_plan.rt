@@ -7,8 +7,8 @@ ghost use Rattle.rosie_cli.specs.Classes.{class_plan};
 ghost use Rattle.rosie_cli.specs.inside.Planning.{IsMade};
 
 use crate::plan::Plan;
+use rosie_inspect::push_class;
 use rosie_prepare::Unready;
-use rosie_show::push_class;
 use rpl_classes::{Set, SetFault};
 use rpl_print::text_of;
 use rpl_text::Chars;

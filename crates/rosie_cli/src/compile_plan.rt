@@ -1,7 +1,7 @@
 //! The plan of `compile`.
 
 ghost use Rattle.std.specs.Prelude.{Ok, IfErr};
-ghost use Rattle.rosie_prepare.specs.Views.{ready_seen, wanted_seen};
+ghost use Rattle.rosie_prepare.specs.Views.{ready_seen, request_seen};
 ghost use Rattle.rosie_prepare.specs.inside.Steps.{IsOwn};
 ghost use Rattle.rosie_cli.specs.Compiling.{Compiles, IsCompiled};
 ghost use Rattle.rosie_cli.specs.Plans.{Planned};
@@ -9,7 +9,7 @@ ghost use Rattle.rosie_cli.specs.inside.Planning.{IsReady, Leaves, Makes, Plans}
 
 use crate::plan::{Plan, uncompiled};
 use rosie_io::Files;
-use rosie_prepare::{Prepared, Unready, Wanted, prepare};
+use rosie_prepare::{PatternRequest, Prepared, Unready, prepare};
 use rpl_codefile::write_code;
 use rpl_codegen::compile;
 use std::alloc::Global;
@@ -29,13 +29,13 @@ fn plan_file(alloc: Global, ready: &Prepared) -> Result<Plan, Unready>
 /// The plan of `compile`: the code file of a pattern.
 pub(crate) fn plan_compiled<F: Files>(
     alloc: Global,
-    wanted: &Wanted<'_>,
+    request: &PatternRequest<'_>,
     files: &mut F,
 ) -> Result<Plan, Unready>
-    ensures plans { F.tells → (p : Planned) → IsCompiled (wanted_seen wanted.now) (F.tree files.old) p
+    ensures plans { F.tells → (p : Planned) → IsCompiled (request_seen request.now) (F.tree files.old) p
         → Plans result p }
     ensures leaves { Leaves F.Source result files.old files.new }
 {
-    let ready = prepare(alloc, files, wanted)?;
+    let ready = prepare(alloc, files, request)?;
     plan_file(alloc, &ready)
 }

@@ -1,16 +1,16 @@
 //! The plan of `expand`.
 
 ghost use Rattle.std.specs.Prelude.{Ok, IfErr};
-ghost use Rattle.rosie_prepare.specs.Views.{ready_seen, wanted_seen};
+ghost use Rattle.rosie_prepare.specs.Views.{ready_seen, request_seen};
 ghost use Rattle.rosie_prepare.specs.inside.Steps.{IsOwn};
 ghost use Rattle.rosie_cli.specs.Expanding.{IsExpanded, Expands};
 ghost use Rattle.rosie_cli.specs.Plans.{Planned};
 ghost use Rattle.rosie_cli.specs.inside.Planning.{IsReady, Leaves, Makes, Plans};
 
 use crate::plan::{Plan, uncompiled};
+use rosie_inspect::{expansion_text, push_program};
 use rosie_io::Files;
-use rosie_prepare::{Prepared, Unready, Wanted, prepare};
-use rosie_show::{expansion_text, push_program};
+use rosie_prepare::{PatternRequest, Prepared, Unready, prepare};
 use rpl_codegen::compile;
 use std::alloc::Global;
 
@@ -36,14 +36,14 @@ fn plan_text(alloc: Global, ready: &Prepared, wants_code: bool) -> Result<Plan, 
 /// The plan of `expand`: what a pattern stands for.
 pub(crate) fn plan_expansion<F: Files>(
     alloc: Global,
-    wanted: &Wanted<'_>,
+    request: &PatternRequest<'_>,
     wants_code: bool,
     files: &mut F,
 ) -> Result<Plan, Unready>
-    ensures plans { F.tells → (p : Planned) → IsExpanded (wanted_seen wanted.now) wants_code (F.tree files.old) p
+    ensures plans { F.tells → (p : Planned) → IsExpanded (request_seen request.now) wants_code (F.tree files.old) p
         → Plans result p }
     ensures leaves { Leaves F.Source result files.old files.new }
 {
-    let ready = prepare(alloc, files, wanted)?;
+    let ready = prepare(alloc, files, request)?;
     plan_text(alloc, &ready, wants_code)
 }

@@ -2,7 +2,7 @@
 
 ghost use Rattle.std.specs.Prelude.{◌≡◌, Ok, IfErr, IfOk, List, encode_utf8_all};
 ghost use Rattle.rosie_jobs.specs.Jobs.{IsJobOf, job_of, rule_names};
-ghost use Rattle.rosie_prepare.specs.Views.{ready_seen, wanted_seen};
+ghost use Rattle.rosie_prepare.specs.Views.{ready_seen, request_seen};
 ghost use Rattle.rosie_prepare.specs.inside.Steps.{IsOwn};
 ghost use Rattle.rosie_run.specs.Inputs.{names_of};
 ghost use Rattle.rpl_check.specs.Goal.{peg_of};
@@ -17,7 +17,7 @@ ghost use Rattle.rosie_cli.specs.inside.Planning.{plan_of, run_of, IsReady, Leav
 use crate::plan::{Plan, uncompiled};
 use rosie_io::Files;
 use rosie_jobs::{Job, MatchJob, Settings, TraceJob};
-use rosie_prepare::{Prepared, Unready, Wanted, prepare};
+use rosie_prepare::{PatternRequest, Prepared, Unready, prepare};
 use rosie_run::NoMemory;
 use rosie_sample::SampleRun;
 use rosie_words::Paths;
@@ -117,14 +117,14 @@ fn plan_ready(alloc: Global, ready: Prepared, purpose: Purpose) -> Result<Plan, 
 /// The plan of a pattern that is run for some purpose.
 pub(crate) fn plan_goal<F: Files>(
     alloc: Global,
-    wanted: &Wanted<'_>,
+    request: &PatternRequest<'_>,
     purpose: Purpose,
     files: &mut F,
 ) -> Result<Plan, Unready>
     ensures plans { F.tells → (p : Planned)
-        → IsRunning (run_of purpose) (wanted_seen wanted.now) (F.tree files.old) p → Plans result p }
+        → IsRunning (run_of purpose) (request_seen request.now) (F.tree files.old) p → Plans result p }
     ensures leaves { Leaves F.Source result files.old files.new }
 {
-    let ready = prepare(alloc, files, wanted)?;
+    let ready = prepare(alloc, files, request)?;
     plan_ready(alloc, ready, purpose)
 }

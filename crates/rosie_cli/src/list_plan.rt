@@ -5,9 +5,9 @@ ghost use Rattle.rosie_cli.specs.Plans.{Planned};
 ghost use Rattle.rosie_cli.specs.inside.Planning.{Leaves, Plans};
 
 use crate::plan::Plan;
+use rosie_inspect::names_text;
 use rosie_io::Files;
 use rosie_prepare::{Unready, prepare_rules};
-use rosie_show::names_text;
 use rpl_package::{LibPath, Roots};
 use std::alloc::Global;
 

@@ -7,7 +7,7 @@ use rosie_io::Bytes;
 use rosie_jobs::{CodeJob, MatchJob, TraceJob};
 use rosie_prepare::{Unready, compile_line};
 use rosie_sample::SampleRun;
-use rosie_verdicts::Suite;
+use rosie_unittest::Suite;
 use rosie_words::Paths;
 use rpl_codegen::CompileFault;
 use std::alloc::Global;
@@ -39,7 +39,7 @@ pub(crate) enum Plan {
         whole: bool,
         names: Paths,
     },
-    /// The lines of a sample are matched, and it is told what they come to.
+    /// The lines of a sample are matched, and what they come to is reported.
     Sample(SampleRun),
 }
 

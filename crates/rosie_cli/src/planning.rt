@@ -1,7 +1,7 @@
 //! From a command to its plan.
 
 ghost use Rattle.std.specs.Prelude.{◌≡◌, ◌≢◌, encode_utf8_all};
-ghost use Rattle.rosie_prepare.specs.Views.{wanted_seen};
+ghost use Rattle.rosie_prepare.specs.Views.{request_seen};
 ghost use Rattle.rosie_words.specs.declared.command.What.TheVariants as W;
 ghost use Rattle.rosie_cli.specs.Planned.{IsPlannedAs};
 ghost use Rattle.rosie_cli.specs.Plans.{Planned};
@@ -18,7 +18,7 @@ use crate::plan::Plan;
 use crate::sample_plan::plan_sample;
 use crate::test_plan::plan_tests;
 use rosie_io::Files;
-use rosie_prepare::{Unready, Wanted};
+use rosie_prepare::{PatternRequest, Unready};
 use rosie_words::{Command, What};
 use rpl_package::{LibPath, Roots};
 use rpl_print::text_of;
@@ -35,8 +35,8 @@ struct Base<'a> {
 
 impl<'a> Base<'a> {
     /// What a command wants of its pattern, which is matched from the start of a line or looked for.
-    fn wants(&self, pattern: &'a Chars, find: bool) -> Wanted<'a>
-        ensures { wanted_seen result ≡ record {
+    fn request(&self, pattern: &'a Chars, find: bool) -> PatternRequest<'a>
+        ensures { request_seen result ≡ record {
           roots = self.now.roots.now;
           folders = self.now.folders.now;
           text = encode_utf8_all pattern.now;
@@ -44,7 +44,7 @@ impl<'a> Base<'a> {
           find = find;
         } }
     {
-        Wanted {
+        PatternRequest {
             roots: self.roots,
             folders: self.folders,
             text: text_of(pattern),
@@ -87,12 +87,12 @@ pub(crate) fn plan_command<F: Files>(
             Some(path) => plan_code(alloc, path, settings, inputs, files),
             None => {
                 let purpose = Purpose::Match { settings, inputs };
-                plan_goal(alloc, &base.wants(&pattern, false), purpose, files)
+                plan_goal(alloc, &base.request(&pattern, false), purpose, files)
             }
         },
         What::Grep { pattern, inputs } => {
             let purpose = Purpose::Match { settings, inputs };
-            plan_goal(alloc, &base.wants(&pattern, true), purpose, files)
+            plan_goal(alloc, &base.request(&pattern, true), purpose, files)
         }
         What::Trace { pattern, inputs } => {
             let purpose = Purpose::Trace {
@@ -100,7 +100,7 @@ pub(crate) fn plan_command<F: Files>(
                 whole,
                 inputs,
             };
-            plan_goal(alloc, &base.wants(&pattern, false), purpose, files)
+            plan_goal(alloc, &base.request(&pattern, false), purpose, files)
         }
         What::Sample { seed, lines } => {
             let purpose = Purpose::Sample {
@@ -111,9 +111,9 @@ pub(crate) fn plan_command<F: Files>(
             plan_sample(alloc, &folders, purpose, files)
         }
         What::Expand { pattern } => {
-            plan_expansion(alloc, &base.wants(&pattern, false), code, files)
+            plan_expansion(alloc, &base.request(&pattern, false), code, files)
         }
-        What::Compile { pattern } => plan_compiled(alloc, &base.wants(&pattern, false), files),
+        What::Compile { pattern } => plan_compiled(alloc, &base.request(&pattern, false), files),
         What::Test { file } => plan_tests(alloc, file, &folders, budget, files),
         What::List => plan_list(alloc, &roots, &folders, files),
         What::Class { name } => plan_class(alloc, &name),

@@ -3,14 +3,14 @@
 ghost use Rattle.std.specs.Prelude.{◌≡◌, ◌∷◌, [], IfOk, chars};
 ghost use Rattle.rosie_sample.specs.Counting.{sample_rules};
 ghost use Rattle.rpl_package.specs.declared.rooted.Root.TheVariants.{Given};
-ghost use Rattle.rosie_cli.specs.Planned.{sample_wanted, IsRunning};
+ghost use Rattle.rosie_cli.specs.Planned.{sample_request, IsRunning};
 ghost use Rattle.rosie_cli.specs.Plans.{Planned};
 ghost use Rattle.rosie_cli.specs.inside.Planning.{run_of, Leaves, Plans};
 
 use crate::goal_plan::{Purpose, plan_goal};
 use crate::plan::Plan;
 use rosie_io::Files;
-use rosie_prepare::{Unready, Wanted};
+use rosie_prepare::{PatternRequest, Unready};
 use rosie_run::NoMemory;
 use rosie_sample::{pattern, rules};
 use rpl_package::{LibPath, Root, Roots};
@@ -34,16 +34,16 @@ pub(crate) fn plan_sample<F: Files>(
     files: &mut F,
 ) -> Result<Plan, Unready>
     ensures plans { F.tells → (p : Planned)
-        → IsRunning (run_of purpose) (sample_wanted folders.now) (F.tree files.old) p → Plans result p }
+        → IsRunning (run_of purpose) (sample_request folders.now) (F.tree files.old) p → Plans result p }
     ensures leaves { Leaves F.Source result files.old files.new }
 {
     let roots = sample_roots(alloc)?;
-    let wanted = Wanted {
+    let request = PatternRequest {
         roots: &roots,
         folders,
         text: pattern(),
         fixed: false,
         find: false,
     };
-    plan_goal(alloc, &wanted, purpose, files)
+    plan_goal(alloc, &request, purpose, files)
 }

@@ -23,9 +23,9 @@ use crate::asked::{Asked, ask};
 use crate::plan::Plan;
 use crate::planning::plan_command;
 use rosie_io::{Files, Sink, Source};
-use rosie_jobs::MOST_BYTES;
+use rosie_jobs::MAX_LINE_BYTES;
 use rosie_prepare::Unready;
-use rosie_run::{Ended, Mark, Reading, Status, Tally, Why, cut, finish, run_inputs, say};
+use rosie_run::{Ended, Mark, ReadStop, Reading, Status, Tally, cut, finish, run_inputs, say};
 use rosie_session::run_session;
 use rosie_words::{Command, What};
 use rpl_machine::Steps;
@@ -40,7 +40,7 @@ fn reading(whole: bool) -> Reading
 {
     Reading {
         whole,
-        most: MOST_BYTES,
+        most: MAX_LINE_BYTES,
     }
 }
 
@@ -142,7 +142,7 @@ fn run_planned<F: Files, I: Source, O: Sink, E: Sink, L: Ledger>(
         Err(unready) => match unready {
             Unready::NoMemory => Err(Ended::NoMemory),
             Unready::Refused(line) => refuse(line, out, err),
-            Unready::ReadFault(path) => Err(cut(alloc, Why::ReadFault, text_of(&path))),
+            Unready::ReadFault(path) => Err(cut(alloc, ReadStop::ReadFault, text_of(&path))),
         },
     }
 }
@@ -216,7 +216,7 @@ pub fn rosie<F: Files, I: Source, O: Sink, E: Sink, L: Ledger>(
         → IsPlanned (asked (words_of words.now)) (F.tree files.old) p → LeavesInput p.plan → input.new ≡ input.old }
     ensures untouched { IsRefused (asked (words_of words.now)) → (files.new ≡ files.old) × (input.new ≡ input.old) }
 
-    // All is flushed, unless a write failed or memory was wanting.
+    // All is flushed, unless a write failed or memory ran out.
     ensures out_flushed { O.counts → IsFlushed result (O.number out.new) (O.flushed out.new) }
     ensures err_flushed { E.counts → IsFlushed result (E.number err.new) (E.flushed err.new) }
 {

@@ -7,7 +7,7 @@ use Rattle.rosie_run.specs.Report.{Piece}
 use Rattle.rpl_core.specs.Meaning.{Outcome}
 use Rattle.rpl_core.specs.Outcome.{outcome}
 use Rattle.rpl_core.specs.Run.{Answer, Matched, Failed, Unfinished, run}
-use Rattle.rpl_encode.specs.Answer.{answer, most_bytes}
+use Rattle.rpl_encode.specs.Answer.{answer, max_answer_bytes}
 use Rattle.rpl_encode.specs.Print.{found, in_bytes, print}
 use Rattle.rosie_jobs.specs.Written.{written}
 use Rattle.rosie_jobs.proofs.Written.{written_holds}
@@ -24,7 +24,7 @@ module _ (s : Settings) (file : List ℕ) (n : ℕ) (line : List ℕ) where
   by_text a text hit =
       let cost = made (budget_of s (chars line)) a in
       cond (is_over a) (unanswered (line_fault file n (codes "budget spent")) cost)
-      (said s file n line (not (nat_lt most_bytes (length text))) text hit cost cost)
+      (said s file n line (not (nat_lt max_answer_bytes (length text))) text hit cost cost)
 
   -- two outcomes with the same trees and the same verdict make the same piece
   same_piece : (a : Answer) (o p : Outcome) → found o ≡ found p → matches o ≡ matches p

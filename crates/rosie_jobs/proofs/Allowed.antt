@@ -15,9 +15,9 @@ use Rattle.rpl_core.specs.Instr.{Instr}
 use Rattle.rpl_core.specs.Meaning.{Outcome}
 use Rattle.rpl_core.specs.Outcome.{outcome, work_of}
 use Rattle.rpl_core.specs.Run.{Answer, Matched, Failed, Unfinished, run}
-use Rattle.rpl_encode.specs.Answer.{most_bytes}
+use Rattle.rpl_encode.specs.Answer.{max_answer_bytes}
 use Rattle.rpl_encode.specs.Print.{print}
-use Rattle.rpl_simulation.specs.Laws.{Tells}
+use Rattle.rpl_compile_laws.specs.Laws.{Tells}
 use Rattle.rosie_jobs.specs.declared.settings.Settings.{Settings}
 use Rattle.rosie_jobs.specs.Lines.{Job, budget_of, is_over, made, matches}
 use Rattle.rosie_jobs.specs.Lines.{unanswered, answered, code_makes, code_outcome, match_makes, outcome_piece, ran_piece}
@@ -62,14 +62,14 @@ module _ (s : Settings) (file : List ℕ) (n : ℕ) (line : List ℕ) (o : Outco
   abbrev said_so : Piece
   said_so = answered s line text (matches o) cost cost
 
-  ran_said : is_over ran ≡ false → length text ≤ most_bytes → ran_piece s file n line o ran ≡ said_so
+  ran_said : is_over ran ≡ false → length text ≤ max_answer_bytes → ran_piece s file n line o ran ≡ said_so
   ran_said within h =
-      let fits : nat_lt most_bytes (length text) ≡ false = grind (arith, h) in
+      let fits : nat_lt max_answer_bytes (length text) ≡ false = grind (arith, h) in
       ap (λ b. cond b (unanswered (line_fault file n (codes "budget spent")) cost) (outcome_piece s file n line o cost))
       within
       ∙ ap (λ b. cond (not b) said_so (unanswered (line_fault file n (codes "answer too long")) cost)) fits
 
-  ran_mark : is_over ran ≡ false → length text ≤ most_bytes
+  ran_mark : is_over ran ≡ false → length text ≤ max_answer_bytes
       → (ran_piece s file n line o ran).mark ≡ cond (matches o) Hit Miss
   ran_mark within h = ap (λ (p : Piece). p.mark) (ran_said within h)
 

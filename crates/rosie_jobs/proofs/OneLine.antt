@@ -13,7 +13,7 @@ use Rattle.rpl_core.specs.Instr.{Instr}
 use Rattle.rpl_core.specs.Run.{Answer, Matched, Failed, Unfinished, run}
 use Rattle.rpl_core.specs.declared.caught.Caught.{Caught}
 use Rattle.rpl_core.specs.declared.caught.Caught.TheVariants.{Begin, Finish, Note}
-use Rattle.rpl_encode.specs.Answer.{answer, most_bytes}
+use Rattle.rpl_encode.specs.Answer.{answer, max_answer_bytes}
 use Rattle.rpl_encode.specs.Print.{found, in_bytes, placed, print}
 use Rattle.rpl_encode.specs.Labels.{label_in}
 use Rattle.rpl_machine.specs.Shown.{caught_of, captures_of, CaptureIn, CapturesIn}
@@ -111,13 +111,13 @@ module _ (s : Settings) (program : List Instr) (o : Outcome) (line : List ℕ) (
 pub record Ends (s : Settings) (program : List Instr) (o : Outcome) (line : List ℕ) (fits hit : Bool) (kept : List ℕ) (steps : ℕ) : Type 0 where
   pub within : is_over (run program (chars line) (budget_of s (chars line))) ≡ false
   pub matches : matches o ≡ hit
-  pub short : not (nat_lt most_bytes (length (print s.style (chars line) o))) ≡ fits
+  pub short : not (nat_lt max_answer_bytes (length (print s.style (chars line) o))) ≡ fits
   pub same : fits ≡ true → kept ≡ print s.style (chars line) o
   pub cost : steps ≡ made (budget_of s (chars line)) (run program (chars line) (budget_of s (chars line)))
 
-fits_by : (fits : Bool) (text kept : List ℕ) → Printed fits text kept → not (nat_lt most_bytes (length text)) ≡ fits
-fits_by true text kept p = let h = p.1 in let test : nat_lt most_bytes (length text) ≡ false = grind (arith, h) in ap not test
-fits_by false text kept p = let test : nat_lt most_bytes (length text) ≡ true = grind (arith, p) in ap not test
+fits_by : (fits : Bool) (text kept : List ℕ) → Printed fits text kept → not (nat_lt max_answer_bytes (length text)) ≡ fits
+fits_by true text kept p = let h = p.1 in let test : nat_lt max_answer_bytes (length text) ≡ false = grind (arith, h) in ap not test
+fits_by false text kept p = let test : nat_lt max_answer_bytes (length text) ≡ true = grind (arith, p) in ap not test
 
 kept_by : (fits : Bool) (text kept : List ℕ) → Printed fits text kept → fits ≡ true → kept ≡ text
 kept_by true text kept p e = p.0
@@ -127,7 +127,7 @@ ends_of : (s : Settings) (program : List Instr) (o : Outcome) (line text : List 
 ends_of s program o line text fits hit kept steps f p = record {
   within = f.within;
   matches = f.matches;
-  short = ap (λ x. not (nat_lt most_bytes (length x))) (sym f.prints) ∙ fits_by fits text kept p;
+  short = ap (λ x. not (nat_lt max_answer_bytes (length x))) (sym f.prints) ∙ fits_by fits text kept p;
   same = λ e. kept_by fits text kept p e ∙ f.prints;
   cost = f.cost;
 }
@@ -188,15 +188,15 @@ pub ran_cost : (s : Settings) (file : List ℕ) (n : ℕ) (line : List ℕ) (o :
 ran_cost s file n line o a =
     let c = made (budget_of s (chars line)) a in
     either_cost (is_over a) (unanswered (line_fault file n (codes "budget spent")) c) (outcome_piece s file n line o c) c refl
-    (said_cost s file n line (not (nat_lt most_bytes (length (print s.style (chars line) o)))) (print s.style (chars line) o) (matches o) c c)
+    (said_cost s file n line (not (nat_lt max_answer_bytes (length (print s.style (chars line) o)))) (print s.style (chars line) o) (matches o) c c)
 
 pub ran_steps : (s : Settings) (program : List Instr) (line t : List ℕ) (b : ℕ) (code : List Instr) (a : Answer) (s0 s1 : ℕ) → t ≡ chars line → b ≡ budget_of s (chars line) → code ≡ program → run code t b ≡ a → s1 ≡ s0 + made b a → s1 ≡ s0 + made (budget_of s (chars line)) (run program (chars line) (budget_of s (chars line)))
 ran_steps s program line t b code a s0 s1 et eb ec e k =
     k ∙ ap (λ x. s0 + x) (ap (λ x. made x a) eb ∙ sym (ap (made (budget_of s (chars line))) (ran_same code program t (chars line) b (budget_of s (chars line)) a ec et eb e)))
 
-pub printed_as : {E : Type 0} (r : Result Bool E) (text kept : List ℕ) {P : Forest → Type 0} {Q : Forest → Type 0} (wanted : Forest → List ℕ) → IfOk r (λ fits. Printed fits text kept) → ((f : Forest) → P f → Q f → text ≡ wanted f) → IfOk r (λ fits. (f : Forest) → P f → Q f → Printed fits (wanted f) kept)
-printed_as (Ok fits) text kept wanted h e = λ f p q. subst (λ x. Printed fits x kept) (e f p q) h
-printed_as (Err x) text kept wanted h e = tt
+pub printed_as : {E : Type 0} (r : Result Bool E) (text kept : List ℕ) {P : Forest → Type 0} {Q : Forest → Type 0} (text_of : Forest → List ℕ) → IfOk r (λ fits. Printed fits text kept) → ((f : Forest) → P f → Q f → text ≡ text_of f) → IfOk r (λ fits. (f : Forest) → P f → Q f → Printed fits (text_of f) kept)
+printed_as (Ok fits) text kept text_of h e = λ f p q. subst (λ x. Printed fits x kept) (e f p q) h
+printed_as (Err x) text kept text_of h e = tt
 
 pub made_ok : {E : Type 0} (r : Result Mark E) (out err : List ℕ) (p q : Piece) → q ≡ p → IfOk r (λ mark. IsMade mark out err p) → IfOk r (λ mark. IsMade mark out err q)
 made_ok r out err p q e h = subst (λ x. IfOk r (λ mark. IsMade mark out err x)) (sym e) h

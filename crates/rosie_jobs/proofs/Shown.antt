@@ -15,7 +15,7 @@ use Rattle.rpl_core.specs.Run.{Answer, Matched, Failed, Unfinished, run}
 use Rattle.rpl_encode.specs.Print.{found}
 use Rattle.rpl_safe.specs.Safe.{IsSafe}
 use Rattle.rpl_safe.proofs.Kept.{safe_match_holds}
-use Rattle.rpl_simulation.specs.Laws.{Tells}
+use Rattle.rpl_compile_laws.specs.Laws.{Tells}
 use Rattle.rosie_jobs.specs.Written.{written}
 use Rattle.rosie_jobs.proofs.Written.{written_holds}
 use Rattle.rosie_jobs.specs.Lines.{Job, budget_of, matches, ran_outcome}

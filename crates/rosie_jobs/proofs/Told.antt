@@ -4,7 +4,7 @@ use Rattle.std.specs.Prelude.{Result, Ok, Err, codes, string_bytes}
 use Rattle.rpl_codefile.specs.Spelling.{SpellsNone}
 use Rattle.rpl_core.specs.Program.{instructions}
 use Rattle.rpl_core.specs.declared.program.Program.{Program}
-use Rattle.rosie_jobs.specs.Loaded.{IsLoaded, Loads, most_bytes}
+use Rattle.rosie_jobs.specs.Loaded.{IsLoaded, Loads, max_code_bytes}
 use Rattle.rosie_jobs.specs.declared.unloaded.Unloaded.{Unloaded}
 use Rattle.rosie_jobs.specs.declared.unloaded.Unloaded.TheVariants.{NoMemory, ReadFault, Refused}
 use Rattle.rosie_jobs.specs.inside.Telling.{Reads, Refuses}
@@ -16,7 +16,7 @@ reads_none path bytes (Refused line) e none = inl (none, e)
 reads_none path bytes ReadFault e none = absurd e
 
 -- a file that isn't too long
-pub loads_read : (path bytes : List ℕ) (file : Option (List ℕ)) (r : Result Program Unloaded) → file ≡ Some bytes → length bytes ≤ most_bytes → Reads path bytes r → Loads path file r
+pub loads_read : (path bytes : List ℕ) (file : Option (List ℕ)) (r : Result Program Unloaded) → file ≡ Some bytes → length bytes ≤ max_code_bytes → Reads path bytes r → Loads path file r
 loads_read path bytes file (Ok p) e le h = subst (λ f. IsLoaded path f (Ok (instructions p))) (sym e) (inr (le, h))
 loads_read path bytes file (Err NoMemory) e le h = tt
 loads_read path bytes file (Err (Refused line)) e le h = subst (λ f. IsLoaded path f (Err (string_bytes line))) (sym e) (inr (le, h))

@@ -9,7 +9,7 @@ joined_none NoTree = refl
 joined_none (Tree c i j f r) = ap (Tree c i j f) (joined_none r)
 joined_none (Noted x i r) = ap (Noted x i) (joined_none r)
 
--- the trees, and then what comes behind them
+-- the trees, and then what comes after them
 abbrev put : Forest → Behind → Behind
 put f b = record { here = joined f b.here; around = b.around }
 

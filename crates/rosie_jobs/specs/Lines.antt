@@ -6,7 +6,7 @@ use Rattle.rosie_run.specs.Lines.{Makes, line_fault}
 use Rattle.rosie_run.specs.Report.{Piece}
 use Rattle.rosie_run.specs.declared.lines.Reading.{Reading}
 use Rattle.rosie_run.specs.declared.mark.Mark.TheVariants.{Hit, Miss, Fault}
-use Rattle.rpl_encode.specs.Answer.{most_bytes}
+use Rattle.rpl_encode.specs.Answer.{max_answer_bytes}
 use Rattle.rpl_encode.specs.Print.{print}
 use Rattle.rpl_core.specs.Core.{Core}
 use Rattle.rpl_core.specs.Instr.{Instr}
@@ -52,7 +52,7 @@ matches (Fail w) = false
 matches (At w j f) = true
 matches (HaltAt w j f) = true
 
--- what is told of a line beside its answer: the line where it doesn't match, and its steps
+-- what is reported of a line beside its answer: the line where it doesn't match, and its steps
 abbrev pub told : Settings → List ℕ → Bool → ℕ → List ℕ
 told s line hit steps =
     (if s.all && not hit then line ++ codes "\n" else [])
@@ -76,7 +76,7 @@ said s file n line fits text hit steps cost =
 -- the piece of a line by its outcome, where the run is within its budget
 abbrev pub outcome_piece : Settings → List ℕ → ℕ → List ℕ → Outcome → ℕ → Piece
 outcome_piece s file n line o cost =
-    said s file n line (not (nat_lt most_bytes (length (print s.style (chars line) o))))
+    said s file n line (not (nat_lt max_answer_bytes (length (print s.style (chars line) o))))
     (print s.style (chars line) o) (matches o) cost cost
 
 -- the piece of a line of text by its run, which may be over its budget, and by its outcome

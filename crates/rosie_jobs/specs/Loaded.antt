@@ -15,8 +15,8 @@ abbrev pub OrLine : Type 0
 OrLine = Result (List Instr) (List ℕ)
 
 -- the greatest number of bytes in a code file
-abbrev pub most_bytes : ℕ
-most_bytes = 67108864
+abbrev pub max_code_bytes : ℕ
+max_code_bytes = 67108864
 
 -- the line of a file: `rosie: FILE: TEXT`
 abbrev pub refusal : List ℕ → List ℕ → OrLine
@@ -29,19 +29,19 @@ IsRead path bytes (Err line) =
     (SpellsNone bytes × (line ≡ input_fault path (codes "not a code file")))
     ⊎ (SpellsUnsafe bytes × (line ≡ input_fault path (codes "unsafe code")))
 
--- so does the file of this path
+-- the file of this path comes to this code, or to the line that says why not
 abbrev pub IsLoaded : List ℕ → Option (List ℕ) → OrLine → Type 0
 IsLoaded path None r = r ≡ refusal path (codes "no such file")
 IsLoaded path (Some bytes) r =
-    ((most_bytes < length bytes) × (r ≡ refusal path (codes "text too long")))
-    ⊎ ((length bytes ≤ most_bytes) × IsRead path bytes r)
+    ((max_code_bytes < length bytes) × (r ≡ refusal path (codes "text too long")))
+    ⊎ ((length bytes ≤ max_code_bytes) × IsRead path bytes r)
 
 -- a file comes to one of them
 abbrev pub OneLoading : Type 0
 OneLoading =
     (path : List ℕ) (file : Option (List ℕ)) (r s : OrLine) → IsLoaded path file r → IsLoaded path file s → r ≡ s
 
--- what an answer says of the file: want of memory and a failed read say nothing
+-- what an answer says of the file: out of memory and a failed read say nothing
 abbrev pub Loads : List ℕ → Option (List ℕ) → Result Program Unloaded → Type 0
 Loads path file (Ok program) = IsLoaded path file (Ok (instructions program))
 Loads path file (Err NoMemory) = Unit {0}

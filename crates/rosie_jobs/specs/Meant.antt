@@ -4,7 +4,7 @@ use Rattle.std.specs.Str.{all_scalars}
 use Rattle.rpl_core.specs.Meaning.{Open}
 use Rattle.rpl_core.specs.Outcome.{outcome}
 use Rattle.rpl_core.specs.Run.{run}
-use Rattle.rpl_simulation.specs.Laws.{Tells}
+use Rattle.rpl_compile_laws.specs.Laws.{Tells}
 use Rattle.rosie_jobs.specs.Lines.{Job}
 
 -- each answer of the machine tells what the goal means

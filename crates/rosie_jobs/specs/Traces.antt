@@ -14,7 +14,7 @@ abbrev pub trace_text : List (List ℕ) → Job → ℕ → List ℕ → List �
 trace_text names job n t =
     codes "line " ++ (decimal n ++ (codes "\n" ++ printed names t 0 (trace job.rules job.goal t)))
 
--- they are told of a line that takes no more work than the limit; at any other the run ends
+-- they are reported of a line that takes no more work than the limit; at any other the run ends
 unfoldable pub trace_makes : ℕ → List (List ℕ) → Job → Makes
 trace_makes limit names job file n line =
     if nat_lt limit (work_of (outcome job.rules job.goal (chars line)))

@@ -3,7 +3,7 @@ use Rattle.std.specs.Prelude.{◌≡◌, ℕ, List, [], ◌∷◌}
 use Rattle.rpl_core.specs.Forest.{Caught, Begin, Finish, Mark, Forest, NoTree, Tree, Noted, flat}
 
 -- the trees from here on, in the tree that is open here or in none; and of each tree that is open, the innermost first,
--- where it ends, and the trees behind it
+-- where it ends, and the trees after it
 pub record Behind : Type 0 where
   pub here : Forest
   pub around : List (ℕ × Forest)

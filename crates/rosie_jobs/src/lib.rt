@@ -30,6 +30,6 @@ pub use line_run::budget_or;
 pub use loading::load_code;
 pub use match_job::MatchJob;
 pub use rosie_run::LineJob;
-pub use settings::{MOST_BYTES, Settings};
+pub use settings::{MAX_LINE_BYTES, Settings};
 pub use trace_job::TraceJob;
 pub use unloaded::Unloaded;

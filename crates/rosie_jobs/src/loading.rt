@@ -15,7 +15,7 @@ use rpl_core::Program;
 use std::alloc::Global;
 
 /// The longest code file that is read, in bytes.
-const MOST_CODE_BYTES: usize = 67_108_864;
+const MAX_CODE_BYTES: usize = 67_108_864;
 
 /// The refusal of the file with these words, if there is memory for its line.
 fn refused(alloc: Global, path: &str, text: &str) -> Unloaded
@@ -65,7 +65,7 @@ pub fn load_code<F: Files>(alloc: Global, files: &mut F, path: &str) -> Result<P
     ensures tree { F.tree files.new ≡ F.tree files.old }
     ensures closed { F.is_open files.new ≡ false }
 {
-    match read_bytes(alloc, files, path, MOST_CODE_BYTES) {
+    match read_bytes(alloc, files, path, MAX_CODE_BYTES) {
         Ok(bytes) => program_of(alloc, path, bytes.as_slice()),
         Err(fault) => Err(of_file(alloc, path, fault)),
     }

@@ -75,33 +75,33 @@ impl Texts {
         Ok(Mark::Fault)
     }
 
-    /// Adds the line to what is told, where that is wanted.
-    fn tell_line(&mut self, line: &str, wanted: bool) -> Result<(), NoMemory>
+    /// Adds the line to what is reported, where that is wanted.
+    fn tell_line(&mut self, line: &str, tells: bool) -> Result<(), NoMemory>
         ensures told { OnOk result (string_bytes self.new.told ≡ string_bytes self.old.told
-            ++ (if wanted then line.now ++ codes "\n" else [])) }
+            ++ (if tells then line.now ++ codes "\n" else [])) }
         ensures answer { self.new.answer ≡ self.old.answer }
     {
-        if !wanted {
+        if !tells {
             return Ok(());
         }
         self.told.push_str(line)?;
         self.told.push_str("\n")
     }
 
-    /// Adds the number of steps to what is told, where that is wanted.
-    fn tell_steps(&mut self, steps: u64, wanted: bool) -> Result<(), NoMemory>
+    /// Adds the number of steps to what is reported, where that is wanted.
+    fn tell_steps(&mut self, steps: u64, tells: bool) -> Result<(), NoMemory>
         ensures told { OnOk result (string_bytes self.new.told ≡ string_bytes self.old.told
-            ++ (if wanted then codes "steps " ++ (decimal steps ++ codes "\n") else [])) }
+            ++ (if tells then codes "steps " ++ (decimal steps ++ codes "\n") else [])) }
         ensures answer { self.new.answer ≡ self.old.answer }
     {
-        if !wanted {
+        if !tells {
             return Ok(());
         }
         let text = format!(in self.alloc; "steps {steps}\n")?;
         self.told.push_str(text.as_str())
     }
 
-    /// Says of a line what is told beside its answer.
+    /// Says of a line what is reported beside its answer.
     fn tell(
         &mut self,
         settings: Settings,

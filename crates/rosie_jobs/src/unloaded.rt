@@ -4,7 +4,7 @@ use rosie_run::NoMemory;
 /// Why a code file gives no program.
 #[derive(Debug, Drop)]
 pub enum Unloaded {
-    /// Memory is wanting.
+    /// Memory ran out.
     NoMemory,
     /// The file is refused, with this line, which ends with a line feed.
     Refused(String),

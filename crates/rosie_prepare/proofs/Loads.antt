@@ -7,7 +7,7 @@ use Rattle.std.proofs.lemmas.List.{get_or-map, length-map}
 use Rattle.std.proofs.lemmas.List.Elements.{Contains-append_left}
 use Rattle.rosie_prepare.specs.Lines.{Line, load_line}
 use Rattle.rosie_prepare.specs.Answers.{IsAsked, IsDue}
-use Rattle.rosie_prepare.specs.Prepared.{Comes, IsPrepared, OrLine, Ready, TableComes, Tree, Wanted, loaded, set_of}
+use Rattle.rosie_prepare.specs.Prepared.{Comes, IsPrepared, OrLine, Ready, TableComes, Tree, PatternRequest, loaded, set_of}
 use Rattle.rosie_prepare.specs.declared.unready.Unready.{Unready}
 use Rattle.rosie_prepare.specs.declared.unready.Unready.TheVariants.{NoMemory, Refused, ReadFault}
 use Rattle.rosie_prepare.specs.inside.Steps.{StopsWith, Tells, TellsKind}
@@ -68,7 +68,7 @@ stops_then NoMemory o next h = tt
 stops_then (Refused line) o next h = (h.0, ap (λ r. r >>= λ x. (next x).answer) h.1, h.2)
 stops_then (ReadFault path) o next h = Contains-append_left o.asked (asked_then o.answer next) path h
 
--- and behind a step that has an answer what stops the next
+-- and after a step that has an answer what stops the next
 pub stops_next :
     {A B : Type 0} (u : Unready) (o : Outcome A) (x : A) (next : A → Outcome B) → o.answer ≡ Ok x
     → StopsWith u (next x) → StopsWith u (and_then o next)
@@ -116,6 +116,6 @@ asked_through (Ok x) u asked h k = tt
 asked_through (Err e) u asked h k = subst (λ v. IsAsked v asked) (sym h) k
 
 pub asked_prepared :
-    (tree : Tree) (w : Wanted) (asked : List (List ℕ)) (r : OrLine Ready) (h : IsPrepared tree w asked r) (u : Unready)
+    (tree : Tree) (w : PatternRequest) (asked : List (List ℕ)) (r : OrLine Ready) (h : IsPrepared tree w asked r) (u : Unready)
     → StopsWith u (loaded tree w h.parse) → IsAsked u asked
 asked_prepared tree w asked r h u s = subst (IsAsked u) (sym h.paths) (asked_in u (loaded tree w h.parse) s)

@@ -16,7 +16,7 @@ use Rattle.rpl_lexer.specs.declared.fault.LexFault.{LexFault}
 use Rattle.rpl_lexer.specs.declared.token.Token.{Token}
 use Rattle.rpl_package.specs.Goals.{ReadsCut, ReadsGoal, ReadsText, ReadsTokens, pattern_file, sought}
 use Rattle.rpl_package.specs.Roots.{Packages}
-use Rattle.rpl_package.specs.Texts.{most_bytes}
+use Rattle.rpl_package.specs.Texts.{max_text_bytes}
 use Rattle.rpl_parser.proofs.Answered.{fault_unique, pattern_apart, pattern_unique}
 use Rattle.rpl_scope.specs.Faults.{Or, fault}
 use Rattle.rpl_scope.specs.declared.fault.LoadKind.TheVariants.{Parse}
@@ -47,7 +47,7 @@ text_one false find s r q h k = cut_one find s (cut_of s) r q h k
 reading_one :
     (fixed find : Bool) (s : List ℕ) (r q : Or Expr) → ReadsGoal fixed find s r → ReadsGoal fixed find s q → r ≡ q
 reading_one fixed find s r q h k =
-    elim (cases_lt most_bytes (length s)) [
+    elim (cases_lt max_text_bytes (length s)) [
       | inl long ↦ h.long long ∙ sym (k.long long)
       | inr short ↦ text_one fixed find s r q (h.text short) (k.text short)
     ]

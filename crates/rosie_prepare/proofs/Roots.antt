@@ -7,7 +7,7 @@ use Rattle.rpl_core.specs.Core.{Core, Call, Capture}
 use Rattle.rpl_core.specs.Table.{bodies_of}
 use Rattle.rpl_core.specs.View.{core_of}
 use Rattle.rpl_core.specs.declared.rules.Rule.{Rule}
-use Rattle.rpl_simulation.specs.Laws.{IsCapture, itself, by_call}
+use Rattle.rpl_compile_laws.specs.Laws.{IsCapture, itself, by_call}
 
 pub by_itself : (R : List Core) (g p : Core) (label : List ℕ) → g ≡ Capture label p → (x : List ℕ) × IsCapture R x g
 by_itself R g p label e = (label, subst (IsCapture R label) (sym e) (itself p))

@@ -25,14 +25,14 @@ use Rattle.rpl_forms.specs.Rows.{Row}
 use Rattle.rpl_lexer.specs.Cutting.{cut_of}
 use Rattle.rpl_lexer.specs.declared.fault.LexFault.{LexFault}
 use Rattle.rpl_lexer.specs.declared.token.Token.{Token}
-use Rattle.rpl_order.proofs.Loaded.{loaded_is_bound, told_is_built}
-use Rattle.rpl_order.specs.Laws.{IsLoaded, by_pattern, by_roots}
+use Rattle.rpl_load_laws.proofs.Loaded.{loaded_is_bound, told_is_built}
+use Rattle.rpl_load_laws.specs.Laws.{IsLoaded, by_pattern, by_roots}
 use Rattle.rpl_package.specs.Goals.{ReadsCut, ReadsGoal, ReadsText, ReadsTokens, pattern_file, sought}
 use Rattle.rpl_package.specs.Loading.{world}
 use Rattle.rpl_package.specs.Patterns.{load_pattern}
 use Rattle.rpl_package.specs.Roots.{Packages, load}
 use Rattle.rpl_package.specs.Targets.{halt_name}
-use Rattle.rpl_package.specs.Texts.{most_bytes}
+use Rattle.rpl_package.specs.Texts.{max_text_bytes}
 use Rattle.rpl_package.specs.declared.rooted.Root.{Root}
 use Rattle.rpl_parser.proofs.Answered.{either}
 use Rattle.rpl_scope.specs.Faults.{Or, ◌>>=◌, fault}
@@ -58,7 +58,7 @@ text_some false find s = cut_some find s (cut_of s)
 
 reading_some : (fixed find : Bool) (s : List ℕ) → (r : Or Expr) × ReadsGoal fixed find s r
 reading_some fixed find s =
-    elim (cases_lt most_bytes (length s)) [
+    elim (cases_lt max_text_bytes (length s)) [
       | inl long ↦ (fault pattern_file 0 FileTooLong, record { long = λ _. refl; text = λ short. absurd (omega arith) })
       | inr short ↦
           let is = text_some fixed find s in

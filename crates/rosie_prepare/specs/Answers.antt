@@ -6,7 +6,7 @@ use Rattle.rosie_prepare.specs.declared.unready.Unready.{Unready}
 use Rattle.rosie_prepare.specs.declared.unready.Unready.TheVariants.{NoMemory, Refused, ReadFault}
 use Rattle.rosie_run.specs.Sources.{Moment, NoFewer, RoseIn, Still}
 
--- a refusal has the line that is due; want of memory and a failed read say nothing of it
+-- a refusal has the line that is due; out of memory and a failed read say nothing of it
 abbrev pub IsDue : {A : Type 0} → Unready → OrLine A → Type 0
 IsDue NoMemory d = Unit {0}
 IsDue (Refused line) d = d ≡ Err (string_bytes line)

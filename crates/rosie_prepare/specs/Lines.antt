@@ -13,7 +13,7 @@ use Rattle.rpl_scope.specs.declared.fault.LoadKind.TheVariants.{RootMissing, Rea
 abbrev pub Line : Type 0
 Line = List ℕ
 
--- a file that can't be read is told alone; any other fault stands at a place of its text
+-- a file that can't be read is reported alone; any other fault stands at a place of its text
 abbrev pub line_at : (file : List ℕ) → (at : ℕ) → LoadKind → Line
 line_at file at RootMissing = input_fault file (load_text RootMissing)
 line_at file at ReadFault = input_fault file (load_text ReadFault)

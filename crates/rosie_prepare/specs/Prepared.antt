@@ -27,7 +27,7 @@ Tree = List (List ℕ × List ℕ)
 
 -- roots and the folders of the library path, and the bytes of a pattern, which may be a literal, and may be looked for
 -- wherever it stands
-pub record Wanted : Type 0 where
+pub record PatternRequest : Type 0 where
   pub roots : List Root
   pub folders : List (List ℕ)
   pub text : List ℕ
@@ -48,7 +48,7 @@ OrLine A = Result A Line
 -- ---- the first pass
 
 -- all roots, then the pattern, whose text is read as `parse`
-abbrev pub loaded : Tree → Wanted → (parse : Or Expr) → Outcome (Expr × Packages)
+abbrev pub loaded : Tree → PatternRequest → (parse : Or Expr) → Outcome (Expr × Packages)
 loaded tree w parse = and_then (load (world tree w.folders) w.roots) (λ p. load_pattern (world tree w.folders) p parse)
 
 -- ---- the second and the third pass
@@ -109,7 +109,7 @@ Comes (Err f) r = r ≡ Err (load_line f)
 Comes (Ok l) r = Passes l.1 (too_large l.1 l.0) (unsound l.1 l.0) (ready l.1 l.0) r
 
 -- What is wanted comes to r over the tree of files, and the paths `asked`, in bytes, are asked for on the way.
-pub record IsPrepared (tree : Tree) (w : Wanted) (asked : List (List ℕ)) (r : OrLine Ready) : Type 0 where
+pub record IsPrepared (tree : Tree) (w : PatternRequest) (asked : List (List ℕ)) (r : OrLine Ready) : Type 0 where
   pub parse : Or Expr
   pub reads : ReadsGoal w.fixed w.find w.text parse
   pub paths : asked ≡ map encode_utf8_all (loaded tree w parse).asked

@@ -1,15 +1,15 @@
 -- How contracts see what is wanted, and what is prepared.
 use Rattle.rosie_prepare.specs.Prepared as P
 use Rattle.rosie_prepare.specs.declared.prepared.Prepared.{Prepared}
-use Rattle.rosie_prepare.specs.declared.wanted.Wanted.{Wanted}
+use Rattle.rosie_prepare.specs.declared.pattern_request.PatternRequest.{PatternRequest}
 use Rattle.rpl_check.specs.Goal.{peg_of}
 use Rattle.rpl_core.specs.View.{core_of}
 use Rattle.rpl_forms.specs.Rows.{rows_of}
 use Rattle.rpl_package.specs.Sets.{set_seen}
 use Rattle.rpl_syntax.specs.View.{expr_of}
 
-abbrev pub wanted_seen : Wanted → P.Wanted
-wanted_seen w =
+abbrev pub request_seen : PatternRequest → P.PatternRequest
+request_seen w =
     record { roots = w.roots.now; folders = w.folders.now; text = w.text.now; fixed = w.fixed; find = w.find }
 
 abbrev pub ready_seen : Prepared → P.Ready

@@ -3,7 +3,7 @@ ghost use Rattle.std.specs.Prelude.{◌≡◌, ℕ, List, IfErr, IfOk, encode_ut
 ghost use Rattle.rosie_io.specs.Loading.{NotFewer};
 ghost use Rattle.rosie_prepare.specs.Answers.{HasCause, IsAsked, Prepares};
 ghost use Rattle.rosie_prepare.specs.Prepared.{IsPrepared, OrLine, Ready, TableComes, set_of};
-ghost use Rattle.rosie_prepare.specs.Views.{ready_seen, wanted_seen};
+ghost use Rattle.rosie_prepare.specs.Views.{ready_seen, request_seen};
 ghost use Rattle.rosie_run.specs.Sources.{moment};
 ghost use Rattle.rpl_check.specs.Checked.{IsWhole};
 ghost use Rattle.rpl_check.specs.Goal.{peg_of};
@@ -18,14 +18,14 @@ ghost use Rattle.rpl_package.specs.Patterns.{load_pattern};
 ghost use Rattle.rpl_package.specs.Roots.{Packages, load};
 ghost use Rattle.rpl_package.specs.Sets.{set_seen};
 ghost use Rattle.rpl_scope.specs.Faults.{Or};
-ghost use Rattle.rpl_simulation.specs.Laws.{IsCapture};
-ghost use Rattle.rpl_syntax.specs.Expression.{Expr as Said};
+ghost use Rattle.rpl_compile_laws.specs.Laws.{IsCapture};
+ghost use Rattle.rpl_syntax.specs.Expression.{Expr as ParsedExpr};
 ghost use Rattle.rpl_syntax.specs.View.{expr_of};
 
+use crate::pattern_request::PatternRequest;
 use crate::prepared::{Prepared, PreparedRules};
 use crate::steps::{pass_goal, pass_rules};
 use crate::unready::{Unready, of_load};
-use crate::wanted::Wanted;
 use rosie_io::Files;
 use rpl_package::{Goal, LibPath, PackageSet, Roots, load, load_pattern};
 use rpl_syntax::Expr;
@@ -57,11 +57,12 @@ fn load_goal<F: Files>(
     alloc: Global,
     files: &mut F,
     set: &mut PackageSet,
-    wanted: &Wanted<'_>,
+    request: &PatternRequest<'_>,
 ) -> Result<Expr, Unready>
-    ensures gives { F.tells → (parse : Or Said) → ReadsGoal wanted.now.fixed wanted.now.find wanted.now.text.now parse
+    ensures gives { F.tells → (parse : Or ParsedExpr)
+        → ReadsGoal request.now.fixed request.now.find request.now.text.now parse
         → Leads (λ e. (expr_of e, set_seen set.new)) result
-        (load_pattern (world (F.tree files.old) wanted.now.folders.now) (set_seen set.old) parse) }
+        (load_pattern (world (F.tree files.old) request.now.folders.now) (set_seen set.old) parse) }
     ensures cause { HasCause result (moment F.rest F.taken F.faults F.failed_opens files.old)
         (moment F.rest F.taken F.faults F.failed_opens files.new) }
     ensures taken { NotFewer (F.taken files.old) (F.taken files.new) }
@@ -69,11 +70,11 @@ fn load_goal<F: Files>(
     ensures closed { F.is_open files.old ≡ false → F.is_open files.new ≡ false }
 {
     let goal = Goal {
-        text: wanted.text,
-        fixed: wanted.fixed,
-        find: wanted.find,
+        text: request.text,
+        fixed: request.fixed,
+        find: request.find,
     };
-    match load_pattern(alloc, files, wanted.folders, set, &goal) {
+    match load_pattern(alloc, files, request.folders, set, &goal) {
         Ok(expr) => Ok(expr),
         Err(fault) => Err(of_load(alloc, fault)),
     }
@@ -130,12 +131,12 @@ pub fn prepare_rules<F: Files>(
 pub fn prepare<F: Files>(
     alloc: Global,
     files: &mut F,
-    wanted: &Wanted<'_>,
+    request: &PatternRequest<'_>,
 ) -> Result<Prepared, Unready>
     ensures prepares { F.tells → (asked : List (List ℕ)) → (r : OrLine Ready)
-        → IsPrepared (F.tree files.old) (wanted_seen wanted.now) asked r → Prepares ready_seen result r }
+        → IsPrepared (F.tree files.old) (request_seen request.now) asked r → Prepares ready_seen result r }
     ensures asked { F.tells → (asked : List (List ℕ)) → (r : OrLine Ready)
-        → IsPrepared (F.tree files.old) (wanted_seen wanted.now) asked r → IfErr result (λ u. IsAsked u asked) }
+        → IsPrepared (F.tree files.old) (request_seen request.now) asked r → IfErr result (λ u. IsAsked u asked) }
     ensures whole { IfOk result (λ p. IsWhole (bodies_of p.rules) (core_of (peg_of p.goal))) }
     ensures root { IfOk result (λ p. (label : List ℕ) × IsCapture (bodies_of p.rules) label (core_of (peg_of p.goal))) }
     ensures cause { HasCause result (moment F.rest F.taken F.faults F.failed_opens files.old)
@@ -144,7 +145,7 @@ pub fn prepare<F: Files>(
     ensures tree { F.tree files.new ≡ F.tree files.old }
     ensures closed { F.is_open files.old ≡ false → F.is_open files.new ≡ false }
 {
-    let mut set = load_roots(alloc, files, wanted.folders, wanted.roots)?;
-    let expr = load_goal(alloc, files, &mut set, wanted)?;
+    let mut set = load_roots(alloc, files, request.folders, request.roots)?;
+    let expr = load_goal(alloc, files, &mut set, request)?;
     pass_goal(alloc, set, expr)
 }

@@ -4,29 +4,29 @@
 //! import, expands them to a rule table and the pattern's core, and checks both. What comes of it is said by one
 //! relation, `specs/Prepared.antt`, over the tree of files; a read fault comes only where a read or an open failed, and
 //! every file is closed on the way out. [`load_set`] and [`prepare_rules`] are the same for commands without a pattern.
-//! That the table is in order, and that the pattern's core calls its rules and makes one tree, is known of every set that
-//! is loaded (`rpl_order`).
+//! That the table is in order, and that the pattern's core calls its rules and makes one tree, is known of every set
+//! that is loaded (`rpl_load_laws`).
 //!
-//! [`load_line`], [`expand_line`], [`check_line`] and [`compile_line`] are the line by which each fault is told, with
-//! the file and the byte place where it stands: exactly that of `specs/Lines.antt`; docs/COMMAND.md has the texts for
-//! the user. Want of memory has no line, and is answered as want of memory.
+//! [`load_line`], [`expand_line`], [`check_line`] and [`compile_line`] are the line by which each fault is reported,
+//! with the file and the byte place where it stands: exactly that of `specs/Lines.antt`; docs/COMMAND.md has the texts
+//! for the user. Out of memory has no line, and is answered as out of memory.
 #![tactic(auto)]
 
 mod edge;
 mod laws;
 mod load;
+mod pattern_request;
 mod prepared;
 mod rules;
 mod steps;
 mod texts;
 mod unready;
-mod wanted;
 
 pub use edge::{load_set, prepare, prepare_rules};
 pub use laws::one_preparation;
 pub use load::load_line;
+pub use pattern_request::PatternRequest;
 pub use prepared::{Prepared, PreparedRules};
 pub use rpl_text::NoMemory;
 pub use rules::{check_line, compile_line, expand_line};
 pub use unready::Unready;
-pub use wanted::Wanted;

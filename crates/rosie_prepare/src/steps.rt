@@ -22,7 +22,7 @@ ghost use Rattle.rpl_expand.specs.Sets.{table_of};
 ghost use Rattle.rpl_forms.specs.Rows.{rows_of};
 ghost use Rattle.rpl_package.specs.Roots.{Packages};
 ghost use Rattle.rpl_package.specs.Sets.{set_seen};
-ghost use Rattle.rpl_simulation.specs.Laws.{IsCapture};
+ghost use Rattle.rpl_compile_laws.specs.Laws.{IsCapture};
 ghost use Rattle.rpl_syntax.specs.View.{expr_of};
 
 use crate::prepared::{Prepared, PreparedRules};
@@ -78,7 +78,7 @@ fn check_rules(alloc: Global, set: &PackageSet, rules: Rules) -> Result<Checked,
 }
 
 /// The core of a pattern, unless the check finds a fault.
-fn check_goal(
+fn checked_core(
     alloc: Global,
     set: &PackageSet,
     rules: &Checked,
@@ -124,7 +124,7 @@ fn pass_both(alloc: Global, set: &PackageSet, expr: &Expr) -> Result<(Checked, C
     let rules = expand_rules(alloc, set)?;
     let goal = expand_goal(alloc, set, &rules, expr)?;
     let rules = check_rules(alloc, set, rules)?;
-    let goal = check_goal(alloc, set, &rules, goal)?;
+    let goal = checked_core(alloc, set, &rules, goal)?;
     Ok((rules, goal))
 }
 

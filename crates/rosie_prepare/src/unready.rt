@@ -11,7 +11,7 @@ use std::alloc::Global;
 /// Why there is nothing to run.
 #[derive(Debug, Drop)]
 pub enum Unready {
-    /// Memory is wanting.
+    /// Memory ran out.
     NoMemory,
     /// The roots or the pattern are refused, with this line, which ends with a line feed.
     Refused(String),

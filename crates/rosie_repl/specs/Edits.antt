@@ -25,13 +25,13 @@ abbrev pub replacement : Option ℕ → List ℕ → Option Edit
 replacement None text = None
 replacement (Some k) text = Some (Replace k text)
 
--- a number, a space, and a text behind it
+-- a number, a space, and a text after it
 abbrev pub replaces : List ℕ → Option Edit
 replaces rest =
     if list_any is_space rest then replacement (number_of (before_first is_space rest)) (after_first is_space rest)
     else None
 
--- the command of a sign and of what stands behind the first space
+-- the command of a sign and of what stands after the first space
 abbrev pub by_sign : List ℕ → List ℕ → Option Edit
 by_sign sign rest =
     if bytes_eq sign (codes "+") then Some (Add rest)

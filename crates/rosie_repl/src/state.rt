@@ -130,7 +130,7 @@ impl State {
     }
 
     /// Makes a change, and tells whether it is one: `false`, with nothing changed, exactly where the number is no
-    /// text's, or the command is `Try` or `Undo`. After want of memory nothing is changed either.
+    /// text's, or the command is `Try` or `Undo`. After it ran out of memory nothing is changed either.
     pub fn change(&mut self, edit: &Edit<'_>) -> Result<bool, NoMemory>
         ensures { Changes (session_of self.old) (session_of self.new)
             (S.changed (in_chars (edit_seen edit.now)) (session_of self.old)) result }

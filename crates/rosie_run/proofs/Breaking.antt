@@ -16,8 +16,8 @@ use Rattle.rosie_run.specs.inside.Passing.{BreaksInput}
 use Rattle.rosie_io.specs.Lines.{lines}
 use Rattle.rosie_run.specs.declared.ended.Ended.{Ended}
 use Rattle.rosie_run.specs.declared.ended.Ended.TheVariants as E
-use Rattle.rosie_run.specs.declared.ended.Why.{Why}
-use Rattle.rosie_run.specs.declared.ended.Why.TheVariants.{ReadFault, Spent}
+use Rattle.rosie_run.specs.declared.ended.ReadStop.{ReadStop}
+use Rattle.rosie_run.specs.declared.ended.ReadStop.TheVariants.{ReadFault, Spent}
 use Rattle.rosie_run.specs.declared.lines.Reading.{Reading}
 use Rattle.rosie_run.specs.declared.tally.Tally.{Tally}
 use Rattle.rosie_run.specs.declared.trouble.Trouble.{Trouble}
@@ -57,17 +57,17 @@ module _ (W : Telling) where
       subst (λ ps. Fronts W ps a b) (sym whole) (fronts-longer W done (up_to_stop todo) a b (fronts-whole W done a b w))
 
   -- it says less of where reading stood
-  pub breaks-weaken : (e : Ended) (all : List Piece) (P Q : Why → List ℕ → ℕ → Type 0) (a b : Texts) → ((why : Why) (file : List ℕ) (k : ℕ) → P why file k → Q why file k) → Breaks e W all P a b → Breaks e W all Q a b
+  pub breaks-weaken : (e : Ended) (all : List Piece) (P Q : ReadStop → List ℕ → ℕ → Type 0) (a b : Texts) → ((why : ReadStop) (file : List ℕ) (k : ℕ) → P why file k → Q why file k) → Breaks e W all P a b → Breaks e W all Q a b
   breaks-weaken E.NoMemory all P Q a b f h = h
   breaks-weaken E.WriteFault all P Q a b f h = h
   breaks-weaken (E.Cut why text) all P Q a b f h = record { file = h.file; done = h.done; todo = h.todo; split = h.split; goes_on = h.goes_on; wrote = h.wrote; says = h.says; stood = f why h.file (length h.done) h.stood }
 
-  pub runs-weaken : (r : Result Tally Ended) (all : List Piece) (P Q : Why → List ℕ → ℕ → Type 0) (a b : Texts) → ((why : Why) (file : List ℕ) (k : ℕ) → P why file k → Q why file k) → Runs r W all P a b → Runs r W all Q a b
+  pub runs-weaken : (r : Result Tally Ended) (all : List Piece) (P Q : ReadStop → List ℕ → ℕ → Type 0) (a b : Texts) → ((why : ReadStop) (file : List ℕ) (k : ℕ) → P why file k → Q why file k) → Runs r W all P a b → Runs r W all Q a b
   runs-weaken (Ok tally) all P Q a b f h = h
   runs-weaken (Err e) all P Q a b f h = breaks-weaken e all P Q a b f h
 
   -- the end of a run that reading ended
-  pub breaks-cut : (e : Ended) (why : Why) (name : List ℕ) (all done todo : List Piece) (P : Why → List ℕ → ℕ → Type 0) (a b : Texts) → IsCutOf e why name → all ≡ done ++ todo → has is_stop done ≡ false → Wrote W done a b → P why name (length done) → Breaks e W all P a b
+  pub breaks-cut : (e : Ended) (why : ReadStop) (name : List ℕ) (all done todo : List Piece) (P : ReadStop → List ℕ → ℕ → Type 0) (a b : Texts) → IsCutOf e why name → all ≡ done ++ todo → has is_stop done ≡ false → Wrote W done a b → P why name (length done) → Breaks e W all P a b
   breaks-cut E.NoMemory why name all done todo P a b is split goes w p = fronts-cut all done todo a b split goes w
   breaks-cut E.WriteFault why name all done todo P a b is split goes w p = absurd is
   breaks-cut (E.Cut w' text) why name all done todo P a b is split goes w p =
@@ -81,12 +81,12 @@ module _ (W : Telling) where
   breaks-input T.Spent e name all whole m0 m1 a b is f s h =
       breaks-cut e Spent name all h.0.done h.0.todo (InNamed name whole m0 m1) a b is h.0.split h.0.goes_on h.0.wrote (refl, record { got = h.0.got; ends = s; took = h.0.took; count = h.0.count; long = λ _. h.1 })
 
-ends_from : (why : Why) (m0 m m1 : Moment) → m.faults ≡ m0.faults → m.taken ≡ m0.taken → Ends why m m1 → Ends why m0 m1
+ends_from : (why : ReadStop) (m0 m m1 : Moment) → m.faults ≡ m0.faults → m.taken ≡ m0.taken → Ends why m m1 → Ends why m0 m1
 ends_from ReadFault m0 m m1 f t h = subst (λ x. Rose x m1.faults) f h
 ends_from Spent m0 m m1 f t h = subst (λ x. TookMany x m1.taken) t h
 
 module _ (W : Telling) (makes : Makes) (r : Reading) (path : List ℕ) (tree : List (List ℕ × List ℕ)) (f0 f f1 : Moment) where
-  of_opened : file_of path tree ≡ Some f.rest → f.faults ≡ f0.faults → f.taken ≡ f0.taken → f.opens ≡ f0.opens → f1.opens ≡ f.opens → (why : Why) (file : List ℕ) (k : ℕ) → InNamed path r.whole f f1 why file k → InFileNamed path tree r.whole f0 f1 why file k
+  of_opened : file_of path tree ≡ Some f.rest → f.faults ≡ f0.faults → f.taken ≡ f0.taken → f.opens ≡ f0.opens → f1.opens ≡ f.opens → (why : ReadStop) (file : List ℕ) (k : ℕ) → InNamed path r.whole f f1 why file k → InFileNamed path tree r.whole f0 f1 why file k
   of_opened is faults taken opens opens1 why file k h =
       (h.0, opened h.1.got (opens1 ∙ opens) (ends_from why f0 f f1 faults taken h.1.ends) (ap (λ x. file_of x tree) h.0 ∙ is ∙ ap Some h.1.took) h.1.count (λ e. let l = h.1.long e in let n = ap length h.1.took in omega arith))
 

@@ -11,11 +11,11 @@ use Rattle.rosie_run.specs.Report.{Piece, outs, errs, tally_of, up_to_stop, has,
 use Rattle.rosie_run.specs.Runs.{CutShort, Runs}
 use Rattle.rosie_run.specs.Sources.{Still, NoFewer, RoseIn, Moment}
 use Rattle.rosie_run.specs.Statuses.{flags_status}
-use Rattle.rosie_run.specs.Closing.{why_status, Stays, Closes, ClosesCause}
+use Rattle.rosie_run.specs.Closing.{stop_status, Stays, Closes, ClosesCause}
 use Rattle.rosie_run.specs.declared.ended.Ended.{Ended}
 use Rattle.rosie_run.specs.declared.ended.Ended.TheVariants as E
-use Rattle.rosie_run.specs.declared.ended.Why.{Why}
-use Rattle.rosie_run.specs.declared.ended.Why.TheVariants as Y
+use Rattle.rosie_run.specs.declared.ended.ReadStop.{ReadStop}
+use Rattle.rosie_run.specs.declared.ended.ReadStop.TheVariants as Y
 use Rattle.rosie_run.specs.declared.status.Status.{Status}
 use Rattle.rosie_run.specs.declared.status.Status.TheVariants.{Matched, NoMatch, Refused, LineFault, ReadFault, WriteFault, NoMemory, Spent}
 use Rattle.rosie_run.specs.declared.tally.Tally.{Tally}
@@ -42,7 +42,7 @@ last_front w0 w w' front text e f =
       f.2 ∙ ap (λ xs. xs ++ take k text) e ∙ append_assoc w0 front (take k text) ∙ ap (λ xs. w0 ++ xs) (sym (take-append-add front text k)),
     )
 
-module _ (W : Telling) (all : List Piece) (Where : Why → List ℕ → ℕ → Type 0) where
+module _ (W : Telling) (all : List Piece) (Where : ReadStop → List ℕ → ℕ → Type 0) where
   wrote_still : (ps : List Piece) (a b d : Texts) → Wrote W ps a b → Stays W b d → Wrote W ps a d
   wrote_still ps a b d h s = record { out = λ t. s.out t ∙ h.out t; err = λ t. s.err t ∙ h.err t; number = λ t. s.number t ∙ h.number t; steps = s.steps ∙ h.steps }
 
@@ -73,11 +73,11 @@ module _ (W : Telling) (all : List Piece) (Where : Why → List ℕ → ℕ → 
         goes_on = ap (has is_stop) (first_done done (up_to_stop todo) whole) ∙ goes;
       }
 
-  headline_why : (why : Why) (a d : Texts) → Left W (up_to_stop all) Where why a d → Headline (why_status why) W (up_to_stop all) Where a d
+  headline_why : (why : ReadStop) (a d : Texts) → Left W (up_to_stop all) Where why a d → Headline (stop_status why) W (up_to_stop all) Where a d
   headline_why Y.ReadFault a d h = h
   headline_why Y.Spent a d h = h
 
-  headline_cut : (why : Why) (text : List ℕ) (s : Status) (a b d : Texts) → CutShort W all Where why text a b → (W.out → d.out ≡ b.out) → ((s ≡ why_status why) × (W.err → d.err ≡ b.err ++ text)) ⊎ ((s ≡ WriteFault) × (W.err → IsFront b.err d.err text)) → Headline s W (up_to_stop all) Where a d
+  headline_cut : (why : ReadStop) (text : List ℕ) (s : Status) (a b d : Texts) → CutShort W all Where why text a b → (W.out → d.out ≡ b.out) → ((s ≡ stop_status why) × (W.err → d.err ≡ b.err ++ text)) ⊎ ((s ≡ WriteFault) × (W.err → IsFront b.err d.err text)) → Headline s W (up_to_stop all) Where a d
   headline_cut why text s a b d h out (inl e) =
       let first = first_done h.done (up_to_stop h.todo) (ap up_to_stop h.split ∙ up-append h.done h.todo h.goes_on) in
       subst (λ x. Headline x W (up_to_stop all) Where a d) (sym e.0) (headline_why why a d (record {
@@ -139,7 +139,7 @@ hit_by false true h s' f' answer e ps is = absurd (false≢true (sym f'))
 hit_by false false true s' f' answer e ps is = subst (λ x. IsComplete x ps) (sym e) is
 hit_by false false false s' f' answer e ps is = subst (λ x. IsComplete x ps) (sym e) is
 
-module _ (W : Telling) (ps : List Piece) (Where : Why → List ℕ → ℕ → Type 0) (a b : Texts) (i0 i1 f0 f1 : Moment) (o0 o1 e0 e1 : ℕ) (i : RoseIn i0 i1 → ⊥) (f : RoseIn f0 f1 → ⊥) (o : Rose o0 o1 → ⊥) (e : Rose e0 e1 → ⊥) (few : (file : List ℕ) (k : ℕ) → Where Y.Spent file k → ⊥) (s : has is_stop ps ≡ false) (t : has is_fault ps ≡ false) where
+module _ (W : Telling) (ps : List Piece) (Where : ReadStop → List ℕ → ℕ → Type 0) (a b : Texts) (i0 i1 f0 f1 : Moment) (o0 o1 e0 e1 : ℕ) (i : RoseIn i0 i1 → ⊥) (f : RoseIn f0 f1 → ⊥) (o : Rose o0 o1 → ⊥) (e : Rose e0 e1 → ⊥) (few : (file : List ℕ) (k : ℕ) → Where Y.Spent file k → ⊥) (s : has is_stop ps ≡ false) (t : has is_fault ps ≡ false) where
   reported : (answer : Status) → Reported W ps answer a b → IsComplete answer ps
   reported answer r = hit_by (has is_stop ps) (has is_fault ps) (has is_hit ps) s t answer r.status ps refl
 

@@ -13,15 +13,15 @@ use Rattle.rosie_run.specs.Where.{InFile, not_opened, opened, InSource, InOne, o
 use Rattle.rosie_run.specs.inside.Reaching.{Reached}
 use Rattle.rosie_run.specs.declared.ended.Ended.{Ended}
 use Rattle.rosie_run.specs.declared.ended.Ended.TheVariants as E
-use Rattle.rosie_run.specs.declared.ended.Why.{Why}
-use Rattle.rosie_run.specs.declared.ended.Why.TheVariants.{ReadFault, Spent}
+use Rattle.rosie_run.specs.declared.ended.ReadStop.{ReadStop}
+use Rattle.rosie_run.specs.declared.ended.ReadStop.TheVariants.{ReadFault, Spent}
 use Rattle.rosie_run.specs.declared.lines.Reading.{Reading}
 use Rattle.rosie_run.specs.declared.tally.Tally.{Tally}
 use Rattle.rosie_run.proofs.Onward.{goes_by, stops_by}
 use Rattle.rosie_run.proofs.Pieces.{has-append, has-up, up-all, wrote-append, stands-first, stands-on, stands-end, stands-stop, stands-front}
 
 -- what goes on breaks off in its next part
-pub breaks-later : (W : Telling) (e : Ended) (all done qs todo : List Piece) (P Q : Why → List ℕ → ℕ → Type 0) (a b d : Texts) (t : Tally) → Stands W all done (qs ++ todo) a b t → ((why : Why) (file : List ℕ) (k : ℕ) → P why file k → Q why file (length done + k)) → Breaks e W qs P b d → Breaks e W all Q a d
+pub breaks-later : (W : Telling) (e : Ended) (all done qs todo : List Piece) (P Q : ReadStop → List ℕ → ℕ → Type 0) (a b d : Texts) (t : Tally) → Stands W all done (qs ++ todo) a b t → ((why : ReadStop) (file : List ℕ) (k : ℕ) → P why file k → Q why file (length done + k)) → Breaks e W qs P b d → Breaks e W all Q a d
 breaks-later W E.NoMemory all done qs todo P Q a b d t s f h = stands-front W all done qs todo a b d t s h
 breaks-later W E.WriteFault all done qs todo P Q a b d t s f h = stands-front W all done qs todo a b d t s h
 breaks-later W (E.Cut why text) all done qs todo P Q a b d t s f h = record {
@@ -152,11 +152,11 @@ pub untouched-on : {I : Type 0} (standard read read' : Bool) (i0 i i' : I) → (
 untouched-on true read read' i0 i i' is isn't h e = absurd (false≢true (sym e ∙ is refl))
 untouched-on false read read' i0 i i' is isn't h e = (isn't refl).1 ∙ h (sym (isn't refl).0 ∙ e)
 
-ends_later : (why : Why) (m0 m m1 : Moment) → m.faults ≡ m0.faults → (m.taken < 2 ^ 64 - 1 → m0.taken ≤ m.taken) → Ends why m m1 → Ends why m0 m1
+ends_later : (why : ReadStop) (m0 m m1 : Moment) → m.faults ≡ m0.faults → (m.taken < 2 ^ 64 - 1 → m0.taken ≤ m.taken) → Ends why m m1 → Ends why m0 m1
 ends_later ReadFault m0 m m1 f t h = subst (λ x. Rose x m1.faults) f h
 ends_later Spent m0 m m1 f t h = λ lt. let a = h lt in let b = t (omega arith) in omega arith
 
-pub file_later : (tree : List (List ℕ × List ℕ)) (whole : Bool) (f0 f f1 : Moment) (why : Why) (file : List ℕ) (k : ℕ) → f.faults ≡ f0.faults → f.opens ≡ f0.opens → (f.taken < 2 ^ 64 - 1 → f0.taken ≤ f.taken) → InFile tree whole f f1 why file k → InFile tree whole f0 f1 why file k
+pub file_later : (tree : List (List ℕ × List ℕ)) (whole : Bool) (f0 f f1 : Moment) (why : ReadStop) (file : List ℕ) (k : ℕ) → f.faults ≡ f0.faults → f.opens ≡ f0.opens → (f.taken < 2 ^ 64 - 1 → f0.taken ≤ f.taken) → InFile tree whole f f1 why file k → InFile tree whole f0 f1 why file k
 file_later tree whole f0 f f1 why file k faults opens taken (not_opened w rose z) = not_opened w (subst (λ x. Rose x f1.opens) opens rose) z
 file_later tree whole f0 f f1 why file k faults opens taken (opened got o e is z long) = opened got (o ∙ opens) (ends_later why f0 f f1 faults taken e) is z long
 
@@ -213,7 +213,7 @@ module _ (W : Telling) (makes : Makes) (r : Reading) (tree : List (List ℕ × L
           stands-stop W (inputs_pieces makes r tree input names) (inputs_pieces makes r tree input h.front) (one_pieces makes r tree left name) (inputs_pieces makes r tree (left_after name left) back') a b d t t' ahead (sym part_stop ∙ off) w.0 (sums ∙ ap (added t) w.1)
 
     module _ (i0 i i1 f0 f f1 : Moment) (first : read ≡ false → i ≡ i0) (faults : f.faults ≡ f0.faults) (opens : f.opens ≡ f0.opens) (taken : f.taken < 2 ^ 64 - 1 → f0.taken ≤ f.taken) where
-      stood : (why : Why) (file : List ℕ) (k : ℕ) → InOne name read tree r.whole i i1 f f1 why file k → InInputs names (λ front. length (inputs_pieces makes r tree input front)) tree r.whole i0 i1 f0 f1 why file (length (inputs_pieces makes r tree input h.front) + k)
+      stood : (why : ReadStop) (file : List ℕ) (k : ℕ) → InOne name read tree r.whole i i1 f f1 why file k → InInputs names (λ front. length (inputs_pieces makes r tree input front)) tree r.whole i0 i1 f0 f1 why file (length (inputs_pieces makes r tree input h.front) + k)
       stood why file k (of_standard is once x) = in_standard h.front back' k (whole ∙ ap (λ n. h.front ++ n ∷ back') (sym x.0)) (ap is_standard x.0 ∙ is) (h.reads ∙ once) (subst (λ m. InSource r.whole m i1 why k) (first once) x.1) refl
       stood why file k (of_file isn't x) = in_file h.front back' k (whole ∙ ap (λ n. h.front ++ n ∷ back') (sym x.0)) (ap is_standard x.0 ∙ isn't) (file_later tree r.whole f0 f f1 why file k faults opens taken x.1) refl
 

@@ -156,7 +156,7 @@ module _ (W : Telling) (makes : Makes) (r : Reading) (file input : List ℕ) whe
           wrote = subst (λ ps. Wrote W ps a d) (append-nil h.done) (wrote-append W h.done [] a b d h.stands.wrote w);
         }
 
-    -- a write or want of memory ends it
+    -- a write, or memory that ran out, ends it
     pub passed-front : (d : Texts) → Fronts W (up_to_stop (pieces_from makes r.most file n (lines r.whole (left held rest)))) b d → Fronts W (up_to_stop (input_pieces makes r file input)) a d
     passed-front d f =
         let todo = pieces_from makes r.most file n (lines r.whole (left held rest)) in

@@ -3,7 +3,7 @@ use Rattle.rosie_run.specs.declared.ended.Ended.TheVariants as E
 use Rattle.rosie_io.specs.Counts.{Rose}
 use Rattle.rosie_run.specs.Sources.{Moment, NoFewer, RoseIn, Still, TookMany}
 use Rattle.rosie_run.specs.declared.ended.Ended.{Ended}
-use Rattle.rosie_run.specs.declared.ended.Why.TheVariants as Y
+use Rattle.rosie_run.specs.declared.ended.ReadStop.TheVariants as Y
 use Rattle.rosie_run.specs.declared.status.Status.{Status}
 use Rattle.rosie_run.specs.declared.status.Status.TheVariants.{NoMemory, ReadFault, Spent, WriteFault}
 use Rattle.rosie_run.specs.declared.tally.Tally.{Tally}
@@ -46,7 +46,7 @@ WritesCause (Err e) out0 out1 err0 err1 = WritesEnd e out0 out1 err0 err1
 abbrev pub WriteRose : ℕ → ℕ → ℕ → ℕ → Type 0
 WriteRose out0 out1 err0 err1 = (out0 ≤ out1) × (err0 ≤ err1) × (Rose out0 out1 ⊎ Rose err0 err1)
 
--- everything is flushed, unless a write failed or memory was wanting
+-- everything is flushed, unless a write failed or memory ran out
 abbrev pub IsFlushed : Status → ℕ → ℕ → Type 0
 IsFlushed WriteFault number flushed = Unit {0}
 IsFlushed NoMemory number flushed = Unit {0}

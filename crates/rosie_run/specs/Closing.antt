@@ -1,20 +1,20 @@
 -- What the end of a run adds.
 use Rattle.rosie_run.specs.declared.ended.Ended.TheVariants as E
-use Rattle.rosie_run.specs.declared.ended.Why.TheVariants as Y
+use Rattle.rosie_run.specs.declared.ended.ReadStop.TheVariants as Y
 use Rattle.rosie_run.specs.Causes.{OutputCause}
 use Rattle.rosie_run.specs.Outputs.{IsFront, Telling, Texts}
 use Rattle.rosie_run.specs.Statuses.{flags_status}
 use Rattle.rosie_run.specs.declared.ended.Ended.{Ended}
-use Rattle.rosie_run.specs.declared.ended.Why.{Why}
+use Rattle.rosie_run.specs.declared.ended.ReadStop.{ReadStop}
 use Rattle.rosie_run.specs.declared.status.Status.TheVariants.{ReadFault, WriteFault, NoMemory, Spent}
 use Rattle.rosie_run.specs.declared.status.Status.{Status}
 use Rattle.rosie_run.specs.declared.tally.Tally.{Tally}
 use Rattle.std.specs.Prelude.{◌++◌, ◌≡◌, ◌⊎◌, Err, Ok, Result, string_bytes, ℕ}
 
 -- what the end of a run adds
-abbrev pub why_status : Why → Status
-why_status Y.ReadFault = ReadFault
-why_status Y.Spent = Spent
+abbrev pub stop_status : ReadStop → Status
+stop_status Y.ReadFault = ReadFault
+stop_status Y.Spent = Spent
 
 pub record Stays (W : Telling) (b d : Texts) : Type 0 where
   pub out : W.out → d.out ≡ b.out
@@ -28,7 +28,7 @@ Closes (Err E.NoMemory) s W b d = Stays W b d × (s ≡ NoMemory)
 Closes (Err E.WriteFault) s W b d = Stays W b d × (s ≡ WriteFault)
 Closes (Err (E.Cut why text)) s W b d =
     (W.out → d.out ≡ b.out)
-    × (((s ≡ why_status why) × (W.err → d.err ≡ b.err ++ string_bytes text))
+    × (((s ≡ stop_status why) × (W.err → d.err ≡ b.err ++ string_bytes text))
     ⊎ ((s ≡ WriteFault) × (W.err → IsFront b.err d.err (string_bytes text))))
 
 abbrev pub ClosesCause : Result Tally Ended → Status → ℕ → ℕ → ℕ → ℕ → Type 0

@@ -1,14 +1,14 @@
 -- What the answer of a run says of its report.
-use Rattle.rosie_run.specs.declared.ended.Why.TheVariants as Y
+use Rattle.rosie_run.specs.declared.ended.ReadStop.TheVariants as Y
 use Rattle.rosie_io.specs.Counts.{Rose}
 use Rattle.rosie_io.specs.Opening.{file_of}
 use Rattle.rosie_run.specs.Inputs.{reads_standard}
 use Rattle.rosie_run.specs.Lines.{input_fault}
 use Rattle.rosie_run.specs.Outputs.{Failures, Fronts, IsFront, Telling, Texts, Wrote}
 use Rattle.rosie_run.specs.Report.{Piece, errs, has, is_hit, is_stop, outs, status_of}
-use Rattle.rosie_run.specs.Runs.{why_text}
+use Rattle.rosie_run.specs.Runs.{stop_text}
 use Rattle.rosie_run.specs.Sources.{RoseIn, Span}
-use Rattle.rosie_run.specs.declared.ended.Why.{Why}
+use Rattle.rosie_run.specs.declared.ended.ReadStop.{ReadStop}
 use Rattle.rosie_run.specs.declared.status.Status.TheVariants.{Matched, NoMatch, Refused, LineFault, ReadFault}
 use Rattle.rosie_run.specs.declared.status.Status.TheVariants.{WriteFault, NoMemory, Spent}
 use Rattle.rosie_run.specs.declared.status.Status.{Status}
@@ -25,25 +25,26 @@ pub record IsBehind (ps : List Piece) (k : ℕ) : Type 0 where
   pub goes_on : has is_stop (take k ps) ≡ false
 
 -- reading ended the run: the first pieces are written, and the line that says so
-pub record Left (W : Telling) (ps : List Piece) (Where : Why → List ℕ → ℕ → Type 0) (why : Why)
+pub record Left (W : Telling) (ps : List Piece) (Where : ReadStop → List ℕ → ℕ → Type 0) (why : ReadStop)
     (a b : Texts) : Type 0 where
   pub file : List ℕ
   pub k : ℕ
   pub behind : IsBehind ps k
   pub stood : Where why file k
   pub out : W.out → b.out ≡ a.out ++ outs (take k ps)
-  pub err : W.err → b.err ≡ a.err ++ (errs (take k ps) ++ input_fault file (why_text why))
+  pub err : W.err → b.err ≡ a.err ++ (errs (take k ps) ++ input_fault file (stop_text why))
 
 -- a write or a flush failed: each output has a front of its text, or of what is left where reading ended the run
-pub data WriteFailed (W : Telling) (ps : List Piece) (Where : Why → List ℕ → ℕ → Type 0) (a b : Texts) : Type 0 where
+pub data WriteFailed (W : Telling) (ps : List Piece) (Where : ReadStop → List ℕ → ℕ → Type 0) (a b : Texts)
+    : Type 0 where
   in_the_run : Fronts W ps a b → WriteFailed W ps Where a b
-  at_the_end : (why : Why) (file : List ℕ) (k : ℕ) → IsBehind ps k → Where why file k
+  at_the_end : (why : ReadStop) (file : List ℕ) (k : ℕ) → IsBehind ps k → Where why file k
       → (W.out → IsFront a.out b.out (outs (take k ps)))
-      → (W.err → IsFront a.err b.err (errs (take k ps) ++ input_fault file (why_text why)))
+      → (W.err → IsFront a.err b.err (errs (take k ps) ++ input_fault file (stop_text why)))
       → WriteFailed W ps Where a b
 
 -- what an answer says of the report
-abbrev pub Headline : Status → Telling → List Piece → (Why → List ℕ → ℕ → Type 0) → Texts → Texts → Type 0
+abbrev pub Headline : Status → Telling → List Piece → (ReadStop → List ℕ → ℕ → Type 0) → Texts → Texts → Type 0
 Headline Matched W ps Where a b = Reported W ps Matched a b
 Headline NoMatch W ps Where a b = Reported W ps NoMatch a b
 Headline Refused W ps Where a b = Reported W ps Refused a b
@@ -60,7 +61,7 @@ CameToEnd NoMatch = Unit {0}
 CameToEnd LineFault = Unit {0}
 CameToEnd _ = ⊥
 
--- where nothing goes wrong: some piece is a hit, or none, or memory was wanting
+-- where nothing goes wrong: some piece is a hit, or none, or memory ran out
 abbrev pub IsComplete : Status → List Piece → Type 0
 IsComplete Matched ps = has is_hit ps ≡ true
 IsComplete NoMatch ps = has is_hit ps ≡ false

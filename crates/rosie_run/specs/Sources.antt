@@ -1,8 +1,8 @@
 -- What a source tells and counts at one time.
 use Rattle.rosie_io.specs.Counts.{Rose}
 use Rattle.rosie_io.specs.declared.outside.Source.{Ghosts}
-use Rattle.rosie_run.specs.declared.ended.Why.{Why}
-use Rattle.rosie_run.specs.declared.ended.Why.TheVariants.{ReadFault, Spent}
+use Rattle.rosie_run.specs.declared.ended.ReadStop.{ReadStop}
+use Rattle.rosie_run.specs.declared.ended.ReadStop.TheVariants.{ReadFault, Spent}
 use Rattle.std.specs.Prelude.{◌+◌, ◌-◌, ◌<◌, ◌^◌, ◌≡◌, ◌≤◌, ◌⊎◌, List, ℕ}
 
 pub record Moment : Type 0 where
@@ -30,7 +30,7 @@ abbrev pub TookMany : ℕ → ℕ → Type 0
 TookMany before now = now < 2 ^ 64 - 1 → before + 2 ^ 32 ≤ now
 
 -- reading from a source ended the run
-abbrev pub Ends : Why → Moment → Moment → Type 0
+abbrev pub Ends : ReadStop → Moment → Moment → Type 0
 Ends ReadFault a b = Rose a.faults b.faults
 Ends Spent a b = TookMany a.taken b.taken
 

@@ -4,17 +4,17 @@ use Rattle.rosie_io.specs.Opening.{file_of}
 use Rattle.rosie_run.specs.Inputs.{is_standard, reads_standard}
 use Rattle.rosie_run.specs.Lines.{passed}
 use Rattle.rosie_run.specs.Sources.{Ends, Moment}
-use Rattle.rosie_run.specs.declared.ended.Why.{Why}
-use Rattle.rosie_run.specs.declared.ended.Why.TheVariants.{ReadFault, Spent}
+use Rattle.rosie_run.specs.declared.ended.ReadStop.{ReadStop}
+use Rattle.rosie_run.specs.declared.ended.ReadStop.TheVariants.{ReadFault, Spent}
 use Rattle.std.specs.List.{Contains}
 use Rattle.std.specs.Prelude.{◌++◌, ◌+◌, ◌^◌, ◌∷◌, ◌≡◌, ◌≤◌, ◌⊎◌, Bool, List, Some, false, length, true, ℕ}
 
 -- it wasn't reading that ended the run
-abbrev pub Nowhere : Why → List ℕ → ℕ → Type 0
+abbrev pub Nowhere : ReadStop → List ℕ → ℕ → Type 0
 Nowhere why file k = ⊥
 
 -- where reading stood in a file: it wasn't opened, or these bytes of it were taken
-pub data InFile (tree : List (List ℕ × List ℕ)) (whole : Bool) (f0 f1 : Moment) (why : Why) (file : List ℕ)
+pub data InFile (tree : List (List ℕ × List ℕ)) (whole : Bool) (f0 f1 : Moment) (why : ReadStop) (file : List ℕ)
     (k : ℕ) : Type 0 where
   not_opened : why ≡ ReadFault → Rose f0.opens f1.opens → k ≡ 0 → InFile tree whole f0 f1 why file k
   opened : (got : List ℕ) → f1.opens ≡ f0.opens → Ends why f0 f1 → file_of file tree ≡ Some (got ++ f1.rest)
@@ -22,7 +22,7 @@ pub data InFile (tree : List (List ℕ × List ℕ)) (whole : Bool) (f0 f1 : Mom
       → InFile tree whole f0 f1 why file k
 
 -- and in a source that is open
-pub record InSource (whole : Bool) (m0 m1 : Moment) (why : Why) (k : ℕ) : Type 0 where
+pub record InSource (whole : Bool) (m0 m1 : Moment) (why : ReadStop) (k : ℕ) : Type 0 where
   pub got : List ℕ
   pub ends : Ends why m0 m1
   pub took : m0.rest ≡ got ++ m1.rest
@@ -30,24 +30,24 @@ pub record InSource (whole : Bool) (m0 m1 : Moment) (why : Why) (k : ℕ) : Type
   pub long : why ≡ Spent → 2 ^ 32 ≤ length m0.rest
 
 -- a source that goes by this name
-abbrev pub InNamed : List ℕ → Bool → Moment → Moment → Why → List ℕ → ℕ → Type 0
+abbrev pub InNamed : List ℕ → Bool → Moment → Moment → ReadStop → List ℕ → ℕ → Type 0
 InNamed name whole m0 m1 why file k = (file ≡ name) × InSource whole m0 m1 why k
 
-abbrev pub InFileNamed : List ℕ → List (List ℕ × List ℕ) → Bool → Moment → Moment → Why → List ℕ → ℕ → Type 0
+abbrev pub InFileNamed : List ℕ → List (List ℕ × List ℕ) → Bool → Moment → Moment → ReadStop → List ℕ → ℕ → Type 0
 InFileNamed name tree whole f0 f1 why file k = (file ≡ name) × InFile tree whole f0 f1 why file k
 
 -- and in one input: the standard input, which was not read before, or a file
 pub data InOne (name : List ℕ) (read : Bool) (tree : List (List ℕ × List ℕ)) (whole : Bool) (i0 i1 f0 f1 : Moment)
-    (why : Why) (file : List ℕ) (k : ℕ) : Type 0 where
+    (why : ReadStop) (file : List ℕ) (k : ℕ) : Type 0 where
   of_standard : is_standard name ≡ true → read ≡ false → InNamed name whole i0 i1 why file k
       → InOne name read tree whole i0 i1 f0 f1 why file k
   of_file : is_standard name ≡ false → InFileNamed name tree whole f0 f1 why file k
       → InOne name read tree whole i0 i1 f0 f1 why file k
 
--- where reading stood among the inputs with these names: behind the pieces of those before it. `before` is their number.
+-- where reading stood among the inputs with these names: after the pieces of those before it. `before` is their number.
 -- The standard input is read where its name comes first
 pub data InInputs (names : List (List ℕ)) (before : List (List ℕ) → ℕ) (tree : List (List ℕ × List ℕ))
-    (whole : Bool) (i0 i1 f0 f1 : Moment) (why : Why) (file : List ℕ) (k : ℕ) : Type 0 where
+    (whole : Bool) (i0 i1 f0 f1 : Moment) (why : ReadStop) (file : List ℕ) (k : ℕ) : Type 0 where
   in_file : (front back : List (List ℕ)) (n : ℕ) → names ≡ front ++ file ∷ back → is_standard file ≡ false
       → InFile tree whole f0 f1 why file n → k ≡ before front + n
       → InInputs names before tree whole i0 i1 f0 f1 why file k
@@ -56,7 +56,7 @@ pub data InInputs (names : List (List ℕ)) (before : List (List ℕ) → ℕ) (
       → InInputs names before tree whole i0 i1 f0 f1 why file k
 
 -- where it stood in the run of a command: in its loading, which asks for these paths, or among its inputs
-pub data InRun (asks : List (List ℕ)) (Inputs : Why → List ℕ → ℕ → Type 0) (f0 f1 : Moment) (why : Why)
+pub data InRun (asks : List (List ℕ)) (Inputs : ReadStop → List ℕ → ℕ → Type 0) (f0 f1 : Moment) (why : ReadStop)
     (file : List ℕ) (k : ℕ) : Type 0 where
   in_loading : Contains asks file → why ≡ ReadFault → Rose f0.faults f1.faults ⊎ Rose f0.opens f1.opens → k ≡ 0
       → InRun asks Inputs f0 f1 why file k

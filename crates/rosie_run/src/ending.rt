@@ -5,7 +5,7 @@ ghost use Rattle.rosie_run.specs.Outputs.{shown, telling};
 ghost use Rattle.rosie_run.specs.Closing.{Closes, ClosesCause};
 
 use crate::write::{close_with, flush_both};
-use crate::{Ended, Status, Tally, Why};
+use crate::{Ended, ReadStop, Status, Tally};
 use rosie_io::Sink;
 
 /// Ends a run: says why reading ended it, where it did, and flushes all that was written.
@@ -28,8 +28,8 @@ pub fn finish<O: Sink, E: Sink>(out: &mut O, err: &mut E, run: Result<Tally, End
             Ended::WriteFault => Status::WriteFault,
             Ended::Cut(why, text) => match close_with(out, err, text.as_str()) {
                 Ok(()) => match why {
-                    Why::ReadFault => Status::ReadFault,
-                    Why::Spent => Status::Spent,
+                    ReadStop::ReadFault => Status::ReadFault,
+                    ReadStop::Spent => Status::Spent,
                 },
                 Err(_) => Status::WriteFault,
             },

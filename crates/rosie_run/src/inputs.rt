@@ -18,7 +18,7 @@ use crate::line_job::LineJob;
 use crate::lines::{Reading, run_input};
 use crate::saying::{cut, say};
 use crate::write::input_fault;
-use crate::{Ended, Mark, Tally, Trouble, Why};
+use crate::{Ended, Mark, ReadStop, Tally, Trouble};
 use rosie_io::{Files, LineReader, PathAnswer, Sink, Source};
 use rpl_machine::Steps;
 use rpl_text::Chars;
@@ -32,8 +32,8 @@ fn ended_by(alloc: Global, trouble: Trouble, file: &str) -> Ended
     match trouble {
         Trouble::NoMemory => Ended::NoMemory,
         Trouble::WriteFault => Ended::WriteFault,
-        Trouble::ReadFault => cut(alloc, Why::ReadFault, file),
-        Trouble::Spent => cut(alloc, Why::Spent, file),
+        Trouble::ReadFault => cut(alloc, ReadStop::ReadFault, file),
+        Trouble::Spent => cut(alloc, ReadStop::Spent, file),
     }
 }
 
@@ -113,7 +113,7 @@ fn run_file<J: LineJob, F: Files, O: Sink, E: Sink, L: Ledger>(
             Ok(text) => say(out, err, &[], text.as_bytes(), Mark::Stop),
             Err(_) => Err(Ended::NoMemory),
         },
-        PathAnswer::Failed => Err(cut(alloc, Why::ReadFault, path)),
+        PathAnswer::Failed => Err(cut(alloc, ReadStop::ReadFault, path)),
     }
 }
 

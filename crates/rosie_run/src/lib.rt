@@ -19,7 +19,7 @@ mod tally;
 mod trouble;
 mod write;
 
-pub use ended::{Ended, Why};
+pub use ended::{Ended, ReadStop};
 pub use ending::finish;
 pub use inputs::{run_inputs, run_source};
 pub use line_job::LineJob;

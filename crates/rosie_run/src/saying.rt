@@ -7,7 +7,7 @@ ghost use Rattle.rosie_run.specs.Runs.{Runs, IsCutOf, IsNoCut};
 ghost use Rattle.rosie_run.specs.Where.{Nowhere};
 
 use crate::write::{input_fault, write_both};
-use crate::{Ended, Mark, Tally, Why};
+use crate::{Ended, Mark, ReadStop, Tally};
 use rosie_io::Sink;
 use std::alloc::Global;
 
@@ -34,12 +34,12 @@ pub fn say<O: Sink, E: Sink>(
 }
 
 /// The end of a run that reading ended. `file` is what was read.
-pub fn cut(alloc: Global, why: Why, file: &str) -> Ended
+pub fn cut(alloc: Global, why: ReadStop, file: &str) -> Ended
     ensures { IsCutOf result why file.now }
 {
     let text = match why {
-        Why::ReadFault => input_fault(alloc, file, "read failed"),
-        Why::Spent => input_fault(alloc, file, "reads spent"),
+        ReadStop::ReadFault => input_fault(alloc, file, "read failed"),
+        ReadStop::Spent => input_fault(alloc, file, "reads spent"),
     };
     match text {
         Ok(text) => Ended::Cut(why, text),

@@ -29,7 +29,7 @@ impl Tally {
         }
     }
 
-    /// The same with one piece more.
+    /// The tally with one piece more.
     pub fn with(self, mark: Mark) -> Tally
         ensures { result ≡ counted self mark }
     {
@@ -44,7 +44,7 @@ impl Tally {
         }
     }
 
-    /// The same with others more.
+    /// The tally of these pieces and of others.
     pub fn and(self, other: Tally) -> Tally
         ensures { result ≡ added self other }
     {

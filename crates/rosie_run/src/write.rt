@@ -44,7 +44,7 @@ pub fn write_both<O: Sink, E: Sink>(
     }
 }
 
-/// Writes a text on `err`, behind what stands on `out`: that is flushed before, where there is a text.
+/// Writes a text on `err`, after what stands on `out`: that is flushed before, where there is a text.
 fn write_behind<O: Sink, E: Sink>(out: &mut O, err: &mut E, text: &[u8]) -> Result<(), WriteFault>
     ensures out { O.tells → O.written out.new ≡ O.written out.old }
     ensures err { E.tells → Appends result (E.written err.old) (E.written err.new) text.now }

@@ -8,7 +8,7 @@ use Rattle.rosie_run.specs.Report.{Piece, outs, has, is_stop, fault_piece}
 use Rattle.rosie_run.specs.declared.mark.Mark.TheVariants.{Hit, Miss}
 use Rattle.rpl_core.specs.Outcome.{outcome}
 use Rattle.rpl_core.specs.Run.{run}
-use Rattle.rpl_encode.specs.Answer.{most_bytes}
+use Rattle.rpl_encode.specs.Answer.{max_answer_bytes}
 use Rattle.rpl_encode.specs.Print.{print}
 use Rattle.rosie_jobs.specs.Lines.{Job, budget_of, is_over, made, matches, unanswered, answered, outcome_piece, match_makes}
 use Rattle.rosie_jobs.specs.declared.settings.Settings.{Settings}
@@ -32,16 +32,16 @@ match_stays s job file n line =
     let cost = made (budget_of s (chars line)) ran in
     let text = print s.style (chars line) o in
     stays_by (is_over ran) (unanswered (line_fault file n (codes "budget spent")) cost) (outcome_piece s file n line o cost) refl
-    (stays_by (not (nat_lt most_bytes (length text))) (answered s line text (matches o) cost cost)
+    (stays_by (not (nat_lt max_answer_bytes (length text))) (answered s line text (matches o) cost cost)
     (unanswered (line_fault file n (codes "answer too long")) cost) (mark_stays (matches o)) refl)
 
 -- and none has more than so many bytes
 module _ (s : Settings) (job : Job) where
-  no_longer : (b : Bool) (p q : Piece) → length p.out ≤ most_bytes → length q.out ≤ most_bytes → length (cond b p q).out ≤ most_bytes
+  no_longer : (b : Bool) (p q : Piece) → length p.out ≤ max_answer_bytes → length q.out ≤ max_answer_bytes → length (cond b p q).out ≤ max_answer_bytes
   no_longer true p q h k = h
   no_longer false p q h k = k
 
-  fits_by : (b : Bool) (text : List ℕ) (p q : Piece) → p.out ≡ text → q.out ≡ [] → nat_lt most_bytes (length text) ≡ b → length (cond (not b) p q).out ≤ most_bytes
+  fits_by : (b : Bool) (text : List ℕ) (p q : Piece) → p.out ≡ text → q.out ≡ [] → nat_lt max_answer_bytes (length text) ≡ b → length (cond (not b) p q).out ≤ max_answer_bytes
   fits_by true text p q h k e = let l = ap length k in omega arith
   fits_by false text p q h k e = let l = ap length h in grind (arith, e, l)
 
@@ -53,7 +53,7 @@ module _ (s : Settings) (job : Job) where
       (stays_by (is_utf8 line) (match_makes s job file n line) (fault_piece (line_fault file n (codes "not UTF-8")))
       (match_stays s job file n line) refl)
 
-  match_bytes : (file : List ℕ) (n : ℕ) (line : List ℕ) → length (match_makes s job file n line).out ≤ most_bytes
+  match_bytes : (file : List ℕ) (n : ℕ) (line : List ℕ) → length (match_makes s job file n line).out ≤ max_answer_bytes
   unfolding match_makes
   match_bytes file n line =
       let ran = run job.code (chars line) (budget_of s (chars line)) in
@@ -61,10 +61,10 @@ module _ (s : Settings) (job : Job) where
       let cost = made (budget_of s (chars line)) ran in
       let text = print s.style (chars line) o in
       no_longer (is_over ran) (unanswered (line_fault file n (codes "budget spent")) cost) (outcome_piece s file n line o cost) (omega arith)
-      (fits_by (nat_lt most_bytes (length text)) text (answered s line text (matches o) cost cost)
+      (fits_by (nat_lt max_answer_bytes (length text)) text (answered s line text (matches o) cost cost)
       (unanswered (line_fault file n (codes "answer too long")) cost) refl refl refl)
 
-  line_bytes : (file : List ℕ) (n : ℕ) (line : List ℕ) → length (line_piece (match_makes s job) 16777216 file n line).out ≤ most_bytes
+  line_bytes : (file : List ℕ) (n : ℕ) (line : List ℕ) → length (line_piece (match_makes s job) 16777216 file n line).out ≤ max_answer_bytes
   unfolding line_piece
   line_bytes file n line =
       no_longer (nat_lt 16777216 (length line)) (fault_piece (line_fault file n (codes "line too long")))
@@ -82,7 +82,7 @@ module _ (s : Settings) (job : Job) where
   pub sample-stays : (seed lines : ℕ) → has is_stop (line_pieces (match_makes s job) seed lines) ≡ false
   sample-stays seed lines = lines_stay (codes "-") 0 (sample seed lines)
 
-  lines_bytes : (file : List ℕ) (n : ℕ) (ls : List (List ℕ)) → length (outs (pieces_from (match_makes s job) 16777216 file n ls)) ≤ most_bytes * length ls
+  lines_bytes : (file : List ℕ) (n : ℕ) (ls : List (List ℕ)) → length (outs (pieces_from (match_makes s job) 16777216 file n ls)) ≤ max_answer_bytes * length ls
   unfolding pieces_from outs
   lines_bytes file n [] = omega arith
   lines_bytes file n (line ∷ more) =

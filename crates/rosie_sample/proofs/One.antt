@@ -27,7 +27,7 @@ tally_mark : (p : Piece) → tally_of (p ∷ []) ≡ of_mark p.mark
 unfolding has
 tally_mark p = refl
 
--- `n0` and `n1` count the steps before the line and behind it
+-- `n0` and `n1` count the steps before the line and after it
 module _ (W : Telling) (p : Piece) (mark : Mark) (out err : List ℕ) (is : IsMade mark out err p) (o0 e0 o1 e1 : List ℕ)
     (m0 m1 n0 n1 : ℕ) (cost : n1 ≡ n0 + p.cost) where
   abbrev q : Piece

@@ -4,7 +4,7 @@ use Rattle.std.specs.Prelude.{ℕ, zero, suc, ◌+◌, ◌*◌, ◌/◌, ◌%◌
 use Rattle.std.specs.Prelude.{List, [], ◌∷◌, ◌++◌, codes}
 use Rattle.std.specs.Fmt.{decimal}
 
--- the number behind one
+-- the number after one
 abbrev pub next : ℕ → ℕ
 next x = (x * 1103515245 + 12345) % 2147483648
 
@@ -33,7 +33,7 @@ undated r = codes "no date " ++ decimal r
 unfoldable pub line_of : ℕ → List ℕ
 line_of r = if nat_eq (r % 4) 3 then undated r else dated r
 
--- so many lines behind a number
+-- so many lines after a number
 unfoldable pub sample : ℕ → ℕ → List (List ℕ)
 sample x zero = []
 sample x (suc n) = line_of (drawn (next x)) ∷ sample (next x) n

@@ -45,7 +45,7 @@ impl Counts {
         }
     }
 
-    /// The same with one line more, which comes to this.
+    /// The counts with one line more, which comes to this.
     fn with(self, line: Tally) -> Counts
         requires { self.matched < 2 ^ 63 }
         ensures { result ≡ with_line self line }

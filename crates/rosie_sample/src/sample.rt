@@ -23,7 +23,7 @@ impl Model for Sample {
     ghost view = { λ s. record { number = s.number; line = string_bytes s.line } };
 }
 
-/// The number behind one.
+/// The number after one.
 fn next(number: u32) -> u32
     ensures { result ≡ next number }
 {

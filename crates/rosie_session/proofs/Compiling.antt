@@ -10,19 +10,19 @@ use Rattle.rpl_core.proofs.Codes.{code_holds}
 use Rattle.rpl_core.specs.Core.{Core}
 use Rattle.rpl_core.specs.Instr.{Instr}
 use Rattle.rpl_core.specs.Programs.{IsCode}
-use Rattle.rosie_session.specs.Loading.{Compiles, within_limit}
+use Rattle.rosie_session.specs.Loading.{Compiles, job_unless_long}
 
 job_with : List Core → Core → List Instr → Job
 job_with R g code = record { rules = R; goal = g; code = code }
 
 -- what is ready has the rules R, as cores
 module _ (r : Ready) (R : List Core) (same : bodies r.rules ≡ R) (answer : OrLine Job) (is : Compiles (Ok r) answer) where
-  coded : (code : List Instr) → IsCode R r.goal code → answer ≡ within_limit (job_with R r.goal code)
+  coded : (code : List Instr) → IsCode R r.goal code → answer ≡ job_unless_long (job_with R r.goal code)
   unfolding job_with
   coded code h =
-      is.2 ∙ ap (λ c. within_limit (job_with (bodies r.rules) r.goal c))
+      is.2 ∙ ap (λ c. job_unless_long (job_with (bodies r.rules) r.goal c))
       (code_holds R r.goal is.0 code (subst (λ x. IsCode x r.goal is.0) same is.1) h)
-      ∙ ap (λ x. within_limit (job_with x r.goal code)) same
+      ∙ ap (λ x. job_unless_long (job_with x r.goal code)) same
 
   -- a goal whose code is within its limit
   pub job_gives : (job : Job) → IsJobOf R r.goal job → answer ≡ Ok job
@@ -30,8 +30,8 @@ module _ (r : Ready) (R : List Core) (same : bodies r.rules ≡ R) (answer : OrL
   job_gives job h =
       let fits = h.fits in
       let test : nat_lt 1048576 (length job.code) ≡ false = grind (arith, fits) in
-      coded job.code h.code ∙ ap (λ x. within_limit (job_with x r.goal job.code)) (sym h.rules)
-      ∙ ap (λ x. within_limit (job_with job.rules x job.code)) (sym h.goal)
+      coded job.code h.code ∙ ap (λ x. job_unless_long (job_with x r.goal job.code)) (sym h.rules)
+      ∙ ap (λ x. job_unless_long (job_with job.rules x job.code)) (sym h.goal)
       ∙ ap (λ b. cond b (Err compile_line) (Ok job)) test
 
   -- and one whose code isn't

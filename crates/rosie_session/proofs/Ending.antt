@@ -13,8 +13,8 @@ use Rattle.rosie_run.specs.Runs.{Breaks, IsCutOf}
 use Rattle.rosie_run.specs.Sources.{Moment, NoFewer, RoseIn, Still}
 use Rattle.rosie_run.specs.declared.ended.Ended.{Ended}
 use Rattle.rosie_run.specs.declared.ended.Ended.TheVariants as E
-use Rattle.rosie_run.specs.declared.ended.Why.{Why}
-use Rattle.rosie_run.specs.declared.ended.Why.TheVariants as Y
+use Rattle.rosie_run.specs.declared.ended.ReadStop.{ReadStop}
+use Rattle.rosie_run.specs.declared.ended.ReadStop.TheVariants as Y
 use Rattle.rosie_run.specs.declared.tally.Tally.{Tally}
 use Rattle.rosie_run.specs.declared.trouble.Trouble.TheVariants as T
 use Rattle.rosie_run.proofs.Breaking.{breaks-cut}
@@ -22,10 +22,10 @@ use Rattle.rosie_run.proofs.Pieces.{has-append, up-all}
 use Rattle.rosie_session.specs.Loading.{Loading}
 use Rattle.rosie_session.specs.Replay.{Turn, pieces_of, replay, turns}
 use Rattle.rosie_session.specs.Where.{InSession, in_lines, in_load}
-use Rattle.rosie_session.specs.declared.halt.Halt.{Halt}
-use Rattle.rosie_session.specs.declared.halt.Halt.TheVariants as H
-use Rattle.rosie_session.specs.inside.Passing.{Halts, InputEnds, IsEndedBy, SinksBy, SpentBy}
-use Rattle.rosie_session.specs.inside.Turning.{HaltFiles}
+use Rattle.rosie_session.specs.declared.session_end.SessionEnd.{SessionEnd}
+use Rattle.rosie_session.specs.declared.session_end.SessionEnd.TheVariants as H
+use Rattle.rosie_session.specs.inside.Passing.{EndsLines, InputEnds, IsEndedBy, SinksBy, SpentBy}
+use Rattle.rosie_session.specs.inside.Turning.{EndFiles}
 use Rattle.rosie_session.proofs.Onward.{pieces-append}
 use Rattle.rosie_session.proofs.Sessions.{never_stops}
 
@@ -64,17 +64,17 @@ get_there done next more =
     ∙ ap Some (get_or-append_seam done next more next)
 
 module _ (W : Telling) (w : Loading) (i0 i1 f0 f1 : Moment) (a b : Texts) where
-  pub breaks-halt :
-      (halt : Halt) (e : Ended) → IsEndedBy halt e → InputEnds halt i0.faults i1.faults → SpentBy halt i0.taken i1.taken
-      → HaltFiles halt f0 f1 → Halts halt W w i0.rest i1.rest a b
+  pub breaks-session_end :
+      (session_end : SessionEnd) (e : Ended) → IsEndedBy session_end e → InputEnds session_end i0.faults i1.faults → SpentBy session_end i0.taken i1.taken
+      → EndFiles session_end f0 f1 → EndsLines session_end W w i0.rest i1.rest a b
       → Breaks e W (replay w i0.rest) (InSession w i0.rest i0 i1 f0 f1) a b
-  breaks-halt (H.Run T.NoMemory) e is f t g h =
+  breaks-session_end (H.Run T.NoMemory) e is f t g h =
       subst (λ x. Breaks x W (replay w i0.rest) (InSession w i0.rest i0 i1 f0 f1) a b) (sym is)
       (subst (λ ps. Fronts W ps a b) (sym (all_written w i0.rest)) h)
-  breaks-halt (H.Run T.WriteFault) e is f t g h =
+  breaks-session_end (H.Run T.WriteFault) e is f t g h =
       subst (λ x. Breaks x W (replay w i0.rest) (InSession w i0.rest i0 i1 f0 f1) a b) (sym is)
       (subst (λ ps. Fronts W ps a b) (sym (all_written w i0.rest)) h)
-  breaks-halt (H.Run T.ReadFault) e is f t g h =
+  breaks-session_end (H.Run T.ReadFault) e is f t g h =
       breaks-cut W e Y.ReadFault (codes "-") (replay w i0.rest) (pieces_of h.done) (pieces_of h.todo)
       (InSession w i0.rest i0 i1 f0 f1) a b is (pieces_split w i0.rest h.done h.todo h.split)
       (first_goes w i0.rest h.done h.todo h.split) h.wrote
@@ -88,7 +88,7 @@ module _ (W : Telling) (w : Loading) (i0 i1 f0 f1 : Moment) (a b : Texts) where
           long = λ e. absurd (cc);
         },
       ))
-  breaks-halt (H.Run T.Spent) e is f t g h =
+  breaks-session_end (H.Run T.Spent) e is f t g h =
       breaks-cut W e Y.Spent (codes "-") (replay w i0.rest) (pieces_of h.0.done) (pieces_of h.0.todo)
       (InSession w i0.rest i0 i1 f0 f1) a b is (pieces_split w i0.rest h.0.done h.0.todo h.0.split)
       (first_goes w i0.rest h.0.done h.0.todo h.0.split) h.0.wrote
@@ -102,7 +102,7 @@ module _ (W : Telling) (w : Loading) (i0 i1 f0 f1 : Moment) (a b : Texts) where
           long = λ _. h.1;
         },
       ))
-  breaks-halt (H.Unread path) e is f t g h =
+  breaks-session_end (H.Unread path) e is f t g h =
       let more = h.next ∷ h.more in
       let there : slice_get (turns w i0.rest) (length (pieces_of h.done)) ≡ Some h.next =
       ap (λ ts. slice_get ts (length (pieces_of h.done))) h.split ∙ ap (slice_get (h.done ++ more)) (count_same h.done)
@@ -133,27 +133,27 @@ module _ (i0 i1 f0 f1 : Moment) (opens : i1.opens ≡ i0.opens) where
   cut_spent (E.Cut why text) name is i f many =
       subst (λ x. SourcesEnd (E.Cut x text) i0 i1 f0 f1) (sym is.0) (i, f, inl many)
 
-  pub sources-halt :
-      (halt : Halt) (e : Ended) → IsEndedBy halt e → InputEnds halt i0.faults i1.faults → SpentBy halt i0.taken i1.taken
-      → HaltFiles halt f0 f1 → SourcesEnd e i0 i1 f0 f1
-  sources-halt (H.Run T.NoMemory) e is i t f =
+  pub sources-session_end :
+      (session_end : SessionEnd) (e : Ended) → IsEndedBy session_end e → InputEnds session_end i0.faults i1.faults → SpentBy session_end i0.taken i1.taken
+      → EndFiles session_end f0 f1 → SourcesEnd e i0 i1 f0 f1
+  sources-session_end (H.Run T.NoMemory) e is i t f =
       subst (λ x. SourcesEnd x i0 i1 f0 f1) (sym is) (still i0 i1 (same_input i), f)
-  sources-halt (H.Run T.WriteFault) e is i t f =
+  sources-session_end (H.Run T.WriteFault) e is i t f =
       subst (λ x. SourcesEnd x i0 i1 f0 f1) (sym is) (same_input i, f)
-  sources-halt (H.Run T.ReadFault) e is i t f =
+  sources-session_end (H.Run T.ReadFault) e is i t f =
       cut_reads e (codes "-") is (record { faults = i.0; opens = omega (arith, opens) }) (still f0 f1 f) (inl (inl i.1))
-  sources-halt (H.Run T.Spent) e is i t f = cut_spent e (codes "-") is (same_input i) f t
-  sources-halt (H.Unread path) e is i t f =
+  sources-session_end (H.Run T.Spent) e is i t f = cut_spent e (codes "-") is (same_input i) f t
+  sources-session_end (H.Unread path) e is i t f =
       cut_reads e (encode_utf8_all path) is (still i0 i1 (same_input i)) f.0 (inr f.1)
 
-cut_writes : (e : Ended) (why : Why) (name : List ℕ) (o0 o1 e0 e1 : ℕ) → IsCutOf e why name → o1 ≡ o0 → e1 ≡ e0 → WritesEnd e o0 o1 e0 e1
+cut_writes : (e : Ended) (why : ReadStop) (name : List ℕ) (o0 o1 e0 e1 : ℕ) → IsCutOf e why name → o1 ≡ o0 → e1 ≡ e0 → WritesEnd e o0 o1 e0 e1
 cut_writes E.NoMemory why name o0 o1 e0 e1 is p q = (p, q)
 cut_writes E.WriteFault why name o0 o1 e0 e1 is p q = absurd is
 cut_writes (E.Cut x text) why name o0 o1 e0 e1 is p q = (p, q)
 
-pub writes-halt : (halt : Halt) (e : Ended) (o0 o1 e0 e1 : ℕ) → IsEndedBy halt e → SinksBy halt o0 o1 e0 e1 → WritesEnd e o0 o1 e0 e1
-writes-halt (H.Run T.NoMemory) e o0 o1 e0 e1 is h = subst (λ x. WritesEnd x o0 o1 e0 e1) (sym is) h
-writes-halt (H.Run T.WriteFault) e o0 o1 e0 e1 is h = subst (λ x. WritesEnd x o0 o1 e0 e1) (sym is) h
-writes-halt (H.Run T.ReadFault) e o0 o1 e0 e1 is h = cut_writes e Y.ReadFault (codes "-") o0 o1 e0 e1 is h.0 h.1
-writes-halt (H.Run T.Spent) e o0 o1 e0 e1 is h = cut_writes e Y.Spent (codes "-") o0 o1 e0 e1 is h.0 h.1
-writes-halt (H.Unread path) e o0 o1 e0 e1 is h = cut_writes e Y.ReadFault (encode_utf8_all path) o0 o1 e0 e1 is h.0 h.1
+pub writes-session_end : (session_end : SessionEnd) (e : Ended) (o0 o1 e0 e1 : ℕ) → IsEndedBy session_end e → SinksBy session_end o0 o1 e0 e1 → WritesEnd e o0 o1 e0 e1
+writes-session_end (H.Run T.NoMemory) e o0 o1 e0 e1 is h = subst (λ x. WritesEnd x o0 o1 e0 e1) (sym is) h
+writes-session_end (H.Run T.WriteFault) e o0 o1 e0 e1 is h = subst (λ x. WritesEnd x o0 o1 e0 e1) (sym is) h
+writes-session_end (H.Run T.ReadFault) e o0 o1 e0 e1 is h = cut_writes e Y.ReadFault (codes "-") o0 o1 e0 e1 is h.0 h.1
+writes-session_end (H.Run T.Spent) e o0 o1 e0 e1 is h = cut_writes e Y.Spent (codes "-") o0 o1 e0 e1 is h.0 h.1
+writes-session_end (H.Unread path) e o0 o1 e0 e1 is h = cut_writes e Y.ReadFault (encode_utf8_all path) o0 o1 e0 e1 is h.0 h.1

@@ -18,11 +18,11 @@ use Rattle.rosie_run.proofs.Passing.{errs_cons, fronts-same, outs_cons, wrote-sa
 use Rattle.rosie_run.proofs.Pieces.{longer}
 use Rattle.rosie_session.specs.Loading.{Loading}
 use Rattle.rosie_session.specs.Replay.{Turn, edit_turn, pieces_of, refused, session_fault, turn, turns_from}
-use Rattle.rosie_session.specs.declared.halt.Halt.{Halt}
-use Rattle.rosie_session.specs.declared.halt.Halt.TheVariants as H
-use Rattle.rosie_session.specs.declared.said.Said.{Said}
-use Rattle.rosie_session.specs.inside.Passing.{Breaks, IsOfReading, MakesHalt, MakesTurn, SinksBy, to_come}
-use Rattle.rosie_session.specs.inside.Turning.{HaltSteps, IsHalted, IsSaid, Says}
+use Rattle.rosie_session.specs.declared.session_end.SessionEnd.{SessionEnd}
+use Rattle.rosie_session.specs.declared.session_end.SessionEnd.TheVariants as H
+use Rattle.rosie_session.specs.declared.reply.Reply.{Reply}
+use Rattle.rosie_session.specs.inside.Passing.{Breaks, IsOfReading, MakesEnd, MakesTurn, SinksBy, to_come}
+use Rattle.rosie_session.specs.inside.Turning.{EndSteps, IsEndOf, IsReply, Says}
 use Rattle.rosie_session.proofs.Onward.{turns-next}
 use Rattle.rosie_session.proofs.Sessions.{by_tests, turn_by}
 
@@ -51,21 +51,21 @@ module _ (w : Loading) (n m : ℕ) (s0 s1 : Session) (ended : Bool) (left0 left1
     same = turn-text w (n + 1) s0 text short is ∙ ap (λ k. edit_turn w k s0 (edit_of text)) (sym count)
 
     pub makes-text :
-        (said : Said) (steps0 steps1 : ℕ) → Says said (edit_turn w m s0 (edit_of text)) s1
+        (reply : Reply) (steps0 steps1 : ℕ) → Says reply (edit_turn w m s0 (edit_of text)) s1
         → steps1 ≡ steps0 + (edit_turn w m s0 (edit_of text)).piece.cost
-        → MakesTurn w n s0 s1 ended left0 left1 said steps0 steps1
-    makes-text said steps0 steps1 says steps = record {
+        → MakesTurn w n s0 s1 ended left0 left1 reply steps0 steps1
+    makes-text reply steps0 steps1 says steps = record {
       line = text;
       splits = sp;
-      says = subst (λ t. Says said t s1) (sym same) says;
+      says = subst (λ t. Says reply t s1) (sym same) says;
       steps = steps ∙ ap (λ (t : Turn). steps0 + t.piece.cost) (sym same);
     }
 
-    pub makes-halt :
-        (halt : Halt) (steps0 steps1 : ℕ) → IsHalted halt (edit_turn w m s0 (edit_of text))
-        → HaltSteps halt steps0 steps1 → MakesHalt halt w n s0 left0 steps0 steps1
-    makes-halt (H.Run trouble) steps0 steps1 h steps = subst (λ x. ReadsOn x steps0 steps1) (sym h) tt
-    makes-halt (H.Unread path) steps0 steps1 h steps = (
+    pub makes-session_end :
+        (session_end : SessionEnd) (steps0 steps1 : ℕ) → IsEndOf session_end (edit_turn w m s0 (edit_of text))
+        → EndSteps session_end steps0 steps1 → MakesEnd session_end w n s0 left0 steps0 steps1
+    makes-session_end (H.Run trouble) steps0 steps1 h steps = subst (λ x. ReadsOn x steps0 steps1) (sym h) tt
+    makes-session_end (H.Unread path) steps0 steps1 h steps = (
       record {
         line = text;
         more = lines false left1;
@@ -77,32 +77,32 @@ module _ (w : Loading) (n m : ℕ) (s0 s1 : Session) (ended : Bool) (left0 left1
 
   -- one that is too long, or no text
   wrong_made :
-      (line why : List ℕ) (said : Said) (steps0 steps1 : ℕ) → Splits false ended line left0 left1
+      (line why : List ℕ) (reply : Reply) (steps0 steps1 : ℕ) → Splits false ended line left0 left1
       → turn w (n + 1) s0 line ≡ refused s0 [] (session_fault (n + 1) why)
-      → IsSaid said (fault_piece (session_fault m why)) → s1 ≡ s0 → steps1 ≡ steps0
-      → MakesTurn w n s0 s1 ended left0 left1 said steps0 steps1
-  wrong_made line why said steps0 steps1 sp e is stays steps =
+      → IsReply reply (fault_piece (session_fault m why)) → s1 ≡ s0 → steps1 ≡ steps0
+      → MakesTurn w n s0 s1 ended left0 left1 reply steps0 steps1
+  wrong_made line why reply steps0 steps1 sp e is stays steps =
       let told : refused s0 [] (session_fault m why) ≡ turn w (n + 1) s0 line =
       ap (λ k. refused s0 [] (session_fault k why)) count ∙ sym e in record {
         line = line;
         splits = sp;
-        says = subst (λ t. Says said t s1) told (is, stays);
+        says = subst (λ t. Says reply t s1) told (is, stays);
         steps = let z = ap (λ (t : Turn). t.piece.cost) e in omega arith;
       }
 
   pub makes-long :
-      (line : List ℕ) (said : Said) (steps0 steps1 : ℕ) → Splits false ended line left0 left1 → 1048576 < length line
-      → IsSaid said (fault_piece (session_fault m (codes "line too long"))) → s1 ≡ s0 → steps1 ≡ steps0
-      → MakesTurn w n s0 s1 ended left0 left1 said steps0 steps1
-  makes-long line said steps0 steps1 sp h =
-      wrong_made line (codes "line too long") said steps0 steps1 sp (turn-long w (n + 1) s0 line h)
+      (line : List ℕ) (reply : Reply) (steps0 steps1 : ℕ) → Splits false ended line left0 left1 → 1048576 < length line
+      → IsReply reply (fault_piece (session_fault m (codes "line too long"))) → s1 ≡ s0 → steps1 ≡ steps0
+      → MakesTurn w n s0 s1 ended left0 left1 reply steps0 steps1
+  makes-long line reply steps0 steps1 sp h =
+      wrong_made line (codes "line too long") reply steps0 steps1 sp (turn-long w (n + 1) s0 line h)
 
   pub makes-no-text :
-      (line : List ℕ) (said : Said) (steps0 steps1 : ℕ) → Splits false ended line left0 left1 → length line ≤ 1048576
-      → is_utf8 line ≡ false → IsSaid said (fault_piece (session_fault m (codes "not UTF-8"))) → s1 ≡ s0
-      → steps1 ≡ steps0 → MakesTurn w n s0 s1 ended left0 left1 said steps0 steps1
-  makes-no-text line said steps0 steps1 sp h u =
-      wrong_made line (codes "not UTF-8") said steps0 steps1 sp (turn-no-text w (n + 1) s0 line h u)
+      (line : List ℕ) (reply : Reply) (steps0 steps1 : ℕ) → Splits false ended line left0 left1 → length line ≤ 1048576
+      → is_utf8 line ≡ false → IsReply reply (fault_piece (session_fault m (codes "not UTF-8"))) → s1 ≡ s0
+      → steps1 ≡ steps0 → MakesTurn w n s0 s1 ended left0 left1 reply steps0 steps1
+  makes-no-text line reply steps0 steps1 sp h u =
+      wrong_made line (codes "not UTF-8") reply steps0 steps1 sp (turn-no-text w (n + 1) s0 line h u)
 
 -- ---- what is written of it
 
@@ -128,15 +128,15 @@ module _ (W : Telling) (w : Loading) (n : ℕ) (s : Session) (left0 : List ℕ) 
 
   -- nothing was said
   pub breaks-none :
-      (halt : Halt) → MakesHalt halt w n s left0 a.steps b.steps → b.out ≡ a.out → b.err ≡ a.err → b.number ≡ a.number
-      → (W.counts → a.number ≤ 2 ^ 64 - 1) → Breaks halt W w n s left0 a b
+      (session_end : SessionEnd) → MakesEnd session_end w n s left0 a.steps b.steps → b.out ≡ a.out → b.err ≡ a.err → b.number ≡ a.number
+      → (W.counts → a.number ≤ 2 ^ 64 - 1) → Breaks session_end W w n s left0 a b
   breaks-none (H.Run T.NoMemory) h o e k fits = fronts-same W _ a b o e
   breaks-none (H.Run T.WriteFault) h o e k fits = absurd h
   breaks-none (H.Run T.ReadFault) h o e k fits = wrote-same W a b o e k h fits
   breaks-none (H.Run T.Spent) h o e k fits = wrote-same W a b o e k h fits
   breaks-none (H.Unread path) h o e k fits = (h.0, wrote-same W a b o e k h.1 fits)
 
-pub sinks-none : (halt : Halt) (o e : ℕ) → IsOfReading halt → SinksBy halt o o e e
+pub sinks-none : (session_end : SessionEnd) (o e : ℕ) → IsOfReading session_end → SinksBy session_end o o e e
 sinks-none (H.Run T.NoMemory) o e is = (refl, refl)
 sinks-none (H.Run T.WriteFault) o e is = absurd is
 sinks-none (H.Run T.ReadFault) o e is = (refl, refl)

@@ -1,7 +1,7 @@
 -- Texts come to one thing, alone and with a pattern.
 use Rattle.std.proofs.Common.{◌≡◌, ℕ, List, sym, ◌∙◌, ap, subst}
 use Rattle.std.specs.Prelude.{Option, Ok, Err, Some, None}
-use Rattle.rosie_prepare.specs.Prepared.{OrLine, Passes, Ready, TableComes, TableFacts, Tree, Wanted, found, blocks, bodies}
+use Rattle.rosie_prepare.specs.Prepared.{OrLine, Passes, Ready, TableComes, TableFacts, Tree, PatternRequest, found, blocks, bodies}
 use Rattle.rosie_prepare.specs.Prepared.{table_too_large, table_unsound}
 use Rattle.rosie_prepare.proofs.OneAnswer.{one_answer}
 use Rattle.rosie_prepare.proofs.Passing.{first_same}
@@ -14,7 +14,7 @@ use Rattle.rpl_package.specs.Roots.{Packages, load}
 use Rattle.rpl_scope.specs.Faults.{Or}
 use Rattle.rosie_jobs.specs.Lines.{Job}
 use Rattle.rosie_session.specs.Laws.{OneLoading}
-use Rattle.rosie_session.specs.Loading.{Compiles, IsGoalLoad, IsLoad, Load, given, within_limit}
+use Rattle.rosie_session.specs.Loading.{Compiles, IsGoalLoad, IsLoad, Load, given, job_unless_long}
 
 passes_one :
     {A : Type 0} (p : Packages) (t : Option E.Fault) (fault : TableFacts p → Option C.Fault) (a : A) (r q : OrLine A)
@@ -42,9 +42,9 @@ compiles_one : (r : OrLine Ready) (a b : OrLine Job) → Compiles r a → Compil
 compiles_one (Err line) a b h k = h ∙ sym k
 compiles_one (Ok r) a b h k =
     let same : h.0 ≡ k.0 = code_holds (bodies r.rules) r.goal h.0 k.0 h.1 k.1 in
-    h.2 ∙ ap (λ c. within_limit (record { rules = bodies r.rules; goal = r.goal; code = c })) same ∙ sym k.2
+    h.2 ∙ ap (λ c. job_unless_long (record { rules = bodies r.rules; goal = r.goal; code = c })) same ∙ sym k.2
 
-goal_one : (tree : Tree) (v : Wanted) (l m : Load Job) → IsGoalLoad tree v l → IsGoalLoad tree v m → l ≡ m
+goal_one : (tree : Tree) (v : PatternRequest) (l m : Load Job) → IsGoalLoad tree v l → IsGoalLoad tree v m → l ≡ m
 goal_one tree v l m h k =
     let same = one_answer tree v l.asked m.asked h.ready k.ready h.prepares k.prepares in
     alike l m same.0 (compiles_one k.ready l.answer m.answer (subst (λ r. Compiles r l.answer) same.1 h.compiles) k.compiles)

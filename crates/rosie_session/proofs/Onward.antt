@@ -20,9 +20,9 @@ use Rattle.rosie_run.proofs.Onward.{Same, lines_none, wrote-still}
 use Rattle.rosie_run.proofs.Pieces.{fronts-after, tally-append, tally-one, wrote-append, wrote-none}
 use Rattle.rosie_session.specs.Loading.{Loading}
 use Rattle.rosie_session.specs.Replay.{Turn, pieces_of, turn, turns, turns_from}
-use Rattle.rosie_session.specs.declared.halt.Halt.{Halt}
-use Rattle.rosie_session.specs.declared.halt.Halt.TheVariants as H
-use Rattle.rosie_session.specs.inside.Passing.{Breaks, Cuts, CutsLoad, Halts, IsUnread, Passed, StopsBy, to_come}
+use Rattle.rosie_session.specs.declared.session_end.SessionEnd.{SessionEnd}
+use Rattle.rosie_session.specs.declared.session_end.SessionEnd.TheVariants as H
+use Rattle.rosie_session.specs.inside.Passing.{Breaks, Cuts, CutsLoad, EndsLines, IsUnread, Passed, StopsBy, to_come}
 
 pub pieces-append : (ts us : List Turn) → pieces_of (ts ++ us) ≡ pieces_of ts ++ pieces_of us
 pieces-append ts us = map-append (λ t. t.piece) ts us
@@ -130,7 +130,7 @@ module _ (W : Telling) (w : Loading) (input : List ℕ) where
           h.comes_to ∙ ap (λ ts. tally_of (pieces_of ts)) (sym all),
         )
 
-    -- a write or want of memory ends it
+    -- a write, or memory that ran out, ends it
     pub passed-front :
         (d : Texts) → Fronts W (pieces_of (to_come w n s (left held rest))) b d
         → Fronts W (pieces_of (turns w input)) a d
@@ -177,20 +177,20 @@ module _ (W : Telling) (w : Loading) (input : List ℕ) where
         }
 
     -- each end that isn't the input's
-    pub passed-halt :
-        (halt : Halt) (tells : Type 0) (told : tells) (reader reader' : Reader) (rest' : List ℕ) (d : Texts)
-        → reader.held ≡ held → reader.whole ≡ false → StopsBy halt tells reader reader' rest rest'
-        → Breaks halt W w n s (left held rest) b d → reader'.held.reads + length rest' ≤ held.reads + length rest
-        → Halts halt W w input rest' a d
-    passed-halt (H.Run T.NoMemory) tells told reader reader' rest' d is whole stops p bound = passed-front d p
-    passed-halt (H.Run T.WriteFault) tells told reader reader' rest' d is whole stops p bound = passed-front d p
-    passed-halt (H.Run T.ReadFault) tells told reader reader' rest' d is whole stops p bound =
+    pub passed-session_end :
+        (session_end : SessionEnd) (tells : Type 0) (told : tells) (reader reader' : Reader) (rest' : List ℕ) (d : Texts)
+        → reader.held ≡ held → reader.whole ≡ false → StopsBy session_end tells reader reader' rest rest'
+        → Breaks session_end W w n s (left held rest) b d → reader'.held.reads + length rest' ≤ held.reads + length rest
+        → EndsLines session_end W w input rest' a d
+    passed-session_end (H.Run T.NoMemory) tells told reader reader' rest' d is whole stops p bound = passed-front d p
+    passed-session_end (H.Run T.WriteFault) tells told reader reader' rest' d is whole stops p bound = passed-front d p
+    passed-session_end (H.Run T.ReadFault) tells told reader reader' rest' d is whole stops p bound =
         passed_cut d rest' stops.0.0 (ap (λ (x : Held). x.ended) (sym is) ∙ stops.1) (stops.0.1.took told)
         (ap (λ (x : Held). feeds (x.bytes ++ stops.0.0)) (sym is) ∙ stops.0.1.none whole) p
-    passed-halt (H.Run T.Spent) tells told reader reader' rest' d is whole stops p bound = (
+    passed-session_end (H.Run T.Spent) tells told reader reader' rest' d is whole stops p bound = (
       passed_cut d rest' stops.0.0 (ap (λ (x : Held). x.ended) (sym is) ∙ stops.1) (stops.0.1.took told)
           (ap (λ (x : Held). feeds (x.bytes ++ stops.0.0)) (sym is) ∙ stops.0.1.none whole) p,
       let x = h.reads in let y = stops.2 in omega arith,
     )
-    passed-halt (H.Unread path) tells told reader reader' rest' d is whole stops p bound =
+    passed-session_end (H.Unread path) tells told reader reader' rest' d is whole stops p bound =
         passed_unread d (encode_utf8_all path) p.0 p.1

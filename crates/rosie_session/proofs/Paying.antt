@@ -9,7 +9,7 @@ use Rattle.rosie_jobs.specs.Limits.{PaysFor}
 use Rattle.rosie_jobs.specs.Lines.{Job}
 use Rattle.rosie_jobs.specs.declared.settings.Settings.{Settings}
 use Rattle.rosie_prepare.proofs.Passing.{blocks-rows_of, bodies-rows_of, first_same}
-use Rattle.rosie_prepare.specs.Prepared.{Comes, IsPrepared, OrLine, Passes, Ready, TableFacts, Tree, Wanted, blocks, bodies}
+use Rattle.rosie_prepare.specs.Prepared.{Comes, IsPrepared, OrLine, Passes, Ready, TableFacts, Tree, PatternRequest, blocks, bodies}
 use Rattle.rosie_prepare.specs.Prepared.{found, goal_in, loaded, ready, table_too_large, table_unsound, too_large, unsound}
 use Rattle.rpl_check.proofs.Accepting.{accepted, whole_of}
 use Rattle.rpl_check.proofs.Firsts.{or_none}
@@ -30,19 +30,19 @@ use Rattle.rpl_expand.specs.Sets.{captures_of, scope_of, table_of}
 use Rattle.rpl_expand.specs.Table.{IsOver, MakeTrees}
 use Rattle.rpl_forms.specs.Inlining.{Inners}
 use Rattle.rpl_forms.specs.Rows.{Row, inners_from, inners_of, rows_of}
-use Rattle.rpl_order.proofs.Loaded.{scopes_are_over, tables_are_in_order, told_is_built, trees_are_made}
-use Rattle.rpl_order.specs.Laws.{IsLoaded, by_pattern, by_roots}
+use Rattle.rpl_load_laws.proofs.Loaded.{scopes_are_over, tables_are_in_order, told_is_built, trees_are_made}
+use Rattle.rpl_load_laws.specs.Laws.{IsLoaded, by_pattern, by_roots}
 use Rattle.rpl_package.specs.Built.{IsBuilt}
 use Rattle.rpl_package.specs.Goals.{ReadsGoal}
 use Rattle.rpl_package.specs.Loading.{world}
 use Rattle.rpl_package.specs.Patterns.{load_pattern}
 use Rattle.rpl_package.specs.Roots.{Packages, load}
 use Rattle.rpl_scope.specs.Faults.{Or, ◌>>=◌}
-use Rattle.rpl_simulation.proofs.Answering.{answer_holds}
-use Rattle.rpl_simulation.specs.Laws.{IsCapture}
+use Rattle.rpl_compile_laws.proofs.Answering.{answer_holds}
+use Rattle.rpl_compile_laws.specs.Laws.{IsCapture}
 use Rattle.rpl_syntax.specs.Expression.{Expr}
 use Rattle.rosie_session.specs.Laws.{BudgetLaw}
-use Rattle.rosie_session.specs.Loading.{Compiles, IsGoalLoad, IsLoading, Load, Loading, wanted, within_limit}
+use Rattle.rosie_session.specs.Loading.{Compiles, IsGoalLoad, IsLoading, Load, Loading, request, job_unless_long}
 use Rattle.rosie_session.specs.Replay.{plain}
 use Rattle.rosie_session.proofs.Pegs.{rules_for}
 
@@ -139,7 +139,7 @@ fit_passes r p e None small is h =
     fit_found r p e (unsound p e h.0) h.0 parts.0 is refl h.1
 fit_passes r p e (Some f) large is h = absurd (cc)
 
-module _ (tree : Tree) (v : Wanted) (parse : Or Expr) (reads : ReadsGoal v.fixed v.find v.text parse) (r : Ready) where
+module _ (tree : Tree) (v : PatternRequest) (parse : Or Expr) (reads : ReadsGoal v.fixed v.find v.text parse) (r : Ready) where
   fit_goal :
       (p : Packages) → IsLoaded tree v.folders p → (l : Or (Expr × Packages))
       → (load_pattern (world tree v.folders) p parse).answer ≡ l → Comes l (Ok r) → IsFit r
@@ -155,7 +155,7 @@ module _ (tree : Tree) (v : Wanted) (parse : Or Expr) (reads : ReadsGoal v.fixed
   fit_comes (Ok p) e h =
       fit_goal p (by_roots v.roots p e) (load_pattern (world tree v.folders) p parse).answer refl h
 
-pub fit_prepared : (tree : Tree) (v : Wanted) (asked : List (List ℕ)) (r : Ready) → IsPrepared tree v asked (Ok r) → IsFit r
+pub fit_prepared : (tree : Tree) (v : PatternRequest) (asked : List (List ℕ)) (r : Ready) → IsPrepared tree v asked (Ok r) → IsFit r
 fit_prepared tree v asked r h =
     fit_comes tree v h.parse h.reads r (load (world tree v.folders) v.roots).answer refl h.comes
 
@@ -179,7 +179,7 @@ pays_job s r job fit answer h e =
     let same : made ≡ job = job_within (nat_lt 1048576 (length h.0)) job made (sym h.2 ∙ e) in
     subst (λ (x : Job). PaysFor s x) same (pays_code s (bodies r.rules) r.goal h.0 fit.whole h.1)
 
-pays_load : (tree : Tree) (v : Wanted) (l : Load Job) (s : Settings) (job : Job) (o : OrLine Ready)
+pays_load : (tree : Tree) (v : PatternRequest) (l : Load Job) (s : Settings) (job : Job) (o : OrLine Ready)
     → IsPrepared tree v l.asked o → Compiles o l.answer → l.answer ≡ Ok job → PaysFor s job
 pays_load tree v l s job (Err line) h c e = absurd (cc)
 pays_load tree v l s job (Ok r) h c e = pays_job s r job (fit_prepared tree v l.asked r h) l.answer c e
@@ -187,4 +187,4 @@ pays_load tree v l s job (Ok r) h c e = pays_job s r job (fit_prepared tree v l.
 pub pays_holds : BudgetLaw
 pays_holds tree folders w is texts pattern job e =
     let h = is.goals texts pattern in
-    pays_load tree (wanted folders texts pattern) (w.goal texts pattern) plain job h.ready h.prepares h.compiles e
+    pays_load tree (request folders texts pattern) (w.goal texts pattern) plain job h.ready h.prepares h.compiles e

@@ -16,7 +16,7 @@ use Rattle.rosie_run.proofs.Pieces.{has-nil}
 use Rattle.rpl_core.specs.Meaning.{Outcome}
 use Rattle.rpl_core.specs.Outcome.{outcome}
 use Rattle.rpl_core.specs.Run.{run}
-use Rattle.rpl_encode.specs.Answer.{most_bytes}
+use Rattle.rpl_encode.specs.Answer.{max_answer_bytes}
 use Rattle.rpl_encode.specs.Print.{print}
 use Rattle.rosie_session.specs.Laws.{NoStopLaw, SameAnswer, TryLaw, UndoLaw, is_change}
 use Rattle.rosie_session.specs.Loading.{Loading}
@@ -108,7 +108,7 @@ outcome_same : (m n : ℕ) (line : List ℕ) (o : Outcome) (cost : ℕ)
     (outcome_piece plain (codes "(session)") n line o cost)
 outcome_same m n line o cost =
     let text = print plain.style (chars line) o in
-    same_if (not (nat_lt most_bytes (length text))) m n _ _ _ _
+    same_if (not (nat_lt max_answer_bytes (length text))) m n _ _ _ _
     (same_all m n (answered plain line text (matches o) cost cost)) (same_fault m n (codes "answer too long") cost)
 
 made_same : (m n : ℕ) (job : Job) (line : List ℕ)
@@ -192,7 +192,7 @@ made_goes n job line =
     let text = print plain.style (chars line) o in
     goes_if (is_over a) (unanswered (session_fault n (codes "budget spent")) cost)
     (outcome_piece plain (codes "(session)") n line o cost) refl
-    (goes_if (not (nat_lt most_bytes (length text))) (answered plain line text (matches o) cost cost)
+    (goes_if (not (nat_lt max_answer_bytes (length text))) (answered plain line text (matches o) cost cost)
     (unanswered (session_fault n (codes "answer too long")) cost) (mark_if (matches o)) refl)
 
 no_goes : (a : Mark) (p : Piece) → GoesOn p → GoesOn (or_no a p)

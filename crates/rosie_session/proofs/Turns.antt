@@ -17,7 +17,7 @@ use Rattle.rosie_jobs.specs.Lines.{Job, match_makes}
 use Rattle.rosie_jobs.specs.Makers.{Maker, Matches, makes_of}
 use Rattle.rosie_jobs.proofs.OneLine.{spelled}
 use Rattle.rosie_prepare.specs.Answers.{HasCause, IsAsked, IsDue}
-use Rattle.rosie_prepare.specs.Prepared.{IsPrepared, OrLine, Ready, TableComes, Tree, Wanted}
+use Rattle.rosie_prepare.specs.Prepared.{IsPrepared, OrLine, Ready, TableComes, Tree, PatternRequest}
 use Rattle.rosie_prepare.specs.declared.unready.Unready.{Unready}
 use Rattle.rosie_prepare.specs.declared.unready.Unready.TheVariants as U
 use Rattle.rosie_repl.specs.Edits.{Edit, Add, Replace, Remove, Pattern, Try, Undo, by_sign, edit_of, in_chars, is_space}
@@ -43,14 +43,14 @@ use Rattle.rpl_package.specs.Roots.{Packages, load}
 use Rattle.rpl_package.specs.declared.rooted.Root.{Root}
 use Rattle.rpl_package.specs.declared.rooted.Root.TheVariants.{Given}
 use Rattle.rpl_text.specs.Numbers.{number_of}
-use Rattle.rosie_session.specs.Loading.{Compiles, IsGoalLoad, IsLoad, Load, Loading, given, wanted}
+use Rattle.rosie_session.specs.Loading.{Compiles, IsGoalLoad, IsLoad, Load, Loading, given, request}
 use Rattle.rosie_session.specs.Replay.{Turn, change_turn, job_piece, judged, judged_by, loaded, ok_piece, session_fault}
 use Rattle.rosie_session.specs.Replay.{edit_turn, or_no, pieces_of, plain, tried, try_turn, turns, undo_turn}
-use Rattle.rosie_session.specs.declared.halt.Halt.{Halt}
-use Rattle.rosie_session.specs.declared.halt.Halt.TheVariants as H
-use Rattle.rosie_session.specs.declared.said.Said.{Said}
-use Rattle.rosie_session.specs.inside.Passing.{Halts, InputEnds, IsOfReading, RunsLines, SpentBy, StopsBy}
-use Rattle.rosie_session.specs.inside.Turning.{HaltFiles, IsInner, IsOwn, IsSaid, JudgesEnd, Leaves, Says, StepsBy}
+use Rattle.rosie_session.specs.declared.session_end.SessionEnd.{SessionEnd}
+use Rattle.rosie_session.specs.declared.session_end.SessionEnd.TheVariants as H
+use Rattle.rosie_session.specs.declared.reply.Reply.{Reply}
+use Rattle.rosie_session.specs.inside.Passing.{EndsLines, InputEnds, IsOfReading, RunsLines, SpentBy, StopsBy}
+use Rattle.rosie_session.specs.inside.Turning.{EndFiles, IsInner, IsOwn, IsReply, JudgesEnd, Leaves, Says, StepsBy}
 
 -- ---- the texts as roots
 
@@ -125,22 +125,22 @@ loaded_texts w C.Undo before after h = refl
 
 -- ---- the texts with a pattern
 
-abbrev pub wanted_with : List (List ℕ) → List Root → List ℕ → Wanted
+abbrev pub wanted_with : List (List ℕ) → List Root → List ℕ → PatternRequest
 wanted_with folders roots text = record { roots = roots; folders = folders; text = text; fixed = false; find = false }
 
 pub wanted_is :
     (folders texts : List (List ℕ)) (roots : List Root) (text : List ℕ) → roots ≡ given texts → IsUtf8 text
-    → wanted_with folders roots text ≡ wanted folders texts (chars text)
+    → wanted_with folders roots text ≡ request folders texts (chars text)
 wanted_is folders texts roots text e u =
     ap (λ (rs : List Root). wanted_with folders rs text) e
     ∙ ap (λ (t : List ℕ). wanted_with folders (given texts) t) (sym (spelled text u))
 
 pub goal_prepared :
     (tree : Tree) (folders texts : List (List ℕ)) (roots : List Root) (text : List ℕ) (l : Load Job)
-    → roots ≡ given texts → IsUtf8 text → (h : IsGoalLoad tree (wanted folders texts (chars text)) l)
+    → roots ≡ given texts → IsUtf8 text → (h : IsGoalLoad tree (request folders texts (chars text)) l)
     → IsPrepared tree (wanted_with folders roots text) l.asked h.ready
 goal_prepared tree folders texts roots text l e u h =
-    subst (λ (v : Wanted). IsPrepared tree v l.asked h.ready) (sym (wanted_is folders texts roots text e u)) h.prepares
+    subst (λ (v : PatternRequest). IsPrepared tree v l.asked h.ready) (sym (wanted_is folders texts roots text e u)) h.prepares
 
 pub due_compiles :
     (u : Unready) (ready : OrLine Ready) (answer : OrLine Job) → IsDue u ready → Compiles ready answer → IsDue u answer
@@ -167,11 +167,11 @@ own_cause (Err (U.ReadFault path)) f0 f1 own h = absurd own
 
 -- the number was no text's
 pub change_none :
-    (w : Loading) (n : ℕ) (s now : Session) (e : Edit) (o : Option Session) (done : Bool) (said : Said)
-    → GoesOn s now o done → done ≡ false → IsSaid said (fault_piece (session_fault n (codes "bad command")))
-    → Says said (change_turn w n s e o) now
-change_none w n s now e None done said g off is = (is, g.1)
-change_none w n s now e (Some after) done said g off is = absurd (false≢true (sym off ∙ g.0))
+    (w : Loading) (n : ℕ) (s now : Session) (e : Edit) (o : Option Session) (done : Bool) (reply : Reply)
+    → GoesOn s now o done → done ≡ false → IsReply reply (fault_piece (session_fault n (codes "bad command")))
+    → Says reply (change_turn w n s e o) now
+change_none w n s now e None done reply g off is = (is, g.1)
+change_none w n s now e (Some after) done reply g off is = absurd (false≢true (sym off ∙ g.0))
 
 pub change_some :
     (w : Loading) (n : ℕ) (s now : Session) (e : Edit) (o : Option Session) (done : Bool) → GoesOn s now o done
@@ -205,29 +205,29 @@ back_made s mid final e back made h = back_by s mid final (kept_by e s.now) back
 -- ---- undoing
 
 pub undo_none :
-    {E : Type 0} (n : ℕ) (s now : Session) (o : Option Session) (done : Bool) (r : Result Said E) → GoesOn s now o done
-    → done ≡ false → IfOk r (λ said. IsSaid said (fault_piece (session_fault n (codes "nothing to undo"))))
-    → IfOk r (λ said. Says said (undo_turn n s o) now)
-undo_none n s now None done (Ok said) g off is = (is, g.1)
-undo_none n s now (Some before) done (Ok said) g off is = absurd (false≢true (sym off ∙ g.0))
+    {E : Type 0} (n : ℕ) (s now : Session) (o : Option Session) (done : Bool) (r : Result Reply E) → GoesOn s now o done
+    → done ≡ false → IfOk r (λ reply. IsReply reply (fault_piece (session_fault n (codes "nothing to undo"))))
+    → IfOk r (λ reply. Says reply (undo_turn n s o) now)
+undo_none n s now None done (Ok reply) g off is = (is, g.1)
+undo_none n s now (Some before) done (Ok reply) g off is = absurd (false≢true (sym off ∙ g.0))
 undo_none n s now o done (Err e) g off is = tt
 
 pub undo_some :
-    {E : Type 0} (n : ℕ) (s now : Session) (o : Option Session) (done : Bool) (r : Result Said E) → GoesOn s now o done
-    → done ≡ true → IfOk r (λ said. IsSaid said (ok_piece now)) → IfOk r (λ said. Says said (undo_turn n s o) now)
-undo_some n s now None done (Ok said) g on is = absurd (false≢true (sym g.0 ∙ on))
-undo_some n s now (Some before) done (Ok said) g on is =
-    (subst (λ (x : Session). IsSaid said (ok_piece x)) g.1 is, g.1)
+    {E : Type 0} (n : ℕ) (s now : Session) (o : Option Session) (done : Bool) (r : Result Reply E) → GoesOn s now o done
+    → done ≡ true → IfOk r (λ reply. IsReply reply (ok_piece now)) → IfOk r (λ reply. Says reply (undo_turn n s o) now)
+undo_some n s now None done (Ok reply) g on is = absurd (false≢true (sym g.0 ∙ on))
+undo_some n s now (Some before) done (Ok reply) g on is =
+    (subst (λ (x : Session). IsReply reply (ok_piece x)) g.1 is, g.1)
 undo_some n s now o done (Err e) g on is = tt
 
 -- ---- trying
 
 module _ (w : Loading) (n : ℕ) (s : Session) (line : List ℕ) (o : Option (List ℕ)) where
   pub try_none :
-      (said : Said) → o ≡ None → IsSaid said (fault_piece (session_fault n (codes "no pattern")))
-      → Says said (try_turn w n s o line) s
-  try_none said e is = (
-    subst (λ (x : Option (List ℕ)). IsSaid said (try_turn w n s x line).piece) (sym e) is,
+      (reply : Reply) → o ≡ None → IsReply reply (fault_piece (session_fault n (codes "no pattern")))
+      → Says reply (try_turn w n s o line) s
+  try_none reply e is = (
+    subst (λ (x : Option (List ℕ)). IsReply reply (try_turn w n s x line).piece) (sym e) is,
     ap (λ (x : Option (List ℕ)). (try_turn w n s x line).session) (sym e),
   )
 
@@ -240,9 +240,9 @@ module _ (w : Loading) (n : ℕ) (s : Session) (line : List ℕ) (o : Option (Li
     stays = ap (λ (x : Option (List ℕ)). (try_turn w n s x line).session) (sym is)
 
     pub try_made :
-        (said : Said) (ran : Job) → (w.goal s.now.texts pattern).answer ≡ Ok ran → IsSaid said (job_piece ran n line)
-        → Says said (try_turn w n s o line) s
-    try_made said ran e made = (subst (IsSaid said) (sym (as_tried (Ok ran) e)) made, stays)
+        (reply : Reply) (ran : Job) → (w.goal s.now.texts pattern).answer ≡ Ok ran → IsReply reply (job_piece ran n line)
+        → Says reply (try_turn w n s o line) s
+    try_made reply ran e made = (subst (IsReply reply) (sym (as_tried (Ok ran) e)) made, stays)
 
     pub try_cost :
         (ran : Job) (before now : ℕ) → (w.goal s.now.texts pattern).answer ≡ Ok ran
@@ -250,9 +250,9 @@ module _ (w : Loading) (n : ℕ) (s : Session) (line : List ℕ) (o : Option (Li
     try_cost ran before now e cost = cost ∙ ap (λ (p : Piece). before + p.cost) (sym (as_tried (Ok ran) e))
 
     pub try_refused :
-        (said : Said) (text : List ℕ) → (w.goal s.now.texts pattern).answer ≡ Err text → IsSaid said (fault_piece text)
-        → Says said (try_turn w n s o line) s
-    try_refused said text e made = (subst (IsSaid said) (sym (as_tried (Err text) e)) made, stays)
+        (reply : Reply) (text : List ℕ) → (w.goal s.now.texts pattern).answer ≡ Err text → IsReply reply (fault_piece text)
+        → Says reply (try_turn w n s o line) s
+    try_refused reply text e made = (subst (IsReply reply) (sym (as_tried (Err text) e)) made, stays)
 
     pub refused_cost :
         (before : ℕ) (text : List ℕ) → (w.goal s.now.texts pattern).answer ≡ Err text
@@ -286,8 +286,8 @@ pub undo_cost : (n : ℕ) (s : Session) (o : Option Session) → (undo_turn n s 
 undo_cost n s None = refl
 undo_cost n s (Some before) = refl
 
-pub steps_none : (r : Result Said Halt) (t : Turn) (before : ℕ) → t.piece.cost ≡ 0 → StepsBy r t before before
-steps_none (Ok said) t before z = omega arith
+pub steps_none : (r : Result Reply SessionEnd) (t : Turn) (before : ℕ) → t.piece.cost ≡ 0 → StepsBy r t before before
+steps_none (Ok reply) t before z = omega arith
 steps_none (Err (H.Run trouble)) t before z = tt
 steps_none (Err (H.Unread path)) t before z = refl
 
@@ -398,55 +398,55 @@ edit_change w n s C.Undo t u = absurd (u refl)
 
 -- ---- what ends a session inside a line
 
-pub inner_input : (halt : Halt) (before now : ℕ) → IsInner halt → now ≡ before → InputEnds halt before now
+pub inner_input : (session_end : SessionEnd) (before now : ℕ) → IsInner session_end → now ≡ before → InputEnds session_end before now
 inner_input (H.Run trouble) before now is e = subst (λ x. SourceEnds x before now) (sym is) e
 inner_input (H.Unread path) before now is e = e
 
 pub inner_stops :
-    (halt : Halt) (tells : Type 0) (old now : Reader) (rest0 rest1 : List ℕ) → IsInner halt
-    → StopsBy halt tells old now rest0 rest1
+    (session_end : SessionEnd) (tells : Type 0) (old now : Reader) (rest0 rest1 : List ℕ) → IsInner session_end
+    → StopsBy session_end tells old now rest0 rest1
 inner_stops (H.Run trouble) tells old now rest0 rest1 is = subst (λ x. StopsAt x tells old now rest0 rest1) (sym is) tt
 inner_stops (H.Unread path) tells old now rest0 rest1 is = tt
 
-pub inner_reading : (halt : Halt) → IsInner halt → IsOfReading halt
+pub inner_reading : (session_end : SessionEnd) → IsInner session_end → IsOfReading session_end
 inner_reading (H.Run trouble) is = subst (λ x. IsOfReading (H.Run x)) (sym is) tt
 inner_reading (H.Unread path) is = tt
 
--- ---- want of memory
+-- ---- out of memory
 
 pub memory_leaves :
-    {F : Type 0} (S : Ghosts F) (r : Result Said Halt) (old new : F) → NotFewer (S.taken old) (S.taken new)
+    {F : Type 0} (S : Ghosts F) (r : Result Reply SessionEnd) (old new : F) → NotFewer (S.taken old) (S.taken new)
     → S.tree new ≡ S.tree old → Still (moment_of S old) (moment_of S new) → IsErrAnd r (λ h. h ≡ H.Run T.NoMemory)
     → Leaves S r old new
-memory_leaves S (Ok said) old new taken tree still is = absurd is
-memory_leaves S (Err halt) old new taken tree still is = record {
+memory_leaves S (Ok reply) old new taken tree still is = absurd is
+memory_leaves S (Err session_end) old new taken tree still is = record {
   inner = subst IsInner (sym is) refl;
   cause =
-      subst (λ x. HaltFiles x (moment_of S old) (moment_of S new)) (sym is)
+      subst (λ x. EndFiles x (moment_of S old) (moment_of S new)) (sym is)
       (still_fewer (moment_of S old) (moment_of S new) still);
   taken = taken;
   tree = tree;
 }
 
 pub memory_runs :
-    (r : Result Tally Halt) (W : Telling) (w : Loading) (rest0 rest1 : List ℕ) (a b : Texts)
+    (r : Result Tally SessionEnd) (W : Telling) (w : Loading) (rest0 rest1 : List ℕ) (a b : Texts)
     → IsErrAnd r (λ h. h ≡ H.Run T.NoMemory) → b.out ≡ a.out → b.err ≡ a.err → RunsLines r W w rest0 rest1 a b
 memory_runs (Ok tally) W w rest0 rest1 a b is o e = absurd is
-memory_runs (Err halt) W w rest0 rest1 a b is o e =
-    subst (λ x. Halts x W w rest0 rest1 a b) (sym is) (fronts-same W (pieces_of (turns w rest0)) a b o e)
+memory_runs (Err session_end) W w rest0 rest1 a b is o e =
+    subst (λ x. EndsLines x W w rest0 rest1 a b) (sym is) (fronts-same W (pieces_of (turns w rest0)) a b o e)
 
 -- ---- on from earlier lines
 
-pub spent-halt :
-    (halt : Halt) (tells : Type 0) (old now : Reader) (rest0 rest1 : List ℕ) (taken0 taken1 : ℕ)
-    → StopsBy halt tells old now rest0 rest1 → (taken1 < 2 ^ 64 - 1 → now.held.reads + taken0 ≤ taken1)
-    → SpentBy halt taken0 taken1
-spent-halt (H.Run T.NoMemory) tells old now rest0 rest1 taken0 taken1 s h = tt
-spent-halt (H.Run T.WriteFault) tells old now rest0 rest1 taken0 taken1 s h = tt
-spent-halt (H.Run T.ReadFault) tells old now rest0 rest1 taken0 taken1 s h = tt
-spent-halt (H.Run T.Spent) tells old now rest0 rest1 taken0 taken1 s h = λ few.
+pub spent-session_end :
+    (session_end : SessionEnd) (tells : Type 0) (old now : Reader) (rest0 rest1 : List ℕ) (taken0 taken1 : ℕ)
+    → StopsBy session_end tells old now rest0 rest1 → (taken1 < 2 ^ 64 - 1 → now.held.reads + taken0 ≤ taken1)
+    → SpentBy session_end taken0 taken1
+spent-session_end (H.Run T.NoMemory) tells old now rest0 rest1 taken0 taken1 s h = tt
+spent-session_end (H.Run T.WriteFault) tells old now rest0 rest1 taken0 taken1 s h = tt
+spent-session_end (H.Run T.ReadFault) tells old now rest0 rest1 taken0 taken1 s h = tt
+spent-session_end (H.Run T.Spent) tells old now rest0 rest1 taken0 taken1 s h = λ few.
     let r = s.2 in let t = h few in omega arith
-spent-halt (H.Unread path) tells old now rest0 rest1 taken0 taken1 s h = tt
+spent-session_end (H.Unread path) tells old now rest0 rest1 taken0 taken1 s h = tt
 
 still_on : (f0 f1 f2 : Moment) → Still f0 f1 → Still f1 f2 → Still f0 f2
 still_on f0 f1 f2 a b = record { faults = b.faults ∙ a.faults; opens = b.opens ∙ a.opens }
@@ -460,9 +460,9 @@ rose_on : (f0 f1 f2 : Moment) → Still f0 f1 → RoseIn f1 f2 → RoseIn f0 f2
 rose_on f0 f1 f2 a (inl r) = inl (subst (λ x. Rose x f2.faults) a.faults r)
 rose_on f0 f1 f2 a (inr r) = inr (subst (λ x. Rose x f2.opens) a.opens r)
 
-pub files-halt : (halt : Halt) (f0 f1 f2 : Moment) → Still f0 f1 → HaltFiles halt f1 f2 → HaltFiles halt f0 f2
-files-halt (H.Run T.NoMemory) f0 f1 f2 a b = fewer_on f0 f1 f2 a b
-files-halt (H.Run T.WriteFault) f0 f1 f2 a b = still_on f0 f1 f2 a b
-files-halt (H.Run T.ReadFault) f0 f1 f2 a b = still_on f0 f1 f2 a b
-files-halt (H.Run T.Spent) f0 f1 f2 a b = still_on f0 f1 f2 a b
-files-halt (H.Unread path) f0 f1 f2 a b = (fewer_on f0 f1 f2 a b.0, rose_on f0 f1 f2 a b.1)
+pub files-session_end : (session_end : SessionEnd) (f0 f1 f2 : Moment) → Still f0 f1 → EndFiles session_end f1 f2 → EndFiles session_end f0 f2
+files-session_end (H.Run T.NoMemory) f0 f1 f2 a b = fewer_on f0 f1 f2 a b
+files-session_end (H.Run T.WriteFault) f0 f1 f2 a b = still_on f0 f1 f2 a b
+files-session_end (H.Run T.ReadFault) f0 f1 f2 a b = still_on f0 f1 f2 a b
+files-session_end (H.Run T.Spent) f0 f1 f2 a b = still_on f0 f1 f2 a b
+files-session_end (H.Unread path) f0 f1 f2 a b = (fewer_on f0 f1 f2 a b.0, rose_on f0 f1 f2 a b.1)

@@ -5,7 +5,7 @@ use Rattle.rosie_repl.specs.Edits.{Edit, Add, Replace, Remove, Pattern, Try, Und
 use Rattle.rosie_repl.specs.Session.{Session}
 use Rattle.rosie_run.specs.Report.{Piece, has, is_stop}
 use Rattle.rosie_run.specs.declared.mark.Mark.TheVariants.{Fault}
-use Rattle.rosie_session.specs.Limits.{Pays}
+use Rattle.rosie_session.specs.Limits.{SessionPays}
 use Rattle.rosie_session.specs.Loading.{IsLoading, Loading}
 use Rattle.rosie_session.specs.Replay.{accepted, replay, session_fault, turn}
 
@@ -52,7 +52,7 @@ TryLaw =
 
 -- over a tree of files, a line that is tried passes its budget only where that is due
 abbrev pub BudgetLaw : Type 0
-BudgetLaw = (tree : Tree) (folders : List (List ℕ)) (w : Loading) → IsLoading tree folders w → Pays w
+BudgetLaw = (tree : Tree) (folders : List (List ℕ)) (w : Loading) → IsLoading tree folders w → SessionPays w
 
 -- a session is never refused
 abbrev pub NoStopLaw : Type 0

@@ -6,6 +6,6 @@ use Rattle.rosie_session.specs.Loading.{Loading}
 use Rattle.rosie_session.specs.Replay.{plain}
 
 -- it passes its budget only where four times the work of its meaning and two is over that, whatever is kept by then
-abbrev pub Pays : Loading → Type 0
-Pays w =
+abbrev pub SessionPays : Loading → Type 0
+SessionPays w =
     (texts : List (List ℕ)) (pattern : List ℕ) (job : Job) → (w.goal texts pattern).answer ≡ Ok job → PaysFor plain job

@@ -2,7 +2,7 @@
 use Rattle.std.specs.Prelude.{◌≡◌, ℕ, false, nat_lt, if◌then◌else◌, List, length, map, Ok, Err, encode_utf8_all}
 use Rattle.rosie_prepare.specs.Lines.{compile_line}
 use Rattle.rosie_jobs.specs.Lines.{Job}
-use Rattle.rosie_prepare.specs.Prepared.{IsPrepared, OrLine, Ready, TableComes, Tree, Wanted, bodies}
+use Rattle.rosie_prepare.specs.Prepared.{IsPrepared, OrLine, Ready, TableComes, Tree, PatternRequest, bodies}
 use Rattle.rpl_core.specs.Instr.{Instr}
 use Rattle.rpl_core.specs.Programs.{IsCode}
 use Rattle.rpl_package.specs.Loading.{world}
@@ -25,8 +25,8 @@ abbrev pub given : List (List ℕ) → List Root
 given texts = map Given texts
 
 -- the pattern over these texts, to be matched from the start of a line
-abbrev pub wanted : List (List ℕ) → List (List ℕ) → List ℕ → Wanted
-wanted folders texts pattern =
+abbrev pub request : List (List ℕ) → List (List ℕ) → List ℕ → PatternRequest
+request folders texts pattern =
     record { roots = given texts; folders = folders; text = encode_utf8_all pattern; fixed = false; find = false }
 
 -- texts alone come to their packages, whose rules have no fault
@@ -35,17 +35,17 @@ pub record IsLoad (tree : Tree) (folders texts : List (List ℕ)) (l : Load Pack
   pub comes : TableComes (load (world tree folders) (given texts)).answer l.answer
 
 -- a goal has the job of its code, unless the code is too long
-abbrev pub within_limit : Job → OrLine Job
-within_limit job = if nat_lt 1048576 (length job.code) then Err compile_line else Ok job
+abbrev pub job_unless_long : Job → OrLine Job
+job_unless_long job = if nat_lt 1048576 (length job.code) then Err compile_line else Ok job
 
 abbrev pub Compiles : OrLine Ready → OrLine Job → Type 0
 Compiles (Err line) answer = answer ≡ Err line
 Compiles (Ok r) answer =
     (code : List Instr) × IsCode (bodies r.rules) r.goal code
-    × (answer ≡ within_limit (record { rules = bodies r.rules; goal = r.goal; code = code }))
+    × (answer ≡ job_unless_long (record { rules = bodies r.rules; goal = r.goal; code = code }))
 
 -- what is wanted comes to a job
-pub record IsGoalLoad (tree : Tree) (v : Wanted) (l : Load Job) : Type 0 where
+pub record IsGoalLoad (tree : Tree) (v : PatternRequest) (l : Load Job) : Type 0 where
   pub ready : OrLine Ready
   pub prepares : IsPrepared tree v l.asked ready
   pub compiles : Compiles ready l.answer
@@ -54,4 +54,4 @@ pub record IsGoalLoad (tree : Tree) (v : Wanted) (l : Load Job) : Type 0 where
 pub record IsLoading (tree : Tree) (folders : List (List ℕ)) (w : Loading) : Type 0 where
   pub texts : (texts : List (List ℕ)) → IsLoad tree folders texts (w.texts texts)
   pub goals : (texts : List (List ℕ)) (pattern : List ℕ)
-      → IsGoalLoad tree (wanted folders texts pattern) (w.goal texts pattern)
+      → IsGoalLoad tree (request folders texts pattern) (w.goal texts pattern)

@@ -16,7 +16,7 @@ use Rattle.rosie_run.specs.declared.mark.Mark.TheVariants.{Hit, Miss, Fault, Sto
 use Rattle.rpl_encode.specs.declared.style.Style.TheVariants.{Json}
 use Rattle.rosie_session.specs.Loading.{Load, Loading}
 
--- what a line writes, the session behind it, and the paths that were asked for
+-- what a line writes, the session after it, and the paths that were asked for
 pub record Turn : Type 0 where
   pub piece : Piece
   pub session : Session
@@ -72,7 +72,7 @@ undo_turn n s (Some before) = accepted before []
 abbrev pub plain : Settings
 plain = record { style = Json; whole = false; all = false; steps = false; budget = None }
 
--- that it doesn't match is told
+-- that it doesn't match is reported
 abbrev pub or_no : Mark → Piece → Piece
 or_no Miss p = record { out = codes "no\n"; err = p.err; mark = p.mark; cost = p.cost }
 or_no Hit p = p

@@ -6,11 +6,11 @@
 //! `specs/Loading.antt` what they come to over the tree of files; nothing that was refused leaves a trace.
 #![tactic(auto)]
 
-mod halt;
 mod laws;
 mod loading;
+mod reply;
 mod run;
-mod said;
+mod session_end;
 mod turn;
 
 pub use laws::{budget_law, no_stop_law, one_loading, try_law, undo_law};

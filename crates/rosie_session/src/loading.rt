@@ -20,7 +20,7 @@ ghost use Rattle.rpl_core.specs.View.{core_of};
 
 use rosie_io::Files;
 use rosie_jobs::{Job, MatchJob, Settings};
-use rosie_prepare::{Prepared, Unready, Wanted, compile_line, prepare, prepare_rules};
+use rosie_prepare::{PatternRequest, Prepared, Unready, compile_line, prepare, prepare_rules};
 use rosie_repl::State;
 use rosie_run::NoMemory;
 use rpl_codegen::CompileFault;
@@ -29,7 +29,7 @@ use rpl_package::{LibPath, Root, Roots};
 use rpl_text::Chars;
 use std::alloc::Global;
 
-/// How a line that is tried is told: its match as JSON, within the budget of a line.
+/// How a line that is tried is reported: its match as JSON, within the budget of a line.
 const PLAIN: Settings = Settings {
     style: Style::Json,
     whole: false,
@@ -119,14 +119,14 @@ pub(crate) fn load_goal<F: Files>(
     ensures tree { F.tree files.new ≡ F.tree files.old }
 {
     let roots = roots_of(alloc, state)?;
-    let wanted = Wanted {
+    let request = PatternRequest {
         roots: &roots,
         folders,
         text: pattern,
         fixed: false,
         find: false,
     };
-    match prepare(alloc, files, &wanted) {
+    match prepare(alloc, files, &request) {
         Ok(ready) => make_job(alloc, ready),
         Err(unready) => Err(unready),
     }

@@ -18,8 +18,8 @@ ghost use Rattle.rosie_session.specs.inside.Passing.{Counts, InputCause, IsOfRea
 ghost use Rattle.rosie_session.specs.inside.Passing.{RunsLines, SinksCause, SpentCause, Stops};
 ghost use Rattle.rosie_session.specs.inside.Turning.{FilesBy};
 
-use crate::halt::{Halt, ended_by};
-use crate::said::{Said, wrong};
+use crate::reply::{Reply, wrong};
+use crate::session_end::{SessionEnd, ended_by};
 use crate::turn::answer;
 use rosie_io::{Files, Line, LineFault, LineReader, Sink, Source, WriteFault};
 use rosie_repl::State;
@@ -30,7 +30,7 @@ use std::alloc::Global;
 use std::sync::ledger::Ledger;
 
 /// The longest line of a session, in bytes.
-const MOST_BYTES: usize = 1_048_576;
+const MAX_COMMAND_BYTES: usize = 1_048_576;
 
 /// Goes on to the next line and makes what is said to it. `None` where there is no further line.
 fn next_turn<F: Files, I: Source, L: Ledger>(
@@ -41,7 +41,7 @@ fn next_turn<F: Files, I: Source, L: Ledger>(
     files: &mut F,
     input: &mut I,
     steps: &mut Steps<L>,
-) -> Result<Option<Said>, Halt>
+) -> Result<Option<Reply>, SessionEnd>
     requires open { reader.old.done ≡ false }
     requires lines { reader.old.whole ≡ false }
     requires most { reader.old.most ≡ 1048576 }
@@ -67,8 +67,8 @@ fn next_turn<F: Files, I: Source, L: Ledger>(
             Line::Text => {
                 let number = reader.number();
                 match answer(alloc, folders, state, number, reader.line(), files, steps) {
-                    Ok(said) => Ok(Some(said)),
-                    Err(halt) => Err(halt),
+                    Ok(reply) => Ok(Some(reply)),
+                    Err(session_end) => Err(session_end),
                 }
             }
             Line::End => Ok(None),
@@ -76,27 +76,28 @@ fn next_turn<F: Files, I: Source, L: Ledger>(
         Err(fault) => match fault {
             LineFault::TooLong { line } => Ok(Some(wrong(alloc, line, "line too long")?)),
             LineFault::NotText { line } => Ok(Some(wrong(alloc, line, "not UTF-8")?)),
-            LineFault::NoMemory => Err(Halt::Run(Trouble::NoMemory)),
-            LineFault::ReadFault => Err(Halt::Run(Trouble::ReadFault)),
-            LineFault::Spent => Err(Halt::Run(Trouble::Spent)),
+            LineFault::NoMemory => Err(SessionEnd::Run(Trouble::NoMemory)),
+            LineFault::ReadFault => Err(SessionEnd::Run(Trouble::ReadFault)),
+            LineFault::Spent => Err(SessionEnd::Run(Trouble::Spent)),
         },
     }
 }
 
 /// Writes what is said, `out` before `err`.
-fn write_said<O: Sink, E: Sink>(said: &Said, out: &mut O, err: &mut E) -> Result<(), WriteFault>
-    ensures out { O.tells → Appends result (O.written out.old) (O.written out.new) said.now.out.items }
-    ensures err { E.tells → Appends result (E.written err.old) (E.written err.new) said.now.err.items }
-    ensures number { O.counts → OnOk result (O.number out.new ≡ capped (O.number out.old + length said.now.out.items)) }
+fn write_reply<O: Sink, E: Sink>(reply: &Reply, out: &mut O, err: &mut E) -> Result<(), WriteFault>
+    ensures out { O.tells → Appends result (O.written out.old) (O.written out.new) reply.now.out.items }
+    ensures err { E.tells → Appends result (E.written err.old) (E.written err.new) reply.now.err.items }
+    ensures number { O.counts
+        → OnOk result (O.number out.new ≡ capped (O.number out.old + length reply.now.out.items)) }
     ensures order { O.counts → E.tells → OutFirst (E.written err.old) (E.written err.new) (O.flushed out.new)
         (O.number out.new) }
     ensures cause { BothCause result (O.faults out.old) (O.faults out.new) (E.faults err.old) (E.faults err.new) }
 {
-    write_both(out, err, said.out.as_slice(), said.err.as_slice())
+    write_both(out, err, reply.out.as_slice(), reply.err.as_slice())
 }
 
 /// Flushes what was said, unless the next line is held already.
-fn flush_said<O: Sink, E: Sink>(ready: bool, out: &mut O, err: &mut E) -> Result<(), WriteFault>
+fn flush_reply<O: Sink, E: Sink>(ready: bool, out: &mut O, err: &mut E) -> Result<(), WriteFault>
     ensures out { O.tells → O.written out.new ≡ O.written out.old }
     ensures err { E.tells → E.written err.new ≡ E.written err.old }
     ensures number { O.counts → O.number out.new ≡ O.number out.old }
@@ -119,7 +120,7 @@ fn run_lines<F: Files, I: Source, O: Sink, E: Sink, L: Ledger>(
     out: &mut O,
     err: &mut E,
     steps: &mut Steps<L>,
-) -> Result<Tally, Halt>
+) -> Result<Tally, SessionEnd>
     ensures runs { F.tells → I.tells → (w : Loading) → IsLoading (F.tree files.old) folders.now w
         → RunsLines result (telling O.Sink E.Sink) w
         (I.rest input.old) (I.rest input.new)
@@ -133,23 +134,23 @@ fn run_lines<F: Files, I: Source, O: Sink, E: Sink, L: Ledger>(
     ensures opens { I.failed_opens input.new ≡ I.failed_opens input.old }
     ensures tree { F.tree files.new ≡ F.tree files.old }
 {
-    let mut reader = LineReader::new(alloc, false, MOST_BYTES)?;
+    let mut reader = LineReader::new(alloc, false, MAX_COMMAND_BYTES)?;
     let mut state = State::new(alloc);
     let mut tally = Tally::new();
     'lines: loop {
-        match flush_said(reader.is_ready(), out, err) {
+        match flush_reply(reader.is_ready(), out, err) {
             Ok(()) => {}
-            Err(_) => return Err(Halt::Run(Trouble::WriteFault)),
+            Err(_) => return Err(SessionEnd::Run(Trouble::WriteFault)),
         }
         match next_turn(alloc, folders, &mut state, &mut reader, files, input, steps) {
             Ok(found) => match found {
-                Some(said) => match write_said(&said, out, err) {
-                    Ok(()) => tally = tally.with(said.mark),
-                    Err(_) => return Err(Halt::Run(Trouble::WriteFault)),
+                Some(reply) => match write_reply(&reply, out, err) {
+                    Ok(()) => tally = tally.with(reply.mark),
+                    Err(_) => return Err(SessionEnd::Run(Trouble::WriteFault)),
                 },
                 None => return Ok(tally),
             },
-            Err(halt) => return Err(halt),
+            Err(session_end) => return Err(session_end),
         }
     }
 }
@@ -158,7 +159,7 @@ fn run_lines<F: Files, I: Source, O: Sink, E: Sink, L: Ledger>(
 /// looked for in the folders.
 ///
 /// What is written is what `specs/Replay.antt` says, over the loading of the files; where reading or writing ends the
-/// session, or memory is wanting, it is a front of that.
+/// session, or memory runs out, it is a front of that.
 pub fn run_session<F: Files, I: Source, O: Sink, E: Sink, L: Ledger>(
     alloc: Global,
     folders: &LibPath,
@@ -188,6 +189,6 @@ pub fn run_session<F: Files, I: Source, O: Sink, E: Sink, L: Ledger>(
 {
     match run_lines(alloc, folders, files, input, out, err, steps) {
         Ok(tally) => Ok(tally),
-        Err(halt) => Err(ended_by(alloc, halt)),
+        Err(session_end) => Err(ended_by(alloc, session_end)),
     }
 }

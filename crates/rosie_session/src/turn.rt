@@ -15,11 +15,11 @@ ghost use Rattle.rosie_run.specs.Sources.{moment_of};
 ghost use Rattle.rosie_session.specs.Loading.{IsLoading, Loading};
 ghost use Rattle.rosie_session.specs.Replay.{change_turn, edit_turn, job_piece, loaded, or_no, plain, try_turn};
 ghost use Rattle.rosie_session.specs.Replay.{undo_turn};
-ghost use Rattle.rosie_session.specs.inside.Turning.{IsSaid, Judges, Leaves, Says, StepsBy, Turns};
+ghost use Rattle.rosie_session.specs.inside.Turning.{IsReply, Judges, Leaves, Says, StepsBy, Turns};
 
-use crate::halt::Halt;
 use crate::loading::{load_goal, load_texts};
-use crate::said::{NAME, Said, accepted, refused, wrong};
+use crate::reply::{NAME, Reply, accepted, refused, wrong};
+use crate::session_end::SessionEnd;
 use rosie_io::Files;
 use rosie_jobs::{LineJob, MatchJob};
 use rosie_prepare::Unready;
@@ -61,7 +61,7 @@ fn judge<F: Files>(
     state: &mut State,
     edit: &Edit<'_>,
     files: &mut F,
-) -> Result<Said, Halt>
+) -> Result<Reply, SessionEnd>
     ensures turns { F.tells → (w : Loading) → IsLoading (F.tree files.old) folders.now w → (before : Session)
         → S.changed (in_chars (edit_seen edit.now)) before ≡ Some (session_of state.old)
         → Turns result (loaded w (in_chars (edit_seen edit.now)) before (session_of state.old)) (session_of state.new) }
@@ -70,12 +70,12 @@ fn judge<F: Files>(
     match load_change(alloc, folders, state, edit, files) {
         Ok(()) => Ok(accepted(alloc, state)?),
         Err(unready) => match unready {
-            Unready::NoMemory => Err(Halt::Run(Trouble::NoMemory)),
+            Unready::NoMemory => Err(SessionEnd::Run(Trouble::NoMemory)),
             Unready::Refused(line) => {
                 state.undo();
                 Ok(refused(alloc, line))
             }
-            Unready::ReadFault(path) => Err(Halt::Unread(path)),
+            Unready::ReadFault(path) => Err(SessionEnd::Unread(path)),
         },
     }
 }
@@ -88,7 +88,7 @@ fn change<F: Files>(
     number: u64,
     edit: &Edit<'_>,
     files: &mut F,
-) -> Result<Said, Halt>
+) -> Result<Reply, SessionEnd>
     ensures turns { F.tells → (w : Loading) → IsLoading (F.tree files.old) folders.now w
         → Turns result (change_turn w number (session_of state.old) (in_chars (edit_seen edit.now))
         (S.changed (in_chars (edit_seen edit.now)) (session_of state.old))) (session_of state.new) }
@@ -101,8 +101,8 @@ fn change<F: Files>(
 }
 
 /// Goes back to what was kept before the last change.
-fn undo(alloc: Global, state: &mut State, number: u64) -> Result<Said, NoMemory>
-    ensures { IfOk result (λ said. Says said (undo_turn number (session_of state.old)
+fn undo(alloc: Global, state: &mut State, number: u64) -> Result<Reply, NoMemory>
+    ensures { IfOk result (λ reply. Says reply (undo_turn number (session_of state.old)
         (S.undone (session_of state.old))) (session_of state.new)) }
 {
     if state.undo() {
@@ -120,7 +120,7 @@ fn copy_of(alloc: Global, bytes: &[u8]) -> Result<Vec<u8>, NoMemory>
     Ok(copy)
 }
 
-/// The text for `out` of a line that was tried: that it doesn't match is told.
+/// The text for `out` of a line that was tried: that it doesn't match is reported.
 fn told(alloc: Global, mark: Mark, text: &[u8]) -> Result<Vec<u8>, NoMemory>
     ensures { IfOk result (λ told. (p : Piece) → p.out ≡ text.now → told.items ≡ (or_no mark p).out) }
 {
@@ -136,24 +136,24 @@ fn told(alloc: Global, mark: Mark, text: &[u8]) -> Result<Vec<u8>, NoMemory>
     }
 }
 
-/// What a job makes of a line; that it doesn't match is told.
+/// What a job makes of a line; that it doesn't match is reported.
 fn try_job<L: Ledger>(
     alloc: Global,
     job: &mut MatchJob,
     number: u64,
     line: &str,
     steps: &mut Steps<L>,
-) -> Result<Said, NoMemory>
+) -> Result<Reply, NoMemory>
     requires { length line.now ≤ 2 ^ 30 }
-    ensures said { (ran : Job) → matcher_of job.old ≡ Matches plain ran
-        → IfOk result (λ said. IsSaid said (job_piece ran number line.now)) }
+    ensures reply { (ran : Job) → matcher_of job.old ≡ Matches plain ran
+        → IfOk result (λ reply. IsReply reply (job_piece ran number line.now)) }
     ensures cost { (ran : Job) → matcher_of job.old ≡ Matches plain ran
         → OnOk result (steps.new ≡ steps.old + (job_piece ran number line.now).cost) }
 {
     let mark = job.answer(NAME, number, line, steps)?;
     let text = job.out();
     let fault = job.err();
-    Ok(Said {
+    Ok(Reply {
         out: told(alloc, mark, text)?,
         err: copy_of(alloc, fault)?,
         mark,
@@ -170,7 +170,7 @@ fn try_with<F: Files, L: Ledger>(
     line: &str,
     files: &mut F,
     steps: &mut Steps<L>,
-) -> Result<Said, Halt>
+) -> Result<Reply, SessionEnd>
     requires { length line.now ≤ 2 ^ 30 }
     ensures turns { F.tells → (w : Loading) → IsLoading (F.tree files.old) folders.now w
         → Turns result (try_turn w number (session_of state.now) (Some (chars pattern.now)) line.now)
@@ -183,9 +183,9 @@ fn try_with<F: Files, L: Ledger>(
     match load_goal(alloc, folders, state, pattern, files) {
         Ok(mut job) => Ok(try_job(alloc, &mut job, number, line, steps)?),
         Err(unready) => match unready {
-            Unready::NoMemory => Err(Halt::Run(Trouble::NoMemory)),
+            Unready::NoMemory => Err(SessionEnd::Run(Trouble::NoMemory)),
             Unready::Refused(text) => Ok(refused(alloc, text)),
-            Unready::ReadFault(path) => Err(Halt::Unread(path)),
+            Unready::ReadFault(path) => Err(SessionEnd::Unread(path)),
         },
     }
 }
@@ -199,7 +199,7 @@ fn try_line<F: Files, L: Ledger>(
     line: &str,
     files: &mut F,
     steps: &mut Steps<L>,
-) -> Result<Said, Halt>
+) -> Result<Reply, SessionEnd>
     requires { length line.now ≤ 2 ^ 30 }
     ensures turns { F.tells → (w : Loading) → IsLoading (F.tree files.old) folders.now w
         → Turns result (try_turn w number (session_of state.now) (session_of state.now).now.pattern line.now)
@@ -224,7 +224,7 @@ fn obey<F: Files, L: Ledger>(
     edit: &Edit<'_>,
     files: &mut F,
     steps: &mut Steps<L>,
-) -> Result<Said, Halt>
+) -> Result<Reply, SessionEnd>
     requires { (line : List ℕ) → edit_seen edit.now ≡ Try line → length line ≤ 2 ^ 30 }
     ensures turns { F.tells → (w : Loading) → IsLoading (F.tree files.old) folders.now w
         → Turns result (edit_turn w number (session_of state.old) (Some (edit_seen edit.now))) (session_of state.new) }
@@ -248,7 +248,7 @@ pub(crate) fn answer<F: Files, L: Ledger>(
     line: &str,
     files: &mut F,
     steps: &mut Steps<L>,
-) -> Result<Said, Halt>
+) -> Result<Reply, SessionEnd>
     requires { length line.now ≤ 2 ^ 30 }
     ensures turns { F.tells → (w : Loading) → IsLoading (F.tree files.old) folders.now w
         → Turns result (edit_turn w number (session_of state.old) (edit_of line.now)) (session_of state.new) }

@@ -8,8 +8,8 @@ use Rattle.rosie_words.specs.declared.table.OptionName.{OptionName}
 use Rattle.rosie_words.specs.declared.table.OptionName.TheVariants as O
 use Rattle.rosie_words.specs.Table.{Word, same_option}
 use Rattle.rosie_words.specs.Roles.{Given, given}
-use Rattle.rosie_words.specs.Options.{is_given, last, root, roots, settings_of}
-use Rattle.rosie_words.specs.Settings.{put}
+use Rattle.rosie_words.specs.Options.{is_given, last, root, roots, values_of}
+use Rattle.rosie_words.specs.OptionValues.{put}
 use Rattle.rosie_words.specs.Taken.{put_all}
 
 roots_more : (gs : List Given) (g : Given) → roots (gs ++ g ∷ []) ≡ roots gs ++ root g.option g.value
@@ -35,7 +35,7 @@ last_more : (o : OptionName) (gs : List Given) (g : Given) → last o (gs ++ g �
 last_more o [] g = sym (option_or-None _)
 last_more o (x ∷ xs) g = rw (last_more o xs g) (option_or_assoc (here o g) (last o xs) (here o x))
 
-put_more : (gs : List Given) (o : OptionName) (w v : Word) → settings_of (gs ++ given o w v ∷ []) ≡ put o v (settings_of gs)
+put_more : (gs : List Given) (o : OptionName) (w v : Word) → values_of (gs ++ given o w v ∷ []) ≡ put o v (values_of gs)
 put_more gs O.File w v = simp (roots_more, is_given_more, last_more)
 put_more gs O.Rpl w v = simp (roots_more, is_given_more, last_more)
 put_more gs O.LibPath w v = simp (roots_more, is_given_more, last_more, append-nil)
@@ -50,7 +50,7 @@ put_more gs O.Limit w v = simp (roots_more, is_given_more, last_more, append-nil
 put_more gs O.CodeFile w v = simp (roots_more, is_given_more, last_more, append-nil)
 
 -- the options of hs, and then those of gs
-pub put_all_is : (hs gs : List Given) → put_all gs (settings_of hs) ≡ settings_of (hs ++ gs)
-put_all_is hs [] = ap settings_of (sym (append-nil hs))
+pub put_all_is : (hs gs : List Given) → put_all gs (values_of hs) ≡ values_of (hs ++ gs)
+put_all_is hs [] = ap values_of (sym (append-nil hs))
 put_all_is hs (g ∷ gs) =
-    ap (put_all gs) (sym (put_more hs g.option g.word g.value)) ∙ put_all_is (hs ++ g ∷ []) gs ∙ ap settings_of (append_assoc hs (g ∷ []) gs)
+    ap (put_all gs) (sym (put_more hs g.option g.word g.value)) ∙ put_all_is (hs ++ g ∷ []) gs ∙ ap values_of (append_assoc hs (g ∷ []) gs)

@@ -1,4 +1,4 @@
--- No reading is want of memory.
+-- No reading is out of memory.
 use Rattle.std.proofs.Common.{◌≢◌, ℕ, Bool, true, false, List, [], ◌∷◌, Option, Some, None, Result, Ok, Err}
 use Rattle.std.specs.Prelude.{if◌then◌else◌, chars}
 use Rattle.std.specs.Option.{option_or}
@@ -14,7 +14,7 @@ use Rattle.rosie_words.specs.Values.{accepts, number_in}
 use Rattle.rosie_words.specs.Roles as roles
 use Rattle.rosie_words.specs.Roles.{Front, Free, Role, Given, role, next, fault, end_fault, value_fault}
 use Rattle.rosie_words.specs.Options.{is_given, stray}
-use Rattle.rosie_words.specs.Arguments.{none, only, search_of, sample, sampled, made, what}
+use Rattle.rosie_words.specs.Arguments.{none, only, pattern_inputs_of, sample, sampled, made, what}
 use Rattle.rosie_words.specs.Reading.{first_fault, options, arguments, with_options, by_stray, by_name, chosen, unless, reading}
 
 value_by : (b : Bool) (v : Word) → (if b then None else Some (E.BadValue (chars v))) ≢ Some E.NoMemory
@@ -53,7 +53,7 @@ only_lacks [] = λ e. cc
 only_lacks (x ∷ []) = λ e. cc
 only_lacks (x ∷ y ∷ ws) = λ e. cc
 
-search_lacks : (ws : List Word) → search_of ws ≢ Err E.NoMemory
+search_lacks : (ws : List Word) → pattern_inputs_of ws ≢ Err E.NoMemory
 search_lacks [] = λ e. cc
 search_lacks (x ∷ ws) = λ e. cc
 
@@ -74,9 +74,9 @@ made_lacks f (Err x) p = λ e. p (cc)
 
 what_lacks : (c : CommandName) (code : Bool) (ws : List Word) → what c code ws ≢ Err E.NoMemory
 what_lacks C.Match true ws = λ e. cc
-what_lacks C.Match false ws = made_lacks _ (search_of ws) (search_lacks ws)
-what_lacks C.Grep code ws = made_lacks _ (search_of ws) (search_lacks ws)
-what_lacks C.Trace code ws = made_lacks _ (search_of ws) (search_lacks ws)
+what_lacks C.Match false ws = made_lacks _ (pattern_inputs_of ws) (search_lacks ws)
+what_lacks C.Grep code ws = made_lacks _ (pattern_inputs_of ws) (search_lacks ws)
+what_lacks C.Trace code ws = made_lacks _ (pattern_inputs_of ws) (search_lacks ws)
 what_lacks C.Test code ws = made_lacks _ (only ws) (only_lacks ws)
 what_lacks C.List code ws = made_lacks _ (none ws) (none_lacks ws)
 what_lacks C.Expand code ws = made_lacks _ (only ws) (only_lacks ws)

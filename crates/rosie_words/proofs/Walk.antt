@@ -8,34 +8,34 @@ use Rattle.std.proofs.lemmas.List.{append-nil}
 use Rattle.rosie_words.specs.declared.command.What.{What}
 use Rattle.rosie_words.specs.declared.fault.UsageFault.{UsageFault}
 use Rattle.rosie_words.specs.declared.reading.Reader.{Reader}
-use Rattle.rosie_words.specs.declared.settings.Settings.{Settings}
+use Rattle.rosie_words.specs.declared.option_values.OptionValues.{OptionValues}
 use Rattle.rosie_words.specs.declared.table.CommandName.{CommandName}
 use Rattle.rosie_words.specs.declared.table.OptionName.TheVariants as O
 use Rattle.rosie_words.specs.Table.{Word, same_option, command_named}
 use Rattle.rosie_words.specs.Roles.{Free, Given, role, next, fault, option_in, argument_in}
 use Rattle.rosie_words.specs.Reading.{words_of, first_fault, options, arguments, with_options, by_stray, by_name, chosen, unless, reading}
-use Rattle.rosie_words.specs.Options.{is_given, last, is_for, settings_of, stray}
+use Rattle.rosie_words.specs.Options.{is_given, last, is_for, values_of, stray}
 use Rattle.rosie_words.specs.Arguments.{what}
-use Rattle.rosie_words.specs.Settings.{put}
+use Rattle.rosie_words.specs.OptionValues.{put}
 use Rattle.rosie_words.specs.Seen.{front_of, text}
 use Rattle.rosie_words.specs.Taken.{Named, seen, name_of, word_of, stray_word, from_what, from_stray, from_name, chosen_from, finished, put_all, Starts, Takes}
 use Rattle.rosie_words.proofs.Lookups.{put_all_is}
 
 pub record Stands (all rest : List Word) (r : Reader) : Type 0 where
   pub sound : first_fault (front_of r.front) rest ≡ first_fault Free all
-  pub settings : put_all (options (front_of r.front) rest) r.settings ≡ put_all (options Free all) (settings_of [])
+  pub values : put_all (options (front_of r.front) rest) r.values ≡ put_all (options Free all) (values_of [])
   pub options : map seen r.options.items ++ map name_of (options (front_of r.front) rest) ≡ map name_of (options Free all)
   pub arguments : map text r.arguments.items ++ arguments (front_of r.front) rest ≡ arguments Free all
 
 pub starts : (all : List Word) (r : Reader) → Starts r → Stands all all r
 starts all r s = record {
   sound = rw s.front refl;
-  settings = rw (s.front, s.settings) refl;
+  values = rw (s.front, s.values) refl;
   options = rw (s.front, s.options) refl;
   arguments = rw (s.front, s.arguments) refl;
 }
 
-put_all-append : (gs hs : List Given) (s : Settings) → put_all (gs ++ hs) s ≡ put_all hs (put_all gs s)
+put_all-append : (gs hs : List Given) (s : OptionValues) → put_all (gs ++ hs) s ≡ put_all hs (put_all gs s)
 put_all-append [] hs s = refl
 put_all-append (g ∷ gs) hs s = put_all-append gs hs (put g.option g.value s)
 
@@ -50,7 +50,7 @@ takes all rest w old new t s =
     let g = option_in (role f w) w in
     record {
       sound = rw t.front ((sym (ap (λ o. option_or o (first_fault n rest)) t.sound)) ∙ s.sound);
-      settings = rw (t.front, t.settings) (sym (put_all-append g (options n rest) old.settings) ∙ s.settings);
+      values = rw (t.front, t.values) (sym (put_all-append g (options n rest) old.values) ∙ s.values);
       options = rw (t.front, t.options) (append_assoc (map seen old.options.items) (map name_of g) (map name_of (options n rest)) ∙ ap (λ ns. map seen old.options.items ++ ns) (sym (map-append g (options n rest))) ∙ s.options);
       arguments = rw (t.front, t.arguments) (append_assoc (map text old.arguments.items) (argument_in (role f w) w) (arguments n rest) ∙ s.arguments);
     }
@@ -84,26 +84,26 @@ stray_is : (c : CommandName) (code : Bool) (gs : List Given) → stray_word c co
 stray_is c code [] = refl
 stray_is c code (g ∷ gs) = stray_more (not (is_for c code g.option)) g (find (λ n. not (is_for c code n.option)) (map name_of gs)) (stray c code gs) (stray_is c code gs)
 
-what_is : (gs : List Given) (c : CommandName) (r : Result What UsageFault) → from_what (settings_of gs) c r ≡ with_options c gs r
+what_is : (gs : List Given) (c : CommandName) (r : Result What UsageFault) → from_what (values_of gs) c r ≡ with_options c gs r
 what_is gs c (Ok w) = refl
 what_is gs c (Err e) = refl
 
-found_is : (gs : List Given) (c : CommandName) (ws : List Word) (o : Option Given) → from_stray (settings_of gs) c ws (word_in o) ≡ by_stray c gs ws o
+found_is : (gs : List Given) (c : CommandName) (ws : List Word) (o : Option Given) → from_stray (values_of gs) c ws (word_in o) ≡ by_stray c gs ws o
 found_is gs c ws None = rw (has_code gs) (what_is gs c (what c (is_given O.CodeFile gs) ws))
 found_is gs c ws (Some g) = refl
 
-named_is : (gs : List Given) (w : Word) (ws : List Word) (o : Option CommandName) → from_name (settings_of gs) (map name_of gs) w ws o ≡ by_name o w gs ws
+named_is : (gs : List Given) (w : Word) (ws : List Word) (o : Option CommandName) → from_name (values_of gs) (map name_of gs) w ws o ≡ by_name o w gs ws
 named_is gs w ws None = refl
-named_is gs w ws (Some c) = ap (from_stray (settings_of gs) c ws) (stray_is c (is_some (option_map chars (last O.CodeFile gs))) gs) ∙ rw (has_code gs) (found_is gs c ws (stray c (is_given O.CodeFile gs) gs))
+named_is gs w ws (Some c) = ap (from_stray (values_of gs) c ws) (stray_is c (is_some (option_map chars (last O.CodeFile gs))) gs) ∙ rw (has_code gs) (found_is gs c ws (stray c (is_given O.CodeFile gs) gs))
 
-chosen_is : (gs : List Given) (ws : List Word) → chosen_from (settings_of gs) (map name_of gs) ws ≡ chosen gs ws
+chosen_is : (gs : List Given) (ws : List Word) → chosen_from (values_of gs) (map name_of gs) ws ≡ chosen gs ws
 chosen_is gs [] = refl
 chosen_is gs (w ∷ ws) = named_is gs w ws (command_named w)
 
 pub ends : (all : List Word) (r : Reader) → Stands all [] r → finished r ≡ reading all
 unfolding reading
 ends all r s =
-    let e : r.settings ≡ settings_of (options Free all) = s.settings ∙ put_all_is [] (options Free all) in
+    let e : r.values ≡ values_of (options Free all) = s.values ∙ put_all_is [] (options Free all) in
     let o : map seen r.options.items ≡ map name_of (options Free all) = sym (append-nil _) ∙ s.options in
     let a : map text r.arguments.items ≡ arguments Free all = sym (append-nil _) ∙ s.arguments in
     rw (s.sound, e, o, a) (ap (unless (first_fault Free all)) (chosen_is (options Free all) (arguments Free all)))

@@ -21,14 +21,14 @@ only (w ∷ []) = Ok (chars w)
 only (w ∷ x ∷ ws) = Err TooManyArguments
 
 -- a pattern, and the input files
-pub record Search : Type 0 where
+pub record PatternInputs : Type 0 where
   pub pattern : List ℕ
   pub inputs : List (List ℕ)
 
 -- these of some words
-abbrev pub search_of : List Word → Result Search UsageFault
-search_of [] = Err MissingArgument
-search_of (p ∷ fs) = Ok (record { pattern = chars p; inputs = map chars fs })
+abbrev pub pattern_inputs_of : List Word → Result PatternInputs UsageFault
+pattern_inputs_of [] = Err MissingArgument
+pattern_inputs_of (p ∷ fs) = Ok (record { pattern = chars p; inputs = map chars fs })
 
 -- the seed, and how many lines: the first that is not in its range is at fault
 abbrev pub sampled : Word → Word → Option ℕ → Option ℕ → Result What UsageFault
@@ -55,9 +55,9 @@ made f (Err e) = Err e
 -- the command with its arguments; with a code file `match` has no pattern
 abbrev pub what : CommandName → Bool → List Word → Result What UsageFault
 what C.Match true ws = Ok (W.Match [] (map chars ws))
-what C.Match false ws = made (λ s. W.Match s.pattern s.inputs) (search_of ws)
-what C.Grep has_code ws = made (λ s. W.Grep s.pattern s.inputs) (search_of ws)
-what C.Trace has_code ws = made (λ s. W.Trace s.pattern s.inputs) (search_of ws)
+what C.Match false ws = made (λ s. W.Match s.pattern s.inputs) (pattern_inputs_of ws)
+what C.Grep has_code ws = made (λ s. W.Grep s.pattern s.inputs) (pattern_inputs_of ws)
+what C.Trace has_code ws = made (λ s. W.Trace s.pattern s.inputs) (pattern_inputs_of ws)
 what C.Test has_code ws = made W.Test (only ws)
 what C.List has_code ws = made (λ _. W.List) (none ws)
 what C.Expand has_code ws = made W.Expand (only ws)

@@ -13,7 +13,7 @@ use Rattle.rpl_package.specs.declared.rooted.Root.TheVariants as R
 use Rattle.rpl_encode.specs.declared.style.Style.{Style}
 use Rattle.rpl_encode.specs.declared.style.Style.TheVariants as S
 use Rattle.rosie_words.specs.declared.command.What.{What}
-use Rattle.rosie_words.specs.declared.settings.Settings.{Settings}
+use Rattle.rosie_words.specs.declared.option_values.OptionValues.{OptionValues}
 use Rattle.rosie_words.specs.Table.{Word, row, takes, same_command, same_option}
 use Rattle.rosie_words.specs.Values.{path_of, style_named, number_of}
 use Rattle.rosie_words.specs.Roles.{Given}
@@ -52,8 +52,8 @@ usual_style C.Grep = S.Line
 usual_style c = S.Json
 
 -- what the options say, where it is told whether a style is given
-abbrev pub settings_of : List Given → Settings
-settings_of gs = record {
+abbrev pub values_of : List Given → OptionValues
+values_of gs = record {
   roots = roots gs;
   folders = folders gs;
   style = option_and_then style_named (last O.Output gs);
@@ -68,7 +68,7 @@ settings_of gs = record {
 }
 
 -- the command c with these settings
-abbrev pub command_from : Settings → CommandName → What → Command
+abbrev pub command_from : OptionValues → CommandName → What → Command
 command_from s c what = record {
   what = what;
   roots = s.roots;
@@ -86,7 +86,7 @@ command_from s c what = record {
 
 -- and with what the options say
 abbrev pub command : CommandName → What → List Given → Command
-command c what gs = command_from (settings_of gs) c what
+command c what gs = command_from (values_of gs) c what
 
 -- an option that a code file takes the place of
 abbrev pub makes_code : OptionName → Bool

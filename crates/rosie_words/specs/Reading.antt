@@ -17,7 +17,7 @@ use Rattle.rosie_words.specs.Arguments.{what}
 abbrev pub words_of : {Z : Type 0} → List (String Z) → List Word
 words_of ws = map string_bytes ws
 
--- the first fault of a single word, behind what the words before leave
+-- the first fault of a single word, after what the words before leave
 abbrev pub first_fault : Front → List Word → Option UsageFault
 first_fault front [] = end_fault front
 first_fault front (w ∷ ws) = option_or (fault (role front w) w) (first_fault (next front (role front w) w) ws)

@@ -48,7 +48,7 @@ is_equals b = b == 61
 abbrev pub name_of : Word → Word
 name_of w = if is_long w then before_first is_equals w else w
 
--- the value that stands in the same word: of a long one what stands behind the first `=`
+-- the value that stands in the same word: of a long one what stands after the first `=`
 abbrev pub value_of : Word → Option Word
 value_of w = if is_long w && list_any is_equals w then Some (after_first is_equals w) else None
 
@@ -91,7 +91,7 @@ fault (Full o v) w = value_fault o v
 fault (Value o n) w = value_fault o w
 fault r w = None
 
--- the fault behind the last word
+-- the fault after the last word
 abbrev pub end_fault : Front → Option UsageFault
 end_fault (Owed o n) = Some (MissingValue (chars n))
 end_fault front = None

@@ -6,8 +6,8 @@ use Rattle.rosie_words.specs.declared.role.Front.{Front}
 use Rattle.rosie_words.specs.declared.role.Front.TheVariants as F
 use Rattle.rosie_words.specs.declared.role.Role.{Role}
 use Rattle.rosie_words.specs.declared.role.Role.TheVariants as R
-use Rattle.rosie_words.specs.declared.what.Search as rust
-use Rattle.rosie_words.specs.Arguments.{Search}
+use Rattle.rosie_words.specs.declared.what.PatternInputs as rust
+use Rattle.rosie_words.specs.Arguments.{PatternInputs}
 use Rattle.rosie_words.specs.Roles as roles
 
 -- what the words before leave
@@ -42,5 +42,5 @@ abbrev pub text : Bor (List ℕ) → Word
 text w = w.now
 
 -- a pattern and its inputs
-abbrev pub search_seen : rust.Search → Search
-search_seen s = record { pattern = s.pattern; inputs = s.inputs }
+abbrev pub pattern_inputs_seen : rust.PatternInputs → PatternInputs
+pattern_inputs_seen s = record { pattern = s.pattern; inputs = s.inputs }

@@ -35,7 +35,7 @@ style_of (Some n) = Some n.style
 abbrev pub style_named : Word → Option Style
 style_named w = style_of (find (λ n. bytes_eq w n.word) styles)
 
--- the value of digits behind those that make n
+-- the value of digits after those that make n
 abbrev pub value_from : ℕ → Word → ℕ
 value_from n [] = n
 value_from n (b ∷ bs) = value_from (n * 10 + (b - 48)) bs

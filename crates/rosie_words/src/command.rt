@@ -43,13 +43,13 @@ pub struct Command {
     pub style: Style,
     /// `-w`: an input is one line.
     pub whole: bool,
-    /// `-a`: lines that did not match are told too.
+    /// `-a`: lines that did not match are reported too.
     pub all: bool,
     /// `-F`: the pattern is the text itself.
     pub fixed: bool,
     /// The machine steps of `--budget` that a line may take.
     pub budget: Option<u64>,
-    /// `--steps`: the steps of each line are told.
+    /// `--steps`: the steps of each line are reported.
     pub steps: bool,
     /// `--code`: the program is printed too.
     pub code: bool,

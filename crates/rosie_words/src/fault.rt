@@ -19,11 +19,11 @@ pub enum UsageFault {
     NoMemory,
     /// The option of this word is not in the table.
     UnknownOption(Chars),
-    /// The option of this word takes no value, but has one behind `=`.
+    /// The option of this word takes no value, but has one after `=`.
     UnexpectedValue(Chars),
     /// The option of this word takes the next word as its value, and there is none.
     MissingValue(Chars),
-    /// This value of an option, or this argument of `sample`, has not its form.
+    /// This value of an option, or this argument of `sample`, is not of the right form.
     BadValue(Chars),
     /// There is no argument.
     NoCommand,

@@ -7,10 +7,10 @@
 mod command;
 mod fault;
 mod lists;
+mod option_values;
 mod printed;
 mod reading;
 mod role;
-mod settings;
 mod table;
 mod value;
 mod what;
@@ -19,5 +19,5 @@ pub use command::{Command, What};
 pub use fault::UsageFault;
 pub use lists::Paths;
 pub use printed::{fault_line, usage};
-pub use reading::{no_reading_is_want_of_memory, read_words};
+pub use reading::{no_reading_is_out_of_memory, read_words};
 pub use std::alloc::AllocError as NoMemory;

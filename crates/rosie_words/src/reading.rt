@@ -11,8 +11,8 @@ ghost use Rattle.rosie_words.specs.declared.fault.UsageFault.TheVariants as E;
 use crate::NoMemory;
 use crate::command::Command;
 use crate::fault::UsageFault;
+use crate::option_values::OptionValues;
 use crate::role::{Front, Role};
-use crate::settings::Settings;
 use crate::table::{CommandName, OptionName, command_named};
 use crate::what::what;
 use rpl_text::Chars;
@@ -40,13 +40,13 @@ fn stray<'a>(options: &[Given<'a>], command: CommandName, has_code: bool) -> Opt
 /// The command of the options and the arguments.
 fn choose(
     alloc: Global,
-    settings: Settings,
+    values: OptionValues,
     options: &[Given<'_>],
     arguments: &[&str],
 ) -> Result<Command, UsageFault>
-    ensures ok { IfOk result (λ c. chosen_from settings (map seen options.now) (map text arguments.now) ≡ Ok c) }
+    ensures ok { IfOk result (λ c. chosen_from values (map seen options.now) (map text arguments.now) ≡ Ok c) }
     ensures fault { IfErr result (λ e. e ≢ E.NoMemory →
-        chosen_from settings (map seen options.now) (map text arguments.now) ≡ Err e) }
+        chosen_from values (map seen options.now) (map text arguments.now) ≡ Err e) }
 {
     let [name, arguments @ ..] = arguments else {
         return Err(UsageFault::NoCommand);
@@ -54,19 +54,19 @@ fn choose(
     let Some(command) = command_named(name) else {
         return Err(UsageFault::UnknownCommand(Chars::from_str(alloc, name)?));
     };
-    let has_code = settings.code_file.is_some();
+    let has_code = values.code_file.is_some();
     if let Some(word) = stray(options, command, has_code) {
         return Err(UsageFault::NotForCommand(Chars::from_str(alloc, word)?));
     }
     let what = what(alloc, command, has_code, arguments)?;
-    Ok(settings.into_command(command, what))
+    Ok(values.into_command(command, what))
 }
 
 /// What the words so far say.
 #[derive(Drop)]
 struct Reader<'a> {
     front: Front<'a>,
-    settings: Settings,
+    values: OptionValues,
     options: Vec<Given<'a>>,
     arguments: Vec<&'a str>,
 }
@@ -78,7 +78,7 @@ impl<'a> Reader<'a> {
     {
         Ok(Reader {
             front: Front::Free,
-            settings: Settings::new(alloc)?,
+            values: OptionValues::new(alloc)?,
             options: Vec::new(alloc),
             arguments: Vec::new(alloc),
         })
@@ -96,7 +96,7 @@ impl<'a> Reader<'a> {
         ensures ok { OnOk result (Adds self.old self.new (given option word.now value.now ∷ []) []) }
         ensures fault { IfErr result (λ e. e ≢ E.NoMemory → value_fault option value.now ≡ Some e) }
     {
-        self.settings.set(alloc, option, value)?;
+        self.values.set(alloc, option, value)?;
         self.options.push(Given { option, word })?;
         Ok(())
     }
@@ -143,7 +143,7 @@ impl<'a> Reader<'a> {
         if let Front::Owed(_, word) = self.front {
             return Err(UsageFault::MissingValue(Chars::from_str(alloc, word)?));
         }
-        choose(alloc, self.settings, &self.options, &self.arguments)
+        choose(alloc, self.values, &self.options, &self.arguments)
     }
 }
 
@@ -161,7 +161,7 @@ pub fn read_words(alloc: Global, words: &[String]) -> Result<Command, UsageFault
     reader.finish(alloc)
 }
 
-/// Want of memory is no reading of any words: `NoMemory` is the machine's own answer.
-pub fn no_reading_is_want_of_memory()
+/// Out of memory is no reading of any words: `NoMemory` is the machine's own answer.
+pub fn no_reading_is_out_of_memory()
     ensures { (words : List Word) → reading words ≢ Err E.NoMemory }
 {}

@@ -29,9 +29,9 @@ pub(crate) enum Role<'a> {
     Unknown,
     /// An option that takes no value.
     Plain(OptionName),
-    /// The same, with a value behind `=`.
+    /// An option that takes no value, with one after `=`.
     Unexpected,
-    /// An option with its value behind `=`.
+    /// An option with its value after `=`.
     Full(OptionName, &'a str),
     /// An option whose value is the next word.
     Waiting(OptionName),

@@ -1,9 +1,9 @@
 //! The command and its arguments.
 
 ghost use Rattle.std.specs.Prelude.{◌≡◌, ◌≢◌, map, Some, None, IfOk, IfErr, Ok, Err, chars};
-ghost use Rattle.rosie_words.specs.Arguments.{none, only, search_of, sample_of, sample, what};
+ghost use Rattle.rosie_words.specs.Arguments.{none, only, pattern_inputs_of, sample_of, sample, what};
 ghost use Rattle.rosie_words.specs.Values.{number_in};
-ghost use Rattle.rosie_words.specs.Seen.{text, search_seen};
+ghost use Rattle.rosie_words.specs.Seen.{text, pattern_inputs_seen};
 ghost use Rattle.rosie_words.specs.declared.fault.UsageFault.TheVariants as E;
 
 use crate::NoMemory;
@@ -58,19 +58,19 @@ fn only(alloc: Global, arguments: &[&str]) -> Result<Chars, UsageFault>
 
 /// A pattern, and the input files.
 #[derive(Drop)]
-struct Search {
+struct PatternInputs {
     pattern: Chars,
     inputs: Paths,
 }
 
 /// The pattern and the input files.
-fn search_of(alloc: Global, arguments: &[&str]) -> Result<Search, UsageFault>
-    ensures ok { IfOk result (λ s. search_of (map text arguments.now) ≡ Ok (search_seen s)) }
-    ensures fault { IfErr result (λ e. e ≢ E.NoMemory → search_of (map text arguments.now) ≡ Err e) }
+fn pattern_inputs_of(alloc: Global, arguments: &[&str]) -> Result<PatternInputs, UsageFault>
+    ensures ok { IfOk result (λ s. pattern_inputs_of (map text arguments.now) ≡ Ok (pattern_inputs_seen s)) }
+    ensures fault { IfErr result (λ e. e ≢ E.NoMemory → pattern_inputs_of (map text arguments.now) ≡ Err e) }
 {
     match arguments {
         [] => Err(UsageFault::MissingArgument),
-        [pattern, inputs @ ..] => Ok(Search {
+        [pattern, inputs @ ..] => Ok(PatternInputs {
             pattern: Chars::from_str(alloc, pattern)?,
             inputs: paths(alloc, inputs)?,
         }),
@@ -129,15 +129,15 @@ pub(crate) fn what(
                 let inputs = paths(alloc, arguments)?;
                 return Ok(What::Match { pattern, inputs });
             }
-            let Search { pattern, inputs } = search_of(alloc, arguments)?;
+            let PatternInputs { pattern, inputs } = pattern_inputs_of(alloc, arguments)?;
             Ok(What::Match { pattern, inputs })
         }
         CommandName::Grep => {
-            let Search { pattern, inputs } = search_of(alloc, arguments)?;
+            let PatternInputs { pattern, inputs } = pattern_inputs_of(alloc, arguments)?;
             Ok(What::Grep { pattern, inputs })
         }
         CommandName::Trace => {
-            let Search { pattern, inputs } = search_of(alloc, arguments)?;
+            let PatternInputs { pattern, inputs } = pattern_inputs_of(alloc, arguments)?;
             Ok(What::Trace { pattern, inputs })
         }
         CommandName::Test => Ok(What::Test {

@@ -9,10 +9,10 @@ use Rattle.rpl_core.specs.Programs.{calls, calls_any}
 use Rattle.rpl_core.specs.Table.{blocks_of, bodies_of}
 use Rattle.rpl_core.specs.View.{core_of}
 use Rattle.rpl_core.specs.declared.rules.Rule.{Rule}
-use Rattle.rpl_simulation.specs.Static.{may_be_empty}
-use Rattle.rpl_simulation.specs.Termination.{IfEmpty, CallsBelow, AllCallBelow, EachCallsBelow, IsTidy, AreTidy, Terminates}
-use Rattle.rpl_simulation.specs.Static.{may_halt, predicates_stay}
-use Rattle.rpl_simulation.proofs.Termination.{ends_holds}
+use Rattle.rpl_compile_laws.specs.Static.{may_be_empty}
+use Rattle.rpl_compile_laws.specs.Termination.{IfEmpty, CallsBelow, AllCallBelow, EachCallsBelow, IsTidy, AreTidy, Terminates}
+use Rattle.rpl_compile_laws.specs.Static.{may_halt, predicates_stay}
+use Rattle.rpl_compile_laws.proofs.Termination.{ends_holds}
 use Rattle.rpl_check.specs.inside.Accepted.{IsAccepted}
 use Rattle.rpl_check.specs.Checked.{IsWhole}
 use Rattle.rpl_check.specs.Facts.{IsLeast, Solves, Facts, passes, calls_here, front_calls_here, any_calls_here}

@@ -7,7 +7,7 @@ use Rattle.rpl_core.specs.Core.{Core, Set, Seq, Choice, Many, Not, And, Behind, 
 use Rattle.rpl_core.specs.Table.{bodies_of}
 use Rattle.rpl_core.specs.View.{core_of}
 use Rattle.rpl_core.specs.declared.rules.Rule.{Rule}
-use Rattle.rpl_simulation.specs.Static.{may_be_empty}
+use Rattle.rpl_compile_laws.specs.Static.{may_be_empty}
 use Rattle.rpl_check.specs.Facts.{calls_here, front_calls_here, any_calls_here, calls_at, passes}
 use Rattle.rpl_core.specs.inside.Marks.{marked}
 use Rattle.rpl_check.specs.inside.Search.{marked_from}

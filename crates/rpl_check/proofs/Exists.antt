@@ -5,8 +5,8 @@ use Rattle.std.proofs.lemmas.Option.{slice_get_within}
 use Rattle.std.specs.Prelude.{Bool, true, false, ◌&&◌, not, ◌⊎◌, slice_get}
 use Rattle.rpl_core.specs.Core.{Core}
 use Rattle.rpl_core.specs.Programs.{calls}
-use Rattle.rpl_simulation.specs.Static.{may_be_empty}
-use Rattle.rpl_simulation.specs.Static.{may_halt}
+use Rattle.rpl_compile_laws.specs.Static.{may_be_empty}
+use Rattle.rpl_compile_laws.specs.Static.{may_halt}
 use Rattle.rpl_check.specs.Facts.{IsLeast, Solves, Follows, Facts, passes, calls_here}
 use Rattle.rpl_check.specs.Laws.{CallsStay, AreSame}
 use Rattle.rpl_check.proofs.Least.{least_unique, empty_grows, halt_grows, here_called}

@@ -6,21 +6,21 @@ use Rattle.std.specs.Prelude.{Bool, true, false, ◌||◌, ◌&&◌, ◌⊎◌, 
 use Rattle.rpl_core.specs.inside.Marks.{unmarked, waits}
 use Rattle.rpl_check.specs.inside.Search.{in_block, found, Finds}
 use Rattle.rpl_core.proofs.Marking.{never, not_new, joined, later, more, waits_more, unmarked_less}
-use Rattle.rpl_check.specs.declared.recursion.Search.{Search}
+use Rattle.rpl_check.specs.declared.recursion.BlockSearch.{BlockSearch}
 
 -- none is found
-pub finds_none : (s : Search) → Finds (λ r. false) s s
+pub finds_none : (s : BlockSearch) → Finds (λ r. false) s s
 finds_none s = record { start = refl; long = refl; marks = λ r. never (found s r) (in_block s r); waiting = λ r. not_new (waits s.waiting.items r) (found s r); left = refl }
 
 -- the same rules by another test
-pub finds_as : (f g : ℕ → Bool) (s s1 : Search) → Finds f s s1 → ((r : ℕ) → f r ≡ g r) → Finds g s s1
+pub finds_as : (f g : ℕ → Bool) (s s1 : BlockSearch) → Finds f s s1 → ((r : ℕ) → f r ≡ g r) → Finds g s s1
 finds_as f g s s1 a e = record { start = a.start; long = a.long; marks = λ r. a.marks r ∙ ap (λ b. found s r || (in_block s r && b)) (e r); waiting = a.waiting; left = a.left }
 
-same_block : (s s1 : Search) (r : ℕ) → s1.start ≡ s.start → length s1.marks.items ≡ length s.marks.items → in_block s1 r ≡ in_block s r
+same_block : (s s1 : BlockSearch) (r : ℕ) → s1.start ≡ s.start → length s1.marks.items ≡ length s.marks.items → in_block s1 r ≡ in_block s r
 same_block s s1 r e f = ap (λ a. nat_le a r && nat_lt (r - a) (length s1.marks.items)) e ∙ ap (λ n. nat_le s.start r && nat_lt (r - s.start) n) f
 
 -- some are found, and then others
-pub finds_then : (f g : ℕ → Bool) (s s1 s2 : Search) → Finds f s s1 → Finds g s1 s2 → Finds (λ r. f r || g r) s s2
+pub finds_then : (f g : ℕ → Bool) (s s1 s2 : BlockSearch) → Finds f s s1 → Finds g s1 s2 → Finds (λ r. f r || g r) s s2
 finds_then f g s s1 s2 a b = record {
   start = b.start ∙ a.start;
   long = b.long ∙ a.long;
@@ -37,7 +37,7 @@ finds_then f g s s1 s2 a b = record {
 all_on : (a b : Bool) → a ≡ true → b ≡ true → (a && b) ≡ true
 all_on a b s t = ap (λ x. x && b) s ∙ t
 
-module _ (s s1 : Search) (k : ℕ) (le : s.start ≤ k) (lt : k - s.start < length s.marks.items) (unset : get_or s.marks.items (k - s.start) false ≡ false) (st : s1.start ≡ s.start) (e : s1.marks.items ≡ set s.marks.items (k - s.start) true) where
+module _ (s s1 : BlockSearch) (k : ℕ) (le : s.start ≤ k) (lt : k - s.start < length s.marks.items) (unset : get_or s.marks.items (k - s.start) false ≡ false) (st : s1.start ≡ s.start) (e : s1.marks.items ≡ set s.marks.items (k - s.start) true) where
   seen : (r : ℕ) → found s1 r ≡ (nat_le s.start r && get_or (set s.marks.items (k - s.start) true) (r - s.start) false)
   seen r = ap (λ a. nat_le a r && get_or s1.marks.items (r - a) false) st ∙ ap (λ l. nat_le s.start r && get_or l (r - s.start) false) e
 
@@ -105,7 +105,7 @@ outside_or false false f h = refl
 outside_or false true false h = refl
 outside_or false true true h = ⊎_elim (λ e. absurd (let u : true ≡ false = e in cc)) (λ e. absurd (let u : false ≡ true = e in cc)) (h refl)
 
-pub finds_no_other : (s : Search) (k : ℕ) → in_block s k ≡ false ⊎ found s k ≡ true → Finds (λ r. nat_eq k r) s s
+pub finds_no_other : (s : BlockSearch) (k : ℕ) → in_block s k ≡ false ⊎ found s k ≡ true → Finds (λ r. nat_eq k r) s s
 finds_no_other s k h = record {
   start = refl;
   long = refl;

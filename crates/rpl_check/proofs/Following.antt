@@ -11,7 +11,7 @@ use Rattle.rpl_check.specs.inside.Search.{marked_from}
 use Rattle.rpl_check.specs.inside.Rounds.{CallsBefore, Reach}
 use Rattle.rpl_core.specs.inside.Marks.{waits}
 use Rattle.rpl_check.specs.inside.Search.{found, in_block, Finds}
-use Rattle.rpl_check.specs.declared.recursion.Search.{Search}
+use Rattle.rpl_check.specs.declared.recursion.BlockSearch.{BlockSearch}
 use Rattle.rpl_core.proofs.Marking.{waits_more}
 use Rattle.rpl_check.proofs.Least.{here_called}
 use Rattle.rpl_core.proofs.Bools.{clash, either, left, right, both, paired, not_on, eq_self, eq_of, same_tests}
@@ -41,7 +41,7 @@ abbrev away : (ℕ → ℕ → Bool) → ℕ → ℕ → Bool
 away reach r t = not (nat_eq t r) && not (reach t r)
 
 -- the rules before a, and those found
-abbrev closed_set : ℕ → Search → ℕ → Bool
+abbrev closed_set : ℕ → BlockSearch → ℕ → Bool
 closed_set a s t = nat_lt t a || found s t
 
 module _ (R : List Core) (m : ℕ → Bool) (reach : ℕ → ℕ → Bool) (all : Reach R m reach) where
@@ -94,7 +94,7 @@ from_cases a marks t e = either (nat_lt t a) (marked marks (t - a)) (λ l. inl (
 -- the search from the rule r through the n rules from a on: what is found is reached, and what a rule calls is found
 -- unless that rule still waits
 module _ (R : List Core) (m : ℕ → Bool) (r a n : ℕ) where
-  pub record Followed (s : Search) : Type 0 where
+  pub record Followed (s : BlockSearch) : Type 0 where
     pub start : s.start ≡ a
     pub long : length s.marks.items ≡ n
     pub under : (k : ℕ → Bool) → Follows R m r k → (t : ℕ) → found s t ≡ true → k t ≡ true
@@ -106,16 +106,16 @@ module _ (R : List Core) (m : ℕ → Bool) (r a n : ℕ) where
   whence : (x o b f : Bool) → x ≡ (o || (b && f)) → x ≡ true → (o ≡ true) ⊎ (f ≡ true)
   whence x o b f e t = either o (b && f) (λ y. inl y) (λ y. inr (both b f y).1) (sym e ∙ t)
 
-  inside : (s : Search) (t : ℕ) → s.start ≡ a → length s.marks.items ≡ n → a ≤ t → t < a + n → in_block s t ≡ true
+  inside : (s : BlockSearch) (t : ℕ) → s.start ≡ a → length s.marks.items ≡ n → a ≤ t → t < a + n → in_block s t ≡ true
   inside s t st long le lt = paired (nat_le s.start t) (nat_lt (t - s.start) (length s.marks.items)) (le_on s.start t (omega (arith, st))) (lt_on (t - s.start) (length s.marks.items) (omega (arith, st, long)))
 
-  finds : (s s1 : Search) (f : ℕ → Bool) (t : ℕ) → Finds f s s1 → s.start ≡ a → length s.marks.items ≡ n → a ≤ t → t < a + n → f t ≡ true → found s1 t ≡ true
+  finds : (s s1 : BlockSearch) (f : ℕ → Bool) (t : ℕ) → Finds f s s1 → s.start ≡ a → length s.marks.items ≡ n → a ≤ t → t < a + n → f t ≡ true → found s1 t ≡ true
   finds s s1 f t h st long le lt e = h.marks t ∙ right (found s t) (in_block s t && f t) (paired (in_block s t) (f t) (inside s t st long le lt) e)
 
-  keeps : (s s1 : Search) (f : ℕ → Bool) (t : ℕ) → Finds f s s1 → found s t ≡ true → found s1 t ≡ true
+  keeps : (s s1 : BlockSearch) (f : ℕ → Bool) (t : ℕ) → Finds f s s1 → found s t ≡ true → found s1 t ≡ true
   keeps s s1 f t h e = h.marks t ∙ left (found s t) (in_block s t && f t) e
 
-  pub follow_begins : (s s1 : Search) → s.start ≡ a → length s.marks.items ≡ n → ((t : ℕ) → marked s.marks.items t ≡ false) → s.waiting.items ≡ [] → Finds (λ t. calls_at m R r t) s s1 → Followed s1
+  pub follow_begins : (s s1 : BlockSearch) → s.start ≡ a → length s.marks.items ≡ n → ((t : ℕ) → marked s.marks.items t ≡ false) → s.waiting.items ≡ [] → Finds (λ t. calls_at m R r t) s s1 → Followed s1
   follow_begins s s1 st long unset none h = record {
     start = h.start ∙ st;
     long = h.long ∙ long;
@@ -133,7 +133,7 @@ module _ (R : List Core) (m : ℕ → Bool) (r a n : ℕ) where
           and_false false = refl
 
   -- one rule that waited is looked at
-  pub follow_on : (s s1 s2 : Search) (q : ℕ) → Followed s → s.waiting.items ≡ s1.waiting.items ++ q ∷ [] → s1.marks.items ≡ s.marks.items → s1.start ≡ s.start → Finds (λ t. calls_at m R q t) s1 s2 → Followed s2
+  pub follow_on : (s s1 s2 : BlockSearch) (q : ℕ) → Followed s → s.waiting.items ≡ s1.waiting.items ++ q ∷ [] → s1.marks.items ≡ s.marks.items → s1.start ≡ s.start → Finds (λ t. calls_at m R q t) s1 s2 → Followed s2
   follow_on s s1 s2 q k rest same st h = record {
     start = h.start ∙ st ∙ k.start;
     long = h.long ∙ long1;
@@ -171,7 +171,7 @@ module _ (R : List Core) (m : ℕ → Bool) (r a n : ℕ) where
               (sym (waits_more s1.waiting.items q x) ∙ sym (ap (λ l. waits l x) rest) ∙ w)
 
   -- nothing waits any more
-  pub follow_ends : (s : Search) (k : ℕ → Bool) → a ≤ r → r < a + n → CallsBefore R a → CallsBefore R (a + n) → s.waiting.items ≡ [] → Followed s → IsLeast (Follows R m r) k → marked s.marks.items (r - a) ≡ k r
+  pub follow_ends : (s : BlockSearch) (k : ℕ → Bool) → a ≤ r → r < a + n → CallsBefore R a → CallsBefore R (a + n) → s.waiting.items ≡ [] → Followed s → IsLeast (Follows R m r) k → marked s.marks.items (r - a) ≡ k r
   follow_ends s k le lt early calls none h least = same_tests (marked s.marks.items (r - a)) (k r) (λ e. h.under k least.solution r (at_r ∙ e)) (λ e. sym at_r ∙ reached (least.least (closed_set a s) closed r e))
     where
       at_r : found s r ≡ marked s.marks.items (r - a)

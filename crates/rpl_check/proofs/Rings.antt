@@ -11,7 +11,7 @@ use Rattle.rpl_core.proofs.Marking.{waits_more}
 use Rattle.rpl_check.specs.Facts.{calls_at}
 use Rattle.rpl_check.specs.inside.Rounds.{CallsBefore, OverReach}
 use Rattle.rpl_check.specs.inside.Search.{AreLeft, AreReached, Finds, ReachRule, found, marked_from}
-use Rattle.rpl_check.specs.declared.recursion.Search.{Search}
+use Rattle.rpl_check.specs.declared.recursion.BlockSearch.{BlockSearch}
 use Rattle.rpl_check.proofs.Following.{called_before, follow_ends, reach_from, Followed}
 
 -- a mark that is set, whatever it is
@@ -62,7 +62,7 @@ only_itself R m a r n le self = back_set R m a r r (replicate n true) le self (�
     all_marked (suc n) (suc i) lt off = all_marked n i (omega arith) off
 
 -- what is found stands in the block
-pub found_inside : (s : Search) (a n q : ℕ) → s.start ≡ a → length s.marks.items ≡ n → found s q ≡ true → (a ≤ q) × (q < a + n)
+pub found_inside : (s : BlockSearch) (a n q : ℕ) → s.start ≡ a → length s.marks.items ≡ n → found s q ≡ true → (a ≤ q) × (q < a + n)
 found_inside s a n q st long e =
     let x = both (nat_le s.start q) (marked s.marks.items (q - s.start)) e in
     let from : s.start ≤ q = le_of s.start q x.0 in
@@ -73,7 +73,7 @@ found_inside s a n q st long e =
 
 module _ (R : List Core) (m : ℕ → Bool) (r a n : ℕ) where
   -- what was looked at is found, when one rule more is
-  pub looked_on : (s s1 s2 : Search) (q : ℕ) (old new : List ℕ) → Followed R m r a n s → ((t : ℕ) → waits old t ≡ true → found s t ≡ true) → s.waiting.items ≡ s1.waiting.items ++ q ∷ [] → s1.marks.items ≡ s.marks.items → s1.start ≡ s.start → Finds (λ t. calls_at m R q t) s1 s2 → new ≡ old ++ q ∷ [] → (t : ℕ) → waits new t ≡ true → found s2 t ≡ true
+  pub looked_on : (s s1 s2 : BlockSearch) (q : ℕ) (old new : List ℕ) → Followed R m r a n s → ((t : ℕ) → waits old t ≡ true → found s t ≡ true) → s.waiting.items ≡ s1.waiting.items ++ q ∷ [] → s1.marks.items ≡ s.marks.items → s1.start ≡ s.start → Finds (λ t. calls_at m R q t) s1 s2 → new ≡ old ++ q ∷ [] → (t : ℕ) → waits new t ≡ true → found s2 t ≡ true
   looked_on s s1 s2 q old new k before rest same st h more t w =
       either (waits old t) (nat_eq q t) (λ x. keep t (before t x)) (λ x. subst (λ y. found s2 y ≡ true) (eq_of q t x) (keep q (k.known q waited))) (sym (waits_more old q t) ∙ sym (ap (λ l. waits l t) more) ∙ w)
     where
@@ -87,14 +87,14 @@ module _ (R : List Core) (m : ℕ → Bool) (r a n : ℕ) where
       keep x e = h.marks x ∙ left (found s1 x) _ (as_before x ∙ e)
 
   -- what was looked at is reached, and stands in the block
-  pub looked_reached : (s : Search) (e : ℕ) (looked : List ℕ) → e ≡ a + n → Followed R m r a n s → ((t : ℕ) → waits looked t ≡ true → found s t ≡ true) → AreReached R m r a e looked
+  pub looked_reached : (s : BlockSearch) (e : ℕ) (looked : List ℕ) → e ≡ a + n → Followed R m r a n s → ((t : ℕ) → waits looked t ≡ true → found s t ≡ true) → AreReached R m r a e looked
   looked_reached s e looked to k all_found = record {
     reached = λ reach all q w. k.under (reach r) (all r).solution q (all_found q w);
     inside = λ q w. let x = found_inside s a n q k.start k.long (all_found q w) in (x.0, omega (arith, x.1));
   }
 
 -- where nothing waits any more, the mark of the first rule says whether it reaches itself
-pub itself_is : (R : List Core) (m : ℕ → Bool) (r a e : ℕ) (s : Search) (b : Bool) → a ≤ r → r < e → CallsBefore R a → CallsBefore R e → s.waiting.items ≡ [] → Followed R m r a (e - a) s → b ≡ marked s.marks.items (r - a) → OverReach R m (λ reach. b ≡ reach r r)
+pub itself_is : (R : List Core) (m : ℕ → Bool) (r a e : ℕ) (s : BlockSearch) (b : Bool) → a ≤ r → r < e → CallsBefore R a → CallsBefore R e → s.waiting.items ≡ [] → Followed R m r a (e - a) s → b ≡ marked s.marks.items (r - a) → OverReach R m (λ reach. b ≡ reach r r)
 itself_is R m r a e s b le lt early calls none k is reach all =
     let to : e ≡ a + (e - a) = omega arith in
     is ∙ follow_ends R m r a (e - a) s (reach r) le (omega arith) early (subst (λ x. CallsBefore R x) to calls) none k (all r)

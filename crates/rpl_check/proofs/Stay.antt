@@ -2,8 +2,8 @@
 use Rattle.std.proofs.Common.{◌≡◌, ℕ, refl}
 use Rattle.std.specs.Prelude.{Bool, true, false, not, ◌&&◌}
 use Rattle.rpl_core.specs.Core.{Core}
-use Rattle.rpl_simulation.specs.Static.{may_halt, predicates_stay}
-use Rattle.rpl_simulation.proofs.NoHalt.{stays}
+use Rattle.rpl_compile_laws.specs.Static.{may_halt, predicates_stay}
+use Rattle.rpl_compile_laws.proofs.NoHalt.{stays}
 
 module _ (h : ℕ → Bool) where
   -- the test of a predicate's body is enough

@@ -17,7 +17,7 @@ abbrev pub some_cause : Option B.BehindCause → Option Cause
 some_cause None = None
 some_cause (Some cause) = Some (cause_named cause)
 
--- the fault that an answer names; want of memory is none
+-- the fault that an answer names; out of memory is none
 abbrev pub fault_named : CheckFault → Option Fault
 fault_named W.NoMemory = None
 fault_named (W.LookBehind rule cause) = Some (LookBehind rule (cause_named cause))
@@ -30,7 +30,7 @@ abbrev pub IsDue : Option Fault → Option Fault → Type 0
 IsDue due None = Unit {0}
 IsDue due (Some f) = due ≡ Some f
 
--- the answer is Ok only where no fault is due, and an error names the one that is, or want of memory
+-- the answer is Ok only where no fault is due, and an error names the one that is, or out of memory
 abbrev pub Answers : {A : Type 0} → Option Fault → Result A CheckFault → Type 0
 Answers due (Ok a) = due ≡ None
 Answers due (Err e) = IsDue due (fault_named e)

@@ -4,7 +4,7 @@ use Rattle.rpl_core.specs.Core.{Core}
 use Rattle.rpl_core.specs.Meaning.{Open}
 use Rattle.rpl_core.specs.Outcome.{outcome}
 use Rattle.rpl_core.specs.Programs.{calls}
-use Rattle.rpl_simulation.specs.Static.{NoPredicateHalts}
+use Rattle.rpl_compile_laws.specs.Static.{NoPredicateHalts}
 use Rattle.rpl_check.specs.Laws.{CallsStay}
 
 -- The goal g over the table R means something on every text, and so does its code: its outcome is never open, no

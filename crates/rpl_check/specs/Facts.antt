@@ -2,8 +2,8 @@
 use Rattle.std.specs.Prelude.{◌≡◌, ℕ, Bool, true, false, ◌||◌, ◌&&◌, nat_eq, List, Option, Some, None, slice_get}
 use Rattle.rpl_core.specs.Core.{Core, Set, Seq, Choice, Many, Not, And, Behind, Call, Capture, Note, Start, End, Halt}
 use Rattle.rpl_core.specs.Core.{Cores, NoMore, Then}
-use Rattle.rpl_simulation.specs.Static.{may_be_empty}
-use Rattle.rpl_simulation.specs.Static.{may_halt}
+use Rattle.rpl_compile_laws.specs.Static.{may_be_empty}
+use Rattle.rpl_compile_laws.specs.Static.{may_halt}
 
 -- the core may call the rule r before it has taken a character, where just the rules of m may be empty
 abbrev mutual

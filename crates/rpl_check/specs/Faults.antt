@@ -2,7 +2,7 @@
 use Rattle.std.specs.Prelude.{ℕ, zero, suc, ◌+◌, Bool, true, false, not, List, Option, Some, None, slice_get}
 use Rattle.std.specs.Option.{option_or}
 use Rattle.rpl_core.specs.Core.{Core}
-use Rattle.rpl_simulation.specs.Static.{predicates_stay}
+use Rattle.rpl_compile_laws.specs.Static.{predicates_stay}
 use Rattle.rpl_check.specs.Causes.{Cause, first_cause, body_cause}
 use Rattle.rpl_check.specs.Facts.{passes}
 use Rattle.rpl_check.specs.Loops.{has_empty_loop}

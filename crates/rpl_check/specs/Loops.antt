@@ -2,7 +2,7 @@
 use Rattle.std.specs.Prelude.{ℕ, Bool, false}
 use Rattle.rpl_core.specs.Core.{Core, Many, Cores}
 use Rattle.rpl_core.specs.Parts.{some_inside, some_of}
-use Rattle.rpl_simulation.specs.Static.{may_be_empty}
+use Rattle.rpl_compile_laws.specs.Static.{may_be_empty}
 
 -- the core repeats something that may be empty, where just the rules of m may
 abbrev pub is_empty_loop : (ℕ → Bool) → Core → Bool

@@ -114,7 +114,7 @@ fn check_goal(peg: &Peg, empties: &[bool], halting: &[bool]) -> Result<(), Check
 }
 
 /// The pattern, if it has no fault; else its first. A pattern without faults means something on every text, and so
-/// does its code. It needs each call to be one of a rule of the table, and never answers that memory is wanting.
+/// does its code. It needs each call to be one of a rule of the table, and never answers that memory runs out.
 pub fn check_pattern(_alloc: Global, checked: &Checked, peg: Peg) -> Result<CheckedPeg, CheckFault>
     requires { (r : ℕ) → calls (core_of peg) r ≡ true → r < length checked.now }
     ensures exactly { (d : Facts (bodies_of checked.now))

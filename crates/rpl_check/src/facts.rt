@@ -2,7 +2,7 @@
 ghost use Rattle.std.specs.Prelude.{◌≡◌, ◌<◌, ◌≤◌, false, true, length, slice_get};
 ghost use Rattle.rpl_core.specs.Listed.{bodies_in};
 ghost use Rattle.rpl_core.specs.View.{core_of, cores};
-ghost use Rattle.rpl_simulation.specs.Static as S;
+ghost use Rattle.rpl_compile_laws.specs.Static as S;
 ghost use Rattle.rpl_check.specs.Facts.{passes};
 ghost use Rattle.rpl_core.specs.inside.Marks.{marked};
 ghost use Rattle.rpl_check.specs.inside.Rounds.{test_of};
@@ -109,7 +109,7 @@ fn holds(peg: &Peg, fact: Fact, marks: &[bool]) -> bool
     }
 }
 
-/// So does the body of the rule with this number, if there is one.
+/// The body of the rule with this number passes the test of the fact, if there is such a rule.
 pub(crate) fn rule_holds(rules: &Rules, number: u32, fact: Fact, marks: &[bool]) -> bool
     ensures { result ≡ passes (test_of fact (marked marks.now)) (slice_get (bodies_in rules.now) number) }
 {

@@ -19,7 +19,7 @@ pub enum BehindCause {
 /// pattern.
 #[derive(Debug, Drop, Error)]
 pub enum CheckFault {
-    /// Memory is wanting.
+    /// Memory ran out.
     #[error("out of memory")]
     NoMemory,
     /// A look-behind whose lengths have no bound, or too high a one.

@@ -1,7 +1,7 @@
 // Empty loops, and halts under predicates.
 ghost use Rattle.std.specs.Prelude.{◌≡◌};
 ghost use Rattle.rpl_core.specs.View.{core_of, cores};
-ghost use Rattle.rpl_simulation.specs.Static as S;
+ghost use Rattle.rpl_compile_laws.specs.Static as S;
 ghost use Rattle.rpl_check.specs.Loops as L;
 ghost use Rattle.rpl_core.specs.inside.Marks.{marked};
 

@@ -1,7 +1,7 @@
 // Which rules of a block reach themselves before a character is taken.
 ghost use Rattle.std.specs.Prelude.{◌≡◌, ℕ, ◌-◌, ◌<◌, ◌≤◌, ◌^◌, Bool, false, true, nat_eq, length, IfOk, OnOk, ◌+◌};
 ghost use Rattle.rpl_core.specs.View.{core_of, cores};
-ghost use Rattle.rpl_simulation.specs.Static as E;
+ghost use Rattle.rpl_compile_laws.specs.Static as E;
 ghost use Rattle.rpl_check.specs.Facts.{Follows, IsLeast, any_calls_here, calls_at, calls_here, front_calls_here};
 ghost use Rattle.rpl_check.specs.Blocks as B;
 ghost use Rattle.rpl_core.specs.inside.Marks.{marked};
@@ -91,13 +91,13 @@ fn clean_front_of_each(parts: &[Peg], empties: &[bool], clean: &[bool], start: u
 
 /// The rules of a block that were found, and those of them whose bodies weren't looked at. The block begins at `start`.
 #[derive(Drop)]
-struct Search {
+struct BlockSearch {
     start: u32,
     marks: Vec<bool>,
     waiting: Vec<u32>,
 }
 
-impl Search {
+impl BlockSearch {
     /// Finds the rule, if it is one of the block.
     fn find(&mut self, rule: u32) -> Result<(), NoMemory>
         ensures { OnOk result (Finds (λ r. nat_eq rule r) self.old self.new) }
@@ -116,7 +116,7 @@ impl Search {
 
 /// Finds the rules that the pattern may call before a character, and tells whether it may be empty.
 #[cycle(find)]
-fn find_calls(search: &mut Search, peg: &Peg, empties: &[bool]) -> Result<bool, NoMemory>
+fn find_calls(search: &mut BlockSearch, peg: &Peg, empties: &[bool]) -> Result<bool, NoMemory>
     ensures finds { OnOk result (Finds (calls_here (marked empties.now) (core_of peg.now)) search.old search.new) }
     ensures empty { IfOk result (λ b. b ≡ E.may_be_empty (marked empties.now) (core_of peg.now)) }
 {
@@ -151,7 +151,11 @@ fn find_calls(search: &mut Search, peg: &Peg, empties: &[bool]) -> Result<bool, 
 
 /// Finds those of parts in turn.
 #[cycle(find)]
-fn find_front_calls(search: &mut Search, parts: &[Peg], empties: &[bool]) -> Result<bool, NoMemory>
+fn find_front_calls(
+    search: &mut BlockSearch,
+    parts: &[Peg],
+    empties: &[bool],
+) -> Result<bool, NoMemory>
     ensures finds { OnOk result
         (Finds (front_calls_here (marked empties.now) (cores parts.now)) search.old search.new) }
     ensures empty { IfOk result (λ b. b ≡ E.all_may_be_empty (marked empties.now) (cores parts.now)) }
@@ -166,7 +170,11 @@ fn find_front_calls(search: &mut Search, parts: &[Peg], empties: &[bool]) -> Res
 
 /// Finds those of a choice of the parts.
 #[cycle(find)]
-fn find_all_calls(search: &mut Search, parts: &[Peg], empties: &[bool]) -> Result<bool, NoMemory>
+fn find_all_calls(
+    search: &mut BlockSearch,
+    parts: &[Peg],
+    empties: &[bool],
+) -> Result<bool, NoMemory>
     ensures finds { OnOk result (Finds (any_calls_here (marked empties.now) (cores parts.now)) search.old search.new) }
     ensures empty { IfOk result (λ b. b ≡ E.any_may_be_empty (marked empties.now) (cores parts.now)) }
 {
@@ -340,7 +348,7 @@ impl Block<'_> {
     ghost use Rattle.rpl_check.specs.inside.Within.{Stands, IsLong, empty_in, table_of};
 
     /// Finds the calls of the rule with this number, if there is one.
-    fn find_calls_of(&self, search: &mut Search, number: u32) -> Result<(), NoMemory>
+    fn find_calls_of(&self, search: &mut BlockSearch, number: u32) -> Result<(), NoMemory>
         ensures { OnOk result
             (Finds (calls_at (empty_in self.now) (table_of self.now) number) search.old search.new) }
     {
@@ -444,7 +452,7 @@ impl Block<'_> {
             (λ reach. IfOk result (λ b. b ≡ reach number number)) }
         ensures left { AreLeft (table_of self.now) (empty_in self.now) self.now.start left.new }
     {
-        let mut search = Search {
+        let mut search = BlockSearch {
             start: self.start,
             marks: vec![in alloc; false; (self.end - self.start) as usize]?,
             waiting: Vec::new(alloc),

@@ -185,7 +185,7 @@ else_same : (t : Bool) (x y z : Reading) → y ≡ z → (if t then x else y) �
 else_same true x y z h = refl
 else_same false x y z h = h
 
--- the three ways on behind a set: its end, and the two operators, each where it reads alike
+-- the three ways on after a set: its end, and the two operators, each where it reads alike
 operators_same : (e b w : Bool) (d n x y u v : Reading) → (b ≡ true → x ≡ y) → (w ≡ true → u ≡ v) → (if e then d else if b then x else if w then u else n) ≡ (if e then d else if b then y else if w then v else n)
 operators_same e b w d n x y u v h k =
     else_same e d (if b then x else if w then u else n) (if b then y else if w then v else n)
@@ -207,7 +207,7 @@ agree_below : (n m : ℕ) (b d : List Placed → Reading) → Agree n b d → m 
 agree_below n m b d h le = λ s k. h s (omega arith)
 
 module _ (b d : List Placed → Reading) (h : Shrinks b) where
-  -- behind the blanks one is read, and then the others
+  -- after the blanks one is read, and then the others
   first_same : (s : List Placed) (f e : List Range → List Placed → Reading) → Agree (length s) b d
       → ((c : List Range) (q : List Placed) → length q < length s → f c q ≡ e c q)
       → and_then (b (past_blanks s)) f ≡ and_then (d (past_blanks s)) e

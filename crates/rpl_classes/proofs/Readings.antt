@@ -54,7 +54,7 @@ pub start_place : (t : List ℕ) → IsPlace t 0
 start_place [] = refl
 start_place (c ∷ cs) = refl
 
--- ---- a bracket, by what stands behind its `[`
+-- ---- a bracket, by what stands after its `[`
 
 abbrev behind_mark : List Placed → Reading
 behind_mark s = if begins 94 s then changed others (content (rest s)) else content s
@@ -89,7 +89,7 @@ bracket_marked t p q d h r k m e =
     bracket_opens t p q h r ∙ (cond-false (is_class s) (class p s) (behind_mark s) k
     ∙ (cond-true (begins 94 s) (changed others (content (rest s))) (content s) m ∙ ap (λ x. changed others (content x)) e))
 
--- ---- what stands behind a `[` and `^`
+-- ---- what stands after a `[` and `^`
 
 pub content_list : (t : List ℕ) (p h : ℕ) → past_blanks (symbols_from t p) ≡ symbols_from t h → begins 91 (symbols_from t h) ≡ false → content (symbols_from t p) ≡ list (symbols_from t p)
 content_list t p h e f = cond-false (begins 91 (past_blanks (symbols_from t p))) (and_then (side (symbols_from t p)) joins) (list (symbols_from t p)) (ap (begins 91) e ∙ f)

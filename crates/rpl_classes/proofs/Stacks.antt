@@ -101,7 +101,7 @@ frame_begins t q o negated n b u =
     ∙ (ap (λ x. signed o.negated (and_then (and_then (reading (symbols_from t q)) (λ c s. further (x ++ c) s)) joins)) (sym u)
     ∙ ap (λ x. signed o.negated (and_then (and_then (reading (symbols_from t q)) (λ c s. further (o.union.items ++ c) s)) (λ a s. joins (joined_by x a) s))) (sym b))
 
--- the rest of a compound, behind the ranges u of its union at the symbols s
+-- the rest of a compound, after the ranges u of its union at the symbols s
 abbrev tail : Bool → (List Range → List Range) → List Range → List Placed → Reading
 tail negated f u s = signed negated (and_then (further u s) (λ a q. joins (f a) q))
 
@@ -122,7 +122,7 @@ tail_joins t p h negated f u e b =
     ap (λ (x : Reading). signed negated (and_then x (λ a q. joins (f a) q)))
     (union_law u s ∙ cond-false (begins 91 (past_blanks s)) (and_then (reading (past_blanks s)) (λ c r. further (u ++ c) r)) (Ok (norm u, s)) (ap (begins 91) e ∙ b))
 
--- what follows a union, by the symbol behind the blanks
+-- what follows a union, by the symbol after the blanks
 abbrev taking : List Range → List Placed → Reading
 taking a r = if begins 45 r && begins 45 (rest r) then and_then (side (rest (rest r))) (λ c q. joins (without a c) q) else Err (BadSet (place r))
 
@@ -164,7 +164,7 @@ tail_bad t p h negated f u e n c x y =
     ∙ (cond-false (begins 45 s && begins 45 (rest s)) (and_then (side (rest (rest s))) (λ d q. joins (without a d) q)) (Err (BadSet (place s))) y ∙ ap (λ k. Err (BadSet k)) (place_from t h)))))
     ∙ signed_err negated (BadSet h))
 
--- an operator, and the union behind it
+-- an operator, and the union after it
 joins_goes : (t : List ℕ) (p h q : ℕ) (o : Operator) (a : List Range) → past_blanks (symbols_from t p) ≡ symbols_from t h → begins 93 (symbols_from t h) ≡ false → OperatorAt t h (Some (o, q))
     → joins a (symbols_from t p) ≡ and_then (side (symbols_from t q)) (λ c s. joins (applied o a c) s)
 joins_goes t p h q Both a e f g =

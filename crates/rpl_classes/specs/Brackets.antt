@@ -22,7 +22,7 @@ is_word (Plain c) = is_alnum c || nat_eq c 95
 is_word (Escaped c) = false
 is_word End = false
 
--- the longest name at the front, and what stands behind it
+-- the longest name at the front, and what stands after it
 unfoldable pub word : List Placed → List ℕ
 word [] = []
 word (x ∷ s) = if is_word x.1 then char_of x.1 ∷ word s else []
@@ -35,7 +35,7 @@ past_word (x ∷ s) = if is_word x.1 then past_word s else x ∷ s
 abbrev pub is_name : List Placed → Bool
 is_name s = is_word (first s) && (begins 58 (past_word s) && begins 93 (rest (past_word s)))
 
--- behind the `[` the whole bracket is `:name:]` or `:^name:]`
+-- after the `[` the whole bracket is `:name:]` or `:^name:]`
 abbrev pub is_class : List Placed → Bool
 is_class s = begins 58 s && (if begins 94 (rest s) then is_name (rest (rest s)) else is_name (rest s))
 
@@ -52,7 +52,7 @@ class p s = if begins 94 (rest s) then changed others (name p (rest (rest s))) e
 
 -- ---- compounds, with b the reader of a bracket, and at most n members
 
--- further brackets side by side, behind those that have the ranges a: the union of all of them
+-- further brackets side by side, after those that have the ranges a: the union of all of them
 unfoldable pub more : (List Placed → Reading) → ℕ → List Range → List Placed → Reading
 more b zero a s = Ok (norm a, s)
 more b (suc n) a s =
@@ -80,11 +80,11 @@ compound b n s = and_then (union b n s) (joined b n)
 
 -- ---- brackets
 
--- what stands behind a bracket's `[` and `^`: a compound where the first symbol but blanks is `[`, else a list
+-- what stands after a bracket's `[` and `^`: a compound where the first symbol but blanks is `[`, else a list
 abbrev pub body : (List Placed → Reading) → ℕ → List Placed → Reading
 body b n s = if begins 91 (past_blanks s) then compound b n s else list s
 
--- what stands behind the `[` of the place p, as a set
+-- what stands after the `[` of the place p, as a set
 abbrev pub inside : (List Placed → Reading) → ℕ → ℕ → List Placed → Reading
 inside b n p s =
     if is_class s then class p s

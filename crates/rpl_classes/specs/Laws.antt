@@ -34,11 +34,11 @@ side s = and_then (reading (past_blanks s)) further
 abbrev pub joins : List Range → List Placed → Reading
 joins a s = joined reading (suc (length s)) a s
 
--- what stands behind a bracket's `[` and `^`: a compound where the first symbol but blanks is `[`, else a list
+-- what stands after a bracket's `[` and `^`: a compound where the first symbol but blanks is `[`, else a list
 abbrev pub content : List Placed → Reading
 content s = if begins 91 (past_blanks s) then and_then (side s) joins else list s
 
--- A bracket is a class, or its content, or behind `^` the complement of its content. Brackets side by side are a union.
+-- A bracket is a class, or its content, or after `^` the complement of its content. Brackets side by side are a union.
 -- Operators go from left to right: `&&` keeps what is in both, `--` takes away; a `]` ends the compound. Nothing else
 -- may stand there. The first `^` of a text isn't carried out but told.
 pub record ReadsInItsOwnWords : Type 0 where

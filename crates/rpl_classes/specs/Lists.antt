@@ -9,11 +9,11 @@ use Rattle.rpl_classes.specs.declared.fault.SetFault.TheVariants.{BadRange, BadS
 use Rattle.rpl_classes.specs.declared.symbols.Symbol.{Symbol}
 use Rattle.rpl_classes.specs.declared.symbols.Symbol.TheVariants.{Plain, Escaped, End}
 
--- some ranges and the symbols behind what they were read from, or the first fault
+-- some ranges and the symbols after what they were read from, or the first fault
 abbrev pub Reading : Type 0
 Reading = Result (List Range × List Placed) SetFault
 
--- reads on behind what was read
+-- reads on after what was read
 abbrev pub and_then : Reading → (List Range → List Placed → Reading) → Reading
 and_then (Ok (a, s)) f = f a s
 and_then (Err e) f = Err e

@@ -15,7 +15,7 @@ abbrev pub escaped : ℕ → Option (ℕ × ℕ) → (ℕ → List Placed) → L
 escaped p None rest = (p, End) ∷ []
 escaped p (Some (c, k)) rest = (p, Escaped c) ∷ rest k
 
--- the symbols from a byte place on, behind k characters that belong to an escape; End is last, at the text's end or at
+-- the symbols from a byte place on, after k characters that belong to an escape; End is last, at the text's end or at
 -- a backslash that begins no escape
 unfoldable pub symbols : ℕ → ℕ → List ℕ → List Placed
 symbols k p [] = (p, End) ∷ []
@@ -32,7 +32,7 @@ symbols_from t p = symbols 0 p (drop (index t p) t)
 abbrev pub size : List ℕ → ℕ
 size t = at t (length t)
 
--- the symbol at the front, its place, and what stands behind it
+-- the symbol at the front, its place, and what stands after it
 abbrev pub first : List Placed → Symbol
 first [] = End
 first (x ∷ s) = x.1
@@ -59,7 +59,7 @@ begins c s = is_plain c (first s)
 abbrev pub is_blank : Symbol → Bool
 is_blank x = is_plain 32 x || is_plain 9 x
 
--- behind the spaces and tabs at the front
+-- after the spaces and tabs at the front
 unfoldable pub past_blanks : List Placed → List Placed
 past_blanks [] = []
 past_blanks (x ∷ s) = if is_blank x.1 then past_blanks s else x ∷ s

@@ -18,7 +18,7 @@ use crate::symbols::{accept, skip_blanks, skip_word};
 use rpl_text::Text;
 use std::alloc::Global;
 
-/// A class between a bracket's `[` and the place behind its `]`.
+/// A class between a bracket's `[` and the place after its `]`.
 #[derive(Clone, Copy)]
 struct ClassText {
     /// A `^` stands before the name.
@@ -26,11 +26,11 @@ struct ClassText {
     /// Where the name begins and ends.
     start: usize,
     end: usize,
-    /// The place behind the `]`.
+    /// The place after the `]`.
     next: usize,
 }
 
-/// The name of a class at a place, where `:` and `]` follow it: its end, and the place behind.
+/// The name of a class at a place, where `:` and `]` follow it: its end, and the place after.
 fn name_at(text: &str, start: usize) -> Option<(usize, usize)>
     requires { IsPlace (chars text.now) start }
     ensures { let t = chars text.now in
@@ -45,7 +45,7 @@ fn name_at(text: &str, start: usize) -> Option<(usize, usize)>
     Some((end, next))
 }
 
-/// The class at a place behind a bracket's `[`.
+/// The class at a place after a bracket's `[`.
 fn class_at(text: &str, place: usize) -> Option<ClassText>
     requires { IsPlace (chars text.now) place }
     ensures { let t = chars text.now in
@@ -74,7 +74,7 @@ fn part(text: &str, from: usize, to: usize) -> &str
     Text::new(text).slice(from, to)
 }
 
-/// The set of a class, whose name stands behind the place `inside`, in the bracket at `at`.
+/// The set of a class, whose name stands after the place `inside`, in the bracket at `at`.
 fn class_set(
     alloc: Global,
     text: &str,
@@ -111,13 +111,13 @@ pub(crate) fn signed_set(alloc: Global, negated: bool, set: Set) -> Result<Set, 
 
 /// What stands at a bracket's place.
 pub(crate) enum Begun {
-    /// The whole bracket: its set, and the place behind its `]`.
+    /// The whole bracket: its set, and the place after its `]`.
     Whole(Set, usize),
     /// A compound: whether a `^` stands before it, and the place of its first member.
     Compound(bool, usize),
 }
 
-/// What stands behind a bracket's `[` and `^`: a list, or a compound up to its first member.
+/// What stands after a bracket's `[` and `^`: a list, or a compound up to its first member.
 fn content_at(alloc: Global, text: &str, negated: bool, place: usize) -> Result<Begun, SetFault>
     requires { IsPlace (chars text.now) place }
     ensures value { let t = chars text.now in Begins t place (signed negated (content (symbols_from t place))) result }
@@ -149,7 +149,7 @@ pub(crate) fn begin_at(alloc: Global, text: &str, place: usize) -> Result<Begun,
     content_at(alloc, text, true, behind)
 }
 
-/// The set of what stands behind the outermost `[` and `^`.
+/// The set of what stands after the outermost `[` and `^`.
 fn content_set(alloc: Global, text: &str, place: usize) -> Result<Set, SetFault>
     requires { IsPlace (chars text.now) place }
     ensures { let t = chars text.now in GivesSet t (content (symbols_from t place)) result }
@@ -165,7 +165,7 @@ fn content_set(alloc: Global, text: &str, place: usize) -> Result<Set, SetFault>
 pub struct Bracket {
     /// The characters that are listed.
     pub set: Set,
-    /// A `^` stands behind the outermost `[`: the characters that are not in the set are meant.
+    /// A `^` stands after the outermost `[`: the characters that are not in the set are meant.
     pub negated: bool,
 }
 
@@ -175,7 +175,7 @@ pub struct Bracket {
 /// is `[`, of brackets side by side and of the operators `&&` and `--`, from left to right; or else
 /// a list of characters and escapes, of which `x-y` alone is a range. The first fault by place is
 /// answered. A text that is no bracket is BadSet where it goes wrong, at its end at the latest;
-/// what stands behind the matching `]` isn't looked at. Brackets may stand in one another to any
+/// what stands after the matching `]` isn't looked at. Brackets may stand in one another to any
 /// depth: no call nests with them.
 pub fn read_bracket(alloc: Global, text: &str) -> Result<Bracket, SetFault>
     ensures { IsRead (bracket_of (chars text.now)) result }

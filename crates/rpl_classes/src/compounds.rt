@@ -25,7 +25,7 @@ pub(crate) enum Operator {
     Without,
 }
 
-/// The place behind a character that stands twice.
+/// The place after a character that stands twice.
 fn accept_twice(text: &str, place: usize, c: char) -> Option<usize>
     requires { IsPlace (chars text.now) place }
     ensures { AcceptsTwice (chars text.now) place c result }
@@ -34,7 +34,7 @@ fn accept_twice(text: &str, place: usize, c: char) -> Option<usize>
     accept(text, next, c)
 }
 
-/// The operator at a place, and the place behind it.
+/// The operator at a place, and the place after it.
 fn operator_at(text: &str, place: usize) -> Option<(Operator, usize)>
     requires { IsPlace (chars text.now) place }
     ensures { OperatorAt (chars text.now) place result }
@@ -150,7 +150,7 @@ impl Open {
 pub(crate) enum Step {
     /// Another member, at the place.
     Member(Open, usize),
-    /// The compound's end: its set, and the place behind its `]`.
+    /// The compound's end: its set, and the place after its `]`.
     Closed(Set, usize),
 }
 

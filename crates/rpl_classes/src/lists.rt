@@ -11,7 +11,7 @@ use crate::set::Set;
 use crate::symbols::{Symbol, accept, symbol_at};
 use std::alloc::Global;
 
-/// The character of a list at a place, and the place behind it.
+/// The character of a list at a place, and the place after it.
 fn member_at(text: &str, place: usize) -> Option<(char, usize)>
     requires { IsPlace (chars text.now) place }
     ensures { TakesMember (chars text.now) place result }
@@ -30,17 +30,17 @@ fn member_at(text: &str, place: usize) -> Option<(char, usize)>
 
 /// A list of three, `x-y`.
 #[derive(Clone, Copy)]
-struct RangeList {
+struct DashRange {
     low: char,
     /// The place of the `-`.
     dash: usize,
     high: char,
-    /// The place behind the `]`.
+    /// The place after the `]`.
     next: usize,
 }
 
 /// The list of three at a place, with its `]`.
-fn range_at(text: &str, place: usize) -> Option<RangeList>
+fn range_at(text: &str, place: usize) -> Option<DashRange>
     requires { IsPlace (chars text.now) place }
     ensures { let t = chars text.now in
         MatchOption result (is_range (symbols_from t place) ≡ false)
@@ -50,7 +50,7 @@ fn range_at(text: &str, place: usize) -> Option<RangeList>
     let behind = accept(text, dash, '-')?;
     let (high, end) = member_at(text, behind)?;
     let next = accept(text, end, ']')?;
-    Some(RangeList {
+    Some(DashRange {
         low,
         dash,
         high,
@@ -70,7 +70,7 @@ fn is_inner_dash(text: &str, place: usize, is_first: bool) -> bool
     }
 }
 
-/// One more character of any other list, or none at its `]`, and the place behind it.
+/// One more character of any other list, or none at its `]`, and the place after it.
 fn list_step(text: &str, at: usize, is_first: bool) -> Result<(Option<char>, usize), SetFault>
     requires { IsPlace (chars text.now) at }
     ensures { StepsList (chars text.now) at is_first result }
@@ -109,7 +109,7 @@ fn each_at(alloc: Global, text: &str, place: usize) -> Result<(Set, usize), SetF
     }
 }
 
-/// The set of a list at a place, with its `]`, and the place behind it.
+/// The set of a list at a place, with its `]`, and the place after it.
 pub(crate) fn list_at(alloc: Global, text: &str, place: usize) -> Result<(Set, usize), SetFault>
     requires { IsPlace (chars text.now) place }
     ensures value { Gives (chars text.now) result (list (symbols_from (chars text.now) place)) }

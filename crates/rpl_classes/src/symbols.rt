@@ -24,7 +24,7 @@ fn step_at(text: &str, place: usize) -> Option<(char, usize)>
     Text::new(text).step(place)
 }
 
-/// The symbol at a place, and the place behind it.
+/// The symbol at a place, and the place after it.
 pub(crate) fn symbol_at(text: &str, place: usize) -> (Symbol, usize)
     requires { IsPlace (chars text.now) place }
     ensures { Scanned (chars text.now) place result.0 result.1 }
@@ -53,7 +53,7 @@ fn is_plain(symbol: Symbol, c: char) -> bool
     }
 }
 
-/// The place behind a character, where it stands at a place by no escape.
+/// The place after a character, where it stands at a place by no escape.
 pub(crate) fn accept(text: &str, place: usize, c: char) -> Option<usize>
     requires { IsPlace (chars text.now) place }
     ensures { Accepts (chars text.now) place c result }
@@ -72,7 +72,7 @@ fn is_blank(symbol: Symbol) -> bool
     is_plain(symbol, ' ') || is_plain(symbol, '\t')
 }
 
-/// The place behind the spaces and tabs from a place on.
+/// The place after the spaces and tabs from a place on.
 pub(crate) fn skip_blanks(text: &str, place: usize) -> usize
     requires { IsPlace (chars text.now) place }
     ensures { Skipped (chars text.now) place (past_blanks (symbols_from (chars text.now) place)) result }
@@ -96,7 +96,7 @@ fn is_word(symbol: Symbol) -> bool
     }
 }
 
-/// The place behind the letters, digits and `_` from a place on.
+/// The place after the letters, digits and `_` from a place on.
 pub(crate) fn skip_word(text: &str, place: usize) -> usize
     requires { IsPlace (chars text.now) place }
     ensures { Worded (chars text.now) place result }

@@ -94,7 +94,7 @@ text_again x rest h =
     ∙ text_is (to_be_bytes w64 (length bytes) ++ (bytes ++ rest)) (length bytes) (bytes ++ rest) bytes rest (number64_again (length bytes) (bytes ++ rest) h.1) (omega (arith, length-append bytes rest)) (sym (take_at bytes rest (length bytes) refl)) (sym (drop_at bytes rest (length bytes) refl)) u
     ∙ ap (λ y. Some (y, rest)) (chars-encodes x h.0)
 
--- what is read behind each part
+-- what is read after each part
 abbrev c5 : List (List Range) → List (List ℕ) → List R.Instr × List ℕ → Option File
 c5 s t code = Some (record { code = code.0; sets = s; texts = t })
 

@@ -10,7 +10,7 @@ use Rattle.rpl_core.specs.Instr as I
 use Rattle.rpl_core.specs.Numbers.{instr_of, in_range}
 use Rattle.rpl_core.specs.declared.instr.Instr as R
 use Rattle.rpl_core.specs.declared.instr.Instr.TheVariants as V
-use Rattle.rpl_draft.specs.Written.{shown}
+use Rattle.rpl_intern.specs.Written.{shown}
 use Rattle.rpl_codefile.proofs.Once.{read_any}
 
 -- the address of an instruction is below n

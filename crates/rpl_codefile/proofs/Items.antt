@@ -86,7 +86,7 @@ more_items f (y ∷ xs) (suc n) x e =
     let m : suc n + 1 ≡ suc (n + 1) = omega arith in
     ap (λ k. flat_map f (take k (y ∷ xs))) m ∙ flat_map-cons f y (take (n + 1) xs) ∙ ap (λ l. f y ++ l) (more_items f xs n x e) ∙ sym (append_assoc (f y) (flat_map f (take n xs)) (f x)) ∙ ap (λ l. l ++ f x) (sym (flat_map-cons f y (take n xs)))
 
--- both, behind what was there
+-- both, after what was there
 pub put_more : {A : Type 0} (f : A → List ℕ) (P : A → Type 0) (start out new : List ℕ) (xs : List A) (i : ℕ) (x : A) → slice_get xs i ≡ Some x → (out ≡ start ++ flat_map f (take i xs)) × All P (take i xs) → new ≡ out ++ f x → P x → (new ≡ start ++ flat_map f (take (i + 1) xs)) × All P (take (i + 1) xs)
 put_more f P start out new xs i x e h n p =
     (n ∙ ap (λ l. l ++ f x) h.0 ∙ append_assoc start (flat_map f (take i xs)) (f x) ∙ ap (λ l. start ++ l) (sym (more_items f xs i x e)), all_more P xs i x e p h.1)

@@ -20,7 +20,7 @@ use Rattle.rpl_core.specs.Instr as I
 use Rattle.rpl_core.specs.Numbers.{instr_of, in_range}
 use Rattle.rpl_core.specs.declared.instr.Instr as R
 use Rattle.rpl_core.specs.declared.instr.Instr.TheVariants as V
-use Rattle.rpl_draft.specs.Uses.{Keeps, KeepsOnce, sets_in, labels_in}
+use Rattle.rpl_intern.specs.Uses.{Keeps, KeepsOnce, sets_in, labels_in}
 use Rattle.rpl_codefile.specs.Laws.{CanBeSpelled, HasSpelling, Spellable}
 use Rattle.rpl_codefile.specs.Spelling.{file_of, spelling, Short, ShortRange, FitsSet, FitsText, FitsFile, IsFile}
 use Rattle.rpl_codefile.specs.Spelling.{Spells}

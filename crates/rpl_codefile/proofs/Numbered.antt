@@ -9,7 +9,7 @@ use Rattle.regex_class.specs.Ranges.{Range}
 use Rattle.rpl_core.specs.Numbers.{AreInRange, in_range, instr_of}
 use Rattle.rpl_core.specs.declared.instr.Instr as R
 use Rattle.rpl_core.specs.declared.instr.Instr.TheVariants as V
-use Rattle.rpl_draft.specs.Uses.{Keeps, KeepsOnce, labels_in, sets_in}
+use Rattle.rpl_intern.specs.Uses.{Keeps, KeepsOnce, labels_in, sets_in}
 use Rattle.rpl_codefile.specs.inside.Reading.{◌>>=◌}
 use Rattle.rpl_codefile.specs.inside.Tables.{Apart, come, set_number, text_number, with_next}
 use Rattle.rpl_codefile.proofs.Once.{keeps_apart, none_apart}

@@ -3,7 +3,7 @@ use Rattle.std.proofs.Common.{◌≡◌, ℕ, zero, suc, ◌<◌, List, [], ◌�
 use Rattle.std.proofs.lemmas.Option.{slice_get_within}
 use Rattle.std.specs.Prelude.{◌⊎◌, slice_get, slice_index_or}
 use Rattle.std.specs.List.{Contains}
-use Rattle.rpl_draft.specs.Uses.{Keeps}
+use Rattle.rpl_intern.specs.Uses.{Keeps}
 use Rattle.rpl_codefile.specs.inside.Tables.{Apart}
 
 some_eq : {A : Type 0} (x y : A) → Some x ≡ Some y → x ≡ y

@@ -8,7 +8,7 @@ use Rattle.regex_class.specs.Ranges.{Range}
 use Rattle.rpl_core.specs.Numbers.{instr_of, in_range}
 use Rattle.rpl_core.specs.declared.instr.Instr as R
 use Rattle.rpl_core.specs.declared.instr.Instr.TheVariants as V
-use Rattle.rpl_draft.specs.Uses.{KeepsOnce, sets_in, labels_in}
+use Rattle.rpl_intern.specs.Uses.{KeepsOnce, sets_in, labels_in}
 use Rattle.rpl_codefile.specs.Spelling.{File, says, spelling}
 use Rattle.rpl_codefile.specs.Laws.{OneSpelling}
 use Rattle.rpl_codefile.specs.inside.Tables.{Apart}

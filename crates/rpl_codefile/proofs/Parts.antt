@@ -3,7 +3,7 @@ use Rattle.std.proofs.Common.{ℕ, List, []}
 use Rattle.std.specs.Prelude.{Bool, IsTrue, ◌↔◌, IfOk, Result, Ok, Err}
 use Rattle.regex_class.specs.Ranges.{Range}
 use Rattle.rpl_core.specs.declared.instr.Instr as R
-use Rattle.rpl_draft.specs.Uses.{labels_in, sets_in}
+use Rattle.rpl_intern.specs.Uses.{labels_in, sets_in}
 use Rattle.rpl_codefile.specs.Spelling.{file_of, says}
 use Rattle.rpl_codefile.specs.inside.Tables.{Apart, AreParts, IsOrdered}
 use Rattle.rpl_codefile.proofs.Numbered.{sets_come, sets_kept, texts_come, texts_kept}

@@ -9,7 +9,7 @@ use Rattle.std.specs.Int.{w64}
 use Rattle.std.specs.Str.{IsUtf8, is_utf8, chars}
 use Rattle.rpl_codefile.specs.inside.Reading.{◌>>=◌, number_at, text_at}
 
--- the text behind its length
+-- the text after its length
 abbrev inside : ℕ × List ℕ → Option (List ℕ × List ℕ)
 inside n = if nat_lt (length n.1) n.0 then None else (if is_utf8 (take n.0 n.1) then Some (chars (take n.0 n.1), drop n.0 n.1) else None)
 

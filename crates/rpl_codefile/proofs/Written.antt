@@ -9,10 +9,10 @@ use Rattle.rpl_core.specs.Numbers.{instr_of, AreInRange}
 use Rattle.rpl_core.specs.Program.{code_of, sets_of, labels_of, instructions}
 use Rattle.rpl_core.specs.declared.instr.Instr as R
 use Rattle.rpl_core.specs.declared.program.Program.{Program}
-use Rattle.rpl_draft.specs.Uses.{Keeps, KeepsOnce, sets_in, labels_in}
-use Rattle.rpl_draft.specs.Written.{Says, Adds, shown}
-use Rattle.rpl_draft.specs.declared.draft.Draft.{Draft}
-use Rattle.rpl_draft.proofs.Adding.{adds_then, as_list}
+use Rattle.rpl_intern.specs.Uses.{Keeps, KeepsOnce, sets_in, labels_in}
+use Rattle.rpl_intern.specs.Written.{Says, Adds, shown}
+use Rattle.rpl_intern.specs.declared.draft.Draft.{Draft}
+use Rattle.rpl_intern.proofs.Adding.{adds_then, as_list}
 use Rattle.rpl_codefile.specs.Spelling.{spelling, FitsFile, Spells}
 use Rattle.rpl_codefile.specs.Spelling.{file_of}
 use Rattle.rpl_codefile.proofs.Copies.{target, all_shown, all_range, all_targets}

@@ -10,7 +10,7 @@ use Rattle.rpl_core.specs.Numbers.{instr_of, AreInRange}
 use Rattle.rpl_core.specs.declared.instr.Instr as R
 use Rattle.rpl_core.specs.declared.instr.Instr.TheVariants as V
 use Rattle.rpl_safe.specs.Safe.{IsSafe}
-use Rattle.rpl_draft.specs.Uses.{KeepsOnce, sets_in, labels_in}
+use Rattle.rpl_intern.specs.Uses.{KeepsOnce, sets_in, labels_in}
 
 -- what a file holds: instructions with the numbers of their sets and texts, and the sets and texts
 pub record File : Type 0 where
@@ -69,7 +69,7 @@ instr V.Halt = 0x14 ∷ []
 abbrev pub magic : List ℕ
 magic = 0x52 ∷ 0x50 ∷ 0x4c ∷ 0x43 ∷ 0x4f ∷ 0x44 ∷ 0x45 ∷ 0x31 ∷ []
 
--- the eight bytes, the sets, the texts, and the instructions, each behind their number
+-- the eight bytes, the sets, the texts, and the instructions, each after their number
 abbrev pub body : File → List ℕ
 body f =
     number (length f.sets) ++ (flat_map set f.sets

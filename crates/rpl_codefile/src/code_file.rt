@@ -12,7 +12,7 @@ use crate::tables::are_parts;
 use crate::writing::write_parts;
 use rosie_io::Bytes;
 use rpl_core::{NoMemory, Program};
-use rpl_draft::Draft;
+use rpl_intern::Draft;
 use rpl_safe::is_safe;
 use std::alloc::Global;
 

@@ -2,11 +2,11 @@
 ghost use Rattle.std.specs.Prelude.{◌≡◌, [], ◌∷◌, ◌<◌, ◌≤◌, OnOk, IfOk, length, slice_index_or, true};
 ghost use Rattle.rpl_core.specs.Numbers.{in_range, instr_of};
 ghost use Rattle.rpl_core.specs.Program.{code_of, instructions, labels_of, sets_of};
-ghost use Rattle.rpl_draft.specs.Written.{Adds};
+ghost use Rattle.rpl_intern.specs.Written.{Adds};
 
 use rpl_classes::Set;
 use rpl_core::{Instr, NoMemory, Program};
-use rpl_draft::Draft;
+use rpl_intern::Draft;
 use rpl_text::Chars;
 use std::alloc::Global;
 

@@ -12,7 +12,7 @@ use rpl_core::{Instr, Instrs, Labels, Sets};
 use rpl_text::Chars;
 use std::alloc::Global;
 
-/// A number of four bytes, the highest first, and the bytes behind it.
+/// A number of four bytes, the highest first, and the bytes after it.
 fn u32_at(bytes: &[u8]) -> Result<(u32, &[u8]), CodeFault>
     ensures { Gives (λ x. (x.0, x.1.now)) result (number_at w32 bytes.now) }
 {
@@ -24,7 +24,7 @@ fn u32_at(bytes: &[u8]) -> Result<(u32, &[u8]), CodeFault>
     Ok((number, rest))
 }
 
-/// The same of eight bytes.
+/// A number of eight bytes, the highest first, and the bytes after it.
 fn u64_at(bytes: &[u8]) -> Result<(u64, &[u8]), CodeFault>
     ensures { Gives (λ x. (x.0, x.1.now)) result (number_at w64 bytes.now) }
 {
@@ -213,7 +213,7 @@ fn read_instrs(alloc: Global, count: u32, bytes: &[u8]) -> Result<(Instrs, &[u8]
     Ok((instrs, rest))
 }
 
-/// What the bytes behind the first eight say.
+/// What the bytes after the first eight say.
 #[tactic(auto, unfolding(crate::specs::inside::Reading::file_at))]
 pub(crate) fn read_file(alloc: Global, bytes: &[u8]) -> Result<(Instrs, Sets, Labels), CodeFault>
     ensures { Gives (λ x. file_of x.0 x.1 x.2) result (file_at bytes.now) }

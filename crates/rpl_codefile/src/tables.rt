@@ -59,7 +59,7 @@ fn with_next(came: u64, number: Option<u32>) -> Option<u64>
     }
 }
 
-/// How many entries of the table the code uses, where it uses each for the first time behind all before it.
+/// How many entries of the table the code uses, where it uses each for the first time after all before it.
 fn count_used(table: Table, code: &[Instr]) -> Option<u64>
     ensures { result ≡ come (number_in table) 0 code.now }
 {

@@ -106,7 +106,7 @@ fn put_set(out: &mut Bytes, item: &Set) -> Result<(), NoMemory>
     put_ranges(out, ranges)
 }
 
-/// Adds bytes behind their number in eight bytes, the highest first.
+/// Adds bytes after their number in eight bytes, the highest first.
 fn put_bytes(out: &mut Bytes, bytes: &[u8]) -> Result<(), NoMemory>
     ensures short { OnOk result (length bytes.now < 2 ^ 64) }
     ensures bytes { OnOk result (out.new ≡ out.old ++ counted bytes.now) }

@@ -16,16 +16,16 @@ use Rattle.rpl_core.specs.Programs.{IsCode, address, bodies, program}
 use Rattle.rpl_core.specs.declared.program.Program.{Program}
 use Rattle.rpl_core.specs.declared.instr.Instr as R
 use Rattle.rpl_core.specs.declared.instr.Instr.TheVariants as V
-use Rattle.rpl_draft.specs.declared.draft.Draft.{Draft}
+use Rattle.rpl_intern.specs.declared.draft.Draft.{Draft}
 use Rattle.rpl_codegen.specs.declared.layout.Layout.{Layout}
 use Rattle.rpl_core.specs.Marked.{CallsAreRules}
 use Rattle.rpl_codegen.specs.inside.Laid.{LaysOut, whole_len}
 use Rattle.rpl_core.specs.Marked.{marked}
 use Rattle.rpl_core.specs.Marked.{MarksReached}
-use Rattle.rpl_draft.specs.Uses.{Keeps}
-use Rattle.rpl_draft.specs.Written.{shown, Says, Adds}
+use Rattle.rpl_intern.specs.Uses.{Keeps}
+use Rattle.rpl_intern.specs.Written.{shown, Says, Adds}
 use Rattle.rpl_codegen.specs.inside.Written.{address_of}
-use Rattle.rpl_draft.proofs.Adding.{adds_then, read_at}
+use Rattle.rpl_intern.proofs.Adding.{adds_then, read_at}
 use Rattle.rpl_codegen.proofs.Jumps.{goes_within, GoWithin, program_within, program_length}
 use Rattle.rpl_codegen.proofs.Lengths.{code_length, size_is}
 

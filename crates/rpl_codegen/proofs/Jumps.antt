@@ -14,7 +14,7 @@ use Rattle.rpl_core.specs.Programs.{calls, calls_any, bodies, Reaches, by_goal, 
 use Rattle.rpl_core.specs.Marked.{CallsAreRules}
 use Rattle.rpl_codegen.specs.inside.Laid.{body_len, bodies_len, whole_len}
 use Rattle.rpl_codegen.specs.inside.Sizes.{many_len, not_len, tried_len, len, len_all, len_first}
-use Rattle.rpl_draft.proofs.Adding.{some_at}
+use Rattle.rpl_intern.proofs.Adding.{some_at}
 use Rattle.rpl_codegen.proofs.Layouts.{place_turn, place_within, bodies_length}
 use Rattle.rpl_codegen.proofs.Lengths.{code_length, first_length, lengths_length, size_is}
 
@@ -42,7 +42,7 @@ one n i is x y = both (goes_within n i) (list_all (goes_within n) is) x y
 follow : (n : ℕ) (x y : List Instr) → GoWithin n x → GoWithin n y → GoWithin n (x ++ y)
 follow n x y a b = list_all-append (goes_within n) x y ∙ both (list_all (goes_within n) x) (list_all (goes_within n) y) a b
 
--- a fragment of the length s goes nowhere but to the first n addresses, if these go on behind it
+-- a fragment of the length s goes nowhere but to the first n addresses, if these go on after it
 record Stays (n s : ℕ) (p : Placed) : Type 0 where
   long : (a : ℕ) → length (p a) ≡ s
   within : (a : ℕ) → a + s < n → GoWithin n (p a)

@@ -9,7 +9,7 @@ use Rattle.rpl_core.specs.Instr as I
 use Rattle.rpl_core.specs.Code.{code, size}
 use Rattle.rpl_core.specs.Programs.{bodies, place_of}
 use Rattle.rpl_codegen.specs.inside.Laid.{body_len, bodies_len, rule_code}
-use Rattle.rpl_draft.proofs.Adding.{read_at, some_at}
+use Rattle.rpl_intern.proofs.Adding.{read_at, some_at}
 use Rattle.rpl_codegen.proofs.Lengths.{code_length, size_is}
 use Rattle.rpl_core.proofs.Walk.{drop_here}
 
@@ -18,7 +18,7 @@ module _ (marks : ℕ → Bool) where
   place_zero [] k a = refl
   place_zero (p ∷ ps) k a = refl
 
-  -- the rule behind one
+  -- the rule after one
   pub place_next : (ps : List Core) (k a r : ℕ) → r < length ps → place_of marks ps k a (suc r) ≡ place_of marks ps k a r + (if marks (k + r) then body_len (slice_get ps r) else 0)
   place_next [] k a r lt = absurd (omega arith)
   place_next (p ∷ ps) k a zero lt = place_zero ps (k + 1) (if marks k then a + size p + 1 else a) ∙ one (marks k) ∙ ap (λ x. a + (if marks x then body_len (Some p) else 0)) same

@@ -10,9 +10,9 @@ use Rattle.rpl_codegen.specs.inside.Nodes.{numbered_nodes, part_nodes, parts_nod
 use Rattle.rpl_codegen.specs.inside.Sizes.{capped_len, len, len_all}
 use Rattle.rpl_codegen.specs.inside.Taken.{Begins, part_at, size_at}
 use Rattle.rpl_codegen.proofs.Lengths.{code_length}
-use Rattle.rpl_draft.proofs.Adding.{read_at, some_at}
+use Rattle.rpl_intern.proofs.Adding.{read_at, some_at}
 
--- where the part p with this number comes next, behind the first k parts: it has code, and those before it have none
+-- where the part p with this number comes next, after the first k parts: it has code, and those before it have none
 pub record ComesNext (at : ℕ → ℕ) (ps : List Peg) (k number : ℕ) (p : Peg) : Type 0 where
   pub inside : number < length ps
   pub is : p ≡ get_or ps number p
@@ -40,7 +40,7 @@ here at ps k p m lt is e =
       code = λ a. ap (λ l. code_all at (cores l) a) d;
     }
 
--- it makes none, and another comes next behind it
+-- it makes none, and another comes next after it
 later : (at : ℕ → ℕ) (ps : List Peg) (k number : ℕ) (p q : Peg) → k < length ps → p ≡ get_or ps k p → len (core_of p) ≡ 0 → ComesNext at ps (k + 1) number q → ComesNext at ps k number q
 later at ps k number p q lt is e c =
     let d = drop_here ps k p lt is in

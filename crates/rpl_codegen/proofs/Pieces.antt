@@ -5,14 +5,14 @@ use Rattle.regex_class.specs.Ranges.{Range}
 use Rattle.rpl_core.specs.Instr.{Instr}
 use Rattle.rpl_core.specs.Instr as I
 use Rattle.rpl_core.specs.Code.{Placed, choice_code, tested_choice, loop_code, refuse_code, and_code, lengths_code, behind_code}
-use Rattle.rpl_draft.specs.declared.draft.Draft.{Draft}
-use Rattle.rpl_draft.specs.Written.{Adds}
+use Rattle.rpl_intern.specs.declared.draft.Draft.{Draft}
+use Rattle.rpl_intern.specs.Written.{Adds}
 use Rattle.rpl_codegen.specs.inside.Written.{test_code}
 use Rattle.rpl_codegen.specs.inside.Sizes.{tried_len}
-use Rattle.rpl_draft.proofs.Adding.{adds_then}
+use Rattle.rpl_intern.proofs.Adding.{adds_then}
 use Rattle.rpl_codegen.proofs.Lengths.{lengths_length}
 
--- an instruction, a fragment behind it, and what follows the fragment
+-- an instruction, a fragment after it, and what follows the fragment
 piece : (d0 d1 d2 d3 : Draft) (p : Placed) (a : ℕ) (i : Instr) (rest : List Instr) → length d0.code ≡ a → Adds d0 d1 (i ∷ []) → Adds d1 d2 (p (length d1.code)) → Adds d2 d3 rest → Adds d0 d3 (i ∷ (p (a + 1) ++ rest))
 piece d0 d1 d2 d3 p a i rest at x y z =
     let m : length d1.code ≡ a + 1 = omega (arith, x.long) in
@@ -80,13 +80,13 @@ piece_length d0 d1 d2 d3 d4 d5 p n next end k left long is x y z w v =
     let v1 = subst (λ j. Adds d4 d5 (lengths_code p end left (k + 1) j)) m4 v in
     adds_then d0 d1 d5 (I.Choice to ∷ []) (I.Back k ∷ (p (a + 1 + 1) ++ I.Meet end ∷ rest)) (at_same d0 d1 I.Choice next to e x) (adds_then d1 d2 d5 (I.Back k ∷ []) (p (a + 1 + 1) ++ I.Meet end ∷ rest) y (adds_then d2 d3 d5 (p (a + 1 + 1)) (I.Meet end ∷ rest) z1 (adds_then d3 d4 d5 (I.Meet end ∷ []) rest w v1)))
 
--- the address behind a look-behind
+-- the address after a look-behind
 pub behind_end : (p : Placed) (n k a s end : ℕ) → ((x : ℕ) → length (p x) ≡ s) → end ≡ a + (n * (s + 3) + 1) → behind_code p n k a ≡ lengths_code p end n k a
 behind_end p n k a s end long e =
     let is : a + length (lengths_code p 0 n k a) ≡ end = omega (arith, lengths_length p 0 n k a s long) in
     ap (λ x. lengths_code p x n k a) is
 
--- what holds of the draft behind a last call, if that call is Ok
+-- what holds of the draft after a last call, if that call is Ok
 pub on_ok : {A E : Type 0} (r : Result A E) (P Q : Type 0) → (P → Q) → OnOk r P → OnOk r Q
 on_ok (Ok a) P Q f p = f p
 on_ok (Err e) P Q f p = tt

@@ -11,7 +11,7 @@ use Rattle.rpl_codegen.specs.inside.Laid.{bodies_nodes, rule_nodes}
 use Rattle.rpl_codegen.specs.inside.Nodes.{behind_nodes, choice_nodes, nodes_in, numbered_nodes, part_nodes, parts_nodes, tested_nodes}
 use Rattle.rpl_codegen.specs.inside.Sizes.{len}
 use Rattle.rpl_codegen.specs.inside.Taken.{Begins, Takes, left}
-use Rattle.rpl_draft.proofs.Adding.{read_at, some_at}
+use Rattle.rpl_intern.proofs.Adding.{read_at, some_at}
 use Rattle.rpl_core.proofs.Walk.{drop_here}
 use Rattle.rpl_codegen.proofs.Parts.{drop_last}
 
@@ -22,7 +22,7 @@ begins_front xs ys zs b = record { rest = zs ++ b.rest; is = b.is ∙ append_ass
 pub as_begins : (xs ys zs : List Node) → ys ≡ zs → Begins xs ys → Begins xs zs
 as_begins xs ys zs e b = subst (λ l. Begins xs l) e b
 
--- what is left behind some nodes
+-- what is left after some nodes
 pub begins_behind : (p q : Nodes) (xs ys : List Node) → Takes p q xs → Begins (left p) (xs ++ ys) → Begins (left q) ys
 begins_behind p q xs ys t b = record { rest = b.rest; is = append_cancel_left xs (left q) (ys ++ b.rest) (sym t.taken ∙ b.is ∙ append_assoc xs ys b.rest) }
 

@@ -6,7 +6,7 @@ use Rattle.rpl_core.specs.Instr.{Instr}
 use Rattle.rpl_core.specs.Meaning.{Open}
 use Rattle.rpl_core.specs.Outcome.{outcome}
 use Rattle.rpl_core.specs.Programs.{IsCode}
-use Rattle.rpl_simulation.specs.Laws.{IsCapture, RunsAs}
+use Rattle.rpl_compile_laws.specs.Laws.{IsCapture, RunsAs}
 use Rattle.rpl_safe.specs.Safe.{IsSafe}
 
 -- the goal's code over the table has more than 1,048,576 instructions

@@ -7,7 +7,7 @@ ghost use Rattle.rpl_core.specs.Programs.{IsCode};
 ghost use Rattle.rpl_core.specs.Table.{bodies_of};
 ghost use Rattle.rpl_core.specs.View.{core_of};
 ghost use Rattle.rpl_codegen.specs.Compiled.{DoesAsMeant, HasLongCode, IsSafeIfCapture};
-ghost use Rattle.rpl_draft.specs.Uses.{KeepsOnce, labels_in, sets_in};
+ghost use Rattle.rpl_intern.specs.Uses.{KeepsOnce, labels_in, sets_in};
 
 use crate::whole::{CompileFault, compile_goal};
 use rpl_check::{Checked, CheckedPeg};

@@ -8,11 +8,11 @@ ghost use Rattle.rpl_codegen.specs.inside.Laid.{LaysOut, bodies_nodes, rule_len,
 ghost use Rattle.rpl_codegen.specs.inside.Nodes.{nodes_in};
 
 use crate::NoMemory;
-use crate::size::{Plan, capped, measure};
+use crate::size::{Measured, capped, measure};
 use rpl_core::{Peg, Rules};
 use std::alloc::Global;
 
-/// The address of each rule, and that behind the last instruction.
+/// The address of each rule, and that after the last instruction.
 #[derive(Drop)]
 pub(crate) struct Layout {
     addresses: Vec<u32>,
@@ -27,27 +27,27 @@ impl Layout {
         *self.addresses.allocator()
     }
 
-    /// The addresses of the rules behind the goal. Only marked rules take room. The nodes of the goal and of the
+    /// The addresses of the rules after the goal. Only marked rules take room. The nodes of the goal and of the
     /// marked rules are added to the plan in the order in which the code is written.
     pub(crate) fn new(
         alloc: Global,
         rules: &Rules,
         goal: &Peg,
         marks: &[bool],
-        plan: &mut Plan,
+        measured: &mut Measured,
     ) -> Result<Layout, NoMemory>
         requires { length marks.now ≡ length (rules_of rules.now) }
         ensures layout { IfOk result (λ l.
             LaysOut (marked marks.now) (bodies_of (rules_of rules.now)) (core_of goal.now) l) }
-        ensures nodes { OnOk result (plan.new.nodes.items ≡ plan.old.nodes.items
+        ensures nodes { OnOk result (measured.new.nodes.items ≡ measured.old.nodes.items
             ++ (nodes_in (core_of goal.now) ++ bodies_nodes (marked marks.now) (bodies_of (rules_of rules.now)) 0)) }
     {
         let mut addresses = Vec::new(alloc);
-        let shape = measure(alloc, plan, goal)?;
+        let shape = measure(alloc, measured, goal)?;
         let mut next = capped(shape.size, 1);
         for number in 0..rules.len() {
             addresses.push(next)?;
-            let size = marked_size(alloc, plan, rules, marks, number as u32)?;
+            let size = marked_size(alloc, measured, rules, marks, number as u32)?;
             next = capped(next, size);
         }
         Ok(Layout {
@@ -63,7 +63,7 @@ impl Layout {
         self.end
     }
 
-    /// The address of the rule with this number; that behind the last instruction, where there is no such rule.
+    /// The address of the rule with this number; that after the last instruction, where there is no such rule.
     pub(crate) fn address(&self, rule: u32) -> u32
         ensures { result ≡ address_of self.now rule }
     {
@@ -78,7 +78,7 @@ impl Layout {
 /// marked. The nodes of a marked rule are added to the plan.
 fn marked_size(
     alloc: Global,
-    plan: &mut Plan,
+    measured: &mut Measured,
     rules: &Rules,
     marks: &[bool],
     number: u32,
@@ -86,7 +86,7 @@ fn marked_size(
     requires { number < length marks.now }
     ensures size { IfOk result (λ n. n ≡ min 1048577
         (rule_len (marked marks.now number) (slice_get (bodies_of (rules_of rules.now)) number))) }
-    ensures nodes { OnOk result (plan.new.nodes.items ≡ plan.old.nodes.items
+    ensures nodes { OnOk result (measured.new.nodes.items ≡ measured.old.nodes.items
         ++ rule_nodes (marked marks.now number) (slice_get (bodies_of (rules_of rules.now)) number)) }
 {
     if !marks[number as usize] {
@@ -94,7 +94,7 @@ fn marked_size(
     }
     match rules.get(number) {
         Some(rule) => {
-            let shape = measure(alloc, plan, &rule.body)?;
+            let shape = measure(alloc, measured, &rule.body)?;
             Ok(capped(shape.size, 1))
         }
         None => Ok(0),

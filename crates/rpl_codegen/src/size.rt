@@ -104,17 +104,17 @@ impl Nodes {
 /// What is gathered while patterns are measured: their nodes, and the ranges of those heads that are part of a
 /// greater one.
 #[derive(Drop)]
-pub(crate) struct Plan {
+pub(crate) struct Measured {
     pub(crate) nodes: Vec<Node>,
     ranges: Vec<ClassRange>,
 }
 
-impl Plan {
+impl Measured {
     /// Nothing yet.
-    pub(crate) fn new(alloc: Global) -> Plan
+    pub(crate) fn new(alloc: Global) -> Measured
         ensures { result.nodes.items ≡ [] }
     {
-        Plan {
+        Measured {
             nodes: Vec::new(alloc),
             ranges: Vec::new(alloc),
         }
@@ -143,20 +143,20 @@ fn headless(size: u32) -> Shape
 /// Adds the nodes of the pattern and of all patterns in it. The ranges of its head are added, if it has one; else
 /// there may be more ranges of no use.
 #[cycle(measure)]
-pub(crate) fn measure(alloc: Global, plan: &mut Plan, peg: &Peg) -> Result<Shape, NoMemory>
-    ensures nodes { OnOk result (plan.new.nodes.items ≡ plan.old.nodes.items ++ nodes_in (core_of peg.now)) }
+pub(crate) fn measure(alloc: Global, measured: &mut Measured, peg: &Peg) -> Result<Shape, NoMemory>
+    ensures nodes { OnOk result (measured.new.nodes.items ≡ measured.old.nodes.items ++ nodes_in (core_of peg.now)) }
     ensures size { IfOk result (λ s. s.size ≡ min 1048577 (len (core_of peg.now))) }
     ensures head { IfOk result (λ s.
-        Gathers plan.old.ranges.items plan.new.ranges.items (H.head (core_of peg.now)) s.has_head) }
+        Gathers measured.old.ranges.items measured.new.ranges.items (H.head (core_of peg.now)) s.has_head) }
 {
-    let place = plan.nodes.len();
-    plan.nodes.push(Node {
+    let place = measured.nodes.len();
+    measured.nodes.push(Node {
         size: 0,
         part: 0,
         head: None,
     })?;
-    let shape = measure_inner(alloc, plan, peg)?;
-    plan.nodes[place] = Node {
+    let shape = measure_inner(alloc, measured, peg)?;
+    measured.nodes[place] = Node {
         size: shape.size,
         part: 0,
         head: None,
@@ -164,32 +164,33 @@ pub(crate) fn measure(alloc: Global, plan: &mut Plan, peg: &Peg) -> Result<Shape
     Ok(shape)
 }
 
-/// The same of a part of a sequence, by its number there. A part that makes no code leaves no node behind, so that
+/// Adds the nodes of a part of a sequence, by its number there.
+/// A part that makes no code leaves no node behind, so that
 /// whoever writes the sequence passes over it unseen.
 #[cycle(measure)]
 fn measure_part(
     alloc: Global,
-    plan: &mut Plan,
+    measured: &mut Measured,
     part: &Peg,
     number: usize,
 ) -> Result<Shape, NoMemory>
-    ensures nodes { OnOk result (plan.new.nodes.items ≡ plan.old.nodes.items
+    ensures nodes { OnOk result (measured.new.nodes.items ≡ measured.old.nodes.items
         ++ part_nodes (len (core_of part.now)) (numbered_nodes number (core_of part.now))) }
     ensures size { IfOk result (λ s. s.size ≡ min 1048577 (len (core_of part.now))) }
     ensures head { IfOk result (λ s.
-        Gathers plan.old.ranges.items plan.new.ranges.items (H.head (core_of part.now)) s.has_head) }
+        Gathers measured.old.ranges.items measured.new.ranges.items (H.head (core_of part.now)) s.has_head) }
 {
-    let place = plan.nodes.len();
-    plan.nodes.push(Node {
+    let place = measured.nodes.len();
+    measured.nodes.push(Node {
         size: 0,
         part: number,
         head: None,
     })?;
-    let shape = measure_inner(alloc, plan, part)?;
+    let shape = measure_inner(alloc, measured, part)?;
     if shape.size == 0 {
-        plan.nodes.truncate(place);
+        measured.nodes.truncate(place);
     } else {
-        plan.nodes[place] = Node {
+        measured.nodes[place] = Node {
             size: shape.size,
             part: number,
             head: None,
@@ -198,24 +199,25 @@ fn measure_part(
     Ok(shape)
 }
 
-/// The same of a part of a choice that others follow: its node has its head.
+/// Adds the nodes of a part of a choice that others follow: its node has its head.
 #[cycle(measure)]
-fn measure_tried(alloc: Global, plan: &mut Plan, part: &Peg) -> Result<Shape, NoMemory>
-    ensures nodes { OnOk result (plan.new.nodes.items ≡ plan.old.nodes.items ++ tested_nodes (core_of part.now)) }
+fn measure_tried(alloc: Global, measured: &mut Measured, part: &Peg) -> Result<Shape, NoMemory>
+    ensures nodes { OnOk result (measured.new.nodes.items
+        ≡ measured.old.nodes.items ++ tested_nodes (core_of part.now)) }
     ensures size { IfOk result (λ s. s.size ≡ min 1048577 (len (core_of part.now))) }
     ensures head { IfOk result (λ s.
-        Gathers plan.old.ranges.items plan.new.ranges.items (H.head (core_of part.now)) s.has_head) }
+        Gathers measured.old.ranges.items measured.new.ranges.items (H.head (core_of part.now)) s.has_head) }
 {
-    let place = plan.nodes.len();
-    let start = plan.ranges.len();
-    plan.nodes.push(Node {
+    let place = measured.nodes.len();
+    let start = measured.ranges.len();
+    measured.nodes.push(Node {
         size: 0,
         part: 0,
         head: None,
     })?;
-    let shape = measure_inner(alloc, plan, part)?;
-    let head = join(alloc, &mut plan.ranges, start, shape.has_head)?;
-    plan.nodes[place] = Node {
+    let shape = measure_inner(alloc, measured, part)?;
+    let head = join(alloc, &mut measured.ranges, start, shape.has_head)?;
+    measured.nodes[place] = Node {
         size: shape.size,
         part: 0,
         head,
@@ -248,25 +250,25 @@ fn join(
 
 /// Adds the nodes of the patterns in this one, and its ranges.
 #[cycle(measure)]
-fn measure_inner(alloc: Global, plan: &mut Plan, peg: &Peg) -> Result<Shape, NoMemory>
-    ensures nodes { OnOk result (plan.new.nodes.items ≡ plan.old.nodes.items ++ inner_nodes (core_of peg.now)) }
+fn measure_inner(alloc: Global, measured: &mut Measured, peg: &Peg) -> Result<Shape, NoMemory>
+    ensures nodes { OnOk result (measured.new.nodes.items ≡ measured.old.nodes.items ++ inner_nodes (core_of peg.now)) }
     ensures size { IfOk result (λ s. s.size ≡ min 1048577 (len (core_of peg.now))) }
     ensures head { IfOk result (λ s.
-        Gathers plan.old.ranges.items plan.new.ranges.items (H.head (core_of peg.now)) s.has_head) }
+        Gathers measured.old.ranges.items measured.new.ranges.items (H.head (core_of peg.now)) s.has_head) }
 {
     match peg {
         Peg::Set(set) => {
-            plan.ranges.extend_from_slice(set.ranges())?;
+            measured.ranges.extend_from_slice(set.ranges())?;
             Ok(Shape {
                 size: 1,
                 has_head: true,
             })
         }
         Peg::Call(_) | Peg::Note(_) | Peg::Start | Peg::End | Peg::Halt => Ok(headless(1)),
-        Peg::Seq(parts) => measure_all(alloc, plan, parts.as_slice()),
-        Peg::Choice(parts) => measure_first(alloc, plan, parts.as_slice()),
+        Peg::Seq(parts) => measure_all(alloc, measured, parts.as_slice()),
+        Peg::Choice(parts) => measure_first(alloc, measured, parts.as_slice()),
         Peg::Many(body) => {
-            let inner = measure(alloc, plan, body)?;
+            let inner = measure(alloc, measured, body)?;
             if lone_set(body).is_some() {
                 Ok(headless(1))
             } else {
@@ -274,7 +276,7 @@ fn measure_inner(alloc: Global, plan: &mut Plan, peg: &Peg) -> Result<Shape, NoM
             }
         }
         Peg::Not(body) => {
-            let inner = measure(alloc, plan, body)?;
+            let inner = measure(alloc, measured, body)?;
             if lone_set(body).is_some() {
                 Ok(headless(2))
             } else {
@@ -282,12 +284,12 @@ fn measure_inner(alloc: Global, plan: &mut Plan, peg: &Peg) -> Result<Shape, NoM
             }
         }
         Peg::And(body) => {
-            let inner = measure(alloc, plan, body)?;
+            let inner = measure(alloc, measured, body)?;
             Ok(headless(capped(inner.size, 3)))
         }
-        Peg::Behind { least, most, body } => measure_behind(alloc, plan, *least, *most, body),
+        Peg::Behind { least, most, body } => measure_behind(alloc, measured, *least, *most, body),
         Peg::Capture(_, body) => {
-            let inner = measure(alloc, plan, body)?;
+            let inner = measure(alloc, measured, body)?;
             Ok(Shape {
                 size: capped(inner.size, 2),
                 has_head: inner.has_head,
@@ -300,41 +302,42 @@ fn measure_inner(alloc: Global, plan: &mut Plan, peg: &Peg) -> Result<Shape, NoM
 #[cycle(measure)]
 fn measure_behind(
     alloc: Global,
-    plan: &mut Plan,
+    measured: &mut Measured,
     least: u32,
     most: u32,
     body: &Peg,
 ) -> Result<Shape, NoMemory>
-    ensures nodes { OnOk result (plan.new.nodes.items
-        ≡ plan.old.nodes.items ++ behind_nodes (most + 1 - least) (nodes_in (core_of body.now))) }
+    ensures nodes { OnOk result (measured.new.nodes.items
+        ≡ measured.old.nodes.items ++ behind_nodes (most + 1 - least) (nodes_in (core_of body.now))) }
     ensures size { IfOk result (λ s. s.size ≡ min 1048577 ((most + 1 - least) * (len (core_of body.now) + 3) + 1)) }
     ensures head { IfOk result (λ s.
-        Gathers plan.old.ranges.items plan.new.ranges.items None s.has_head) }
+        Gathers measured.old.ranges.items measured.new.ranges.items None s.has_head) }
 {
     if least > most {
         return Ok(headless(1));
     }
-    let inner = measure(alloc, plan, body)?;
+    let inner = measure(alloc, measured, body)?;
     Ok(headless(behind_size(inner.size, least, most)))
 }
 
 /// All parts in turn, whose head is that of the first.
 #[cycle(measure)]
-fn measure_all(alloc: Global, plan: &mut Plan, parts: &[Peg]) -> Result<Shape, NoMemory>
-    ensures nodes { OnOk result (plan.new.nodes.items ≡ plan.old.nodes.items ++ parts_nodes 0 (cores parts.now)) }
+fn measure_all(alloc: Global, measured: &mut Measured, parts: &[Peg]) -> Result<Shape, NoMemory>
+    ensures nodes { OnOk result (measured.new.nodes.items
+        ≡ measured.old.nodes.items ++ parts_nodes 0 (cores parts.now)) }
     ensures size { IfOk result (λ s. s.size ≡ min 1048577 (len_all (cores parts.now))) }
     ensures head { IfOk result (λ s.
-        Gathers plan.old.ranges.items plan.new.ranges.items (H.first_head (cores parts.now)) s.has_head) }
+        Gathers measured.old.ranges.items measured.new.ranges.items (H.first_head (cores parts.now)) s.has_head) }
 {
     if parts.is_empty() {
         return Ok(headless(0));
     }
-    let first = measure_part(alloc, plan, &parts[0], 0)?;
-    let kept = plan.ranges.len();
+    let first = measure_part(alloc, measured, &parts[0], 0)?;
+    let kept = measured.ranges.len();
     let mut total = first.size;
     for number in 1..parts.len() {
-        let part = measure_part(alloc, plan, &parts[number], number)?;
-        plan.ranges.truncate(kept);
+        let part = measure_part(alloc, measured, &parts[number], number)?;
+        measured.ranges.truncate(kept);
         total = capped(total, part.size);
     }
     Ok(Shape {
@@ -345,11 +348,12 @@ fn measure_all(alloc: Global, plan: &mut Plan, parts: &[Peg]) -> Result<Shape, N
 
 /// A choice of these parts, which has a head where each part has one.
 #[cycle(measure)]
-fn measure_first(alloc: Global, plan: &mut Plan, parts: &[Peg]) -> Result<Shape, NoMemory>
-    ensures nodes { OnOk result (plan.new.nodes.items ≡ plan.old.nodes.items ++ choice_nodes (cores parts.now)) }
+fn measure_first(alloc: Global, measured: &mut Measured, parts: &[Peg]) -> Result<Shape, NoMemory>
+    ensures nodes { OnOk result (measured.new.nodes.items
+        ≡ measured.old.nodes.items ++ choice_nodes (cores parts.now)) }
     ensures size { IfOk result (λ s. s.size ≡ min 1048577 (len_first (cores parts.now))) }
     ensures head { IfOk result (λ s.
-        Gathers plan.old.ranges.items plan.new.ranges.items
+        Gathers measured.old.ranges.items measured.new.ranges.items
         (option_map norm (H.all_heads (cores parts.now))) s.has_head) }
 {
     if parts.is_empty() {
@@ -362,12 +366,12 @@ fn measure_first(alloc: Global, plan: &mut Plan, parts: &[Peg]) -> Result<Shape,
     let mut total = 0;
     let mut all = true;
     for number in 0..last {
-        let tried = measure_tried(alloc, plan, &parts[number])?;
+        let tried = measure_tried(alloc, measured, &parts[number])?;
         let around = if tried.has_head { 3 } else { 2 };
         total = capped(total, capped(tried.size, around));
         all = all && tried.has_head;
     }
-    let end = measure(alloc, plan, &parts[last])?;
+    let end = measure(alloc, measured, &parts[last])?;
     all = all && end.has_head;
     Ok(Shape {
         size: capped(total, end.size),

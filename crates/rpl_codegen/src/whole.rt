@@ -11,24 +11,24 @@ ghost use Rattle.rpl_codegen.specs.Compiled.{HasLongCode};
 ghost use Rattle.rpl_codegen.specs.inside.Laid.{LaysOut, bodies_len, bodies_nodes, rule_code, rule_len, rule_nodes};
 ghost use Rattle.rpl_codegen.specs.inside.Nodes.{nodes_in};
 ghost use Rattle.rpl_codegen.specs.inside.Taken.{Begins, Takes, left};
-ghost use Rattle.rpl_draft.specs.Uses.{KeepsOnce, labels_in, sets_in};
+ghost use Rattle.rpl_intern.specs.Uses.{KeepsOnce, labels_in, sets_in};
 ghost use Rattle.rpl_codegen.specs.inside.Written.{Writes, address_of};
-ghost use Rattle.rpl_draft.specs.Written.{Adds};
+ghost use Rattle.rpl_intern.specs.Written.{Adds};
 ghost use Rattle.rpl_codegen.specs.declared.whole.CompileFault.TheVariants.{NoMemory};
 
 use crate::NoMemory;
 use crate::layout::Layout;
-use crate::size::{MAX_CODE, Nodes, Plan};
+use crate::size::{MAX_CODE, Measured, Nodes};
 use crate::writing::emit;
 use rpl_core::{Instr, Peg, Program, Rules, reached};
-use rpl_draft::Draft;
+use rpl_intern::Draft;
 use std::alloc::Global;
 use thiserror::Error;
 
 /// Why there is no code.
 #[derive(Debug, Drop, Error)]
 pub enum CompileFault {
-    /// Memory is wanting.
+    /// Memory ran out.
     #[error("out of memory")]
     NoMemory,
     /// The code has more than 1,048,576 instructions.
@@ -60,12 +60,12 @@ pub(crate) fn compile_goal(
         → HasLongCode (bodies_of (rules_of rules.now)) (core_of goal.now)) }
 {
     let marks = reached(alloc, rules, goal)?;
-    let mut plan = Plan::new(alloc);
-    let layout = Layout::new(alloc, rules, goal, &marks, &mut plan)?;
+    let mut measured = Measured::new(alloc);
+    let layout = Layout::new(alloc, rules, goal, &marks, &mut measured)?;
     if layout.size() > MAX_CODE {
         return Err(CompileFault::CodeTooLong);
     }
-    let mut nodes = Nodes::new(plan.nodes);
+    let mut nodes = Nodes::new(measured.nodes);
     let mut draft = Draft::new(alloc);
     emit_whole(&mut draft, &layout, &mut nodes, rules, goal, &marks)?;
     Ok(program_of(alloc, draft)?)

@@ -7,7 +7,7 @@ ghost use Rattle.rpl_core.specs.View.{core_of};
 ghost use Rattle.rpl_codegen.specs.inside.Sizes.{len, many_len, not_len, tried_len};
 ghost use Rattle.rpl_codegen.specs.inside.Nodes.{behind_nodes, inner_nodes, nodes_in, tested_nodes};
 ghost use Rattle.rpl_codegen.specs.inside.Taken.{Begins, Takes, head_at, left};
-ghost use Rattle.rpl_draft.specs.Written.{Adds};
+ghost use Rattle.rpl_intern.specs.Written.{Adds};
 ghost use Rattle.rpl_codegen.specs.inside.Written.{GoesOn, Tries, Writes, capture_code, code_in, test_code};
 
 use crate::NoMemory;
@@ -15,7 +15,7 @@ use crate::head::lone_set;
 use crate::layout::Layout;
 use crate::size::Nodes;
 use rpl_core::{Instr, Peg, Pegs};
-use rpl_draft::Draft;
+use rpl_intern::Draft;
 use rpl_text::Chars;
 use std::alloc::Global;
 

@@ -10,7 +10,7 @@ Closes (Begin c i ∷ cs) = ⊥
 Closes (Finish j ∷ cs) = Unit {0}
 Closes (Mark x i ∷ cs) = ⊥
 
--- Trees with such a rest behind them can be told apart from the rest.
+-- Trees with such a rest after them can be told apart from the rest.
 both_same : (f g : Forest) (r s : List Caught) → Closes r → Closes s → flat f ++ r ≡ flat g ++ s → (f ≡ g) × (r ≡ s)
 both_same NoTree NoTree r s c d e = (refl, e)
 both_same NoTree (Tree x i j g h) r s c d e = absurd (subst Closes e c)

@@ -7,10 +7,10 @@ use Rattle.rpl_core.specs.Marked.{marked}
 use Rattle.rpl_core.specs.inside.Searching.{Marks}
 use Rattle.rpl_core.specs.inside.Marks.{unmarked, waits}
 use Rattle.rpl_core.proofs.Marking.{joined, later, more, never, not_new, unmarked_less, waits_more}
-use Rattle.rpl_core.specs.declared.reach.Search.{Search}
+use Rattle.rpl_core.specs.declared.reach.RuleSearch.{RuleSearch}
 
 -- no marks
-pub marks_none : (s : Search) → Marks (λ r. false) s s
+pub marks_none : (s : RuleSearch) → Marks (λ r. false) s s
 marks_none s = record {
   long = refl;
   marks = λ r. never (marked s.marks.items r) (nat_lt r (length s.marks.items));
@@ -19,7 +19,7 @@ marks_none s = record {
 }
 
 -- some marks, and then others
-pub marks_then : (f g : ℕ → Bool) (s s1 s2 : Search) → Marks f s s1 → Marks g s1 s2 → Marks (λ r. f r || g r) s s2
+pub marks_then : (f g : ℕ → Bool) (s s1 s2 : RuleSearch) → Marks f s s1 → Marks g s1 s2 → Marks (λ r. f r || g r) s s2
 marks_then f g s s1 s2 a b = record {
   long = b.long ∙ a.long;
   marks = λ r.
@@ -75,7 +75,7 @@ new_one bs k r lt unset = ⊎_elim same other (cases_eq k r)
         ne_eqb k r ne ∙ none (get_or bs r false)
         ∙ sym (ap (λ x. x && not (get_or bs r false)) (get_or-set_other bs k r true false (λ e. ne (sym e))))
 
-pub mark_one : (s s1 : Search) (k : ℕ) → k < length s.marks.items → get_or s.marks.items k false ≡ false →
+pub mark_one : (s s1 : RuleSearch) (k : ℕ) → k < length s.marks.items → get_or s.marks.items k false ≡ false →
     s1.marks.items ≡ set s.marks.items k true → s1.waiting.items ≡ s.waiting.items ++ k ∷ [] →
     Marks (λ r. nat_eq k r) s s1
 mark_one s s1 k lt unset e f = record {

@@ -13,7 +13,7 @@ use Rattle.rpl_core.specs.Marked.{CallsAreRules}
 use Rattle.rpl_core.specs.Marked.{marked, MarksReached}
 use Rattle.rpl_core.specs.inside.Searching.{Marks, Reached}
 use Rattle.rpl_core.specs.inside.Marks.{waits}
-use Rattle.rpl_core.specs.declared.reach.Search.{Search}
+use Rattle.rpl_core.specs.declared.reach.RuleSearch.{RuleSearch}
 use Rattle.rpl_core.proofs.Marking.{waits_more}
 
 -- where a mark comes from, and where it goes
@@ -42,7 +42,7 @@ and_true a b s t = ap (λ x. x && b) s ∙ t
 
 module _ (R : List Core) (g : Core) where
   -- the goal's own calls are marked
-  pub search_begins : (s s1 : Search) → length s.marks.items ≡ length R → ((r : ℕ) → marked s.marks.items r ≡ false) →
+  pub search_begins : (s s1 : RuleSearch) → length s.marks.items ≡ length R → ((r : ℕ) → marked s.marks.items r ≡ false) →
       s.waiting.items ≡ [] → Marks (calls g) s s1 → Reached R g s1
   search_begins s s1 long unset none m = record {
     long = m.long ∙ long;
@@ -64,7 +64,7 @@ module _ (R : List Core) (g : Core) where
       false_true e = cc
 
   -- one rule that waited is looked at
-  pub search_goes_on : (s s1 s2 : Search) (q : ℕ) (f : ℕ → Bool) → Reached R g s →
+  pub search_goes_on : (s s1 s2 : RuleSearch) (q : ℕ) (f : ℕ → Bool) → Reached R g s →
       s.waiting.items ≡ s1.waiting.items ++ q ∷ [] → s1.marks.items ≡ s.marks.items →
       ((r : ℕ) → Reaches R g q → f r ≡ true → Reaches R g r) →
       ((r : ℕ) (p : Core) → slice_get R q ≡ Some p → calls p r ≡ true → f r ≡ true) → Marks f s1 s2 → Reached R g s2
@@ -116,14 +116,14 @@ module _ (R : List Core) (g : Core) where
           (l r p e lt c))) (k.rules x (old x is))
 
   -- nothing waits any more
-  all_marked : (s : Search) → CallsAreRules R g → Reached R g s → s.waiting.items ≡ [] → (r : ℕ) → Reaches R g r →
+  all_marked : (s : RuleSearch) → CallsAreRules R g → Reached R g s → s.waiting.items ≡ [] → (r : ℕ) → Reaches R g r →
       marked s.marks.items r ≡ true
   all_marked s within k none _ (by_goal r e) = k.goal r (within.goal r e) e
   all_marked s within k none _ (by_rule q r p m e c) =
       ⊎_elim (λ w. let u : false ≡ true = ap (λ l. waits l q) (sym none) ∙ w in absurd (cc))
       (λ l. l r p e (within.rules q p e r c) c) (k.rules q (all_marked s within k none q m))
 
-  pub search_ends : (s : Search) → CallsAreRules R g → Reached R g s → s.waiting.items ≡ [] →
+  pub search_ends : (s : RuleSearch) → CallsAreRules R g → Reached R g s → s.waiting.items ≡ [] →
       MarksReached R g s.marks.items
   search_ends s within k none = record { long = k.long; exact = λ r. (k.under r, all_marked s within k none r) }
 

@@ -54,7 +54,7 @@ lengths_code p e (suc n) k a =
     let next = a + 1 + 1 + length (p (a + 1 + 1)) + 1 in
     I.Choice next ∷ I.Back k ∷ (p (a + 1 + 1) ++ I.Meet e ∷ lengths_code p e n (k + 1) next)
 
--- the lengths, where E is the address behind them; how long they are doesn't hang on E
+-- the lengths, where E is the address after them; how long they are doesn't hang on E
 abbrev pub behind_code : Placed → ℕ → ℕ → Placed
 behind_code p n k a = lengths_code p (a + length (lengths_code p 0 n k a)) n k a
 

@@ -6,7 +6,7 @@ use Rattle.rpl_core.specs.Core.{Core, Set, Seq, Choice, Many, Not, And, Behind, 
 use Rattle.rpl_core.specs.Core.{Cores, NoMore, Then, fits}
 use Rattle.rpl_core.specs.Forest.{Forest, NoTree, Tree, Noted, joined}
 
--- An outcome, with the work w that it took. `At` and `HaltAt` have the place behind the match and its trees;
+-- An outcome, with the work w that it took. `At` and `HaltAt` have the place after the match and its trees;
 -- `Open` says that the depth didn't suffice. One unit of work is a core evaluated, a turn of a `Many` that
 -- succeeds, or a length that a `Behind` tries.
 pub data Outcome : Type 0 where
@@ -15,14 +15,14 @@ pub data Outcome : Type 0 where
   At : (w place : ℕ) (f : Forest) → Outcome
   HaltAt : (w place : ℕ) (f : Forest) → Outcome
 
--- the same for v more work
+-- the outcome for v more work
 abbrev pub more : ℕ → Outcome → Outcome
 more v Open = Open
 more v (Fail w) = Fail (v + w)
 more v (At w j f) = At (v + w) j f
 more v (HaltAt w j f) = HaltAt (v + w) j f
 
--- the same with the trees f before its own, for v more work
+-- the outcome with the trees f before its own, for v more work
 abbrev pub prefixed : ℕ → Forest → Outcome → Outcome
 prefixed v f Open = Open
 prefixed v f (Fail w) = Fail (v + w)

@@ -21,7 +21,7 @@ pub record IsInOrder (R : List Core) (blocks : List (Option ℕ)) : Type 0 where
       block_at (slice_get blocks s) ≡ Some b
   pub earlier : (r s : ℕ) (p : Core) → slice_get R r ≡ Some p → calls p s ≡ true → (s < r) ⊎ AreTogether blocks r s
 
--- the same of two blocks: there are both, and they are one
+-- there are two blocks, and they are one
 abbrev pub same_block : Option ℕ → Option ℕ → Bool
 same_block (Some b) (Some c) = nat_eq b c
 same_block _ _ = false

@@ -20,7 +20,7 @@ abbrev mutual
   some_inside test End = test End
   some_inside test Halt = test Halt
 
-  -- so does one of the parts
+  -- one of the parts, or a core inside one, passes the test
   pub some_of : (Core → Bool) → Cores → Bool
   some_of test NoMore = false
   some_of test (Then p ps) = some_inside test p || some_of test ps

@@ -41,7 +41,7 @@ bodies marks at (p ∷ ps) k a =
     if marks k then code at p a ++ I.Return ∷ bodies marks at ps (k + 1) (a + size p + 1)
     else bodies marks at ps (k + 1) a
 
--- where the rule begins that stands r rules behind the first
+-- where the rule begins that stands r rules after the first
 abbrev pub place_of : (ℕ → Bool) → List Core → ℕ → ℕ → ℕ → ℕ
 place_of marks [] k a r = a
 place_of marks (p ∷ ps) k a zero = a

@@ -24,5 +24,5 @@ pub use peg::{Peg, Pegs};
 pub use program::{Labels, Program, Sets};
 pub use reach::reached;
 pub use rules::{Rule, Rules};
-/// Want of memory, which every call that takes memory may answer.
+/// Out of memory, which every call that takes memory may answer.
 pub use std::alloc::AllocError as NoMemory;

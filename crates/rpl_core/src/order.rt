@@ -73,7 +73,7 @@ fn calls_only(peg: &Peg, rules: &Rules, number: u32) -> bool
     }
 }
 
-/// And each that the parts call.
+/// The rule may call each rule that the parts call.
 #[cycle(only)]
 fn all_call_only(parts: &[Peg], rules: &Rules, number: u32) -> bool
     ensures { result ≡ S.all_call_only (S.may_call (blocks_in rules.now) number) (cores parts.now) }
@@ -86,7 +86,7 @@ fn all_call_only(parts: &[Peg], rules: &Rules, number: u32) -> bool
     true
 }
 
-/// And each that its body calls.
+/// The rule may call each rule that its body calls.
 fn body_calls_only(rules: &Rules, number: u32) -> bool
     ensures { result ≡ S.body_calls_only
         (S.may_call (blocks_in rules.now) number)
@@ -190,7 +190,7 @@ fn calls_within(peg: &Peg, count: usize) -> bool
     }
 }
 
-/// So do the parts.
+/// The parts call only the first `count` rules.
 #[cycle(within)]
 fn all_call_within(parts: &[Peg], count: usize) -> bool
     ensures { result ≡ S.all_call_only (λ r. nat_lt r count) (cores parts.now) }

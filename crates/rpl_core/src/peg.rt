@@ -61,7 +61,7 @@ impl Pegs {
         }
     }
 
-    /// Adds a pattern at the end. Where memory is wanting, nothing changes.
+    /// Adds a pattern at the end. Where memory runs out, nothing changes.
     pub fn push(&mut self, item: Peg) -> Result<(), NoMemory>
         ensures ok { OnOk result (listed self.new ≡ listed self.old ++ item ∷ []) }
         ensures err { OnErr result (listed self.new ≡ listed self.old) }

@@ -14,12 +14,12 @@ use std::alloc::Global;
 
 /// The rules found so far, and those of them whose bodies weren't looked at.
 #[derive(Drop)]
-struct Search {
+struct RuleSearch {
     marks: Vec<bool>,
     waiting: Vec<u32>,
 }
 
-impl Search {
+impl RuleSearch {
     /// Marks the rule, if it is in the table.
     fn mark(&mut self, rule: u32) -> Result<(), NoMemory>
         ensures { OnOk result (Marks (λ r. nat_eq rule r) self.old self.new) }
@@ -35,7 +35,7 @@ impl Search {
 
 /// Marks the rules that the pattern calls.
 #[cycle(mark)]
-fn mark_calls(search: &mut Search, peg: &Peg) -> Result<(), NoMemory>
+fn mark_calls(search: &mut RuleSearch, peg: &Peg) -> Result<(), NoMemory>
     ensures { OnOk result (Marks (calls (core_of peg.now)) search.old search.new) }
 {
     match peg {
@@ -53,7 +53,7 @@ fn mark_calls(search: &mut Search, peg: &Peg) -> Result<(), NoMemory>
 
 /// Marks the rules that some part calls.
 #[cycle(mark)]
-fn mark_all(search: &mut Search, parts: &[Peg]) -> Result<(), NoMemory>
+fn mark_all(search: &mut RuleSearch, parts: &[Peg]) -> Result<(), NoMemory>
     ensures { OnOk result (Marks (calls_any (cores parts.now)) search.old search.new) }
 {
     for part in parts {
@@ -67,7 +67,7 @@ pub fn reached(alloc: Global, rules: &Rules, goal: &Peg) -> Result<Vec<bool>, No
     requires { CallsAreRules (bodies_of (rules_of rules.now)) (core_of goal.now) }
     ensures { IfOk result (λ marks. MarksReached (bodies_of (rules_of rules.now)) (core_of goal.now) marks.items) }
 {
-    let mut search = Search {
+    let mut search = RuleSearch {
         marks: vec![in alloc; false; rules.len()]?,
         waiting: Vec::new(alloc),
     };
@@ -77,6 +77,6 @@ pub fn reached(alloc: Global, rules: &Rules, goal: &Peg) -> Result<Vec<bool>, No
             mark_calls(&mut search, &rule.body)?;
         }
     }
-    let Search { marks, .. } = search;
+    let RuleSearch { marks, .. } = search;
     Ok(marks)
 }

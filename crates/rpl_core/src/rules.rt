@@ -36,7 +36,7 @@ impl Rules {
         }
     }
 
-    /// Adds a rule of a new name at the end. Where memory is wanting, nothing changes.
+    /// Adds a rule of a new name at the end. Where memory runs out, nothing changes.
     pub fn push(&mut self, rule: Rule) -> Result<(), NoMemory>
         requires few { length (rules_of self.old) < 0xffff_ffff }
         requires new_name { IsNew rule.name (names_of (rules_of self.old)) }

@@ -6,7 +6,7 @@ use Rattle.rpl_core.specs.Forest.{Forest, NoTree}
 use Rattle.rpl_tree.specs.Trees.{node_as, forest_of}
 use Rattle.rpl_tree.specs.declared.node.Node.{Node}
 use Rattle.rpl_encode.specs.Answer.{below_root, line_by_line}
-use Rattle.rpl_encode.specs.inside.Children.{is_hit_by, is_wanted, wanted, is_some_text, below_by, below_of_first}
+use Rattle.rpl_encode.specs.inside.Children.{is_hit_by, is_printed, printed_texts, is_some_text, below_by, below_of_first}
 use Rattle.rpl_encode.specs.Labels.{label_in}
 use Rattle.rpl_encode.specs.Texts.{texts}
 use Rattle.rpl_encode.specs.inside.Walk.{text_by, text_at}
@@ -28,19 +28,19 @@ root_line labels line nodes root got =
     ∙ ap (λ ts. line_by_line (take 1 ts)) (node_texts labels line root root.note _ _)
     ∙ append-nil (text_at labels line root ++ 10 ∷ [])
 
-node_wanted : (labels : List (List ℕ)) (line : List ℕ) (h : Bool) (n : Node) (note : Option ℕ) (f g : Forest) → wanted h line (node_as (label_in labels) n note f g) ≡ (if not h || is_hit_by labels n note then text_by labels line n note ∷ wanted h line g else wanted h line g)
-node_wanted labels line true n None f g = refl
-node_wanted labels line true n (Some text) f g = refl
-node_wanted labels line false n None f g = refl
-node_wanted labels line false n (Some text) f g = refl
+node_printed : (labels : List (List ℕ)) (line : List ℕ) (h : Bool) (n : Node) (note : Option ℕ) (f g : Forest) → printed_texts h line (node_as (label_in labels) n note f g) ≡ (if not h || is_hit_by labels n note then text_by labels line n note ∷ printed_texts h line g else printed_texts h line g)
+node_printed labels line true n None f g = refl
+node_printed labels line true n (Some text) f g = refl
+node_printed labels line false n None f g = refl
+node_printed labels line false n (Some text) f g = refl
 
 -- the texts from a node on, of which so many are to come
 abbrev pub texts_left : List (List ℕ) → List ℕ → Bool → List Node → ℕ → ℕ → List (List ℕ)
-texts_left labels line h nodes i left = wanted h line (trees labels (take left (drop i nodes)))
+texts_left labels line h nodes i left = printed_texts h line (trees labels (take left (drop i nodes)))
 
-pub wanted_step : (labels : List (List ℕ)) (line : List ℕ) (h : Bool) (nodes : List Node) (i j left now b : ℕ) (n : Node) → slice_get nodes i ≡ Some n → 0 < left → length nodes ≤ 2 ^ 64 - 1 → b ≡ min n.below (left - 1) → j ≡ min (i + 1 + b) (2 ^ 64 - 1) → now ≡ left - (1 + b) → texts_left labels line h nodes i left ≡ (if is_wanted labels h n then text_at labels line n ∷ texts_left labels line h nodes j now else texts_left labels line h nodes j now)
-wanted_step labels line h nodes i j zero now b n got some fits least next less = absurd (omega arith)
-wanted_step labels line h nodes i j (suc k) now b n got some fits least next less =
+pub printed_step : (labels : List (List ℕ)) (line : List ℕ) (h : Bool) (nodes : List Node) (i j left now b : ℕ) (n : Node) → slice_get nodes i ≡ Some n → 0 < left → length nodes ≤ 2 ^ 64 - 1 → b ≡ min n.below (left - 1) → j ≡ min (i + 1 + b) (2 ^ 64 - 1) → now ≡ left - (1 + b) → texts_left labels line h nodes i left ≡ (if is_printed labels h n then text_at labels line n ∷ texts_left labels line h nodes j now else texts_left labels line h nodes j now)
+printed_step labels line h nodes i j zero now b n got some fits least next less = absurd (omega arith)
+printed_step labels line h nodes i j (suc k) now b n got some fits least next less =
     let one : suc k - 1 ≡ k = omega arith in
     let least' : min n.below k ≡ b = sym (rw one at least) in
     let less' : k - b ≡ now = omega arith in
@@ -51,10 +51,10 @@ wanted_step labels line h nodes i j (suc k) now b n got some fits least next les
     ∙ ap (λ m. take (k - m) (drop m (drop (i + 1) nodes))) least'
     ∙ ap (λ m. take m (drop b (drop (i + 1) nodes))) less'
     ∙ ap (take now) behind in
-    ap (λ ns. wanted h line (trees labels (take (suc k) ns))) (drop_got nodes i n got)
-    ∙ ap (wanted h line) (forest_of-cons (label_in labels) n (take k (drop (i + 1) nodes)))
-    ∙ node_wanted labels line h n n.note _ _
-    ∙ ap (λ ns. if is_wanted labels h n then text_at labels line n ∷ wanted h line (trees labels ns) else wanted h line (trees labels ns)) rest
+    ap (λ ns. printed_texts h line (trees labels (take (suc k) ns))) (drop_got nodes i n got)
+    ∙ ap (printed_texts h line) (forest_of-cons (label_in labels) n (take k (drop (i + 1) nodes)))
+    ∙ node_printed labels line h n n.note _ _
+    ∙ ap (λ ns. if is_printed labels h n then text_at labels line n ∷ printed_texts h line (trees labels ns) else printed_texts h line (trees labels ns)) rest
 
 below_of : (labels : List (List ℕ)) (n : Node) (note : Option ℕ) (ns : List Node) (g : Forest) → trees labels (take (below_by n note) ns) ≡ below_root (node_as (label_in labels) n note (trees labels (take n.below ns)) g)
 below_of labels n None ns g = refl
@@ -65,16 +65,16 @@ pub first_below : (labels : List (List ℕ)) (nodes : List Node) → trees label
 first_below labels [] = refl
 first_below labels (n ∷ ns) = below_of labels n n.note ns _ ∙ ap below_root (sym (forest_of-cons (label_in labels) n ns))
 
-wanted_none : (h : Bool) (line : List ℕ) → wanted h line NoTree ≡ []
-wanted_none true line = refl
-wanted_none false line = refl
+printed_none : (h : Bool) (line : List ℕ) → printed_texts h line NoTree ≡ []
+printed_none true line = refl
+printed_none false line = refl
 
 -- and ends where none is left
 pub none_left : (labels : List (List ℕ)) (line : List ℕ) (h : Bool) (nodes : List Node) (i left : ℕ) → (left ≡ 0) ⊎ (slice_get nodes i ≡ None) → texts_left labels line h nodes i left ≡ []
-none_left labels line h nodes i left (inl none) = ap (texts_left labels line h nodes i) none ∙ wanted_none h line
+none_left labels line h nodes i left (inl none) = ap (texts_left labels line h nodes i) none ∙ printed_none h line
 none_left labels line h nodes i left (inr past) =
     let none : take left (drop i nodes) ≡ [] = ap (take left) (drop_all i nodes (got_none nodes i past)) ∙ take_all left [] (omega arith) in
-    ap (λ ns. wanted h line (trees labels ns)) none ∙ wanted_none h line
+    ap (λ ns. printed_texts h line (trees labels ns)) none ∙ printed_none h line
 
 -- the step over a node whose text is written
 pub text_step : {S : Type 0} (after : S → List ℕ → S) → ((s : S) (x y : List ℕ) → after (after s x) y ≡ after s (x ++ y)) → (o o' z : S) (text : List ℕ) (r r' : List (List ℕ)) → o' ≡ after o (text ++ 10 ∷ []) → r ≡ text ∷ r' → after o (line_by_line r) ≡ z → after o' (line_by_line r') ≡ z

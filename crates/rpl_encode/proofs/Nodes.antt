@@ -28,7 +28,7 @@ forest_of-cons name x ns =
     let behind = trees_enough (length ns) (length (drop x.below ns)) name (drop x.below ns) (omega (arith, length-drop x.below ns)) (omega arith) in
     rw (below, behind) refl
 
--- among the next k nodes, those below the first and those behind it
+-- among the next k nodes, those below the first and those after it
 pub take_within : (k below : ℕ) (ns : List Node) → take below (take k ns) ≡ take (min below k) ns
 take_within k below ns =
     elim (cases_lt below k) [
@@ -58,7 +58,7 @@ drop_behind k below ns =
     let whole : min below k + (k - min below k) ≡ k = omega arith in
     drop-drop (k - min below k) (min below k) ns ∙ ap (λ n. drop n ns) whole
 
--- the node with a number, and those behind it
+-- the node with a number, and those after it
 pub got_within : (ns : List Node) (i : ℕ) (x : Node) → slice_get ns i ≡ Some x → i < length ns
 got_within ns i x e = elim (slice_get_cases ns i).1 [ inl w ↦ w.1 | inr w ↦ absurd (let n : None ≡ Some x = sym w.1 ∙ e in (cc)) ]
 
@@ -70,7 +70,7 @@ drop_got ns i x e =
     let one : i + 1 ≡ suc i = omega arith in
     rw one (drop-cons ns i x (got_within ns i x e) ∙ ap (λ y. y ∷ drop (suc i) ns) (get_or_from_slice_get ns i x x e))
 
--- a number that is capped behind the last node
+-- a number that is capped after the last node
 pub drop_capped : (ns : List Node) (n most : ℕ) → length ns ≤ most → drop (min n most) ns ≡ drop n ns
 drop_capped ns n most fits =
     elim (cases_lt n most) [

@@ -41,7 +41,7 @@ leaf_group a b c d = simp append_assoc
 subs_group : (a b s o f r : List ℕ) → a ++ (b ++ (((s ++ (o ++ (f ++ 93 ∷ []))) ++ 125 ∷ []) ++ r)) ≡ (a ++ (b ++ s)) ++ ((o ++ f) ++ (93 ∷ 125 ∷ r))
 subs_group a b s o f r = simp append_assoc
 
--- the rest of the text begins with the first node, and goes on behind those below it
+-- the rest of the text begins with the first node, and goes on after those below it
 node_rest : (labels : List (List ℕ)) (line : List ℕ) (n : Node) (ns : List Node) (k : ℕ) (ks : List ℕ) (first : Bool) → rest_of labels line (n ∷ ns) (suc k ∷ ks) first ≡ comma first ++ (fields_at labels line n ++ ((subs (below_of n.note (objects_of labels line (take (min n.below k) ns))) ++ codes "}") ++ rest_of labels line (drop (min n.below k) ns) ((k - min n.below k) ∷ ks) false))
 node_rest labels line n ns k ks first =
     let b = min n.below k in

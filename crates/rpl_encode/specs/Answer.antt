@@ -36,7 +36,7 @@ parts Subs line f = texts line (below_root f)
 parts Plain line f = take 1 (texts line f)
 parts TrueOrFalse line f = codes "true" ∷ []
 
--- the same where there is no match
+-- the parts that are printed where there is no match
 abbrev pub none : Style → List (List ℕ)
 none TrueOrFalse = codes "false" ∷ []
 none _ = []
@@ -57,9 +57,9 @@ abbrev pub answer : Style → List ℕ → Option Forest → List ℕ
 answer style line found = line_by_line (parts_of style line found)
 
 -- the greatest number of bytes of an answer
-abbrev pub most_bytes : ℕ
-most_bytes = 67108864
+abbrev pub max_answer_bytes : ℕ
+max_answer_bytes = 67108864
 
 -- where a text is refused as too long, it is longer than that
 abbrev pub IsTooLong : {T : Type 0} → Result T EncodeFault → List ℕ → Type 0
-IsTooLong result text = result ≡ Err AnswerTooLong → most_bytes < length text
+IsTooLong result text = result ≡ Err AnswerTooLong → max_answer_bytes < length text

@@ -1,12 +1,12 @@
 // The text of an answer, whole.
 ghost use Rattle.std.specs.Prelude.{◌≡◌, ◌≤◌, ◌++◌, [], IfOk, OnErr, OnOk, length};
 ghost use Rattle.std.specs.Option.{option_copied};
-ghost use Rattle.rpl_encode.specs.Answer.{IsTooLong, line_by_line, most_bytes, none};
+ghost use Rattle.rpl_encode.specs.Answer.{IsTooLong, line_by_line, max_answer_bytes, none};
 ghost use Rattle.rpl_encode.specs.Labels.{answer_text, match_text};
 
 use crate::children::{put_line, put_root_text, put_texts};
 use crate::fault::EncodeFault;
-use crate::prepared::{Prepared, Source};
+use crate::shared_parts::{SharedParts, Source};
 use crate::style::Style;
 use crate::tree::put_tree;
 use rosie_io::Bytes;
@@ -16,7 +16,7 @@ use std::alloc::Global;
 use std::marker::Model;
 
 /// The greatest number of bytes of an answer.
-pub(crate) const MOST_BYTES: usize = 67_108_864;
+pub(crate) const MAX_ANSWER_BYTES: usize = 67_108_864;
 
 /// The text of an answer, in memory that is kept from line to line. Contracts see its bytes.
 #[derive(Drop)]
@@ -26,7 +26,7 @@ pub struct AnswerText {
     draft: Vec<u8>,
     /// How many nodes are still to come in each list of JSON that is open.
     pending: Vec<usize>,
-    prepared: Prepared,
+    shared: SharedParts,
 }
 
 impl Model for AnswerText {
@@ -46,7 +46,7 @@ impl AnswerText {
             text: Vec::new(alloc),
             draft: Vec::new(alloc),
             pending: Vec::new(alloc),
-            prepared: Prepared::new(alloc),
+            shared: SharedParts::new(alloc),
         }
     }
 
@@ -69,7 +69,7 @@ impl AnswerText {
     ) -> Result<(), EncodeFault>
         ensures text { OnOk result (self.new ≡ answer_text style line.now program.now (option_copied found.entry)) }
         ensures fits { OnOk result
-            (length (answer_text style line.now program.now (option_copied found.entry)) ≤ most_bytes) }
+            (length (answer_text style line.now program.now (option_copied found.entry)) ≤ max_answer_bytes) }
         ensures too_long { IsTooLong result (answer_text style line.now program.now (option_copied found.entry)) }
         ensures err { OnErr result (self.new ≡ self.old) }
     {
@@ -77,13 +77,13 @@ impl AnswerText {
         put_answer(
             &mut self.draft,
             &mut self.pending,
-            &mut self.prepared,
+            &mut self.shared,
             style,
             line,
             found,
             program,
         )?;
-        if self.draft.len() > MOST_BYTES {
+        if self.draft.len() > MAX_ANSWER_BYTES {
             return Err(EncodeFault::AnswerTooLong);
         }
         std::mem::swap(&mut self.text, &mut self.draft);
@@ -101,7 +101,7 @@ pub fn encode(
 ) -> Result<Bytes, EncodeFault>
     ensures text { IfOk result (λ text. text ≡ answer_text style line.now program.now (option_copied found.entry)) }
     ensures fits { OnOk result
-        (length (answer_text style line.now program.now (option_copied found.entry)) ≤ most_bytes) }
+        (length (answer_text style line.now program.now (option_copied found.entry)) ≤ max_answer_bytes) }
     ensures too_long { IsTooLong result (answer_text style line.now program.now (option_copied found.entry)) }
 {
     let mut answer = AnswerText::new(alloc);
@@ -113,7 +113,7 @@ pub fn encode(
 fn put_answer(
     out: &mut Vec<u8>,
     pending: &mut Vec<usize>,
-    prepared: &mut Prepared,
+    shared: &mut SharedParts,
     style: Style,
     line: &str,
     found: Option<&Forest>,
@@ -125,7 +125,7 @@ fn put_answer(
         (out.new.items ≡ out.old.items ++ (answer_text style line.now program.now (option_copied found.entry))) }
 {
     match found {
-        Some(forest) => put_match(out, pending, prepared, style, line, forest, program),
+        Some(forest) => put_match(out, pending, shared, style, line, forest, program),
         None => Ok(put_miss(out, style)?),
     }
 }
@@ -144,7 +144,7 @@ fn put_miss(out: &mut Vec<u8>, style: Style) -> Result<(), NoMemory>
 fn put_match(
     out: &mut Vec<u8>,
     pending: &mut Vec<usize>,
-    prepared: &mut Prepared,
+    shared: &mut SharedParts,
     style: Style,
     line: &str,
     forest: &Forest,
@@ -155,10 +155,10 @@ fn put_match(
 {
     match style {
         Style::Json => {
-            prepared.fill(line, program)?;
+            shared.fill(line, program)?;
             let source = Source {
                 line: line.as_bytes(),
-                prepared,
+                shared,
                 program,
             };
             put_tree(out, pending, forest, source)

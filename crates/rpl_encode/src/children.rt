@@ -2,10 +2,10 @@
 ghost use Rattle.std.specs.Prelude.{◌≡◌, ◌<◌, ◌⊎◌, ◌++◌, [], ◌∷◌, slice_get, OnOk, IfOk, IfSome, IfNone};
 ghost use Rattle.rpl_core.specs.Program.{labels_of};
 ghost use Rattle.rpl_encode.specs.Answer.{IsTooLong, below_root, line_by_line};
-ghost use Rattle.rpl_encode.specs.inside.Children.{below_of_first, is_some_text, is_wanted, wanted};
+ghost use Rattle.rpl_encode.specs.inside.Children.{below_of_first, is_some_text, is_printed, printed_texts};
 ghost use Rattle.rpl_encode.specs.Labels.{match_text, trees_in};
 
-use crate::answer::MOST_BYTES;
+use crate::answer::MAX_ANSWER_BYTES;
 use crate::fault::EncodeFault;
 use crate::node_text::{label_of, text_of};
 use crate::style::Style;
@@ -51,18 +51,21 @@ pub(crate) fn put_texts(
 ) -> Result<bool, EncodeFault>
     ensures text { OnOk result
         (out.new.items
-        ≡ out.old.items ++ (line_by_line (wanted only_hits line.now (below_root (trees_in program.now forest.now))))) }
+        ≡ out.old.items
+        ++ (line_by_line (printed_texts only_hits line.now (below_root (trees_in program.now forest.now))))) }
     ensures too_long { IsTooLong result
-        (out.old.items ++ line_by_line (wanted only_hits line.now (below_root (trees_in program.now forest.now)))) }
+        (out.old.items
+        ++ line_by_line (printed_texts only_hits line.now (below_root (trees_in program.now forest.now)))) }
     ensures found { IfOk result
-        (λ some. some ≡ is_some_text (wanted only_hits line.now (below_root (trees_in program.now forest.now)))) }
+        (λ some. some
+        ≡ is_some_text (printed_texts only_hits line.now (below_root (trees_in program.now forest.now)))) }
 {
     let count = forest.len();
     let mut left = below_first(forest);
     let mut index = 1;
     let mut some = false;
     while let Some(node) = node_within(forest, index, left) {
-        if out.len() > MOST_BYTES {
+        if out.len() > MAX_ANSWER_BYTES {
             return Err(EncodeFault::AnswerTooLong);
         }
         if wants(only_hits, node, program) {
@@ -96,7 +99,7 @@ fn node_within(forest: &Forest, index: usize, left: usize) -> Option<Node>
 
 /// Whether the text of a node is printed.
 fn wants(only_hits: bool, node: Node, program: &Program) -> bool
-    ensures { result ≡ is_wanted (labels_of program.now) only_hits node }
+    ensures { result ≡ is_printed (labels_of program.now) only_hits node }
 {
     match node.note {
         _ if !only_hits => true,

@@ -55,8 +55,8 @@ const CHUNK: usize = 64;
 
 const ROOM: usize = 6 * CHUNK;
 
-/// Adds what stands for these bytes in a string of JSON. They are taken a few at a time: a list that grows is slow where
-/// little is added at once, and in a line of JSON few bytes stand between two quotes.
+/// Adds what stands for these bytes in a string of JSON. They are taken a few at a time: a list that grows is slow
+/// where little is added at once, and in a line of JSON few bytes stand between two quotes.
 pub(crate) fn put_bytes(out: &mut Vec<u8>, bytes: &[u8]) -> Result<(), NoMemory>
     ensures { OnOk result (out.new.items ≡ out.old.items ++ escape bytes.now) }
 {
@@ -69,7 +69,7 @@ pub(crate) fn put_bytes(out: &mut Vec<u8>, bytes: &[u8]) -> Result<(), NoMemory>
     Ok(())
 }
 
-/// The same of a few bytes. Where one needs an escape, all is put together in a buffer, from its end.
+/// Adds what stands for a few bytes. Where one needs an escape, all is put together in a buffer, from its end.
 fn put_chunk(out: &mut Vec<u8>, bytes: &[u8]) -> Result<(), NoMemory>
     requires { length bytes.now ≤ 64 }
     ensures { OnOk result (out.new.items ≡ out.old.items ++ escape bytes.now) }

@@ -7,7 +7,7 @@ use thiserror::Error;
 /// Why there is no text.
 #[derive(Clone, Copy, Debug, PartialEq, Eq, Error)]
 pub enum EncodeFault {
-    /// Memory is wanting.
+    /// Memory ran out.
     #[error("out of memory")]
     NoMemory,
     /// The text has more than 67,108,864 bytes.

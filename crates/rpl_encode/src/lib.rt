@@ -12,7 +12,7 @@ mod escapes;
 mod fault;
 mod front;
 mod node_text;
-mod prepared;
+mod shared_parts;
 mod style;
 mod tree;
 

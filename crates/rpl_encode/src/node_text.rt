@@ -10,7 +10,7 @@ ghost use Rattle.rpl_encode.specs.inside.Walk.{text_at, fields_at, comma, ending
 
 use crate::escapes::Escapes;
 use crate::front::{put_escaped, put_front, put_new_front};
-use crate::prepared::Source;
+use crate::shared_parts::Source;
 use itoa::{Buffer, write_digits};
 use rpl_core::{NoMemory, Program};
 use rpl_tree::Node;
@@ -50,7 +50,7 @@ pub(crate) fn put_node(
     has_subs: bool,
     source: Source<'_>,
 ) -> Result<(), NoMemory>
-    requires { AreOf source.line.now source.prepared.now.escapes }
+    requires { AreOf source.line.now source.shared.now.escapes }
     ensures { OnOk result
         (out.new.items
         ≡ out.old.items
@@ -59,7 +59,7 @@ pub(crate) fn put_node(
 {
     let Source {
         line,
-        prepared,
+        shared,
         program,
     } = source;
     match node.note {
@@ -69,9 +69,9 @@ pub(crate) fn put_node(
         }
         None => {
             let label = label_of(program, node.label);
-            put_front(out, &prepared.fronts, is_first, node.label, label)?;
+            put_front(out, &shared.fronts, is_first, node.label, label)?;
             put_places(out, node.start, node.end)?;
-            put_part(out, has_subs, &prepared.escapes, line, node.start, node.end)
+            put_part(out, has_subs, &shared.escapes, line, node.start, node.end)
         }
     }
 }
@@ -95,7 +95,7 @@ fn put_message(
     put_ending(out, has_subs)
 }
 
-/// Writes the text of a node that is a part of the line, and what stands behind it.
+/// Writes the text of a node that is a part of the line, and what stands after it.
 fn put_part(
     out: &mut Vec<u8>,
     has_subs: bool,
@@ -112,7 +112,7 @@ fn put_part(
     put_ending(out, has_subs)
 }
 
-/// Writes the quote behind the text of a node, and what stands behind it.
+/// Writes the quote after the text of a node, and what stands after it.
 #[inline]
 fn put_ending(out: &mut Vec<u8>, has_subs: bool) -> Result<(), NoMemory>
     ensures { OnOk result (out.new.items ≡ out.old.items ++ 34 ∷ ending has_subs) }
@@ -142,7 +142,7 @@ fn put_places(out: &mut Vec<u8>, start: usize, end: usize) -> Result<(), NoMemor
     out.extend_from_slice(&buffer[at..])
 }
 
-/// Room for two numbers with what stands between and behind them.
+/// Room for two numbers with what stands between and after them.
 const ROOM: usize = 64;
 
 /// Writes the bytes so that they end at `end`, and tells where they start.
@@ -158,7 +158,7 @@ pub(crate) fn write_before(bytes: &[u8], buffer: &mut [u8], end: usize) -> usize
     start
 }
 
-/// The same for any places; printed one higher, the greatest has no usize.
+/// Writes any two places; printed one higher, the greatest has no usize.
 #[cold]
 fn put_far_places(out: &mut Vec<u8>, start: usize, end: usize) -> Result<(), NoMemory>
     ensures { OnOk result

@@ -21,10 +21,10 @@ ghost use Rattle.rpl_encode.specs.Answer.{IsTooLong};
 ghost use Rattle.rpl_encode.specs.inside.Escapes.{AreOf};
 ghost use Rattle.rpl_encode.specs.inside.Walk.{rest_of};
 
-use crate::answer::MOST_BYTES;
+use crate::answer::MAX_ANSWER_BYTES;
 use crate::fault::EncodeFault;
 use crate::node_text::put_node;
-use crate::prepared::Source;
+use crate::shared_parts::Source;
 use crate::style::Style;
 use rpl_core::NoMemory;
 use rpl_tree::{Forest, Node};
@@ -37,7 +37,7 @@ pub(crate) fn put_tree(
     forest: &Forest,
     source: Source<'_>,
 ) -> Result<(), EncodeFault>
-    requires { AreOf source.line.now source.prepared.now.escapes }
+    requires { AreOf source.line.now source.shared.now.escapes }
     ensures text { OnOk result (out.new.items
         ≡ out.old.items ++ match_text Style.Json source.entry.line.now source.entry.program.now forest.now) }
     ensures too_long { IsTooLong result
@@ -89,7 +89,7 @@ fn put_below(
     forest: &Forest,
     source: Source<'_>,
 ) -> Result<(), EncodeFault>
-    requires { AreOf source.line.now source.prepared.now.escapes }
+    requires { AreOf source.line.now source.shared.now.escapes }
     ensures text { OnOk result
         (out.new.items
         ≡ out.old.items
@@ -106,7 +106,7 @@ fn put_below(
     // The innermost list; those around it are in `lists`.
     let mut innermost = lists.pop();
     while let Some(left) = innermost {
-        if out.len() > MOST_BYTES {
+        if out.len() > MAX_ANSWER_BYTES {
             return Err(EncodeFault::AnswerTooLong);
         }
         match forest.get(index) {

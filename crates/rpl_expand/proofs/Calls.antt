@@ -151,7 +151,7 @@ only_macro P (Some Message) t p h f = λ n e. nothing_true (P n) e
 only_macro P (Some Error) t p h f =
     only_pair P (Note t) (Call halt_rule) (λ n e. nothing_true (P n) e) (only_call P halt_rule h)
 
--- what stands for rules behind a look-behind calls only what P allows
+-- what stands for rules in a look-behind calls only what P allows
 abbrev pub OnlyInners : (ℕ → Type 0) → Inners → Type 0
 OnlyInners P I = (r : ℕ) (q : Core) → slice_get I r ≡ Some (Some q) → Only P q
 
@@ -190,7 +190,7 @@ only_signed P I g S.Not p f = f
 only_signed P I g S.Ahead p f = f
 only_signed P I g S.Behind p f = only_behind P (inlined I p) (only_inlined P I g p f)
 
--- P allows the boundary, all that names are bound to, `halt`, and what stands for rules behind a look-behind
+-- P allows the boundary, all that names are bound to, `halt`, and what stands for rules in a look-behind
 pub record Allows (P : ℕ → Type 0) (s : Scope) : Type 0 where
   pub boundary : P s.boundary
   pub names : (q : QName) → P (s.rule q)

@@ -90,7 +90,7 @@ nat_eq_not a b h = grind (arith, nat_tests)
 nat_eq_same : (a b : ℕ) → a ≡ b → nat_eq a b ≡ true
 nat_eq_same a b h = grind (arith, nat_tests)
 
--- an item with those behind it
+-- an item with those after it
 step : (c : Casing) (s : Scope) (es : List Expr) (k : ℕ) (e : Expr) (rest : List Expr) → k < length es
     → e ≡ get_or es k e → length rest + (k + 1) ≡ length es
     → items c s (e ∷ rest) ≡ Then (core c s (expr_of e)) (between (alone es k) (Call s.boundary) (items c s rest))

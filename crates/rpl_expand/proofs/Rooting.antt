@@ -14,7 +14,7 @@ use Rattle.rpl_forms.specs.Inlining.{Inners, inner, inlined}
 use Rattle.rpl_forms.specs.Rows.{Row, row_at, rows_of, inners_from, inners_of}
 use Rattle.rpl_forms.proofs.Standing.{get_before, get_last}
 use Rattle.rpl_macro.specs.declared.casing.Casing.TheVariants.{Plain}
-use Rattle.rpl_simulation.specs.Laws.{IsCapture, itself, by_call}
+use Rattle.rpl_compile_laws.specs.Laws.{IsCapture, itself, by_call}
 use Rattle.rpl_syntax.specs.Expression.{Expr}
 use Rattle.rpl_syntax.specs.Expression as X
 use Rattle.rpl_syntax.specs.declared.name.QName.{QName}

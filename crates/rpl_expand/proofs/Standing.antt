@@ -89,7 +89,7 @@ made_by p k w r e f =
     ap (λ o. then o (λ y. then (body p n) (λ x. Some (statement_by p n y x)))) h
     ∙ ap (λ o. then o (λ x. Some (statement_by p n (head_of p w r) x))) b
 
--- a rule behind the built-in ones has a statement
+-- a rule after the built-in ones has a statement
 pub has_statement : (p : Packages) (n : ℕ) → 2 ≤ n → n < 2 + length (P.rows p.stock.modules) → (s : Statement)
     × (statement_at p n ≡ Some s)
 has_statement p zero two lt = absurd (omega (arith, two))

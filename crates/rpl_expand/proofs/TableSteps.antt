@@ -13,7 +13,7 @@ use Rattle.rpl_forms.specs.Rows.{Row, row_at, rows_of, inners_of}
 use Rattle.rpl_expand.specs.Table.{Statement, row_of, rows}
 use Rattle.rpl_forms.proofs.InnerCounts.{rows_more, inners_more}
 
--- the rows of a statement and those behind it, once its rule is r
+-- the rows of a statement and those after it, once its rule is r
 pub rows_turn : (rs : List Rule) (s : Statement) (ss : List Statement) (r : Rule) → row_at r ≡ row_of (inners_of rs) s
     → rows (inners_of rs) (s ∷ ss) ≡ row_at r ∷ rows (inners_of (rs ++ r ∷ [])) ss
 rows_turn rs s ss r made =

@@ -1,4 +1,4 @@
--- The whole table, as that of the statements behind the built-in rules.
+-- The whole table, as that of the statements after the built-in rules.
 use Rattle.std.proofs.Common.{◌≡◌, ◌≢◌, ℕ, zero, suc, List, [], ◌∷◌, ◌++◌, length, Some, None, sym, ap}
 use Rattle.std.proofs.Common.{◌∙◌, arith}
 use Rattle.std.specs.Prelude.{Bool, true, false, codes}

@@ -16,7 +16,7 @@ use Rattle.rpl_forms.specs.Forms.{behind, pair, seq_of, text_core, signed, any, 
 use Rattle.rpl_forms.specs.Forms.{macro_core, casing_under}
 
 -- Where an expression stands: the rule that each name stands for, the boundary in force, and what stands for the
--- earlier rules behind a look-behind.
+-- earlier rules in a look-behind.
 pub record Scope : Type 0 where
   pub rule : QName → ℕ
   pub boundary : ℕ

@@ -23,7 +23,7 @@ abbrev pub table_fault : ℕ → List Row → Option Fault
 table_fault k [] = None
 table_fault k (r ∷ rs) = option_or (size_fault (Some k) r.body) (table_fault (k + 1) rs)
 
--- the fault that an answer names; want of memory is none
+-- the fault that an answer names; out of memory is none
 abbrev pub fault_named : ExpandFault → Option Fault
 fault_named V.NoMemory = None
 fault_named (V.TooLarge rule size depth) = Some (TooLarge rule size depth)
@@ -33,7 +33,7 @@ abbrev pub IsDue : Option Fault → Option Fault → Type 0
 IsDue due None = Unit {0}
 IsDue due (Some f) = due ≡ Some f
 
--- the answer is Ok only where no fault is due, and an error names the one that is, or want of memory
+-- the answer is Ok only where no fault is due, and an error names the one that is, or out of memory
 abbrev pub Answers : {A : Type 0} → Option Fault → Result A ExpandFault → Type 0
 Answers due (Ok a) = due ≡ None
 Answers due (Err e) = IsDue due (fault_named e)

@@ -5,7 +5,7 @@ use Rattle.rpl_core.specs.Core.{Cores, NoMore, Then}
 use Rattle.rpl_print.specs.Quoted.{quoted}
 use Rattle.rpl_print.specs.Sets.{set_text}
 
--- what stands in round brackets behind its head
+-- what stands in round brackets after its head
 abbrev pub in_brackets : List ℕ → List ℕ → List ℕ
 in_brackets head rest = head ++ rest ++ 41 ∷ []
 

@@ -29,7 +29,7 @@ abbrev pub boundary_by : Option ℕ → ℕ
 boundary_by None = 0
 boundary_by (Some b) = b
 
--- the scope of the statement of a rule, or, with None, of the pattern, behind rules that these stand for
+-- the scope of the statement of a rule, or, with None, of the pattern, after rules that these stand for
 abbrev pub scope_of : Packages → Option ℕ → Inners → Scope
 scope_of p at I = record { rule = λ q. rule_of (resolved p at q); boundary = boundary_by (boundary p at); inners = I }
 
@@ -73,6 +73,6 @@ statements p = statements_from p 2 (length (P.rows p.stock.modules))
 abbrev pub table_of : Packages → List Row
 table_of p = table (halt_name p) (statements p)
 
--- the core of a pattern behind rules that these stand for
+-- the core of a pattern after rules that these stand for
 abbrev pub goal_of : Packages → Inners → Expr → Core
 goal_of p I e = goal (captures_of p) (scope_of p None I) e

@@ -58,7 +58,7 @@ body_of I s = captured s.captures s.name (core Plain (scope_at I s) s.body)
 abbrev pub row_of : Inners → Statement → Row
 row_of I s = record { name = s.name; block = s.block; body = body_of I s }
 
--- the rows of some statements, behind rules that these stand for behind a look-behind
+-- the rows of some statements, after rules that these stand for in a look-behind
 abbrev pub rows : Inners → List Statement → List Row
 rows I [] = []
 rows I (s ∷ ss) = row_of I s ∷ rows (I ++ inner I s.block (body_of I s) ∷ []) ss

@@ -11,7 +11,7 @@ use rpl_forms::Inner;
 use rpl_forms::inner::call;
 use std::alloc::Global;
 
-/// Where an expression stands, the rules of the table so far, and what is known of what stands for each of them behind
+/// Where an expression stands, the rules of the table so far, and what is known of what stands for each of them in
 /// a look-behind.
 #[derive(Clone, Copy)]
 pub(crate) struct Base<'a> {
@@ -21,11 +21,16 @@ pub(crate) struct Base<'a> {
 }
 
 impl Base<'_> {
-    /// A call of a rule, or what stands for it behind a look-behind.
-    pub(crate) fn call(&self, alloc: Global, inside: bool, rule: u32) -> Result<Peg, NoMemory>
+    /// A call of a rule, or what stands for it in a look-behind.
+    pub(crate) fn call(
+        &self,
+        alloc: Global,
+        in_lookbehind: bool,
+        rule: u32,
+    ) -> Result<Peg, NoMemory>
         requires { Knows self.now }
-        ensures { IfOk result (λ p. core_of p ≡ shown self.now inside (C.Call rule)) }
+        ensures { IfOk result (λ p. core_of p ≡ shown self.now in_lookbehind (C.Call rule)) }
     {
-        call(alloc, self.rules, self.known, inside, rule)
+        call(alloc, self.rules, self.known, in_lookbehind, rule)
     }
 }

@@ -1,4 +1,4 @@
-// The core of an expression, or what stands for it behind a look-behind.
+// The core of an expression, or what stands for it in a look-behind.
 ghost use Rattle.std.specs.Prelude.{◌≡◌, ◌≤◌, IfOk, OnOk, IsTrue, Some, chars, true};
 ghost use Rattle.rpl_core.specs.Core as C;
 ghost use Rattle.rpl_core.specs.Core.{Core};
@@ -46,24 +46,24 @@ fn is_once(least: u32, most: Option<u32>) -> bool
     }
 }
 
-/// The boundary behind an item, unless it stands alone.
+/// The boundary after an item, unless it stands alone.
 fn boundary_behind(
     alloc: Global,
     base: &Base<'_>,
-    inside: bool,
+    in_lookbehind: bool,
     alone: bool,
 ) -> Result<Option<Peg>, NoMemory>
     requires { Knows base.now }
     ensures { IfOk result (λ o. core_if o
-        ≡ between alone (shown base.now inside (C.Call base.now.scope.boundary)) C.NoMore) }
+        ≡ between alone (shown base.now in_lookbehind (C.Call base.now.scope.boundary)) C.NoMore) }
 {
     if alone {
         return Ok(None);
     }
-    Ok(Some(base.call(alloc, inside, base.scope.boundary)?))
+    Ok(Some(base.call(alloc, in_lookbehind, base.scope.boundary)?))
 }
 
-/// An item more at the end, with what stands behind it.
+/// An item more at the end, with what stands after it.
 fn append_item(parts: &mut Pegs, item: Peg, behind: Option<Peg>) -> Result<(), NoMemory>
     ensures { OnOk result (cores (listed parts.new)
         ≡ F.joined (cores (listed parts.old)) (C.Then (core_of item) (core_if behind))) }
@@ -85,7 +85,7 @@ fn predicate(alloc: Global, sign: Sign, body: Peg) -> Result<Peg, NoMemory>
     }
 }
 
-/// The core of an expression, behind the rules of a table; or what stands for it behind a look-behind.
+/// The core of an expression, after the rules of a table; or what stands for it in a look-behind.
 #[cycle(build)]
 pub(crate) fn build(alloc: Global, base: &Base<'_>, mode: Mode, e: &Expr) -> Result<Peg, NoMemory>
     requires { Knows base.now }
@@ -97,8 +97,8 @@ pub(crate) fn build(alloc: Global, base: &Base<'_>, mode: Mode, e: &Expr) -> Res
         Expr::Any => any(alloc),
         Expr::Start => Ok(Peg::Start),
         Expr::End => Ok(Peg::End),
-        Expr::Boundary => base.call(alloc, mode.inside, base.scope.boundary),
-        Expr::Name(name) => base.call(alloc, mode.inside, base.scope.rule(name)),
+        Expr::Boundary => base.call(alloc, mode.in_lookbehind, base.scope.boundary),
+        Expr::Name(name) => base.call(alloc, mode.in_lookbehind, base.scope.rule(name)),
         Expr::Cooked(items) => build_cooked(alloc, base, mode, items.as_slice()),
         Expr::Raw(items) => build_raw(alloc, base, mode, items.as_slice()),
         Expr::Choice(parts) => {
@@ -126,9 +126,9 @@ pub(crate) fn build(alloc: Global, base: &Base<'_>, mode: Mode, e: &Expr) -> Res
         }
         Expr::Marked(mark, body) => {
             let body = build(alloc, base, mode, body)?;
-            marked(alloc, mode.inside, *mark, body)
+            marked(alloc, mode.in_lookbehind, *mark, body)
         }
-        Expr::Note(text) => note(alloc, mode.inside, text),
+        Expr::Note(text) => note(alloc, mode.in_lookbehind, text),
     }
 }
 
@@ -144,7 +144,8 @@ fn build_repeat(
 ) -> Result<Peg, NoMemory>
     requires { Knows base.now }
     ensures { IfOk result (λ p. core_of p
-        ≡ shown base.now mode.inside (F.repeated (E.is_cooked (expr_of body.now)) (C.Call base.now.scope.boundary)
+        ≡ shown base.now mode.in_lookbehind
+        (F.repeated (E.is_cooked (expr_of body.now)) (C.Call base.now.scope.boundary)
         (E.core mode.casing (base_scope base.now) (expr_of body.now)) least most)) }
 {
     if is_never(least, most) {
@@ -157,7 +158,7 @@ fn build_repeat(
     if is_once(least, most) {
         return cooked_once(alloc, turn, least);
     }
-    let boundary = base.call(alloc, mode.inside, base.scope.boundary)?;
+    let boundary = base.call(alloc, mode.in_lookbehind, base.scope.boundary)?;
     cooked_repeat(alloc, boundary, turn, least, most)
 }
 
@@ -172,15 +173,15 @@ fn build_macro(
 ) -> Result<Peg, NoMemory>
     requires { Knows base.now }
     ensures { IfOk result (λ p. core_of p
-        ≡ shown base.now mode.inside (F.macro_core kind (text_of (expr_of arg.now))
+        ≡ shown base.now mode.in_lookbehind (F.macro_core kind (text_of (expr_of arg.now))
         (E.core (F.casing_under kind mode.casing) (base_scope base.now) (expr_of arg.now)))) }
 {
     match kind {
-        Some(Macro::Message) => message(alloc, mode.inside, arg),
-        Some(Macro::Error) => error(alloc, base.rules, base.known, mode.inside, arg),
+        Some(Macro::Message) => message(alloc, mode.in_lookbehind, arg),
+        Some(Macro::Error) => error(alloc, base.rules, base.known, mode.in_lookbehind, arg),
         _ => {
             let body = build(alloc, base, mode.under(kind), arg)?;
-            searched(alloc, mode.inside, kind, body)
+            searched(alloc, mode.in_lookbehind, kind, body)
         }
     }
 }
@@ -190,7 +191,8 @@ fn build_macro(
 fn build_raw(alloc: Global, base: &Base<'_>, mode: Mode, items: &[Expr]) -> Result<Peg, NoMemory>
     requires { Knows base.now }
     ensures { IfOk result (λ p. core_of p
-        ≡ shown base.now mode.inside (F.seq_of (E.cores mode.casing (base_scope base.now) (exprs_all items.now)))) }
+        ≡ shown base.now mode.in_lookbehind
+        (F.seq_of (E.cores mode.casing (base_scope base.now) (exprs_all items.now)))) }
 {
     match items {
         [item] => build(alloc, base, mode, item),
@@ -206,7 +208,8 @@ fn build_raw(alloc: Global, base: &Base<'_>, mode: Mode, items: &[Expr]) -> Resu
 fn build_cooked(alloc: Global, base: &Base<'_>, mode: Mode, items: &[Expr]) -> Result<Peg, NoMemory>
     requires { Knows base.now }
     ensures { IfOk result (λ p. core_of p
-        ≡ shown base.now mode.inside (F.seq_of (E.spaced mode.casing (base_scope base.now) (exprs_all items.now)))) }
+        ≡ shown base.now mode.in_lookbehind
+        (F.seq_of (E.spaced mode.casing (base_scope base.now) (exprs_all items.now)))) }
 {
     match items {
         [item] => build(alloc, base, mode, item),
@@ -246,7 +249,7 @@ fn build_spaced(
     for number in 0..items.len() {
         let part = build(alloc, base, mode, &items[number])?;
         let alone = stands_alone(items, number);
-        let behind = boundary_behind(alloc, base, mode.inside, alone)?;
+        let behind = boundary_behind(alloc, base, mode.in_lookbehind, alone)?;
         append_item(&mut parts, part, behind)?;
     }
     Ok(parts)

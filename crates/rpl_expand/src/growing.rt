@@ -11,7 +11,7 @@ use rpl_forms::Inner;
 use rpl_forms::inner::{inners, push_inner};
 use std::alloc::Global;
 
-/// The rules so far, and what is known of what stands for each of them behind a look-behind.
+/// The rules so far, and what is known of what stands for each of them in a look-behind.
 #[derive(Drop)]
 pub(crate) struct Growing {
     pub(crate) rules: Rules,

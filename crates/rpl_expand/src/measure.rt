@@ -44,26 +44,31 @@ pub(crate) fn is_cooked(e: &Expr) -> bool
     matches!(e, Expr::Cooked(_))
 }
 
-/// The size and the depth of an expression's core, or of what stands for it behind a look-behind.
+/// The size and the depth of an expression's core, or of what stands for it in a look-behind.
 #[cycle(measure)]
-pub(crate) fn measure(scope: &Scope<'_>, known: &[Option<Inner>], inside: bool, e: &Expr) -> Count
+pub(crate) fn measure(
+    scope: &Scope<'_>,
+    known: &[Option<Inner>],
+    in_lookbehind: bool,
+    e: &Expr,
+) -> Count
     ensures { (c : Casing) (I : Inners) → KnowsInners known.now I
-        → Counts result (seen inside I (core c (scope_seen scope.now I) (expr_of e.now))) }
+        → Counts result (seen in_lookbehind I (core c (scope_seen scope.now I) (expr_of e.now))) }
 {
     match e {
         Expr::Text(chars) => text(characters(chars.as_str())),
         Expr::Class { .. } | Expr::Any | Expr::Start | Expr::End | Expr::Note(_) => leaf(),
-        Expr::Boundary => count_call(known, inside, scope.boundary),
-        Expr::Name(name) => count_call(known, inside, scope.rule(name)),
-        Expr::Cooked(items) => measure_cooked(scope, known, inside, items.as_slice()),
-        Expr::Raw(items) => measure_raw(scope, known, inside, items.as_slice()),
+        Expr::Boundary => count_call(known, in_lookbehind, scope.boundary),
+        Expr::Name(name) => count_call(known, in_lookbehind, scope.rule(name)),
+        Expr::Cooked(items) => measure_cooked(scope, known, in_lookbehind, items.as_slice()),
+        Expr::Raw(items) => measure_raw(scope, known, in_lookbehind, items.as_slice()),
         Expr::Choice(parts) => {
-            let all = measure_all(scope, known, inside, parts.as_slice());
+            let all = measure_all(scope, known, in_lookbehind, parts.as_slice());
             node(all)
         }
         Expr::Both(first, second) => {
-            let before = node(measure(scope, known, inside, first));
-            let last = measure(scope, known, inside, second);
+            let before = node(measure(scope, known, in_lookbehind, first));
+            let last = measure(scope, known, in_lookbehind, second);
             pair(before, last)
         }
         Expr::Prefix(Sign::Behind, item) => {
@@ -71,39 +76,44 @@ pub(crate) fn measure(scope: &Scope<'_>, known: &[Option<Inner>], inside: bool, 
             node(body)
         }
         Expr::Prefix(_, item) => {
-            let body = measure(scope, known, inside, item);
+            let body = measure(scope, known, in_lookbehind, item);
             node(body)
         }
         Expr::Repeat { body, least, most } => {
-            let of = measure(scope, known, inside, body);
+            let of = measure(scope, known, in_lookbehind, body);
             if is_cooked(body) {
-                let boundary = count_call(known, inside, scope.boundary);
+                let boundary = count_call(known, in_lookbehind, scope.boundary);
                 cooked_repeat(boundary, of, *least, *most)
             } else {
                 repeat(of, *least, *most)
             }
         }
         Expr::Macro { name, arg } => {
-            let of = measure(scope, known, inside, arg);
-            applied(known, inside, Macro::named(name.name.as_str()), of)
+            let of = measure(scope, known, in_lookbehind, arg);
+            applied(known, in_lookbehind, Macro::named(name.name.as_str()), of)
         }
         Expr::Marked(_, body) => {
-            let of = measure(scope, known, inside, body);
-            capture(inside, of)
+            let of = measure(scope, known, in_lookbehind, body);
+            capture(in_lookbehind, of)
         }
     }
 }
 
 /// A raw group.
 #[cycle(measure)]
-fn measure_raw(scope: &Scope<'_>, known: &[Option<Inner>], inside: bool, items: &[Expr]) -> Count
+fn measure_raw(
+    scope: &Scope<'_>,
+    known: &[Option<Inner>],
+    in_lookbehind: bool,
+    items: &[Expr],
+) -> Count
     ensures { (c : Casing) (I : Inners) → KnowsInners known.now I
-        → Counts result (seen inside I (seq_of (cores c (scope_seen scope.now I) (exprs_all items.now)))) }
+        → Counts result (seen in_lookbehind I (seq_of (cores c (scope_seen scope.now I) (exprs_all items.now)))) }
 {
     match items {
-        [item] => measure(scope, known, inside, item),
+        [item] => measure(scope, known, in_lookbehind, item),
         _ => {
-            let all = measure_all(scope, known, inside, items);
+            let all = measure_all(scope, known, in_lookbehind, items);
             node(all)
         }
     }
@@ -111,14 +121,19 @@ fn measure_raw(scope: &Scope<'_>, known: &[Option<Inner>], inside: bool, items: 
 
 /// A cooked group.
 #[cycle(measure)]
-fn measure_cooked(scope: &Scope<'_>, known: &[Option<Inner>], inside: bool, items: &[Expr]) -> Count
+fn measure_cooked(
+    scope: &Scope<'_>,
+    known: &[Option<Inner>],
+    in_lookbehind: bool,
+    items: &[Expr],
+) -> Count
     ensures { (c : Casing) (I : Inners) → KnowsInners known.now I
-        → Counts result (seen inside I (seq_of (spaced c (scope_seen scope.now I) (exprs_all items.now)))) }
+        → Counts result (seen in_lookbehind I (seq_of (spaced c (scope_seen scope.now I) (exprs_all items.now)))) }
 {
     match items {
-        [item] => measure(scope, known, inside, item),
+        [item] => measure(scope, known, in_lookbehind, item),
         _ => {
-            let all = measure_spaced(scope, known, inside, items);
+            let all = measure_spaced(scope, known, in_lookbehind, items);
             node(all)
         }
     }
@@ -126,33 +141,43 @@ fn measure_cooked(scope: &Scope<'_>, known: &[Option<Inner>], inside: bool, item
 
 /// Some expressions together.
 #[cycle(measure)]
-fn measure_all(scope: &Scope<'_>, known: &[Option<Inner>], inside: bool, parts: &[Expr]) -> Count
+fn measure_all(
+    scope: &Scope<'_>,
+    known: &[Option<Inner>],
+    in_lookbehind: bool,
+    parts: &[Expr],
+) -> Count
     ensures { (c : Casing) (I : Inners) → KnowsInners known.now I
-        → CountsAll result (seen_all inside I (cores c (scope_seen scope.now I) (exprs_all parts.now))) }
+        → CountsAll result (seen_all in_lookbehind I (cores c (scope_seen scope.now I) (exprs_all parts.now))) }
 {
     let mut sum = none();
     for part in parts {
-        sum = add(sum, measure(scope, known, inside, part));
+        sum = add(sum, measure(scope, known, in_lookbehind, part));
     }
     sum
 }
 
 /// The items of a cooked group with the boundaries between them.
 #[cycle(measure)]
-fn measure_spaced(scope: &Scope<'_>, known: &[Option<Inner>], inside: bool, items: &[Expr]) -> Count
+fn measure_spaced(
+    scope: &Scope<'_>,
+    known: &[Option<Inner>],
+    in_lookbehind: bool,
+    items: &[Expr],
+) -> Count
     ensures { (c : Casing) (I : Inners) → KnowsInners known.now I
-        → CountsAll result (seen_all inside I (spaced c (scope_seen scope.now I) (exprs_all items.now))) }
+        → CountsAll result (seen_all in_lookbehind I (spaced c (scope_seen scope.now I) (exprs_all items.now))) }
 {
     let mut sum = none();
-    let boundary = count_call(known, inside, scope.boundary);
+    let boundary = count_call(known, in_lookbehind, scope.boundary);
     for number in 0..items.len() {
-        let item = measure(scope, known, inside, &items[number]);
+        let item = measure(scope, known, in_lookbehind, &items[number]);
         sum = add_item(sum, item, boundary, stands_alone(items, number));
     }
     sum
 }
 
-/// No boundary stands behind this item: it is the last, or a predicate.
+/// No boundary stands after this item: it is the last, or a predicate.
 pub(crate) fn stands_alone(items: &[Expr], number: usize) -> bool
     requires { number < length items.now }
     ensures { result ≡ alone items.now number }
@@ -160,7 +185,7 @@ pub(crate) fn stands_alone(items: &[Expr], number: usize) -> bool
     number + 1 == items.len() || is_prefix(&items[number])
 }
 
-/// An item more, with the boundary behind it unless it stands alone.
+/// An item more, with the boundary after it unless it stands alone.
 fn add_item(sum: Count, item: Count, boundary: Count, alone: bool) -> Count
     ensures { (p b : Core) (rest whole : Cores) → Counts item p → Counts boundary b
         → Adds sum (C.Then p (between alone b rest)) whole → Adds result rest whole }

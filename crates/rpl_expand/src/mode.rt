@@ -4,40 +4,40 @@ ghost use Rattle.rpl_forms.specs.Forms as F;
 
 use rpl_macro::{Casing, Macro};
 
-/// In which cases letters are taken, and whether the part stands behind a look-behind.
+/// In which cases letters are taken, and whether the part stands in a look-behind.
 #[derive(Clone, Copy)]
 pub(crate) struct Mode {
     pub(crate) casing: Casing,
-    pub(crate) inside: bool,
+    pub(crate) in_lookbehind: bool,
 }
 
 impl Mode {
     /// Letters as they are written, and no look-behind around.
     pub(crate) fn plain() -> Mode
         ensures casing { result.casing ≡ Casing.Plain }
-        ensures inside { result.inside ≡ false }
+        ensures in_lookbehind { result.in_lookbehind ≡ false }
     {
         Mode {
             casing: Casing::Plain,
-            inside: false,
+            in_lookbehind: false,
         }
     }
 
-    /// The same behind a look-behind.
+    /// The mode in a look-behind, in the same casing.
     pub(crate) fn behind(self) -> Mode
         ensures casing { result.casing ≡ self.casing }
-        ensures inside { result.inside ≡ true }
+        ensures in_lookbehind { result.in_lookbehind ≡ true }
     {
         Mode {
             casing: self.casing,
-            inside: true,
+            in_lookbehind: true,
         }
     }
 
-    /// The same under a macro, in its casing.
+    /// The mode under a macro, in its casing.
     pub(crate) fn under(self, kind: Option<Macro>) -> Mode
         ensures casing { result.casing ≡ F.casing_under kind self.casing }
-        ensures inside { result.inside ≡ self.inside }
+        ensures in_lookbehind { result.in_lookbehind ≡ self.in_lookbehind }
     {
         let casing = match kind {
             Some(Macro::Ci) => self.casing.under_ci(),
@@ -46,7 +46,7 @@ impl Mode {
         };
         Mode {
             casing,
-            inside: self.inside,
+            in_lookbehind: self.in_lookbehind,
         }
     }
 }

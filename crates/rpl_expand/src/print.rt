@@ -48,7 +48,7 @@ fn push_note(out: &mut String, text: &Chars) -> Result<(), NoMemory>
     out.push(')')
 }
 
-/// Adds a pattern behind a head, and the bracket that ends it.
+/// Adds a pattern after a head, and the bracket that ends it.
 #[cycle(print)]
 fn push_body(out: &mut String, rules: &Rules, head: &str, body: &Peg) -> Result<(), NoMemory>
     ensures { OnOk result (string_bytes out.new
@@ -59,7 +59,7 @@ fn push_body(out: &mut String, rules: &Rules, head: &str, body: &Peg) -> Result<
     out.push(')')
 }
 
-/// Adds patterns behind a head, and the bracket that ends them.
+/// Adds patterns after a head, and the bracket that ends them.
 #[cycle(print)]
 fn push_group(out: &mut String, rules: &Rules, head: &str, parts: &[Peg]) -> Result<(), NoMemory>
     ensures { OnOk result (string_bytes out.new

@@ -18,7 +18,7 @@ ghost use Rattle.rpl_forms.specs.Rows.{inners_of, row_at, rows_of};
 ghost use Rattle.rpl_macro.specs.declared.casing.Casing.TheVariants.{Plain};
 ghost use Rattle.rpl_package.specs.Sets.{set_seen};
 ghost use Rattle.rpl_package.specs.Targets.{halt_name, resolved};
-ghost use Rattle.rpl_simulation.specs.Laws.{IsCapture};
+ghost use Rattle.rpl_compile_laws.specs.Laws.{IsCapture};
 ghost use Rattle.rpl_syntax.specs.View.{expr_of};
 
 use crate::NoMemory;
@@ -85,7 +85,7 @@ fn has_root(scope: &Scope<'_>, e: &Expr) -> bool
     }
 }
 
-/// The rule of a statement, behind the rules of a table.
+/// The rule of a statement, after the rules of a table.
 fn make_rule(alloc: Global, table: &Growing, statement: &Statement<'_>) -> Result<Rule, NoMemory>
     requires { KnowsInners table.now.known.items (inners_of (rules_of table.now.rules)) }
     ensures { IfOk result (λ r. row_at r
@@ -145,7 +145,7 @@ pub fn expand(alloc: Global, set: &PackageSet) -> Result<Rules, ExpandFault>
 }
 
 /// The size of the goal, which its root capture may stand around, is within the limits.
-fn check_goal(
+fn check_goal_size(
     scope: &Scope<'_>,
     known: &[Option<Inner>],
     captures: bool,
@@ -180,7 +180,7 @@ pub fn expand_pattern(
     let scope = Scope::new(set, None);
     let known = inners(alloc, rules)?;
     let captures = !has_root(&scope, e);
-    if let Err(fault) = check_goal(&scope, &known, captures, e) {
+    if let Err(fault) = check_goal_size(&scope, &known, captures, e) {
         return Err(fault);
     }
     let base = Base {

@@ -1,4 +1,4 @@
--- What stands for the rules of a table behind a look-behind.
+-- What stands for the rules of a table in a look-behind.
 use Rattle.std.proofs.Common.{◌≡◌, ℕ, zero, suc, ◌+◌, ◌<◌, ◌≤◌, List, [], ◌∷◌, ◌++◌, length, take, refl, sym, ap, ◌∙◌}
 use Rattle.std.proofs.Common.{subst, arith, length-append}
 use Rattle.std.specs.Prelude.{Option, Some, None, is_some, true, false, slice_get, option_map}

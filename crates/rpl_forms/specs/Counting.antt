@@ -22,12 +22,12 @@ pub record Adds (n : Count) (rest whole : Cores) : Type 0 where
   pub size_is : min 65537 (n.size + all_nodes rest) ≡ min 65537 (all_nodes whole)
   pub depth_is : min 1025 (max n.depth (most_deep rest)) ≡ min 1025 (most_deep whole)
 
--- a core as it is, or what stands for it behind a look-behind
-abbrev pub seen : (inside : Bool) → Inners → Core → Core
+-- a core as it is, or what stands for it in a look-behind
+abbrev pub seen : (in_lookbehind : Bool) → Inners → Core → Core
 seen true I p = inlined I p
 seen false I p = p
 
-abbrev pub seen_all : (inside : Bool) → Inners → Cores → Cores
+abbrev pub seen_all : (in_lookbehind : Bool) → Inners → Cores → Cores
 seen_all true I ps = inlined_all I ps
 seen_all false I ps = ps
 
@@ -49,7 +49,7 @@ pub record KnowsInners (known : List (Option Inner)) (I : Inners) : Type 0 where
   pub same : (r : ℕ) (n : Inner) → slice_get known r ≡ Some (Some n)
       → (n.rule ≤ r) × (slice_get I n.rule ≡ slice_get I r)
 
--- what is known of what stands for the next rule, behind those for which I stands
+-- what is known of what stands for the next rule, after those for which I stands
 pub data KnowsNext (I : Inners) : Option Inner → Option Core → Type 0 where
   nothing : KnowsNext I None None
   stands : (n : Inner) (p : Core) → Counts n.count p → n.rule ≤ length I

@@ -55,7 +55,7 @@ signed false s = s
 abbrev pub any : List Range
 any = (0, 0xd7ff) ∷ (0xe000, 0x10_ffff) ∷ []
 
--- an item of a cooked group before others: the boundary b behind it, unless it is a prefix
+-- an item of a cooked group before others: the boundary b after it, unless it is a prefix
 abbrev pub spaced_by : (prefix : Bool) → Core → Core → Cores → Cores
 spaced_by prefix b p NoMore = Then p NoMore
 spaced_by true b p (Then q ps) = Then p (Then q ps)
@@ -71,7 +71,7 @@ abbrev pub repeat : Core → ℕ → Option ℕ → Core
 repeat p n None = endless p n
 repeat p n (Some m) = Seq (copies n p (copies (m - n) (or_nothing p) NoMore))
 
--- the same of a cooked group, with the boundary b between its turns
+-- a cooked group n times and more, with the boundary b between its turns
 abbrev pub cooked_endless : Core → Core → ℕ → Core
 cooked_endless b p zero = or_nothing (pair p (Many (pair b p)))
 cooked_endless b p (suc n) = Seq (Then p (copies n (pair b p) (Then (Many (pair b p)) NoMore)))

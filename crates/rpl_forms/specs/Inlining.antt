@@ -1,9 +1,9 @@
--- What stands behind a look-behind for a core.
+-- What stands in a look-behind for a core.
 use Rattle.std.specs.Prelude.{ℕ, List, Option, Some, None, slice_get}
 use Rattle.rpl_core.specs.Core.{Core, Set, Seq, Choice, Many, Not, And, Behind, Call, Capture, Note, Start, End, Halt}
 use Rattle.rpl_core.specs.Core.{Cores, NoMore, Then}
 
--- for each rule before the statement, what stands for a call of it behind a look-behind: nothing for a rule of a block
+-- for each rule before the statement, what stands for a call of it in a look-behind: nothing for a rule of a block
 abbrev pub Inners : Type 0
 Inners = List (Option Core)
 

@@ -1,4 +1,4 @@
--- How contracts see a table of rules as rows, and what stands for each rule behind a look-behind.
+-- How contracts see a table of rules as rows, and what stands for each rule in a look-behind.
 use Rattle.std.specs.Prelude.{ℕ, List, [], ◌∷◌, ◌++◌, Option, map}
 use Rattle.rpl_core.specs.Core.{Core}
 use Rattle.rpl_core.specs.View.{core_of}
@@ -17,11 +17,11 @@ row_at r = record { name = r.name; block = r.block; body = core_of r.body }
 abbrev pub rows_of : List Rule → List Row
 rows_of = map row_at
 
--- what stands behind a look-behind for the rules of some rows, which come behind others for which I stands
+-- what stands in a look-behind for the rules of some rows, which come after others for which I stands
 abbrev pub inners_from : Inners → List Row → Inners
 inners_from I [] = I
 inners_from I (r ∷ rs) = inners_from (I ++ inner I r.block r.body ∷ []) rs
 
--- what stands behind a look-behind for each rule of a table
+-- what stands in a look-behind for each rule of a table
 abbrev pub inners_of : List Rule → Inners
 inners_of rs = inners_from [] (rows_of rs)

@@ -195,12 +195,12 @@ pub fn cooked_repeat(boundary: Count, of: Count, least: u32, most: Option<u32>) 
     }
 }
 
-/// A tree around a core; behind a look-behind there are none.
-pub fn capture(inside: bool, of: Count) -> Count
-    ensures { (p : Core) (c : List ℕ) (I : Inners) → Counts of (seen inside I p)
-        → Counts result (seen inside I (C.Capture c p)) }
+/// A tree around a core; in a look-behind there are none.
+pub fn capture(in_lookbehind: bool, of: Count) -> Count
+    ensures { (p : Core) (c : List ℕ) (I : Inners) → Counts of (seen in_lookbehind I p)
+        → Counts result (seen in_lookbehind I (C.Capture c p)) }
 {
-    if inside {
+    if in_lookbehind {
         return of;
     }
     node(of)
@@ -216,43 +216,50 @@ fn passed(of: Count) -> Count
 }
 
 /// A search.
-fn found(inside: bool, of: Count) -> Count
-    ensures { (p : Core) (I : Inners) → Counts of (seen inside I p) → Counts result (seen inside I (F.found p)) }
+fn found(in_lookbehind: bool, of: Count) -> Count
+    ensures { (p : Core) (I : Inners) → Counts of (seen in_lookbehind I p)
+        → Counts result (seen in_lookbehind I (F.found p)) }
 {
     let before = passed(of);
-    let hit = capture(inside, of);
+    let hit = capture(in_lookbehind, of);
     pair(before, hit)
 }
 
 /// A search that keeps what it passes over.
-fn kept(inside: bool, of: Count) -> Count
-    ensures { (p : Core) (I : Inners) → Counts of (seen inside I p) → Counts result (seen inside I (F.kept p)) }
+fn kept(in_lookbehind: bool, of: Count) -> Count
+    ensures { (p : Core) (I : Inners) → Counts of (seen in_lookbehind I p)
+        → Counts result (seen in_lookbehind I (F.kept p)) }
 {
-    let before = capture(inside, passed(of));
-    let hit = capture(inside, of);
+    let before = capture(in_lookbehind, passed(of));
+    let hit = capture(in_lookbehind, of);
     pair(before, hit)
 }
 
 /// A message and the end of the match.
-fn error(known: &[Option<Inner>], inside: bool) -> Count
+fn error(known: &[Option<Inner>], in_lookbehind: bool) -> Count
     ensures { (I : Inners) (t : List ℕ) → KnowsInners known.now I
-        → Counts result (seen inside I (F.pair (C.Note t) (C.Call F.halt_rule))) }
+        → Counts result (seen in_lookbehind I (F.pair (C.Note t) (C.Call F.halt_rule))) }
 {
-    let end = count_call(known, inside, HALT);
+    let end = count_call(known, in_lookbehind, HALT);
     pair(leaf(), end)
 }
 
 /// A macro of an argument with these counts.
-pub fn applied(known: &[Option<Inner>], inside: bool, kind: Option<Macro>, of: Count) -> Count
-    ensures { (I : Inners) (t : List ℕ) (p : Core) → KnowsInners known.now I → Counts of (seen inside I p)
-        → Counts result (seen inside I (macro_core kind t p)) }
+pub fn applied(
+    known: &[Option<Inner>],
+    in_lookbehind: bool,
+    kind: Option<Macro>,
+    of: Count,
+) -> Count
+    ensures { (I : Inners) (t : List ℕ) (p : Core) → KnowsInners known.now I → Counts of (seen in_lookbehind I p)
+        → Counts result (seen in_lookbehind I (macro_core kind t p)) }
 {
     match kind {
         None | Some(Macro::Ci) | Some(Macro::Uci) => of,
-        Some(Macro::Find) => found(inside, of),
-        Some(Macro::FindAll) => repeat(found(inside, of), 1, None),
-        Some(Macro::KeepTo) => kept(inside, of),
+        Some(Macro::Find) => found(in_lookbehind, of),
+        Some(Macro::FindAll) => repeat(found(in_lookbehind, of), 1, None),
+        Some(Macro::KeepTo) => kept(in_lookbehind, of),
         Some(Macro::Message) => leaf(),
-        Some(Macro::Error) => error(known, inside),
+        Some(Macro::Error) => error(known, in_lookbehind),
     }
 }

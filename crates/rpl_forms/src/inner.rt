@@ -1,4 +1,4 @@
-// What stands for rules behind a look-behind: their bodies without captures and notes, and with the bodies of earlier
+// What stands for rules in a look-behind: their bodies without captures and notes, and with the bodies of earlier
 // rules in place of calls. It is counted for each rule, and made only where a look-behind asks for it.
 ghost use Rattle.std.specs.Prelude.{◌≡◌, ◌<◌, ◌+◌, IfOk, IfSome, OnOk, Option, [], ◌∷◌, ◌++◌, length, slice_get, take};
 ghost use Rattle.rpl_core.specs.Core as C;
@@ -26,10 +26,10 @@ fn inner_of(known: &[Option<Inner>], rule: u32) -> Option<Inner>
 }
 
 /// The counts of a call, or of what stands for it.
-pub fn count_call(known: &[Option<Inner>], inside: bool, rule: u32) -> Count
-    ensures { (I : Inners) → KnowsInners known.now I → Counts result (seen inside I (C.Call rule)) }
+pub fn count_call(known: &[Option<Inner>], in_lookbehind: bool, rule: u32) -> Count
+    ensures { (I : Inners) → KnowsInners known.now I → Counts result (seen in_lookbehind I (C.Call rule)) }
 {
-    if !inside {
+    if !in_lookbehind {
         return leaf();
     }
     match inner_of(known, rule) {
@@ -40,22 +40,22 @@ pub fn count_call(known: &[Option<Inner>], inside: bool, rule: u32) -> Count
 
 /// The counts of a pattern, or of what stands for it.
 #[cycle(weigh)]
-fn weigh(known: &[Option<Inner>], inside: bool, peg: &Peg) -> Count
-    ensures { (I : Inners) → KnowsInners known.now I → Counts result (seen inside I (core_of peg.now)) }
+fn weigh(known: &[Option<Inner>], in_lookbehind: bool, peg: &Peg) -> Count
+    ensures { (I : Inners) → KnowsInners known.now I → Counts result (seen in_lookbehind I (core_of peg.now)) }
 {
     match peg {
         Peg::Set(_) | Peg::Note(_) | Peg::Start | Peg::End | Peg::Halt => leaf(),
-        Peg::Call(number) => count_call(known, inside, *number),
+        Peg::Call(number) => count_call(known, in_lookbehind, *number),
         Peg::Many(body) => {
-            let of = weigh(known, inside, body);
+            let of = weigh(known, in_lookbehind, body);
             node(of)
         }
         Peg::Not(body) => {
-            let of = weigh(known, inside, body);
+            let of = weigh(known, in_lookbehind, body);
             node(of)
         }
         Peg::And(body) => {
-            let of = weigh(known, inside, body);
+            let of = weigh(known, in_lookbehind, body);
             node(of)
         }
         Peg::Behind { body, .. } => {
@@ -63,15 +63,15 @@ fn weigh(known: &[Option<Inner>], inside: bool, peg: &Peg) -> Count
             node(of)
         }
         Peg::Capture(_, body) => {
-            let of = weigh(known, inside, body);
-            capture(inside, of)
+            let of = weigh(known, in_lookbehind, body);
+            capture(in_lookbehind, of)
         }
         Peg::Seq(parts) => {
-            let all = weigh_all(known, inside, parts.as_slice());
+            let all = weigh_all(known, in_lookbehind, parts.as_slice());
             node(all)
         }
         Peg::Choice(parts) => {
-            let all = weigh_all(known, inside, parts.as_slice());
+            let all = weigh_all(known, in_lookbehind, parts.as_slice());
             node(all)
         }
     }
@@ -79,12 +79,12 @@ fn weigh(known: &[Option<Inner>], inside: bool, peg: &Peg) -> Count
 
 /// Those of some patterns together.
 #[cycle(weigh)]
-fn weigh_all(known: &[Option<Inner>], inside: bool, parts: &[Peg]) -> Count
-    ensures { (I : Inners) → KnowsInners known.now I → CountsAll result (seen_all inside I (cores parts.now)) }
+fn weigh_all(known: &[Option<Inner>], in_lookbehind: bool, parts: &[Peg]) -> Count
+    ensures { (I : Inners) → KnowsInners known.now I → CountsAll result (seen_all in_lookbehind I (cores parts.now)) }
 {
     let mut sum = none();
     for part in parts {
-        sum = add(sum, weigh(known, inside, part));
+        sum = add(sum, weigh(known, in_lookbehind, part));
     }
     sum
 }
@@ -261,13 +261,13 @@ pub fn call(
     alloc: Global,
     rules: &Rules,
     known: &[Option<Inner>],
-    inside: bool,
+    in_lookbehind: bool,
     rule: u32,
 ) -> Result<Peg, NoMemory>
     requires { KnowsInners known.now (inners_of (rules_of rules.now)) }
-    ensures { IfOk result (λ p. core_of p ≡ seen inside (inners_of (rules_of rules.now)) (C.Call rule)) }
+    ensures { IfOk result (λ p. core_of p ≡ seen in_lookbehind (inners_of (rules_of rules.now)) (C.Call rule)) }
 {
-    if !inside {
+    if !in_lookbehind {
         return Ok(Peg::Call(rule));
     }
     inline_call(alloc, rules, known, rules.len() as u32, rule)

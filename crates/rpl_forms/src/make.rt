@@ -299,12 +299,12 @@ fn mark_name(alloc: Global, mark: Mark) -> Result<Chars, NoMemory>
     }
 }
 
-/// A stretch of a search, which makes a node; behind a look-behind there are none.
-pub fn marked(alloc: Global, inside: bool, mark: Mark, body: Peg) -> Result<Peg, NoMemory>
-    ensures { IfOk result (λ q. (I : Inners) (p : Core) → core_of body ≡ seen inside I p
-        → core_of q ≡ seen inside I (C.Capture (F.mark_name mark) p)) }
+/// A stretch of a search, which makes a node; in a look-behind there are none.
+pub fn marked(alloc: Global, in_lookbehind: bool, mark: Mark, body: Peg) -> Result<Peg, NoMemory>
+    ensures { IfOk result (λ q. (I : Inners) (p : Core) → core_of body ≡ seen in_lookbehind I p
+        → core_of q ≡ seen in_lookbehind I (C.Capture (F.mark_name mark) p)) }
 {
-    if inside {
+    if in_lookbehind {
         return Ok(body);
     }
     let name = mark_name(alloc, mark)?;
@@ -321,71 +321,71 @@ fn passed(alloc: Global, body: &Peg) -> Result<Peg, NoMemory>
 }
 
 /// A search.
-fn found(alloc: Global, inside: bool, body: Peg) -> Result<Peg, NoMemory>
-    ensures { IfOk result (λ q. (I : Inners) (p : Core) → core_of body ≡ seen inside I p
-        → core_of q ≡ seen inside I (F.found p)) }
+fn found(alloc: Global, in_lookbehind: bool, body: Peg) -> Result<Peg, NoMemory>
+    ensures { IfOk result (λ q. (I : Inners) (p : Core) → core_of body ≡ seen in_lookbehind I p
+        → core_of q ≡ seen in_lookbehind I (F.found p)) }
 {
     let before = passed(alloc, &body)?;
-    let hit = marked(alloc, inside, Mark::Hit, body)?;
+    let hit = marked(alloc, in_lookbehind, Mark::Hit, body)?;
     pair(alloc, before, hit)
 }
 
 /// A search that keeps what it passes over.
-fn kept(alloc: Global, inside: bool, body: Peg) -> Result<Peg, NoMemory>
-    ensures { IfOk result (λ q. (I : Inners) (p : Core) → core_of body ≡ seen inside I p
-        → core_of q ≡ seen inside I (F.kept p)) }
+fn kept(alloc: Global, in_lookbehind: bool, body: Peg) -> Result<Peg, NoMemory>
+    ensures { IfOk result (λ q. (I : Inners) (p : Core) → core_of body ≡ seen in_lookbehind I p
+        → core_of q ≡ seen in_lookbehind I (F.kept p)) }
 {
     let before = passed(alloc, &body)?;
-    let before = marked(alloc, inside, Mark::Skip, before)?;
-    let hit = marked(alloc, inside, Mark::Hit, body)?;
+    let before = marked(alloc, in_lookbehind, Mark::Skip, before)?;
+    let hit = marked(alloc, in_lookbehind, Mark::Hit, body)?;
     pair(alloc, before, hit)
 }
 
 /// A search again and again.
-fn all_found(alloc: Global, inside: bool, body: Peg) -> Result<Peg, NoMemory>
-    ensures { IfOk result (λ q. (I : Inners) (p : Core) → core_of body ≡ seen inside I p
-        → core_of q ≡ seen inside I (F.endless (F.found p) 1)) }
+fn all_found(alloc: Global, in_lookbehind: bool, body: Peg) -> Result<Peg, NoMemory>
+    ensures { IfOk result (λ q. (I : Inners) (p : Core) → core_of body ≡ seen in_lookbehind I p
+        → core_of q ≡ seen in_lookbehind I (F.endless (F.found p) 1)) }
 {
-    let search = found(alloc, inside, body)?;
+    let search = found(alloc, in_lookbehind, body)?;
     endless(alloc, search, 1)
 }
 
 /// What a macro that searches makes of its argument, or a change of case, which the argument has had already.
 pub fn searched(
     alloc: Global,
-    inside: bool,
+    in_lookbehind: bool,
     kind: Option<Macro>,
     body: Peg,
 ) -> Result<Peg, NoMemory>
     requires { keeps_text kind ≡ false }
-    ensures { IfOk result (λ q. (I : Inners) (t : List ℕ) (p : Core) → core_of body ≡ seen inside I p
-        → core_of q ≡ seen inside I (F.macro_core kind t p)) }
+    ensures { IfOk result (λ q. (I : Inners) (t : List ℕ) (p : Core) → core_of body ≡ seen in_lookbehind I p
+        → core_of q ≡ seen in_lookbehind I (F.macro_core kind t p)) }
 {
     match kind {
-        Some(Macro::Find) => found(alloc, inside, body),
-        Some(Macro::FindAll) => all_found(alloc, inside, body),
-        Some(Macro::KeepTo) => kept(alloc, inside, body),
+        Some(Macro::Find) => found(alloc, in_lookbehind, body),
+        Some(Macro::FindAll) => all_found(alloc, in_lookbehind, body),
+        Some(Macro::KeepTo) => kept(alloc, in_lookbehind, body),
         _ => Ok(body),
     }
 }
 
-/// A message, which makes a node; behind a look-behind there are none.
-pub fn note(alloc: Global, inside: bool, text: &Chars) -> Result<Peg, NoMemory>
-    ensures { IfOk result (λ q. (I : Inners) → core_of q ≡ seen inside I (C.Note text.now)) }
+/// A message, which makes a node; in a look-behind there are none.
+pub fn note(alloc: Global, in_lookbehind: bool, text: &Chars) -> Result<Peg, NoMemory>
+    ensures { IfOk result (λ q. (I : Inners) → core_of q ≡ seen in_lookbehind I (C.Note text.now)) }
 {
-    if inside {
+    if in_lookbehind {
         return Ok(seq(Pegs::new(alloc)));
     }
     Ok(Peg::Note(text.copy(alloc)?))
 }
 
 /// The message of an argument. The characters of the argument aren't made.
-pub fn message(alloc: Global, inside: bool, arg: &Expr) -> Result<Peg, NoMemory>
-    ensures { IfOk result (λ q. (I : Inners) → core_of q ≡ seen inside I (C.Note (text_of (expr_of arg.now)))) }
+pub fn message(alloc: Global, in_lookbehind: bool, arg: &Expr) -> Result<Peg, NoMemory>
+    ensures { IfOk result (λ q. (I : Inners) → core_of q ≡ seen in_lookbehind I (C.Note (text_of (expr_of arg.now)))) }
 {
     match arg {
-        Expr::Text(text) => note(alloc, inside, text),
-        _ => note(alloc, inside, &Chars::empty(alloc)),
+        Expr::Text(text) => note(alloc, in_lookbehind, text),
+        _ => note(alloc, in_lookbehind, &Chars::empty(alloc)),
     }
 }
 
@@ -394,16 +394,16 @@ pub fn error(
     alloc: Global,
     rules: &Rules,
     known: &[Option<Inner>],
-    inside: bool,
+    in_lookbehind: bool,
     arg: &Expr,
 ) -> Result<Peg, NoMemory>
     requires { KnowsInners known.now (inners_of (rules_of rules.now)) }
     ensures { IfOk result (λ q. core_of q
-        ≡ seen inside (inners_of (rules_of rules.now))
+        ≡ seen in_lookbehind (inners_of (rules_of rules.now))
         (F.pair (C.Note (text_of (expr_of arg.now))) (C.Call F.halt_rule))) }
 {
-    let told = message(alloc, inside, arg)?;
-    let end = call(alloc, rules, known, inside, HALT)?;
+    let told = message(alloc, in_lookbehind, arg)?;
+    let end = call(alloc, rules, known, in_lookbehind, HALT)?;
     pair(alloc, told, end)
 }
 

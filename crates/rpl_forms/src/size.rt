@@ -20,7 +20,7 @@ pub struct Count {
     ghost flat: { depth ≤ 1025 },
 }
 
-/// What is known of what stands for a rule behind a look-behind: its counts, and the number of the first rule in a
+/// What is known of what stands for a rule in a look-behind: its counts, and the number of the first rule in a
 /// chain of calls for which the same stands.
 #[derive(Clone, Copy, Debug)]
 pub struct Inner {

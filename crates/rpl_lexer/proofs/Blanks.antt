@@ -50,9 +50,9 @@ spaces_then : (b z : List ℕ) → each is_space b ≡ true → begins is_digit 
 spaces_then [] z h f = f
 spaces_then (c ∷ cs) z h f = space_no_digit c (left (is_space c) (each is_space cs) h)
 
--- ---- one part: where it begins, ends, and where what is behind its blanks stands
+-- ---- one part: where it begins, ends, and where what is after its blanks stands
 
--- no blanks stand behind a number that is missing
+-- no blanks stand after a number that is missing
 data Sharp : (ds b : List ℕ) → Type 0 where
   some : (ds b : List ℕ) → 0 < length ds → Sharp ds b
   bare : Sharp [] []
@@ -117,7 +117,7 @@ number_is bs i ds (Some n) e h =
     ap (λ b. if not b then None else narrow (value 0 (part bs (record { start = i; end = i + length ds })))) (lt-ltb i (i + length ds) lt)
     ∙ ap (λ x. narrow (value 0 x)) e ∙ h.number
 
--- a digit or a comma is first behind the blanks
+-- a digit or a comma is first after the blanks
 begun_by : (bs a z : List ℕ) → bs ≡ a ++ z → each is_space a ≡ true → begins is_space z ≡ false → begins (λ b. is_digit b || nat_eq b 44) z ≡ true → begins_bounds bs ≡ true
 begun_by bs a z e h f g =
     let n : past is_space bs 0 ≡ length a = ap (λ x. past is_space x 0) e ∙ past_all is_space [] a z 0 refl h f ∙ (let k : 0 + length a ≡ length a = omega arith in k) in
@@ -281,7 +281,7 @@ module _ (bs : List ℕ) (p : Parts) (e : parts bs ≡ p) where
       ∙ ap (λ (o : Bool). record { least = least; comma = o; most = number_in bs p.most }) k
       ∙ ap (λ (o : Option ℕ). record { least = least; comma = comma; most = o }) m
 
--- ---- the law, for parts without blanks behind a missing number
+-- ---- the law, for parts without blanks after a missing number
 
 module _ (a ds b r : List ℕ) (h : IsPart a ds b) (lt : 0 < length ds) where
   abbrev one : List ℕ

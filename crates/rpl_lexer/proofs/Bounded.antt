@@ -38,7 +38,7 @@ digit_first : (ds r : List ℕ) → each is_digit ds ≡ true → 0 < length ds 
 digit_first [] r h lt = absurd (omega arith)
 digit_first (c ∷ cs) r h lt = let l = left (is_digit c) (each is_digit cs) h in rw l refl
 
--- no blanks behind the place
+-- no blanks after the place
 space_at : (u x : List ℕ) (i : ℕ) → length u ≡ i → begins is_space x ≡ false → past is_space (u ++ x) i ≡ i
 space_at u x i e f = let z : i + 0 ≡ i = omega arith in ap (λ y. i + run is_space y) (drop_at u x i e) ∙ (ap (λ y. i + y) (run_none is_space x f) ∙ z)
 
@@ -107,7 +107,7 @@ plain_read ds r n h =
     ∙ (ap (λ (o : Option ℕ). record { least = o; comma = false; most = number_in bs (record { start = len; end = len }) }) (number_of bs (record { start = 0; end = 0 + len }) ds n (part_at [] ds (125 ∷ r) 0 refl) (omega arith) h.number)
     ∙ ap (λ b. record { least = Some n; comma = false; most = if not b then None else narrow (value 0 (part bs (record { start = len; end = len }))) }) f)
 
--- ---- `{n,m}` and `{n,}`: es are the digits behind the comma, perhaps none
+-- ---- `{n,m}` and `{n,}`: es are the digits after the comma, perhaps none
 
 abbrev comma_parts : (len more : ℕ) → Parts
 comma_parts len more = record { least = record { start = 0; end = 0 + len }; comma = true; most = record { start = len + 1; end = len + 1 + more }; close = len + 1 + more }

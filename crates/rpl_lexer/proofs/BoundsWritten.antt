@@ -1,4 +1,4 @@
--- What bounds are made of that close behind their parts.
+-- What bounds are made of that close after their parts.
 use Rattle.std.proofs.Common.{◌≡◌, inl, inr, ℕ, zero, suc, ◌+◌, ◌<◌, List, [], ◌∷◌, ◌++◌, length, take, drop, refl, sym, ap}
 use Rattle.std.proofs.Common.{subst, ◌∙◌, arith, append_assoc, drop-drop, length-drop, take-append-drop}
 use Rattle.std.specs.Prelude.{Bool, true, false, ◌-◌, ◌||◌, nat_eq}
@@ -15,7 +15,7 @@ use Rattle.rpl_lexer.proofs.Spans.{drop_zero, run_stops}
 use Rattle.rpl_lexer.proofs.Peeling.{empty, is_byte}
 use Rattle.rpl_lexer.specs.Written.{InBounds, IsBounds, one_number, with_comma}
 
--- ---- a run, and what is behind it
+-- ---- a run, and what is after it
 
 abbrev piece : (ℕ → Bool) → List ℕ → ℕ → List ℕ
 piece p s i = take (run p (drop i s)) (drop i s)
@@ -29,7 +29,7 @@ split p s i =
     let r = drop i s in
     sym (take-append-drop (run p r) r) ∙ ap (λ x. piece p s i ++ x) (drop-drop (run p r) i s)
 
--- a byte that stands at a place, and what is behind it
+-- a byte that stands at a place, and what is after it
 at_byte : (s : List ℕ) (i b : ℕ) → has s i b ≡ true → drop i s ≡ b ∷ drop (i + 1) s
 at_byte [] i b h = absurd (cc)
 at_byte (x ∷ s) zero b h =
@@ -47,7 +47,7 @@ first s i j k e f g =
     (split is_digit s i ∙ ap (λ x. piece is_digit s i ++ drop x s) (sym f)
     ∙ ap (λ x. piece is_digit s i ++ x) (split is_space s j ∙ ap (λ x. piece is_space s j ++ drop x s) (sym g)))
 
--- the number behind a comma
+-- the number after a comma
 second : (s : List ℕ) (c i j k : ℕ) → i ≡ past is_space s c → j ≡ past is_digit s i → k ≡ past is_space s j
     → drop c s ≡ piece is_space s c ++ (piece is_digit s i ++ (piece is_space s j ++ drop k s))
 second s c i j k e f g =
@@ -77,7 +77,7 @@ either_there : (p q : ℕ → Bool) (s : List ℕ) → begins (λ b. p b || q b)
 either_there p q [] h f = absurd (cc)
 either_there p q (b ∷ bs) h f = rw f at h
 
--- where no digit stands behind the blanks, a comma does
+-- where no digit stands after the blanks, a comma does
 comma_there : (s : List ℕ) → begins_bounds s ≡ true → begins is_digit (drop (past is_space s 0) s) ≡ false
     → has s (past is_space s (past is_digit s (past is_space s 0))) 44 ≡ true
 comma_there s g f =

@@ -8,7 +8,7 @@ use Rattle.rpl_text.specs.Characters.{is_char}
 use Rattle.rpl_text.specs.Escapes.{hex, numbered, is_kept, escape}
 use Rattle.rpl_text.proofs.Hex.{hex-cons, hex-nil}
 
--- an escape, and what is behind it
+-- an escape, and what is after it
 pub record Front (y : List ℕ) : Type 0 where
   pub char : ℕ
   pub escaped : List ℕ
@@ -16,7 +16,7 @@ pub record Front (y : List ℕ) : Type 0 where
   pub is : y ≡ escaped ++ behind
   pub means : escape escaped ≡ Some (char, length escaped)
 
--- n digits, which give w, and what is behind them
+-- n digits, which give w, and what is after them
 record Digits (n v w : ℕ) (cs : List ℕ) : Type 0 where
   digits : List ℕ
   behind : List ℕ

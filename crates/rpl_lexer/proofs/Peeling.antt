@@ -28,7 +28,7 @@ record Closes (e : Enclosure) (d : ℕ) (w : List ℕ) : Type 0 where
   closed : close e d false w ≡ Some (length w)
   escapes : bad false w ≡ None
 
--- what is left behind the first that is closed
+-- what is left after the first that is closed
 abbrev Left : Enclosure → ℕ → List ℕ → Type 0
 Left e zero w = w ≡ []
 Left e (suc d) w = Closes e d w

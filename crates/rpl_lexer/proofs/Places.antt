@@ -1,4 +1,4 @@
--- The parts of bounds, one behind the other.
+-- The parts of bounds, one after the other.
 use Rattle.std.proofs.Common.{◌≡◌, ℕ, ◌+◌, List, sym, ap, ◌∙◌}
 use Rattle.std.specs.Prelude.{Bool, true, false}
 use Rattle.rpl_lexer.specs.declared.bounds.Span.{Span}

@@ -1,4 +1,4 @@
--- What a brace begins, from behind it: bounds where a digit or a comma comes next but for blanks, else the sign.
+-- What a brace begins, from after it: bounds where a digit or a comma comes next but for blanks, else the sign.
 -- Bounds are a number or none, perhaps a comma and a number or none, and the closing brace; spaces and tabs may stand
 -- between.
 use Rattle.std.specs.Prelude.{ℕ, ◌+◌, Bool, true, false, ◌||◌, not, nat_eq, nat_lt, is_some, List, Option, None}
@@ -13,11 +13,11 @@ use Rattle.rpl_lexer.specs.declared.bounds.Bounds.{Bounds}
 use Rattle.rpl_lexer.specs.Bytes.{is_digit, is_space, past, begins, has}
 use Rattle.rpl_text.specs.Numbers.{value, narrow}
 
--- the digits, perhaps none, that stand behind blanks from the place i on
+-- the digits, perhaps none, that stand after blanks from the place i on
 abbrev pub digits_from : List ℕ → ℕ → Span
 digits_from bs i = record { start = past is_space bs i; end = past is_digit bs (past is_space bs i) }
 
--- the parts where there is no comma at the place c behind the first number, and where there is one
+-- the parts where there is no comma at the place c after the first number, and where there is one
 abbrev pub parts_by : List ℕ → Span → ℕ → Bool → Parts
 parts_by bs least c false = record { least = least; comma = false; most = record { start = c; end = c }; close = c }
 parts_by bs least c true =
@@ -49,7 +49,7 @@ bounds_by bs p =
     else (if is_wide bs p.most then Fault NumberTooWide (1 + p.most.start)
     else Found K.Bounds (p.close + 2)))
 
--- a digit or a comma stands at the front, or behind blanks
+-- a digit or a comma stands at the front, or after blanks
 abbrev pub begins_bounds : List ℕ → Bool
 begins_bounds bs = begins (λ b. is_digit b || nat_eq b 44) (drop (past is_space bs 0) bs)
 

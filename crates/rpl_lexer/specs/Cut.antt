@@ -13,7 +13,7 @@ pub data End : Type 0 where
   Done : End
   Fails : (at : ℕ) (kind : LexKind) → End
 
--- where what follows the place p begins, behind blanks and comments
+-- where what follows the place p begins, after blanks and comments
 abbrev pub start : List ℕ → ℕ → ℕ
 start s p = p + gap false (drop p s)
 
@@ -28,13 +28,13 @@ pub record IsToken (s : List ℕ) (t : Token) : Type 0 where
   pub inside : t.end ≤ length s
   pub stands : stands (drop t.start s) ≡ Found t.kind (t.end - t.start)
 
--- the token t is the next one behind the place p, as one of at most 262144
+-- the token t is the next one after the place p, as one of at most 262144
 pub record Next (s : List ℕ) (p n : ℕ) (t : Token) : Type 0 where
   pub few : n < 262144
   pub begins : t.start ≡ start s p
   pub token : IsToken s t
 
--- behind the place p, with n tokens before it, the text is these tokens and then ends so
+-- after the place p, with n tokens before it, the text is these tokens and then ends so
 abbrev pub Chain : List ℕ → (p n : ℕ) → List Token → End → Type 0
 Chain s p n [] Done = start s p ≡ length s
 Chain s p n [] (Fails at kind) = (start s p < length s) × IsFault n (start s p) (stands (drop (start s p) s)) at kind

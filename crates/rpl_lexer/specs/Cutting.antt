@@ -14,14 +14,14 @@ abbrev pub put_first : Token → Result (List Token) LexFault → Result (List T
 put_first t (Ok ts) = Ok (t ∷ ts)
 put_first t (Err e) = Err e
 
--- what stands at the place i, behind n tokens, and then the rest
+-- what stands at the place i, after n tokens, and then the rest
 abbrev pub cut_by : (ℕ → ℕ → Result (List Token) LexFault) → (i n : ℕ) → Stand → Result (List Token) LexFault
 cut_by rest i n (Fault k skip) = Err (record { at = i + skip; kind = k })
 cut_by rest i n (Found k len) =
     if nat_eq n 262144 then Err (record { at = i; kind = TooManyTokens })
     else put_first (record { kind = k; start = i; end = i + len }) (rest (i + len) (n + 1))
 
--- behind the place p, with n tokens before it; fewer than d follow
+-- after the place p, with n tokens before it; fewer than d follow
 abbrev pub cut_from : (d : ℕ) → List ℕ → (p n : ℕ) → Result (List Token) LexFault
 cut_from zero s p n = Ok []
 cut_from (suc d) s p n =

@@ -1,4 +1,4 @@
--- Texts and brackets, from behind what opens them: `"` is 34, `[` 91, `]` 93, the backslash 92, the line feed 10.
+-- Texts and brackets, from after what opens them: `"` is 34, `[` 91, `]` 93, the backslash 92, the line feed 10.
 use Rattle.std.specs.Prelude.{ℕ, ◌+◌, ◌-◌, Bool, false, not, ◌&&◌, nat_eq, is_some, List, [], ◌∷◌, Option, Some, None}
 use Rattle.std.specs.Prelude.{if◌then◌else◌, take}
 use Rattle.rpl_text.specs.Escapes.{escape}
@@ -32,7 +32,7 @@ hides hidden b = not hidden && nat_eq b 92
 abbrev pub ends : Enclosure → (n : ℕ) → (hidden : Bool) → ℕ → Bool
 ends e n hidden b = not hidden && (nat_eq n 0 && closes e b)
 
--- how many more are open behind the byte
+-- how many more are open after the byte
 abbrev pub depth_after : Enclosure → (n : ℕ) → (hidden : Bool) → ℕ → ℕ
 depth_after e n hidden b = if hidden then n else (if opens e b then n + 1 else (if closes e b then n - 1 else n))
 

@@ -1,4 +1,4 @@
--- Which token stands at the front of some bytes, and how long it is; or which fault, and how far behind the front.
+-- Which token stands at the front of some bytes, and how long it is; or which fault, and how far after the front.
 use Rattle.std.specs.Prelude.{ℕ, ◌+◌, Bool, not, ◌&&◌, nat_eq, is_some, List, [], ◌∷◌, if◌then◌else◌, take, drop}
 use Rattle.rpl_lexer.specs.declared.token.TokenKind.TheVariants as K
 use Rattle.rpl_lexer.specs.declared.fault.LexKind.TheVariants.{BadChar, NumberTooWide}
@@ -20,7 +20,7 @@ first_name s = take (run is_word s) s
 abbrev pub begins_name : List ℕ → Bool
 begins_name s = begins is_letter s && not (is_keyword (first_name s))
 
--- behind the first n bytes stand a dot and a name that is no keyword
+-- after the first n bytes stand a dot and a name that is no keyword
 abbrev pub qualifies : List ℕ → ℕ → Bool
 qualifies s n = has s n 46 && begins_name (drop (n + 1) s)
 

@@ -1,4 +1,4 @@
--- How many brackets are open at once in a bracket; a backslash hides the byte behind it.
+-- How many brackets are open at once in a bracket; a backslash hides the byte after it.
 use Rattle.std.specs.Prelude.{ℕ, Bool, false, List, [], ◌∷◌, max}
 use Rattle.rpl_lexer.specs.declared.enclosed.Enclosure.TheVariants.{Brackets}
 use Rattle.rpl_lexer.specs.Enclosed.{hides, depth_after}

@@ -17,7 +17,7 @@ use Rattle.rpl_text.specs.Numbers.{value}
 use Rattle.rpl_lexer.specs.Braces.{bounds_in}
 use Rattle.rpl_lexer.specs.Fronts.{first_name}
 
--- the bytes of a token, and those behind the first of them
+-- the bytes of a token, and those after the first of them
 abbrev pub span : List ℕ → Token → List ℕ
 span s t = slice_range s t.start t.end
 
@@ -26,12 +26,12 @@ inner s t = slice_range s (t.start + 1) t.end
 
 -- ---- texts
 
--- the character of an escape, and then what is behind its k characters; nothing where there is no escape
+-- the character of an escape, and then what is after its k characters; nothing where there is no escape
 abbrev pub unescaped : Option (ℕ × ℕ) → (ℕ → List ℕ) → List ℕ
 unescaped None rest = []
 unescaped (Some (c, k)) rest = c ∷ rest k
 
--- the characters up to the closing quote with their escapes read, behind k characters that belong to an escape
+-- the characters up to the closing quote with their escapes read, after k characters that belong to an escape
 unfoldable pub decoded : ℕ → List ℕ → List ℕ
 decoded k [] = []
 decoded (suc k) (c ∷ cs) = decoded k cs
@@ -46,7 +46,7 @@ decoded zero (c ∷ cs) =
 abbrev pub text_of : List ℕ → Token → List ℕ
 text_of s t = decoded 0 (chars (inner s t))
 
--- the name before the dot of a Qualified, and the one behind it
+-- the name before the dot of a Qualified, and the one after it
 abbrev pub prefix_of : List ℕ → Token → List ℕ
 prefix_of s t = first_name (span s t)
 

@@ -18,7 +18,7 @@ pub struct Bounds {
     pub least: Option<u64>,
     /// Whether there is a comma.
     pub comma: bool,
-    /// The number behind the comma, where there is one.
+    /// The number after the comma, where there is one.
     pub most: Option<u64>,
 }
 
@@ -29,18 +29,18 @@ pub(crate) struct Span {
     end: usize,
 }
 
-/// Where the parts of bounds stand, from behind the opening brace.
+/// Where the parts of bounds stand, from after the opening brace.
 #[derive(Clone, Copy)]
 pub(crate) struct Parts {
     least: Span,
     comma: bool,
-    /// The digits behind the comma.
+    /// The digits after the comma.
     most: Span,
     /// Where the closing brace is due.
     close: usize,
 }
 
-/// The digits behind blanks from a place on.
+/// The digits after blanks from a place on.
 fn digits_from(bytes: &[u8], place: usize) -> Span
     requires { place ≤ length bytes.now }
     ensures value { result ≡ digits_from bytes.now place }
@@ -164,7 +164,7 @@ fn number_in(bytes: &[u8], span: Span) -> Option<u64>
     }
 }
 
-/// The numbers of bounds, from behind the opening brace.
+/// The numbers of bounds, from after the opening brace.
 pub(crate) fn bounds_in(bytes: &[u8]) -> Bounds
     ensures { result ≡ bounds_in bytes.now }
 {

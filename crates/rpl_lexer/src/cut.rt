@@ -11,7 +11,7 @@ use crate::token::{Token, Tokens};
 use std::alloc::Global;
 
 /// How many tokens a text may have.
-const MOST_TOKENS: usize = 262_144;
+const MAX_TOKENS: usize = 262_144;
 
 /// The tokens of a text, or its first fault.
 ///
@@ -40,7 +40,7 @@ pub fn lex(alloc: Global, text: &str) -> Result<Tokens, LexFault>
                 });
             }
             Stand::Found { kind, len } => {
-                if items.len() >= MOST_TOKENS {
+                if items.len() >= MAX_TOKENS {
                     return Err(LexFault {
                         at: start,
                         kind: LexKind::TooManyTokens,

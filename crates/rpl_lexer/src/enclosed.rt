@@ -61,7 +61,7 @@ fn ends(enclosure: Enclosure, depth: usize, hidden: bool, b: u8) -> bool
     !hidden && depth == 0 && enclosure.closes(b)
 }
 
-/// How many more are open behind the byte.
+/// How many more are open after the byte.
 fn depth_after(enclosure: Enclosure, depth: usize, hidden: bool, b: u8) -> usize
     requires { depth + 1 < 2 ^ 64 }
     ensures value { result ≡ depth_after enclosure depth hidden b }

@@ -18,7 +18,7 @@ use rpl_text::value_of_digits;
 pub(crate) enum Stand {
     /// A token of so many bytes.
     Found { kind: TokenKind, len: usize },
-    /// No token, for what stands so many bytes behind the front.
+    /// No token, for what stands so many bytes after the front.
     Fault { kind: LexKind, skip: usize },
 }
 
@@ -47,7 +47,7 @@ fn begins_name(bytes: &[u8]) -> bool
     begins_letter(bytes) && keyword_named(first_name(bytes)).is_none()
 }
 
-/// Whether a dot and a name that is no keyword stand behind the first bytes.
+/// Whether a dot and a name that is no keyword stand after the first bytes.
 fn qualifies(bytes: &[u8], len: usize) -> bool
     requires { len ≤ length bytes.now }
     ensures value { result ≡ qualifies bytes.now len }

@@ -29,7 +29,7 @@ pub fn token_text(text: &str, token: Token) -> &str
     &text[token.start..token.end]
 }
 
-/// The text of a token behind its first byte.
+/// The text of a token after its first byte.
 fn inner(text: &str, token: Token) -> &str
     requires { IsToken text.now token }
     ensures { result.now ≡ inner text.now token }
@@ -72,7 +72,7 @@ pub fn number_of(text: &str, token: Token) -> u64
     value_of_digits(token_text(text, token).as_bytes()).unwrap_or(0)
 }
 
-/// The two names of a Qualified: the one before the dot, and the one behind it.
+/// The two names of a Qualified: the one before the dot, and the one after it.
 pub fn halves_of(text: &str, token: Token) -> (&str, &str)
     requires kind { token.kind ≡ TokenKind.Qualified }
     requires stands { IsToken text.now token }
@@ -111,8 +111,8 @@ fn step_at(text: &str, place: usize) -> Option<(char, usize)>
     Text::new(text).step(place)
 }
 
-/// The character at a place of a text behind its opening quote, by an escape or as it stands, and the
-/// place behind it; None at the closing quote.
+/// The character at a place of a text after its opening quote, by an escape or as it stands, and the
+/// place after it; None at the closing quote.
 fn next_char(text: &str, place: usize) -> Option<(char, usize)>
     requires { IsPlace (chars text.now) place }
     ensures { Decodes (chars text.now) place result }

@@ -29,7 +29,7 @@ pub struct Token {
     pub kind: TokenKind,
     /// The byte place where it begins.
     pub start: usize,
-    /// The byte place behind it.
+    /// The byte place after it.
     pub end: usize,
 }
 

@@ -55,7 +55,7 @@ impl<T> List<T> {
         self.items
     }
 
-    /// Adds a member at the end. Where memory is wanting, nothing changes.
+    /// Adds a member at the end. Where memory runs out, nothing changes.
     pub fn push(&mut self, item: T) -> Result<(), NoMemory>
     where
         T: Drop,
@@ -66,7 +66,7 @@ impl<T> List<T> {
         Ok(())
     }
 
-    /// Adds all members of another list behind these. Where memory is wanting, nothing changes.
+    /// Adds all members of another list after these. Where memory runs out, nothing changes.
     pub fn append(&mut self, others: List<T>) -> Result<(), NoMemory>
     where
         T: Drop,
@@ -77,7 +77,7 @@ impl<T> List<T> {
         self.items.append(&mut others.items)
     }
 
-    /// Adds copies of these members at the end. Where memory is wanting, nothing changes.
+    /// Adds copies of these members at the end. Where memory runs out, nothing changes.
     pub fn extend_from_slice(&mut self, items: &[T]) -> Result<(), NoMemory>
     where
         T: Copy,

@@ -2,7 +2,7 @@
 //!
 //! `run` makes exactly the steps that `rpl_core` defines over the line's characters, one tick of the caller's `Steps`
 //! each, and answers the place where the match ends, that there is none, or that the budget did not suffice. Places
-//! are numbers of bytes. With room in its `Scratch` a run never ends for want of memory.
+//! are numbers of bytes. With room in its `Scratch` a run never runs out of memory.
 #![tactic(auto)]
 
 mod act;

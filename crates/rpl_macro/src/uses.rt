@@ -54,7 +54,7 @@ fn passed(alloc: Global, arg: &Expr) -> Result<Expr, NoMemory>
     })
 }
 
-/// The argument, marked as what was looked for, behind what was passed over.
+/// The argument, marked as what was looked for, after what was passed over.
 fn hit(alloc: Global, before: Expr, arg: Expr) -> Result<Expr, NoMemory>
     ensures { IfOk result (λ e. expr_of e ≡ M.Raw (M.Cons (expr_of before) (M.one (M.Marked Hit (expr_of arg))))) }
 {

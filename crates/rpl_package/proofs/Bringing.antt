@@ -6,22 +6,22 @@ use Rattle.rpl_syntax.specs.declared.name.QName.{QName}
 use Rattle.rpl_scope.specs.Packages.{nth}
 use Rattle.rpl_scope.specs.declared.fault.Stop.{Stop}
 use Rattle.rpl_package.specs.Asking.{MayStop, and_then}
-use Rattle.rpl_package.specs.Loading.{World, Stock, reach, walk}
-use Rattle.rpl_package.specs.Patterns.{bring, pattern_name, put, wanted_at}
+use Rattle.rpl_package.specs.Loading.{World, Stock, load_import, walk}
+use Rattle.rpl_package.specs.Patterns.{bring, pattern_name, put, needed_at}
 use Rattle.rpl_package.specs.declared.stock.Head.{Head}
 use Rattle.rpl_package.proofs.Outcomes.{Follows, same, trail, may_lead, may_then, then_follows}
 
-module _ (w : World) (f : List ℕ) (i : ℕ) (s : Stock) (q : QName) (e : Import) (hs : List Head) (asked : wanted_at q (nth s.modules i) ≡ Some e) (idle : hs ≡ []) where
+module _ (w : World) (f : List ℕ) (i : ℕ) (s : Stock) (q : QName) (e : Import) (hs : List Head) (asked : needed_at q (nth s.modules i) ≡ Some e) (idle : hs ≡ []) where
   -- what stops the way to the module stops the name
-  pub unreached : (stop : Stop) → MayStop stop (reach w (walk w w.most) hs f e s) → MayStop stop (pattern_name w f i q s)
+  pub unreached : (stop : Stop) → MayStop stop (load_import w (walk w w.most) hs f e s) → MayStop stop (pattern_name w f i q s)
   unreached stop h =
       may_lead stop _ _ (same _ _ (sym (ap (bring w f i s) asked)))
-      (may_then stop (reach w (walk w w.most) [] f e s) (put f e i)
-      (may_lead stop _ _ (same _ _ (ap (λ l. reach w (walk w w.most) l f e s) idle)) h))
+      (may_then stop (load_import w (walk w w.most) [] f e s) (put f e i)
+      (may_lead stop _ _ (same _ _ (ap (λ l. load_import w (walk w w.most) l f e s) idle)) h))
 
   -- and the module that is reached gets the prefix
-  pub brought_leads : (r : ℕ × Stock) → (reach w (walk w w.most) hs f e s).answer ≡ Ok r → Follows (put f e i r) (pattern_name w f i q s)
+  pub brought_leads : (r : ℕ × Stock) → (load_import w (walk w w.most) hs f e s).answer ≡ Ok r → Follows (put f e i r) (pattern_name w f i q s)
   brought_leads r h =
-      trail (put f e i r) (and_then (reach w (walk w w.most) [] f e s) (put f e i)) (pattern_name w f i q s)
-      (then_follows (reach w (walk w w.most) [] f e s) r (put f e i) (ap (λ l. (reach w (walk w w.most) l f e s).answer) (sym idle) ∙ h))
+      trail (put f e i r) (and_then (load_import w (walk w w.most) [] f e s) (put f e i)) (pattern_name w f i q s)
+      (then_follows (load_import w (walk w w.most) [] f e s) r (put f e i) (ap (λ l. (load_import w (walk w w.most) l f e s).answer) (sym idle) ∙ h))
       (same _ _ (sym (ap (bring w f i s) asked)))

@@ -7,7 +7,7 @@ use Rattle.std.proofs.lemmas.List.{get_or-map, length-map}
 use Rattle.std.proofs.lemmas.List.Elements.{All-get_or, All-same, All-weaker, All-contains_itself}
 use Rattle.rpl_syntax.specs.Expression.{Expr}
 use Rattle.rpl_syntax.specs.Modules as S
-use Rattle.rpl_syntax.specs.Modules.{Said}
+use Rattle.rpl_syntax.specs.Modules.{ParsedModule}
 use Rattle.rpl_syntax.specs.View.{expr_of}
 use Rattle.rpl_syntax.specs.declared.expr.Expr.{Expr as Code}
 use Rattle.rpl_syntax.specs.declared.module.Module.{Module as Text}
@@ -25,8 +25,8 @@ use Rattle.rpl_package.specs.Built.{IsSaid, Becomes, on, text, said, again, impo
 use Rattle.rpl_package.specs.Built.{StaysBuilt, by_name, opened, headed}
 use Rattle.rpl_package.specs.Loading.{Stock, State, finished, is_taken, label_of, with_text}
 use Rattle.rpl_package.specs.Goals.{ReadsText}
-use Rattle.rpl_package.specs.Patterns.{put_by, wanted_at, wanted_by, wanted_unless}
-use Rattle.rpl_package.specs.Texts.{parsed, most_bytes}
+use Rattle.rpl_package.specs.Patterns.{put_by, needed_at, needed_by, needed_unless}
+use Rattle.rpl_package.specs.Texts.{parsed, max_text_bytes}
 use Rattle.rpl_package.specs.declared.stock.Head.{Head}
 
 -- a text that is read is said
@@ -69,7 +69,7 @@ pub finishes : (hs : List Head) (path : List ℕ) (s : Stock) (u : State) (j : �
 finishes hs path s u j t h e k = inr (u, h, ap (λ x. (x, t)) e ∙ ap (λ x. (length u.stock.modules, x)) k)
 
 -- the module of an imported text
-pub loads_by : (hs : List Head) (path : List ℕ) (s : Stock) (u : State) (t : Said) (p : Option (List ℕ)) (l : List ℕ)
+pub loads_by : (hs : List Head) (path : List ℕ) (s : Stock) (u : State) (t : ParsedModule) (p : Option (List ℕ)) (l : List ℕ)
     → IsSaid t → p ≡ Some path → l ≡ label_of t.name path → Makes hs p l s u → Loads hs path s u
 loads_by hs path s u t p l is e f h = record {
   text = t;
@@ -78,7 +78,7 @@ loads_by hs path s u t p l is e f h = record {
 }
 
 -- a text: its name is noted, and then come its imports and its statements
-pub texts_on : (hs : List Head) (f : List ℕ) (k : ℕ) (s a b : State) (t : Said) (m : Module) → IsSaid t
+pub texts_on : (hs : List Head) (f : List ℕ) (k : ℕ) (s a b : State) (t : ParsedModule) (m : Module) → IsSaid t
     → a ≡ record { stock = s.stock; own = with_text s.own f } → Becomes hs a b
     → statements f k b.stock.modules t.items b.own ≡ Ok m → Becomes hs s (record { stock = b.stock; own = m })
 texts_on hs f k s a b t m is e h g =
@@ -91,7 +91,7 @@ none_of None h = refl
 none_of (Some x) h = absurd (cc)
 
 -- a root's own module, which becomes a prefix
-pub roots_on : (hs : List Head) (s u a : State) (t : Said) (q : QName) (j : ℕ) → IsSaid t → t.name ≡ Some q
+pub roots_on : (hs : List Head) (s u a : State) (t : ParsedModule) (q : QName) (j : ℕ) → IsSaid t → t.name ≡ Some q
     → first_of q.name s.own.prefixes ≡ None → Makes hs None q.name s.stock u → j ≡ length u.stock.modules
     → a.stock ≡ finished u.stock u.own
     → a.own ≡ with_prefix s.own q.name (record { since = length s.own.rules; number = j }) → Becomes hs s a
@@ -108,7 +108,7 @@ puts_on i s t u n f e asked h g rs b = by_name s t i rs f e (n, u) b asked h g
 -- ---- what is asked for
 
 -- the imports of a text that was read
-pub asks_by : (t : Said) (is : List Import) → IsSaid t → is ≡ t.imports → All IsAsked is
+pub asks_by : (t : ParsedModule) (is : List Import) → IsSaid t → is ≡ t.imports → All IsAsked is
 asks_by t is h e =
     All-same IsAsked is t.imports e
     (All-weaker (Contains t.imports) IsAsked (λ i k. by_text t h k) t.imports (All-contains_itself t.imports))
@@ -123,22 +123,22 @@ one_of xs i x f P lt is all =
 same_some : {A : Type 0} (x y : A) → Some x ≡ Some y → x ≡ y
 same_some x y e = cc
 
-asks_unless : (o : Option Prefix) (p : List ℕ) (at : ℕ) (i : Import) → wanted_unless o p at ≡ Some i → p ≡ i.path
+asks_unless : (o : Option Prefix) (p : List ℕ) (at : ℕ) (i : Import) → needed_unless o p at ≡ Some i → p ≡ i.path
 asks_unless None p at i h = ap (λ x. x.path) (same_some (record { path = p; at = at; name = Last }) i h)
 asks_unless (Some x) p at i h = absurd (cc)
 
-asks_with : (m : Module) (at : ℕ) (o : Option (List ℕ)) (i : Import) → wanted_by m at o ≡ Some i → o ≡ Some i.path
+asks_with : (m : Module) (at : ℕ) (o : Option (List ℕ)) (i : Import) → needed_by m at o ≡ Some i → o ≡ Some i.path
 asks_with m at None i h = absurd (cc)
 asks_with m at (Some []) i h = absurd (cc)
 asks_with m at (Some (c ∷ p)) i h = ap Some (asks_unless (first_of (c ∷ p) m.prefixes) (c ∷ p) at i h)
 
 -- the import that a name of a pattern asks for
-pub asks_at : (q : QName) (o : Option Module) (i : Import) → InGoal q → wanted_at q o ≡ Some i → IsAsked i
+pub asks_at : (q : QName) (o : Option Module) (i : Import) → InGoal q → needed_at q o ≡ Some i → IsAsked i
 asks_at q None i h e = absurd (cc)
 asks_at q (Some m) i h e = by_goal q h (asks_with m q.at q.prefix i e)
 
 -- a text that isn't too long and is read as a pattern
-pub reads_goal : (fixed find : Bool) (s : List ℕ) (e : Expr) → length s ≤ most_bytes
+pub reads_goal : (fixed find : Bool) (s : List ℕ) (e : Expr) → length s ≤ max_text_bytes
     → ReadsText fixed find s (Ok e) → IsGoal e
 reads_goal fixed find s e n h = record {
   fixed = fixed;
@@ -148,7 +148,7 @@ reads_goal fixed find s e n h = record {
 }
 
 -- and so is the answer to a text that is no literal
-pub reads_answer : (fixed find : Bool) (s : List ℕ) (r : Result Code Stop) → length s ≤ most_bytes
+pub reads_answer : (fixed find : Bool) (s : List ℕ) (r : Result Code Stop) → length s ≤ max_text_bytes
     → fixed ≡ false → IfOk r (λ e. ReadsText false find s (Ok (expr_of e))) → IfOk r (λ e. IsGoal (expr_of e))
 reads_answer fixed find s (Ok e) n is h =
     reads_goal fixed find s (expr_of e) n (subst (λ b. ReadsText b find s (Ok (expr_of e))) (sym is) h)

@@ -18,7 +18,7 @@ use Rattle.rpl_scope.specs.declared.fault.LoadKind.TheVariants.{TooManyPackages,
 abbrev q : Option (List ℕ) → List ℕ → ℕ → QName
 q p n at = record { prefix = p; name = n; at = at }
 
-abbrev text : List Import → List S.Entry → S.Said
+abbrev text : List Import → List S.Entry → S.ParsedModule
 text is ts = record { name = None; imports = is; items = ts }
 
 abbrev imp : List ℕ → ℕ → Import
@@ -31,7 +31,7 @@ abbrev name : List ℕ → ℕ → Expr
 name n at = Name (q None n at)
 
 -- a imports b, b imports c, c imports a; d has local x and visible y; e has a block and imports d plainly
-abbrev texts : ℕ → S.Said
+abbrev texts : ℕ → S.ParsedModule
 texts c =
     if nat_eq c 1 then text (imp (codes "b") 7 ∷ []) []
     else if nat_eq c 2 then text (imp (codes "c") 8 ∷ []) []
@@ -87,7 +87,7 @@ missing : loaded (with_most 4) (File (codes "no.rpl") ∷ []) ≡ fault (codes "
 unfolding lib.Utf8.encode
 missing = refl
 
--- what a pattern finds behind a root
+-- what a pattern finds after a root
 abbrev after : Or Packages → Expr → Or Stock
 after (Err f) e = Err f
 after (Ok p) e = (enter_pattern (with_most 4) (codes "(pattern)") p.top p.stock e).answer

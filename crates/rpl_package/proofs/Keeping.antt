@@ -1,4 +1,4 @@
--- What stays when modules are added behind.
+-- What stays when modules are added after.
 use Rattle.std.proofs.Common.{arith, ◌≡◌, ◌≤◌, ℕ, zero, suc, List, [], ◌∷◌, ◌++◌, length, take, Option, Some}
 use Rattle.std.proofs.Common.{None, refl, sym, ap, subst, ◌∙◌}
 use Rattle.rpl_scope.specs.Packages.{first_of, added, added_at}
@@ -53,7 +53,7 @@ keeps_trans a b c h k = record {
   labels = begins_trans a.labels b.labels c.labels h.labels k.labels;
 }
 
--- the same where the one list is known to be the other, or to have more behind
+-- the same where the one list is known to be the other, or to have more after
 pub begins_is : {A : Type 0} (xs ys : List A) → ys ≡ xs → BeginsWith xs ys
 begins_is xs ys h = subst (BeginsWith xs) (sym h) (begins_same xs)
 

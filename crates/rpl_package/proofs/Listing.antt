@@ -29,7 +29,7 @@ flat_of_flat f g [] = refl
 flat_of_flat f g (x ∷ xs) = flat_map-append f (g x) (flat_map g xs)
     ∙ ap (λ l. flat_map f (g x) ++ l) (flat_of_flat f g xs)
 
--- the members up to the i-th are listed behind the start, and then that one
+-- the members up to the i-th are listed after the start, and then that one
 pub more : {A C : Type 0} (f : A → List C) (xs : List A) (i : ℕ) (x : A) (start now new : List C)
     → nth xs i ≡ Some x → now ≡ start ++ flat_map f (take i xs) → new ≡ now ++ f x
     → new ≡ start ++ flat_map f (take (i + 1) xs)

@@ -46,7 +46,7 @@ pub may_then : {A B : Type 0} (s : Stop) (a : Outcome A) (next : A → Outcome B
 may_then Memory a next e = tt
 may_then (Fault f) a next e = explains_then f.kind f a next e
 
--- behind a step that has an answer comes the next
+-- after a step that has an answer comes the next
 pub then_follows : {A B : Type 0} (a : Outcome A) (x : A) (next : A → Outcome B) → a.answer ≡ Ok x → Follows (next x) (and_then a next)
 then_follows a x next h = (
   sym (ap (λ r. r >>= λ y. (next y).answer) h),

@@ -15,7 +15,7 @@ use Rattle.rpl_parser.specs.declared.fault.ParseFault.{ParseFault}
 use Rattle.rpl_parser.specs.declared.fault.ParseKind.{ParseKind}
 use Rattle.rpl_parser.specs.declared.fault.ParseKind.TheVariants as Y
 use Rattle.rpl_scope.specs.Faults.{StopIs, IsStop, fault_at, fault}
-use Rattle.rpl_package.specs.Texts.{of_cut, of_parse, parsed, module_text, most_bytes}
+use Rattle.rpl_package.specs.Texts.{of_cut, of_parse, parsed, module_text, max_text_bytes}
 use Rattle.rpl_scope.specs.declared.fault.LoadKind.TheVariants.{Lex, Parse, FileTooLong, NotText}
 use Rattle.rpl_scope.specs.declared.fault.Stop.{Stop}
 use Rattle.rpl_scope.specs.declared.fault.Stop.TheVariants.{Memory}
@@ -45,13 +45,13 @@ pub no_module : (s : Stop) (f text : List ℕ) (ts : List Token) (e : ParseFault
 no_module s f text ts e cut read stop memory = by_parse s f text ts e (parse_memory e.kind) cut read stop memory
 
 -- a text that isn't too long, and is one
-pub is_parsed : (f bytes : List ℕ) → length bytes ≤ most_bytes → IsUtf8 bytes → parsed f bytes ≡ module_text f bytes
+pub is_parsed : (f bytes : List ℕ) → length bytes ≤ max_text_bytes → IsUtf8 bytes → parsed f bytes ≡ module_text f bytes
 is_parsed f bytes le u =
     let short : nat_lt 1048576 (length bytes) ≡ false = grind (arith, nat_tests, le) in
     let text = is_utf8-from_IsUtf8 bytes u in
     sym (ap (λ b. if b then fault f 0 FileTooLong else (if is_utf8 bytes then parsed f bytes else fault f 0 NotText)) short ∙ ap (λ b. if b then parsed f bytes else fault f 0 NotText) text)
 
-pub too_long : (f bytes : List ℕ) → most_bytes < length bytes → module_text f bytes ≡ fault f 0 FileTooLong
+pub too_long : (f bytes : List ℕ) → max_text_bytes < length bytes → module_text f bytes ≡ fault f 0 FileTooLong
 too_long f bytes lt =
     let long : nat_lt 1048576 (length bytes) ≡ true = grind (arith, nat_tests, lt) in
     ap (λ b. if b then fault f 0 FileTooLong else (if is_utf8 bytes then parsed f bytes else fault f 0 NotText)) long

@@ -4,7 +4,7 @@ use Rattle.std.proofs.Common.{true, false, ap₂, ◌∙◌}
 use Rattle.std.specs.Prelude.{if◌then◌else◌, Ok, is_some, nat_lt, encode_utf8_all}
 use Rattle.rosie_io.specs.Opening.{file_of}
 use Rattle.std.proofs.lemmas.List.{drop_all}
-use Rattle.rpl_syntax.specs.Modules.{Said}
+use Rattle.rpl_syntax.specs.Modules.{ParsedModule}
 use Rattle.rpl_syntax.specs.declared.name.QName.{QName}
 use Rattle.rpl_scope.specs.Faults.{fault}
 use Rattle.rpl_scope.specs.Packages.{first_of}
@@ -18,19 +18,19 @@ use Rattle.rpl_package.specs.declared.rooted.Root.{Root}
 use Rattle.rpl_package.specs.declared.stock.Head.{Head}
 use Rattle.rpl_package.proofs.Outcomes.{Follows, same, trail, then_follows}
 
-pub named_free : (w : World) (f : List ℕ) (t : Said) (q : QName) (s : State) → is_some (first_of q.name s.own.prefixes) ≡ false
+pub named_free : (w : World) (f : List ℕ) (t : ParsedModule) (q : QName) (s : State) → is_some (first_of q.name s.own.prefixes) ≡ false
     → named_root w f t q s ≡ and_then (own_text w (walk w w.most) s.stock (top_head ∷ []) f None q.name t) (λ u. at_once (Ok (with_root q.name s.own u)))
 named_free w f t q s h =
     ap (λ b. if b then at_once (fault f q.at (Duplicate q.name))
     else and_then (own_text w (walk w w.most) s.stock (top_head ∷ []) f None q.name t) (λ u. at_once (Ok (with_root q.name s.own u)))) h
 
 -- a root whose package name is no prefix yet goes on as a text of its own
-pub named_leads : (w : World) (f : List ℕ) (t : Said) (q : QName) (s : State) (hs : List Head) (l : List ℕ) → is_some (first_of q.name s.own.prefixes) ≡ false → hs ≡ top_head ∷ [] → l ≡ q.name
+pub named_leads : (w : World) (f : List ℕ) (t : ParsedModule) (q : QName) (s : State) (hs : List Head) (l : List ℕ) → is_some (first_of q.name s.own.prefixes) ≡ false → hs ≡ top_head ∷ [] → l ≡ q.name
     → Follows (and_then (own_text w (walk w w.most) s.stock hs f None l t) (λ u. at_once (Ok (with_root q.name s.own u)))) (named_root w f t q s)
 named_leads w f t q s hs l free held label =
     same _ _ (ap₂ (λ h n. and_then (own_text w (walk w w.most) s.stock h f None n t) (λ u. at_once (Ok (with_root q.name s.own u)))) held label ∙ sym (named_free w f t q s free))
 
-pub roomy : (w : World) (f : List ℕ) (t : Said) (q : QName) (s : State) → nat_lt (length s.stock.modules + 1) w.most ≡ true
+pub roomy : (w : World) (f : List ℕ) (t : ParsedModule) (q : QName) (s : State) → nat_lt (length s.stock.modules + 1) w.most ≡ true
     → Follows (named_root w f t q s) (root_text w f t (Some q) s)
 roomy w f t q s h = same _ _ (sym (ap (λ b. if b then named_root w f t q s else at_once (fault f q.at TooManyPackages)) h))
 
@@ -43,7 +43,7 @@ pub counted_none : (k : ℕ) (rs : List Root) (i : ℕ) → length rs ≤ i → 
 counted_none k rs i le = ap (counted k) (drop_all i rs le)
 
 -- a file that is there, and is read
-pub file_led : (w : World) (p : List ℕ) (s : State) (bytes : List ℕ) (t : Said) → file_of (encode_utf8_all p) w.tree ≡ Some bytes → w.text p bytes ≡ Ok t
+pub file_led : (w : World) (p : List ℕ) (s : State) (bytes : List ℕ) (t : ParsedModule) → file_of (encode_utf8_all p) w.tree ≡ Some bytes → w.text p bytes ≡ Ok t
     → Follows (root_text w p t t.name s) (and_then (asked_root w p) (file_root w p s))
 file_led w p s bytes t found read =
     trail (root_text w p t t.name s) (read_root w p bytes s) (and_then (asked_root w p) (file_root w p s))

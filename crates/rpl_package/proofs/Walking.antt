@@ -2,7 +2,7 @@
 use Rattle.std.proofs.Common.{◌≡◌, ◌≢◌, ℕ, zero, suc, ◌+◌, ◌-◌, List, [], ◌∷◌, ◌++◌, length, Option, Some, None}
 use Rattle.std.proofs.Common.{refl, sym, ap, ap₂, ◌∙◌, true, false, arith}
 use Rattle.std.specs.Prelude.{nat_lt, if◌then◌else◌, Ok}
-use Rattle.rpl_syntax.specs.Modules.{Said}
+use Rattle.rpl_syntax.specs.Modules.{ParsedModule}
 use Rattle.rpl_syntax.specs.declared.module.Import.{Import}
 use Rattle.rpl_scope.specs.Faults.{fault, fault_at, ◌>>=◌, IsStop, StopIs}
 use Rattle.rpl_scope.specs.Packages.{Module, first_of}
@@ -11,13 +11,13 @@ use Rattle.rpl_scope.proofs.Stops.{told}
 use Rattle.rpl_scope.specs.declared.fault.LoadKind.TheVariants.{ImportCycle, ImportMissing, TooManyPackages, Duplicate}
 use Rattle.rpl_package.specs.Asking.{at_once, and_then, MayStop, StopAsks}
 use Rattle.rpl_package.specs.Reading.{IsQuiet}
-use Rattle.rpl_package.specs.Loading.{World, Walk, Stock, State, find, search, tried, fresh, known_or, reach}
+use Rattle.rpl_package.specs.Loading.{World, Walk, Stock, State, find, search, tried, fresh, known_or, load_import}
 use Rattle.rpl_package.specs.Loading.{is_loading, is_taken, taken_up, own_text, checks, empty_module}
 use Rattle.rpl_package.specs.Loading.{label_of, label_at, walk}
 use Rattle.rpl_package.specs.declared.stock.Head.{Head}
 use Rattle.rpl_package.proofs.Outcomes.{Follows, same, trail, then_follows, may, may_lead, may_then, quiet}
 
-pub own_free : (w : World) (below : Walk) (s : Stock) (hs : List Head) (f : List ℕ) (path : Option (List ℕ)) (label : List ℕ) (t : Said) → is_taken label hs s ≡ false
+pub own_free : (w : World) (below : Walk) (s : Stock) (hs : List Head) (f : List ℕ) (path : Option (List ℕ)) (label : List ℕ) (t : ParsedModule) → is_taken label hs s ≡ false
     → own_text w below s hs f path label t ≡ checks w below (hs ++ record { path = path; label = label } ∷ []) f t (record { stock = s; own = empty_module path label })
 own_free w below s hs f path label t h =
     ap (λ b. if b then at_once (fault f (label_at t.name) (Duplicate label))
@@ -29,14 +29,14 @@ walk_is w zero s hs f path bytes h = absurd (h refl)
 walk_is w (suc n) s hs f path bytes h = let e : suc n - 1 ≡ n = omega arith in rw e refl
 
 -- a text of its own whose package name is free: its head is held, and its module begins empty
-pub own_leads : (w : World) (below : Walk) (s : Stock) (hs : List Head) (f : List ℕ) (path : Option (List ℕ)) (label : List ℕ) (t : Said) (now : List Head) (m : Module)
+pub own_leads : (w : World) (below : Walk) (s : Stock) (hs : List Head) (f : List ℕ) (path : Option (List ℕ)) (label : List ℕ) (t : ParsedModule) (now : List Head) (m : Module)
     → is_taken label hs s ≡ false → now ≡ hs ++ record { path = path; label = label } ∷ [] → m ≡ empty_module path label
     → Follows (checks w below now f t (record { stock = s; own = m })) (own_text w below s hs f path label t)
 own_leads w below s hs f path label t now m free held empty =
     same _ _ (ap₂ (λ h o. checks w below h f t (record { stock = s; own = o })) held empty ∙ sym (own_free w below s hs f path label t free))
 
 -- an imported file that is read as t goes on as a text of its own
-pub read_leads : (w : World) (n : ℕ) (s : Stock) (hs : List Head) (f path bytes : List ℕ) (t : Said) (p l : List ℕ)
+pub read_leads : (w : World) (n : ℕ) (s : Stock) (hs : List Head) (f path bytes : List ℕ) (t : ParsedModule) (p l : List ℕ)
     → n ≢ 0 → w.text f bytes ≡ Ok t → p ≡ path → l ≡ label_of t.name path
     → Follows (own_text w (walk w (n - 1)) s hs f (Some p) l t) (walk w n s hs f path bytes)
 read_leads w n s hs f path bytes t p l deep read copied label =
@@ -54,34 +54,34 @@ unread_stops w n s hs f path bytes deep stop h =
 -- a path that is neither being loaded nor loaded is searched
 pub reach_new : (w : World) (below : Walk) (hs : List Head) (f : List ℕ) (i : Import) (s : Stock)
     → is_loading i.path hs ≡ false → first_of i.path s.paths ≡ None
-    → and_then (search w i.path) (fresh w below hs f i s) ≡ reach w below hs f i s
+    → and_then (search w i.path) (fresh w below hs f i s) ≡ load_import w below hs f i s
 reach_new w below hs f i s free new =
     sym (ap (λ b. if b then at_once (fault f i.at (ImportCycle i.path)) else known_or (first_of i.path s.paths) w below hs f i s) free
     ∙ ap (λ o. known_or o w below hs f i s) new)
 
 pub found_leads : (w : World) (below : Walk) (hs : List Head) (f : List ℕ) (i : Import) (s : Stock) (o : Option (List ℕ × List ℕ))
     → is_loading i.path hs ≡ false → first_of i.path s.paths ≡ None → find w.tree w.folders i.path ≡ o
-    → Follows (fresh w below hs f i s o) (reach w below hs f i s)
+    → Follows (fresh w below hs f i s o) (load_import w below hs f i s)
 found_leads w below hs f i s o free new found =
     trail _ _ _ (then_follows (search w i.path) o (fresh w below hs f i s) (ap Ok found)) (same _ _ (reach_new w below hs f i s free new))
 
 pub room_leads : (w : World) (below : Walk) (hs : List Head) (f : List ℕ) (i : Import) (s : Stock) (g bytes : List ℕ)
     → is_loading i.path hs ≡ false → first_of i.path s.paths ≡ None → find w.tree w.folders i.path ≡ Some (g, bytes) → nat_lt (length s.modules + length hs) w.most ≡ true
-    → Follows (and_then (below s hs g i.path bytes) (λ t. at_once (Ok (taken_up t)))) (reach w below hs f i s)
+    → Follows (and_then (below s hs g i.path bytes) (λ t. at_once (Ok (taken_up t)))) (load_import w below hs f i s)
 room_leads w below hs f i s g bytes free new found room =
-    trail (and_then (below s hs g i.path bytes) (λ t. at_once (Ok (taken_up t)))) (fresh w below hs f i s (Some (g, bytes))) (reach w below hs f i s) (same _ _ (sym (ap (λ b. if b then and_then (below s hs g i.path bytes) (λ t. at_once (Ok (taken_up t))) else at_once (fault f i.at TooManyPackages)) room)))
+    trail (and_then (below s hs g i.path bytes) (λ t. at_once (Ok (taken_up t)))) (fresh w below hs f i s (Some (g, bytes))) (load_import w below hs f i s) (same _ _ (sym (ap (λ b. if b then and_then (below s hs g i.path bytes) (λ t. at_once (Ok (taken_up t))) else at_once (fault f i.at TooManyPackages)) room)))
     (found_leads w below hs f i s (Some (g, bytes)) free new found)
 
 pub full_leads : (w : World) (below : Walk) (hs : List Head) (f : List ℕ) (i : Import) (s : Stock) (g bytes : List ℕ)
     → is_loading i.path hs ≡ false → first_of i.path s.paths ≡ None → find w.tree w.folders i.path ≡ Some (g, bytes) → nat_lt (length s.modules + length hs) w.most ≡ false
-    → Follows (at_once (fault f i.at TooManyPackages)) (reach w below hs f i s)
+    → Follows (at_once (fault f i.at TooManyPackages)) (load_import w below hs f i s)
 full_leads w below hs f i s g bytes free new found room =
-    trail (at_once (fault f i.at TooManyPackages)) (fresh w below hs f i s (Some (g, bytes))) (reach w below hs f i s) (same _ _ (sym (ap (λ b. if b then and_then (below s hs g i.path bytes) (λ t. at_once (Ok (taken_up t))) else at_once (fault f i.at TooManyPackages)) room)))
+    trail (at_once (fault f i.at TooManyPackages)) (fresh w below hs f i s (Some (g, bytes))) (load_import w below hs f i s) (same _ _ (sym (ap (λ b. if b then and_then (below s hs g i.path bytes) (λ t. at_once (Ok (taken_up t))) else at_once (fault f i.at TooManyPackages)) room)))
     (found_leads w below hs f i s (Some (g, bytes)) free new found)
 
 pub reach_fresh : (w : World) (below : Walk) (hs : List Head) (f : List ℕ) (i : Import) (s : Stock) (g bytes : List ℕ) (t : State)
     → is_loading i.path hs ≡ false → first_of i.path s.paths ≡ None → find w.tree w.folders i.path ≡ Some (g, bytes) → nat_lt (length s.modules + length hs) w.most ≡ true → (below s hs g i.path bytes).answer ≡ Ok t
-    → (reach w below hs f i s).answer ≡ Ok (taken_up t)
+    → (load_import w below hs f i s).answer ≡ Ok (taken_up t)
 reach_fresh w below hs f i s g bytes t free new found room walked =
     sym (room_leads w below hs f i s g bytes free new found room).0 ∙ ap (λ r. r >>= λ u. Ok (taken_up u)) walked
 
@@ -94,7 +94,7 @@ walk_deep w n s hs f path bytes e stop is =
     may_lead stop _ _ (same _ _ (sym (ap (λ d. walk w d s hs f path bytes) e))) (may stop _ (told _ stop _ is refl))
 
 -- another module has the package name
-pub own_taken : (w : World) (below : Walk) (s : Stock) (hs : List Head) (f : List ℕ) (path : Option (List ℕ)) (label : List ℕ) (t : Said) → is_taken label hs s ≡ true → (stop : Stop) → IsStop stop (fault_at f (label_at t.name) (Duplicate label))
+pub own_taken : (w : World) (below : Walk) (s : Stock) (hs : List Head) (f : List ℕ) (path : Option (List ℕ)) (label : List ℕ) (t : ParsedModule) → is_taken label hs s ≡ true → (stop : Stop) → IsStop stop (fault_at f (label_at t.name) (Duplicate label))
     → MayStop stop (own_text w below s hs f path label t)
 own_taken w below s hs f path label t taken stop is =
     may_lead stop _ _ (same _ _ (sym (ap (λ b. if b then at_once (fault f (label_at t.name) (Duplicate label))
@@ -102,20 +102,20 @@ own_taken w below s hs f path label t taken stop is =
 
 -- the module is being loaded
 pub reach_cycle : (w : World) (below : Walk) (hs : List Head) (f : List ℕ) (i : Import) (s : Stock) → is_loading i.path hs ≡ true → (stop : Stop) → IsStop stop (fault_at f i.at (ImportCycle i.path))
-    → MayStop stop (reach w below hs f i s)
+    → MayStop stop (load_import w below hs f i s)
 reach_cycle w below hs f i s loading stop is =
     may_lead stop _ _ (same _ _ (sym (ap (λ b. if b then at_once (fault f i.at (ImportCycle i.path)) else known_or (first_of i.path s.paths) w below hs f i s) loading))) (may stop _ (told _ stop _ is refl))
 
 module _ (w : World) (below : Walk) (hs : List Head) (f : List ℕ) (i : Import) (s : Stock) (free : is_loading i.path hs ≡ false) (new : first_of i.path s.paths ≡ None) (stop : Stop) where
-  pub reach_missing : find w.tree w.folders i.path ≡ None → IsStop stop (fault_at f i.at (ImportMissing i.path)) → MayStop stop (reach w below hs f i s)
+  pub reach_missing : find w.tree w.folders i.path ≡ None → IsStop stop (fault_at f i.at (ImportMissing i.path)) → MayStop stop (load_import w below hs f i s)
   reach_missing found is = may_lead stop _ _ (found_leads w below hs f i s None free new found) (may stop _ (told _ stop _ is refl))
 
-  pub reach_unread : IsQuiet stop → StopAsks stop (tried w.tree w.folders i.path) → MayStop stop (reach w below hs f i s)
+  pub reach_unread : IsQuiet stop → StopAsks stop (tried w.tree w.folders i.path) → MayStop stop (load_import w below hs f i s)
   reach_unread read asks = may_lead stop _ _ (same _ _ (reach_new w below hs f i s free new)) (may_then stop (search w i.path) (fresh w below hs f i s) (quiet stop (search w i.path) read asks))
 
   module _ (g bytes : List ℕ) (found : find w.tree w.folders i.path ≡ Some (g, bytes)) where
-    pub reach_full : nat_lt (length s.modules + length hs) w.most ≡ false → IsStop stop (fault_at f i.at TooManyPackages) → MayStop stop (reach w below hs f i s)
+    pub reach_full : nat_lt (length s.modules + length hs) w.most ≡ false → IsStop stop (fault_at f i.at TooManyPackages) → MayStop stop (load_import w below hs f i s)
     reach_full room is = may_lead stop _ _ (full_leads w below hs f i s g bytes free new found room) (may stop _ (told _ stop _ is refl))
 
-    pub reach_stopped : nat_lt (length s.modules + length hs) w.most ≡ true → MayStop stop (below s hs g i.path bytes) → MayStop stop (reach w below hs f i s)
+    pub reach_stopped : nat_lt (length s.modules + length hs) w.most ≡ true → MayStop stop (below s hs g i.path bytes) → MayStop stop (load_import w below hs f i s)
     reach_stopped room h = may_lead stop _ _ (room_leads w below hs f i s g bytes free new found room) (may_then stop (below s hs g i.path bytes) (λ t. at_once (Ok (taken_up t))) h)

@@ -8,17 +8,17 @@ use Rattle.rpl_scope.specs.declared.fault.Stop.{Stop}
 use Rattle.rpl_scope.specs.declared.fault.Stop.TheVariants.{Memory, Fault}
 use Rattle.rpl_package.specs.Asking.{Outcome, Explains}
 
--- the answer, as it is seen; or the first fault; or a failed read of a path that is asked for; or want of memory
+-- the answer, as it is seen; or the first fault; or a failed read of a path that is asked for; or out of memory
 abbrev pub Answers : {X A : Type 0} → (X → A) → Result X LoadFault → Outcome A → Type 0
 Answers view (Ok x) o = o.answer ≡ Ok (view x)
 Answers view (Err f) o = Explains f.kind f o
 
--- want of memory has no file and no place
+-- out of memory has no file and no place
 abbrev pub HasNoPlace : LoadFault → Type 0
 HasNoPlace f = f.kind ≡ NoMemory → (f.file ≡ []) × (f.at ≡ 0)
 
 -- a read fault comes only where the count of failed reads or that of failed opens rose; any other answer leaves both,
--- but for want of memory, where neither falls
+-- but because memory ran out, where neither falls
 abbrev pub KindOf : LoadKind → (reads0 reads1 opens0 opens1 : ℕ) → Type 0
 KindOf NoMemory r0 r1 o0 o1 = (r0 ≤ r1) × (o0 ≤ o1)
 KindOf ReadFault r0 r1 o0 o1 = (r0 ≤ r1) × (o0 ≤ o1) × (Rose r0 r1 ⊎ Rose o0 o1)

@@ -2,7 +2,7 @@
 use Rattle.std.specs.Prelude.{◌≡◌, ◌⊎◌, ℕ, Bool, false, List, [], ◌∷◌, ◌++◌, length, Option, Some, None, Ok, IsUtf8}
 use Rattle.std.specs.List.{Contains}
 use Rattle.rpl_syntax.specs.Expression.{Expr}
-use Rattle.rpl_syntax.specs.Modules.{Said}
+use Rattle.rpl_syntax.specs.Modules.{ParsedModule}
 use Rattle.rpl_syntax.specs.declared.module.Import.{Import}
 use Rattle.rpl_syntax.specs.declared.name.QName.{QName}
 use Rattle.rpl_scope.specs.Bodies.{names}
@@ -17,7 +17,7 @@ use Rattle.rpl_package.specs.Texts.{parsed}
 use Rattle.rpl_package.specs.declared.stock.Head.{Head}
 
 -- some text was read so
-pub record IsSaid (t : Said) : Type 0 where
+pub record IsSaid (t : ParsedModule) : Type 0 where
   pub file : List ℕ
   pub bytes : List ℕ
   pub form : IsUtf8 bytes
@@ -38,7 +38,7 @@ pub record InGoal (q : QName) : Type 0 where
 
 -- the import stands in a text that was read, or a name of a pattern has its path as a prefix
 pub data IsAsked (i : Import) : Type 0 where
-  by_text : (t : Said) → IsSaid t → Contains t.imports i → IsAsked i
+  by_text : (t : ParsedModule) → IsSaid t → Contains t.imports i → IsAsked i
   by_goal : (q : QName) → InGoal q → q.prefix ≡ Some i.path → IsAsked i
 
 -- a module of its own, before anything of its text
@@ -56,18 +56,18 @@ pub data Becomes : List Head → State → State → Type 0 where
   on : (hs : List Head) (s t u : State) → Becomes hs s t → Becomes hs t u → Becomes hs s u
   text : (hs : List Head) (s : State) (f : List ℕ)
       → Becomes hs s (record { stock = s.stock; own = with_text s.own f })
-  said : (hs : List Head) (s : State) (f : List ℕ) (k : ℕ) (t : Said) (m : Module) → IsSaid t
+  said : (hs : List Head) (s : State) (f : List ℕ) (k : ℕ) (t : ParsedModule) (m : Module) → IsSaid t
       → statements f k s.stock.modules t.items s.own ≡ Ok m → Becomes hs s (record { stock = s.stock; own = m })
   again : (hs : List Head) (s : State) (f : List ℕ) (i : Import) (j : ℕ) (m : Module) → IsAsked i
       → first_of i.path s.stock.paths ≡ Some j → take_in f i j s.stock.modules s.own ≡ Ok m
       → Becomes hs s (record { stock = s.stock; own = m })
-  imported : (hs : List Head) (s u : State) (f : List ℕ) (i : Import) (t : Said) (m : Module) → IsAsked i
+  imported : (hs : List Head) (s u : State) (f : List ℕ) (i : Import) (t : ParsedModule) (m : Module) → IsAsked i
       → IsSaid t → is_taken (label_of t.name i.path) hs s.stock ≡ false
       → Becomes (headed hs (Some i.path) (label_of t.name i.path))
       (opened s.stock (Some i.path) (label_of t.name i.path)) u
       → take_in f i (length u.stock.modules) (finished u.stock u.own).modules s.own ≡ Ok m
       → Becomes hs s (record { stock = finished u.stock u.own; own = m })
-  rooted : (hs : List Head) (s u : State) (t : Said) (q : QName) → IsSaid t → t.name ≡ Some q
+  rooted : (hs : List Head) (s u : State) (t : ParsedModule) (q : QName) → IsSaid t → t.name ≡ Some q
       → first_of q.name s.own.prefixes ≡ None → is_taken q.name hs s.stock ≡ false
       → Becomes (headed hs None q.name) (opened s.stock None q.name) u
       → Becomes hs s (record {
@@ -82,7 +82,7 @@ pub record Makes (hs : List Head) (path : Option (List ℕ)) (label : List ℕ) 
 
 -- and it is that of an imported text
 pub record Loads (hs : List Head) (path : List ℕ) (s : Stock) (u : State) : Type 0 where
-  pub text : Said
+  pub text : ParsedModule
   pub said : IsSaid text
   pub makes : Makes hs (Some path) (label_of text.name path) s u
 

@@ -10,9 +10,9 @@ use Rattle.rpl_syntax.specs.Expression.{Expr, Text, Macro}
 use Rattle.rpl_syntax.specs.declared.name.QName.{QName}
 use Rattle.rpl_scope.specs.Faults.{Or, fault}
 use Rattle.rpl_scope.specs.declared.fault.LoadKind.TheVariants.{FileTooLong, Lex, Parse}
-use Rattle.rpl_package.specs.Texts.{most_bytes}
+use Rattle.rpl_package.specs.Texts.{max_text_bytes}
 
--- under this name the faults of a pattern's text are told
+-- under this name the faults of a pattern's text are reported
 abbrev pub pattern_file : List ℕ
 pattern_file = codes "(pattern)"
 
@@ -41,5 +41,5 @@ ReadsText false find s r = ReadsCut find s (cut_of s) r
 
 -- what a pattern's text is read as
 pub record ReadsGoal (fixed find : Bool) (s : List ℕ) (r : Or Expr) : Type 0 where
-  pub long : most_bytes < length s → r ≡ fault pattern_file 0 FileTooLong
-  pub text : length s ≤ most_bytes → ReadsText fixed find s r
+  pub long : max_text_bytes < length s → r ≡ fault pattern_file 0 FileTooLong
+  pub text : length s ≤ max_text_bytes → ReadsText fixed find s r

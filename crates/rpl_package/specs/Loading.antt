@@ -3,7 +3,7 @@ use Rattle.std.specs.Prelude.{ℕ, zero, suc, ◌+◌, Bool, false, ◌||◌, na
 use Rattle.std.specs.Prelude.{length, Option, Some, None, Ok, codes, encode_utf8_all, is_some}
 use Rattle.std.specs.Str.{bytes_eq}
 use Rattle.rosie_io.specs.Opening.{file_of}
-use Rattle.rpl_syntax.specs.Modules.{Said}
+use Rattle.rpl_syntax.specs.Modules.{ParsedModule}
 use Rattle.rpl_syntax.specs.declared.module.Import.{Import}
 use Rattle.rpl_syntax.specs.declared.name.QName.{QName}
 use Rattle.rpl_scope.specs.Faults.{Or, fault, ◌>>=◌}
@@ -23,7 +23,7 @@ pub record World : Type 0 where
   pub tree : List (List ℕ × List ℕ)
   pub folders : List (List ℕ)
   pub most : ℕ
-  pub text : (file bytes : List ℕ) → Or Said
+  pub text : (file bytes : List ℕ) → Or ParsedModule
 
 abbrev pub world : List (List ℕ × List ℕ) → List (List ℕ) → World
 world tree folders = record { tree = tree; folders = folders; most = 1024; text = module_text }
@@ -132,8 +132,8 @@ known_or (Some j) w below hs f i s = at_once (Ok (j, s))
 known_or None w below hs f i s = and_then (search w i.path) (fresh w below hs f i s)
 
 -- the number of the module that an entry names, which is loaded now
-abbrev pub reach : World → Walk → List Head → List ℕ → Import → Stock → Outcome (ℕ × Stock)
-reach w below hs f i s =
+abbrev pub load_import : World → Walk → List Head → List ℕ → Import → Stock → Outcome (ℕ × Stock)
+load_import w below hs f i s =
     if is_loading i.path hs then at_once (fault f i.at (ImportCycle i.path))
     else known_or (first_of i.path s.paths) w below hs f i s
 
@@ -142,19 +142,19 @@ abbrev pub brought : List ℕ → Import → Module → ℕ × Stock → Outcome
 brought f i m r = at_once (take_in f i r.0 r.1.modules m >>= λ n. Ok (record { stock = r.1; own = n }))
 
 abbrev pub import_entry : World → Walk → List Head → List ℕ → Import → State → Outcome State
-import_entry w below hs f i s = and_then (reach w below hs f i s.stock) (brought f i s.own)
+import_entry w below hs f i s = and_then (load_import w below hs f i s.stock) (brought f i s.own)
 
 abbrev pub import_entries : World → Walk → List Head → List ℕ → List Import → State → Outcome State
 import_entries w below hs f is s = each_in_turn (import_entry w below hs f) is s
 
 -- ---- one text
 
-abbrev pub said_of : List ℕ → ℕ → Said → State → Outcome State
+abbrev pub said_of : List ℕ → ℕ → ParsedModule → State → Outcome State
 said_of f k t s =
     at_once (statements f k s.stock.modules t.items s.own >>= λ m. Ok (record { stock = s.stock; own = m }))
 
 -- its imports, and then its statements
-abbrev pub checks : World → Walk → List Head → List ℕ → Said → State → Outcome State
+abbrev pub checks : World → Walk → List Head → List ℕ → ParsedModule → State → Outcome State
 checks w below hs f t s =
     and_then (import_entries w below hs f t.imports (record { stock = s.stock; own = with_text s.own f }))
     (said_of f (length s.own.texts) t)
@@ -168,7 +168,8 @@ label_at None = 0
 label_at (Some q) = q.at
 
 -- a text that is a module of its own: its package name first
-abbrev pub own_text : World → Walk → Stock → List Head → List ℕ → Option (List ℕ) → List ℕ → Said → Outcome State
+abbrev pub own_text : World → Walk → Stock → List Head → List ℕ → Option (List ℕ) → List ℕ → ParsedModule
+    → Outcome State
 own_text w below s hs f path label t =
     if is_taken label hs s then at_once (fault f (label_at t.name) (Duplicate label))
     else checks w below (hs ++ record { path = path; label = label } ∷ []) f t

@@ -25,7 +25,7 @@ cut_back i k s = record {
   labels = take k.labels s.labels;
 }
 
--- it is a with more behind, and with more prefixes in the module i: cut back to what a held it is a
+-- it is a with more after, and with more prefixes in the module i: cut back to what a held it is a
 pub record CutsTo (i : ℕ) (a b : Stock) : Type 0 where
   pub modules : length a.modules ≤ length b.modules
   pub paths : length a.paths ≤ length b.paths

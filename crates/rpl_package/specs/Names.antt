@@ -1,4 +1,4 @@
--- What a pattern may name: the names of the top module, and behind each of its prefixes those that an importer sees.
+-- What a pattern may name: the names of the top module, and after each of its prefixes those that an importer sees.
 use Rattle.std.specs.Prelude.{ℕ, List, [], ◌∷◌, ◌++◌, Option, Some, None, Result, Ok, Err, map, encode_utf8_all}
 use Rattle.std.specs.Prelude.{cond}
 use Rattle.std.specs.Cmp.Lexicographic.{slice_cmp}
@@ -16,7 +16,7 @@ use Rattle.rpl_package.specs.declared.names.Listed.{Listed}
 use Rattle.rpl_package.specs.declared.targets.NameFault.{NameFault}
 use Rattle.rpl_package.specs.declared.targets.Target.{Target}
 
--- the names of a module, behind a prefix or without one
+-- the names of a module, after a prefix or without one
 abbrev pub names_of : Option (List ℕ) → Option Module → List QName
 names_of p None = []
 names_of p (Some m) = map (λ e. record { prefix = p; name = e.0; at = 0 }) m.names

@@ -11,22 +11,22 @@ use Rattle.rpl_scope.specs.Packages.{Module, first_of, nth}
 use Rattle.rpl_scope.specs.declared.fault.LoadFault.{LoadFault}
 use Rattle.rpl_scope.specs.declared.module.Prefix.{Prefix}
 use Rattle.rpl_package.specs.Asking.{Outcome, at_once, and_then, each_in_turn}
-use Rattle.rpl_package.specs.Loading.{World, Stock, reach, walk}
+use Rattle.rpl_package.specs.Loading.{World, Stock, load_import, walk}
 use Rattle.rpl_package.specs.Goals.{pattern_file}
 use Rattle.rpl_package.specs.Roots.{Packages}
 
-abbrev pub wanted_unless : Option Prefix → List ℕ → ℕ → Option Import
-wanted_unless None p at = Some (record { path = p; at = at; name = Last })
-wanted_unless (Some x) p at = None
+abbrev pub needed_unless : Option Prefix → List ℕ → ℕ → Option Import
+needed_unless None p at = Some (record { path = p; at = at; name = Last })
+needed_unless (Some x) p at = None
 
-abbrev pub wanted_by : Module → ℕ → Option (List ℕ) → Option Import
-wanted_by m at None = None
-wanted_by m at (Some []) = None
-wanted_by m at (Some (c ∷ p)) = wanted_unless (first_of (c ∷ p) m.prefixes) (c ∷ p) at
+abbrev pub needed_by : Module → ℕ → Option (List ℕ) → Option Import
+needed_by m at None = None
+needed_by m at (Some []) = None
+needed_by m at (Some (c ∷ p)) = needed_unless (first_of (c ∷ p) m.prefixes) (c ∷ p) at
 
 -- the import that a name asks for: none where it has no prefix, or the module has the prefix
-abbrev pub wanted : Module → QName → Option Import
-wanted m q = wanted_by m q.at q.prefix
+abbrev pub needed_import : Module → QName → Option Import
+needed_import m q = needed_by m q.at q.prefix
 
 abbrev pub replaced : List Module → ℕ → Module → List Module
 replaced [] i m = []
@@ -48,14 +48,14 @@ put f e i r = at_once (put_by f e r.0 i r.1 (nth r.1.modules i))
 -- no module is being loaded then: the top module is in the list
 abbrev pub bring : World → List ℕ → ℕ → Stock → Option Import → Outcome Stock
 bring w f i s None = at_once (Ok s)
-bring w f i s (Some e) = and_then (reach w (walk w w.most) [] f e s) (put f e i)
+bring w f i s (Some e) = and_then (load_import w (walk w w.most) [] f e s) (put f e i)
 
-abbrev pub wanted_at : QName → Option Module → Option Import
-wanted_at q None = None
-wanted_at q (Some m) = wanted m q
+abbrev pub needed_at : QName → Option Module → Option Import
+needed_at q None = None
+needed_at q (Some m) = needed_import m q
 
 abbrev pub pattern_name : World → List ℕ → ℕ → QName → Stock → Outcome Stock
-pattern_name w f i q s = bring w f i s (wanted_at q (nth s.modules i))
+pattern_name w f i q s = bring w f i s (needed_at q (nth s.modules i))
 
 abbrev pub pattern_fault : List ℕ → Expr → List Module → Option Module → Option LoadFault
 pattern_fault f e ms None = None

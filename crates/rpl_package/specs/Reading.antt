@@ -4,7 +4,7 @@ use Rattle.std.specs.Prelude.{string_bytes}
 use Rattle.std.specs.Str.{is_utf8}
 use Rattle.rosie_io.specs.Counts.{Rose}
 use Rattle.rpl_scope.specs.Faults.{is_silent}
-use Rattle.rpl_package.specs.Texts.{most_bytes}
+use Rattle.rpl_package.specs.Texts.{max_text_bytes}
 use Rattle.rpl_scope.specs.declared.fault.LoadKind.{LoadKind}
 use Rattle.rpl_scope.specs.declared.fault.LoadKind.TheVariants as K
 use Rattle.rpl_scope.specs.declared.fault.Stop.{Stop}
@@ -15,9 +15,9 @@ use Rattle.rpl_package.specs.declared.locate.Located.{Located}
 
 -- a file of these bytes is read so
 abbrev pub IsRead : Read → List ℕ → Type 0
-IsRead (Text s) bytes = (bytes ≡ string_bytes s) × (length bytes ≤ most_bytes)
-IsRead TooLong bytes = most_bytes < length bytes
-IsRead NotText bytes = (length bytes ≤ most_bytes) × (is_utf8 bytes ≡ false)
+IsRead (Text s) bytes = (bytes ≡ string_bytes s) × (length bytes ≤ max_text_bytes)
+IsRead TooLong bytes = max_text_bytes < length bytes
+IsRead NotText bytes = (length bytes ≤ max_text_bytes) × (is_utf8 bytes ≡ false)
 
 -- a file of these bytes, if there is one, is read so
 abbrev pub ReadsFile : Option Read → Option (List ℕ) → Type 0
@@ -29,12 +29,12 @@ abbrev pub Locates : Option Located → Option (List ℕ × List ℕ) → Type 0
 Locates None found = found ≡ None
 Locates (Some l) found = (bytes : List ℕ) × (found ≡ Some (l.file, bytes)) × IsRead l.read bytes
 
--- it stops for want of memory, or because a read failed
+-- it stops because memory ran out, or because a read failed
 abbrev pub IsQuiet : Stop → Type 0
 IsQuiet Memory = Unit {0}
 IsQuiet (Fault f) = f.kind ≡ K.ReadFault
 
--- it stops for want of memory, or with a fault of the texts
+-- it stops because memory ran out, or with a fault of the texts
 abbrev pub IsLoud : Stop → Type 0
 IsLoud Memory = Unit {0}
 IsLoud (Fault f) = is_silent f.kind ≡ false

@@ -4,7 +4,7 @@ use Rattle.std.specs.Prelude.{codes, encode_utf8_all, is_some}
 use Rattle.std.specs.List.{Contains}
 use Rattle.std.specs.Fmt.{decimal}
 use Rattle.rosie_io.specs.Opening.{file_of}
-use Rattle.rpl_syntax.specs.Modules.{Said}
+use Rattle.rpl_syntax.specs.Modules.{ParsedModule}
 use Rattle.rpl_syntax.specs.declared.name.QName.{QName}
 use Rattle.rpl_scope.specs.Faults.{fault}
 use Rattle.rpl_scope.specs.Imports.{with_prefix}
@@ -20,7 +20,7 @@ use Rattle.rpl_package.specs.declared.stock.Head.{Head}
 abbrev pub top_head : Head
 top_head = record { path = None; label = [] }
 
--- the number of the module that a root was read into, unless it is the top module, and the state behind it
+-- the number of the module that a root was read into, unless it is the top module, and the state after it
 abbrev pub Rooted : Type 0
 Rooted = Option ℕ × State
 
@@ -35,14 +35,14 @@ with_root n top u =
       },
     )
 
-abbrev pub named_root : World → List ℕ → Said → QName → State → Outcome Rooted
+abbrev pub named_root : World → List ℕ → ParsedModule → QName → State → Outcome Rooted
 named_root w f t q s =
     if is_some (first_of q.name s.own.prefixes) then at_once (fault f q.at (Duplicate q.name))
     else and_then (own_text w (walk w w.most) s.stock (top_head ∷ []) f None q.name t)
     (λ u. at_once (Ok (with_root q.name s.own u)))
 
 -- a root without a package statement goes on with the top module
-abbrev pub root_text : World → List ℕ → Said → Option QName → State → Outcome Rooted
+abbrev pub root_text : World → List ℕ → ParsedModule → Option QName → State → Outcome Rooted
 root_text w f t None s = and_then (checks w (walk w w.most) (top_head ∷ []) f t s) (λ u. at_once (Ok (None, u)))
 root_text w f t (Some q) s =
     if nat_lt (length s.stock.modules + 1) w.most then named_root w f t q s
@@ -75,7 +75,7 @@ abbrev pub root_by : World → ℕ → Root → State → Outcome Rooted
 root_by w k (File p) s = and_then (asked_root w p) (file_root w p s)
 root_by w k (Given t) s = read_root w (given_name k) (encode_utf8_all t) s
 
--- the roots so far, each with its module as `Rooted` says, and the state behind them
+-- the roots so far, each with its module as `Rooted` says, and the state after them
 pub record Roots : Type 0 where
   pub roots : List (Option ℕ)
   pub state : State
@@ -104,8 +104,9 @@ begun = record {
   state = record { stock = record { modules = []; paths = []; labels = [] }; own = empty_module None [] };
 }
 
-abbrev pub whole : Roots → Packages
-whole s = record { stock = finished s.state.stock s.state.own; top = length s.state.stock.modules; roots = s.roots }
+abbrev pub finish_set : Roots → Packages
+finish_set s =
+    record { stock = finished s.state.stock s.state.own; top = length s.state.stock.modules; roots = s.roots }
 
 abbrev pub load : World → List Root → Outcome Packages
-load w rs = and_then (load_roots w rs begun) (λ s. at_once (Ok (whole s)))
+load w rs = and_then (load_roots w rs begun) (λ s. at_once (Ok (finish_set s)))

@@ -70,7 +70,7 @@ abbrev pub size_of : Option Module → ℕ
 size_of None = 0
 size_of (Some m) = length m.rules
 
--- the pattern stands behind all statements of the top module
+-- the pattern stands after all statements of the top module
 abbrev pub pattern_site : Packages → Site
 pattern_site p = record { owner = p.top; start = size_of (nth p.stock.modules p.top) }
 

@@ -6,7 +6,7 @@ use Rattle.rpl_lexer.specs.declared.token.Token.{Token}
 use Rattle.rpl_lexer.specs.declared.fault.LexFault.{LexFault}
 use Rattle.rpl_parser.specs.Walks.{module_of}
 use Rattle.rpl_parser.specs.declared.fault.ParseFault.{ParseFault}
-use Rattle.rpl_syntax.specs.Modules.{Said}
+use Rattle.rpl_syntax.specs.Modules.{ParsedModule}
 use Rattle.rpl_scope.specs.Faults.{Or, fault}
 use Rattle.rpl_scope.specs.declared.fault.LoadKind.TheVariants.{FileTooLong, NotText, Lex, Parse}
 
@@ -19,14 +19,14 @@ of_cut f parse (Ok ts) = of_parse f (parse ts)
 of_cut f parse (Err e) = fault f e.at (Lex e.kind)
 
 -- a text of the file f that is neither too long nor in another form
-abbrev pub parsed : List ℕ → List ℕ → Or Said
+abbrev pub parsed : List ℕ → List ℕ → Or ParsedModule
 parsed f s = of_cut f (module_of s) (cut_of s)
 
-abbrev pub most_bytes : ℕ
-most_bytes = 1048576
+abbrev pub max_text_bytes : ℕ
+max_text_bytes = 1048576
 
-abbrev pub module_text : List ℕ → List ℕ → Or Said
+abbrev pub module_text : List ℕ → List ℕ → Or ParsedModule
 module_text f bytes =
-    if nat_lt most_bytes (length bytes) then fault f 0 FileTooLong
+    if nat_lt max_text_bytes (length bytes) then fault f 0 FileTooLong
     else if is_utf8 bytes then parsed f bytes
     else fault f 0 NotText

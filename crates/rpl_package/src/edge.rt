@@ -1,7 +1,7 @@
 // Loading, for those who stand on this crate.
 ghost use Rattle.std.specs.Prelude.{◌≡◌, IfErr, IfOk, OnErr, false, length};
 ghost use Rattle.rosie_io.specs.Loading.{NotFewer};
-ghost use Rattle.rpl_syntax.specs.Expression.{Expr as Said};
+ghost use Rattle.rpl_syntax.specs.Expression.{Expr as ParsedExpr};
 ghost use Rattle.rpl_syntax.specs.View.{expr_of};
 ghost use Rattle.rpl_scope.specs.Faults.{Or};
 ghost use Rattle.rpl_package.specs.Answers.{Answers, HasNoPlace, IsCaused, IsFault};
@@ -22,7 +22,7 @@ use rpl_syntax::Expr;
 use rpl_text::Chars;
 use std::alloc::Global;
 
-/// A stop as a fault. Want of memory has no file and no place.
+/// A stop as a fault. Out of memory has no file and no place.
 pub fn fault_of(alloc: Global, stop: Stop) -> LoadFault
     ensures { IsFault stop result }
 {
@@ -75,7 +75,7 @@ pub fn load_pattern<F: Files>(
     set: &mut PackageSet,
     goal: &Goal<'_>,
 ) -> Result<Expr, LoadFault>
-    ensures gives { F.tells → (r : Or Said) → ReadsGoal goal.now.fixed goal.now.find goal.now.text.now r
+    ensures gives { F.tells → (r : Or ParsedExpr) → ReadsGoal goal.now.fixed goal.now.find goal.now.text.now r
         → Answers (λ e. (expr_of e, set_seen set.new)) result
         (load_pattern (world (F.tree files.old) path.now) (set_seen set.old) r) }
     ensures kept { OnErr result (set_seen set.new ≡ set_seen set.old) }

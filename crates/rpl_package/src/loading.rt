@@ -3,7 +3,7 @@ ghost use Rattle.std.specs.Prelude.{◌≡◌, [], ◌∷◌, IfOk, IfErr, lengt
 ghost use Rattle.rpl_package.specs.Asking.{Walks};
 ghost use Rattle.rpl_package.specs.Built.{Becomes};
 ghost use Rattle.rpl_package.specs.Loading.{world};
-ghost use Rattle.rpl_package.specs.Roots.{AreWithin, begun, load, top_head, whole};
+ghost use Rattle.rpl_package.specs.Roots.{AreWithin, begun, load, top_head, finish_set};
 ghost use Rattle.rpl_package.specs.Sets.{set_seen};
 ghost use Rattle.rpl_package.specs.Stocks.{state_seen};
 ghost use Rattle.rpl_package.specs.inside.Leaving.{LeavesFiles};
@@ -38,7 +38,7 @@ fn begin(alloc: Global) -> Result<State, NoMemory>
 }
 
 /// The set of the modules that are loaded when the top module is finished.
-fn whole(
+fn finish_set(
     alloc: Global,
     stock: Stock,
     own: Module,
@@ -47,7 +47,8 @@ fn whole(
     requires held { stock.held.items ≡ top_head ∷ [] }
     requires built { Becomes (top_head ∷ []) begun.state (state_seen stock own) }
     requires within { AreWithin roots.items (length stock.modules.items) }
-    ensures ok { IfOk result (λ s. set_seen s ≡ whole (record { roots = roots.items; state = state_seen stock own })) }
+    ensures ok { IfOk result (λ s. set_seen s
+        ≡ finish_set (record { roots = roots.items; state = state_seen stock own })) }
     ensures memory { IfErr result (λ s. s ≡ OutOfMemory) }
 {
     let mut stock = stock;
@@ -81,7 +82,7 @@ pub fn load_set<F: Files>(
 {
     let mut state = begin(alloc)?;
     match enter_roots(alloc, files, folders, &mut state, roots) {
-        Ok(into) => whole(alloc, state.stock, state.own, into),
+        Ok(into) => finish_set(alloc, state.stock, state.own, into),
         Err(stop) => Err(stop),
     }
 }

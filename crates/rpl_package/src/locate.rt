@@ -13,7 +13,7 @@ use rpl_text::Chars;
 use std::alloc::Global;
 
 /// The most bytes that a text may have.
-pub const MOST_BYTES: usize = 1_048_576;
+pub const MAX_TEXT_BYTES: usize = 1_048_576;
 
 /// A file that is there.
 #[derive(Drop)]
@@ -41,7 +41,7 @@ pub fn read_in<F: Files>(alloc: Global, files: &mut F, file: &Chars) -> Result<O
     ensures files { LeavesFiles F.Source result files.old files.new }
     ensures closed { F.is_open files.new ≡ false }
 {
-    match read_file(alloc, files, file.as_str(), MOST_BYTES) {
+    match read_file(alloc, files, file.as_str(), MAX_TEXT_BYTES) {
         Ok(text) => Ok(Some(Read::Text(text))),
         Err(FileFault::Missing) => Ok(None),
         Err(FileFault::TooLong) => Ok(Some(Read::TooLong)),

@@ -14,7 +14,7 @@ use std::cmp::Ordering;
 /// A name that a pattern may use.
 #[derive(Debug, Drop)]
 pub struct Listed {
-    /// The name as it is written, behind its prefix and a dot where it has one.
+    /// The name as it is written, after its prefix and a dot where it has one.
     pub name: Chars,
     /// The type of its nodes; None where it makes none.
     pub label: Option<Chars>,
@@ -87,7 +87,7 @@ impl PackageSet {
         }
     }
 
-    /// The names of a module, behind a prefix or without one.
+    /// The names of a module, after a prefix or without one.
     fn push_names(
         &self,
         alloc: Global,
@@ -147,8 +147,8 @@ impl PackageSet {
         Ok(())
     }
 
-    /// All that a pattern may name, in the order of the names' bytes: the names of the top module that count behind
-    /// its last statement, and behind each of its prefixes the names that an importer sees.
+    /// All that a pattern may name, in the order of the names' bytes: the names of the top module that count after
+    /// its last statement, and after each of its prefixes the names that an importer sees.
     pub fn names(&self, alloc: Global) -> Result<Names, NoMemory>
         ensures members { IfOk result (λ names. IsPermutation (all_listed (set_seen self.now)) names) }
         ensures order { IfOk result (λ names. IsSorted by_bytes names) }

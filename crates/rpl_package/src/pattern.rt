@@ -1,6 +1,6 @@
 // The pattern: its text, the packages that it imports, its names and its macros.
 ghost use Rattle.std.specs.Prelude.{◌≡◌, [], All, IfErr, IfOk, Ok, OnOk, false, map};
-ghost use Rattle.rpl_syntax.specs.Expression.{Expr as Said};
+ghost use Rattle.rpl_syntax.specs.Expression.{Expr as ParsedExpr};
 ghost use Rattle.rpl_syntax.specs.View.{expr_of};
 ghost use Rattle.rpl_scope.specs.Bodies.{names};
 ghost use Rattle.rpl_scope.specs.Faults.{Checks, Gives, Or};
@@ -11,17 +11,17 @@ ghost use Rattle.rpl_package.specs.Loading as L;
 ghost use Rattle.rpl_package.specs.Loading.{world};
 ghost use Rattle.rpl_package.specs.Marks.{CutsTo};
 ghost use Rattle.rpl_package.specs.Patterns.{enter_pattern, goal_entered, pattern_fault, pattern_name, put_by};
-ghost use Rattle.rpl_package.specs.Patterns.{wanted, wanted_at};
+ghost use Rattle.rpl_package.specs.Patterns.{needed_import, needed_at};
 ghost use Rattle.rpl_package.specs.Reading.{IsLoud};
 ghost use Rattle.rpl_package.specs.Stocks.{stock_seen};
 ghost use Rattle.rpl_package.specs.inside.Leaving.{LeavesFiles};
 ghost use Rattle.rpl_scope.specs.Packages.{nth};
 ghost use Rattle.rpl_scope.specs.Seen.{module_seen, modules_seen};
 
-use crate::locate::MOST_BYTES;
+use crate::locate::MAX_TEXT_BYTES;
 use crate::reading::{lex_stop, parse_stop};
 use crate::stock::Stock;
-use crate::walk::{Importer, MOST_MODULES, reach};
+use crate::walk::{Importer, MAX_MODULES, load_import};
 use rosie_io::Files;
 use rpl_lexer::{cut_computes, lex};
 use rpl_parser::{one_pattern, parse_pattern};
@@ -62,7 +62,7 @@ fn sought(alloc: Global, find: bool, e: Expr) -> Result<Expr, NoMemory>
 /// A text that isn't too long, as RPL.
 fn read_pattern(alloc: Global, file: &Chars, text: &str, find: bool) -> Result<Expr, Stop>
     requires { file.now ≡ pattern_file }
-    ensures gives { (r : Or Said) → ReadsText false find text.now r → Gives expr_of result r }
+    ensures gives { (r : Or ParsedExpr) → ReadsText false find text.now r → Gives expr_of result r }
     ensures reads { IfOk result (λ e. ReadsText false find text.now (Ok (expr_of e))) }
     ensures loud { IfErr result IsLoud }
 {
@@ -82,11 +82,11 @@ fn read_pattern(alloc: Global, file: &Chars, text: &str, find: bool) -> Result<E
 #[tactic(auto, using(rpl_scope::proofs::Stops::told, crate::proofs::Causes::told_loud))]
 fn read_goal(alloc: Global, file: &Chars, text: &str, fixed: bool, find: bool) -> Result<Expr, Stop>
     requires { file.now ≡ pattern_file }
-    ensures gives { (r : Or Said) → ReadsGoal fixed find text.now r → Gives expr_of result r }
+    ensures gives { (r : Or ParsedExpr) → ReadsGoal fixed find text.now r → Gives expr_of result r }
     ensures goal { IfOk result (λ e. IsGoal (expr_of e)) }
     ensures loud { IfErr result IsLoud }
 {
-    if text.len() > MOST_BYTES {
+    if text.len() > MAX_TEXT_BYTES {
         return Err(fault_at(alloc, file, 0, LoadKind::FileTooLong));
     }
     if fixed {
@@ -97,8 +97,8 @@ fn read_goal(alloc: Global, file: &Chars, text: &str, fixed: bool, find: bool) -
 }
 
 /// The import that a name asks for: none where it has no prefix, or the module has the prefix.
-fn wanted(alloc: Global, own: &Module, name: &QName) -> Result<Option<Import>, NoMemory>
-    ensures { IfOk result (λ i. i ≡ wanted (module_seen own.now) name.now) }
+fn needed_import(alloc: Global, own: &Module, name: &QName) -> Result<Option<Import>, NoMemory>
+    ensures { IfOk result (λ i. i ≡ needed_import (module_seen own.now) name.now) }
 {
     let Some(prefix) = &name.prefix else {
         return Ok(None);
@@ -118,17 +118,17 @@ fn wanted(alloc: Global, own: &Module, name: &QName) -> Result<Option<Import>, N
 }
 
 /// The import that a name asks for in the top module.
-fn wanted_at(
+fn needed_at(
     alloc: Global,
     modules: &[Module],
     top: u32,
     name: &QName,
 ) -> Result<Option<Import>, NoMemory>
-    ensures { IfOk result (λ i. i ≡ wanted_at name.now (nth (modules_seen modules.now) top)) }
+    ensures { IfOk result (λ i. i ≡ needed_at name.now (nth (modules_seen modules.now) top)) }
 {
     match modules.get(top as usize) {
         None => Ok(None),
-        Some(own) => wanted(alloc, own, name),
+        Some(own) => needed_import(alloc, own, name),
     }
 }
 
@@ -174,12 +174,12 @@ fn enter_name<F: Files>(
     ensures built { OnOk result (StaysBuilt top (stock_seen stock.old) (stock_seen stock.new)) }
     ensures files { LeavesFiles F.Source result files.old files.new }
 {
-    let asked = wanted_at(alloc, &stock.modules, top, name)?;
+    let asked = needed_at(alloc, &stock.modules, top, name)?;
     let Some(import) = asked else {
         return Ok(());
     };
-    let depth = MOST_MODULES;
-    let number = match reach(alloc, files, stock, importer, &import, depth) {
+    let depth = MAX_MODULES;
+    let number = match load_import(alloc, files, stock, importer, &import, depth) {
         Ok(number) => number,
         Err(stop) => return Err(stop),
     };
@@ -285,7 +285,7 @@ pub fn enter_pattern<F: Files>(
     goal: Goal<'_>,
 ) -> Result<Expr, Stop>
     requires { stock.old.held.items ≡ [] }
-    ensures gives { F.tells → (r : Or Said) → ReadsGoal goal.entry.fixed goal.entry.find goal.entry.text.now r
+    ensures gives { F.tells → (r : Or ParsedExpr) → ReadsGoal goal.entry.fixed goal.entry.find goal.entry.text.now r
         → Walks (λ e. (expr_of e, stock_seen stock.new)) result
         (goal_entered (world (F.tree files.old) folders.now) top (stock_seen stock.old) r) }
     ensures held { OnOk result (stock.new.held.items ≡ []) }

@@ -13,7 +13,7 @@ ghost use Rattle.rpl_package.specs.Texts.{parsed, module_text};
 use rpl_lexer::{LexFault, LexKind, cut_computes, lex};
 use rpl_parser::{ParseFault, ParseKind, one_module, parse_module};
 use rpl_scope::{LoadKind, Stop, fault_at};
-use rpl_syntax::Module as Said;
+use rpl_syntax::Module as ParsedModule;
 use rpl_text::Chars;
 use std::alloc::Global;
 
@@ -52,7 +52,7 @@ pub fn parse_stop(alloc: Global, file: &Chars, fault: ParseFault) -> Stop
 }
 
 /// The module of a text that isn't too long.
-pub fn parse(alloc: Global, file: &Chars, text: &str) -> Result<Said, Stop>
+pub fn parse(alloc: Global, file: &Chars, text: &str) -> Result<ParsedModule, Stop>
     ensures { Gives said result (parsed file.now text.now) }
 {
     cut_computes();
@@ -69,7 +69,7 @@ pub fn parse(alloc: Global, file: &Chars, text: &str) -> Result<Said, Stop>
 
 /// The module of a file.
 #[tactic(auto, using(rpl_scope::proofs::Stops::told, crate::proofs::Causes::told_loud))]
-pub fn read_module(alloc: Global, file: &Chars, read: Read) -> Result<Said, Stop>
+pub fn read_module(alloc: Global, file: &Chars, read: Read) -> Result<ParsedModule, Stop>
     ensures gives { (bytes : List ℕ) → IsRead read bytes → Gives said result (module_text file.now bytes) }
     ensures loud { IfErr result IsLoud }
     ensures said { IfOk result (λ t. IsSaid (said t)) }

@@ -1,6 +1,6 @@
 // The pattern that is looked for, over a set.
 ghost use Rattle.std.specs.Prelude.{◌≡◌, [], OnErr};
-ghost use Rattle.rpl_syntax.specs.Expression.{Expr as Said};
+ghost use Rattle.rpl_syntax.specs.Expression.{Expr as ParsedExpr};
 ghost use Rattle.rpl_syntax.specs.View.{expr_of};
 ghost use Rattle.rpl_scope.specs.Faults.{Or};
 ghost use Rattle.rpl_package.specs.Asking.{Walks};
@@ -86,7 +86,7 @@ pub fn enter_goal<F: Files>(
     set: &mut PackageSet,
     goal: Goal<'_>,
 ) -> Result<Expr, Stop>
-    ensures gives { F.tells → (r : Or Said) → ReadsGoal goal.entry.fixed goal.entry.find goal.entry.text.now r
+    ensures gives { F.tells → (r : Or ParsedExpr) → ReadsGoal goal.entry.fixed goal.entry.find goal.entry.text.now r
         → Walks (λ e. (expr_of e, set_seen set.new)) result
         (load_pattern (world (F.tree files.old) folders.now) (set_seen set.old) r) }
     ensures kept { OnErr result (set_seen set.new ≡ set_seen set.old) }

@@ -11,14 +11,14 @@ ghost use Rattle.rpl_package.specs.Stocks.{state_seen};
 ghost use Rattle.rpl_package.specs.Texts.{module_text};
 ghost use Rattle.rpl_package.specs.inside.Leaving.{LeavesFiles};
 
-use crate::locate::{MOST_BYTES, read_in};
+use crate::locate::{MAX_TEXT_BYTES, read_in};
 use crate::reading::{parse, read_module};
 use crate::stock::{State, finish};
-use crate::walk::{Importer, MOST_MODULES, load_own, load_text};
+use crate::walk::{Importer, MAX_MODULES, load_own, load_text};
 use rosie_io::Files;
 use rpl_list::List;
 use rpl_scope::{LoadKind, NoMemory, Stop, fault_at, put_prefix};
-use rpl_syntax::{Module as Said, QName};
+use rpl_syntax::{Module as ParsedModule, QName};
 use rpl_text::Chars;
 use std::alloc::Global;
 
@@ -46,7 +46,7 @@ fn enter_named<F: Files>(
     state: &mut State,
     file: &Chars,
     name: &QName,
-    text: &Said,
+    text: &ParsedModule,
 ) -> Result<Option<u32>, Stop>
     requires name { text.now.package ≡ Some name.now }
     requires held { state.old.stock.held.items ≡ top_head ∷ [] }
@@ -67,7 +67,7 @@ fn enter_named<F: Files>(
         return Err(fault_at(alloc, file, name.at, kind));
     }
     let label = name.name.copy(alloc)?;
-    let depth = MOST_MODULES;
+    let depth = MAX_MODULES;
     let importer = Importer { file, folders };
     let from = match load_own(
         alloc,
@@ -101,7 +101,7 @@ pub fn enter_root<F: Files>(
     folders: &[Chars],
     state: &mut State,
     file: &Chars,
-    text: &Said,
+    text: &ParsedModule,
 ) -> Result<Option<u32>, Stop>
     requires held { state.old.stock.held.items ≡ top_head ∷ [] }
     requires said { IsSaid (said text.now) }
@@ -116,7 +116,7 @@ pub fn enter_root<F: Files>(
 {
     match &text.package {
         None => {
-            let depth = MOST_MODULES;
+            let depth = MAX_MODULES;
             let importer = Importer { file, folders };
             if let Err(stop) = load_text(
                 alloc,
@@ -132,7 +132,7 @@ pub fn enter_root<F: Files>(
             Ok(None)
         }
         Some(name) => {
-            if state.stock.modules.len() + 1 >= MOST_MODULES {
+            if state.stock.modules.len() + 1 >= MAX_MODULES {
                 return Err(fault_at(alloc, file, name.at, LoadKind::TooManyPackages));
             }
             enter_named(alloc, files, folders, state, file, name, text)
@@ -142,12 +142,12 @@ pub fn enter_root<F: Files>(
 
 /// The text of a root that is given itself.
 #[tactic(auto, using(rpl_scope::proofs::Stops::told))]
-fn read_given(alloc: Global, file: &Chars, text: &Chars) -> Result<Said, Stop>
+fn read_given(alloc: Global, file: &Chars, text: &Chars) -> Result<ParsedModule, Stop>
     ensures gives { Gives said result (module_text file.now (encode_utf8_all text.now)) }
     ensures said { IfOk result (λ t. IsSaid (said t)) }
 {
     let bytes = text.as_str();
-    if bytes.len() > MOST_BYTES {
+    if bytes.len() > MAX_TEXT_BYTES {
         return Err(fault_at(alloc, file, 0, LoadKind::FileTooLong));
     }
     parse(alloc, file, bytes)

@@ -4,7 +4,7 @@ ghost use Rattle.rpl_syntax.specs.Modules.{said};
 ghost use Rattle.rpl_package.specs.Asking.{Walks};
 ghost use Rattle.rpl_package.specs.Built.{Becomes, IsAsked, IsSaid, Loads, Makes, Reaches};
 ghost use Rattle.rpl_package.specs.Kept.{Keeps};
-ghost use Rattle.rpl_package.specs.Loading.{world, walk, reach, import_entry, import_entries, checks, own_text};
+ghost use Rattle.rpl_package.specs.Loading.{world, walk, load_import, import_entry, import_entries, checks, own_text};
 ghost use Rattle.rpl_package.specs.Loading.{label_of, label_at, with_text};
 ghost use Rattle.rpl_package.specs.Reading.{IsRead};
 ghost use Rattle.rpl_scope.specs.Seen.{module_seen};
@@ -17,12 +17,12 @@ use crate::reading::{Read, read_module};
 use crate::stock::{Stock, empty_module, finish, head_of, is_loading, is_taken};
 use rosie_io::Files;
 use rpl_scope::{LoadKind, Module, Stop, enter_items, fault_at, last_part, take_in};
-use rpl_syntax::{Import, Module as Said, QName};
+use rpl_syntax::{Import, Module as ParsedModule, QName};
 use rpl_text::Chars;
 use std::alloc::Global;
 
 /// The most modules that may be loaded, the top module among them.
-pub const MOST_MODULES: usize = 1_024;
+pub const MAX_MODULES: usize = 1_024;
 
 /// A text that imports: its file, and the folders in which its imports are looked for.
 #[derive(Clone, Copy)]
@@ -49,7 +49,7 @@ fn push_text(alloc: Global, own: &mut Module, file: &Chars) -> Result<u32, Stop>
 /// The number of the module that an import names, which is loaded now.
 #[cycle(load)]
 #[tactic(auto, using(rpl_scope::proofs::Stops::told, crate::proofs::Outcomes::may, crate::proofs::Outcomes::quiet))]
-pub fn reach<F: Files>(
+pub fn load_import<F: Files>(
     alloc: Global,
     files: &mut F,
     stock: &mut Stock,
@@ -60,7 +60,7 @@ pub fn reach<F: Files>(
     requires asked { IsAsked import.now }
     ensures gives { F.tells → let w = world (F.tree files.old) importer.entry.folders.now in
         Walks (λ n. (n, stock_seen stock.new)) result
-        (reach w (walk w depth)
+        (load_import w (walk w depth)
         stock.old.held.items importer.entry.file.now import.now (stock_seen stock.old)) }
     ensures held { OnOk result (stock.new.held.items ≡ stock.old.held.items) }
     ensures kept { Keeps (stock_seen stock.old) (stock_seen stock.new) }
@@ -87,9 +87,7 @@ pub fn reach<F: Files>(
         }
         Err(stop) => return Err(stop),
     };
-    if stock.modules.len() >= MOST_MODULES
-        || MOST_MODULES - stock.modules.len() <= stock.held.len()
-    {
+    if stock.modules.len() >= MAX_MODULES || MAX_MODULES - stock.modules.len() <= stock.held.len() {
         return Err(fault_at(alloc, importer.file, import.at, LoadKind::TooManyPackages));
     }
     let folders = importer.folders;
@@ -166,7 +164,7 @@ pub fn load_own<F: Files>(
     path: Option<Chars>,
     label: Chars,
     at: usize,
-    text: &Said,
+    text: &ParsedModule,
     depth: usize,
 ) -> Result<Module, Stop>
     requires at { at ≡ label_at text.now.package }
@@ -203,7 +201,7 @@ pub fn load_text<F: Files>(
     stock: &mut Stock,
     own: &mut Module,
     importer: Importer<'_>,
-    text: &Said,
+    text: &ParsedModule,
     depth: usize,
 ) -> Result<(), Stop>
     requires said { IsSaid (said text.now) }
@@ -281,7 +279,7 @@ fn enter_import<F: Files>(
         (state_seen stock.new own.new)) }
     ensures files { LeavesFiles F.Source result files.old files.new }
 {
-    let number = match reach(alloc, files, stock, importer, import, depth) {
+    let number = match load_import(alloc, files, stock, importer, import, depth) {
         Ok(number) => number,
         Err(stop) => return Err(stop),
     };

@@ -6,7 +6,7 @@ use Rattle.rpl_lexer.specs.Cut.{IsCut}
 use Rattle.rpl_lexer.specs.declared.token.Token.{Token as Lexeme}
 use Rattle.rpl_lexer.proofs.Cuts.{tokens_stand}
 use Rattle.rpl_syntax.specs.declared.token.Token.{Token}
-use Rattle.rpl_syntax.specs.Modules.{Rule, Said}
+use Rattle.rpl_syntax.specs.Modules.{Rule, ParsedModule}
 use Rattle.rpl_syntax.specs.Texts.{Say}
 use Rattle.rpl_syntax.proofs.Said.{All_fit, form_of, token_fit}
 use Rattle.rpl_syntax.proofs.Held.{tree_held}
@@ -97,7 +97,7 @@ past_version : (o : Option Numbered) (q : List Placed) → LinesWritten (version
 past_version None q h = h
 past_version (Some v) q h = h.1
 
-pub bodies_written : (s : List ℕ) (ts : List Lexeme) (m : Said) → IsUtf8 s → IsCut s ts → IsModule s ts m → BodiesWritten m.items
+pub bodies_written : (s : List ℕ) (ts : List Lexeme) (m : ParsedModule) → IsUtf8 s → IsCut s ts → IsModule s ts m → BodiesWritten m.items
 bodies_written s ts m u c h =
     let all = lines_written s ts (outline_lines h.tree) u (λ i t e. tokens_stand s ts i t c e) h.spelled in
     subst (λ n. BodiesWritten n.items) (sym h.stands_for)

@@ -1,4 +1,4 @@
--- A statement's tokens are the first piece, whatever statements stand behind it.
+-- A statement's tokens are the first piece, whatever statements stand after it.
 use Rattle.std.proofs.Common.{◌≡◌, ℕ, suc, List, [], ◌∷◌, ◌++◌, length, take, drop, refl, ap, ◌∙◌}
 use Rattle.std.specs.Prelude.{Bool, true, false, not, if◌then◌else◌, ◌||◌}
 use Rattle.rpl_lexer.specs.declared.keyword.Keyword.TheVariants as W
@@ -80,7 +80,7 @@ entries_quiet (S.More p a es) = path_quiet p _ (as_quiet a _ (refl, entries_quie
 
 -- ---- where a piece begins
 
--- a piece begins, behind a token that is neither `local` nor `alias`, or nothing stands there
+-- a piece begins, after a token that is neither `local` nor `alias`, or nothing stands there
 abbrev pub starts : List Token → Bool
 starts [] = true
 starts (t ∷ ts) = begins_piece (T.Sign P.Dot) (t ∷ ts)
@@ -127,7 +127,7 @@ front_quiet b (t ∷ p) q h k e =
     ap (λ x. if x then 0 else suc (front t (p ++ q))) (quiet_begins_not b t (p ++ q) k.0 (no_equals p q k.1 e))
     ∙ ap suc (front_quiet t p q (quiet_leads_not t k.0) k.1 e)
 
--- behind the `=` of a binding
+-- after the `=` of a binding
 body_front : (e : Exp) (q : List Token) → starts q ≡ true → front (T.Sign P.Equals) (spell_exp e [] ++ q) ≡ length (spell_exp e [])
 body_front e q h = front_quiet (T.Sign P.Equals) (spell_exp e []) q refl (exp_quiet e [] tt) h
 

@@ -40,7 +40,7 @@ sign_low _ l h le = h
 settled_low : (l : Level) → Low l → Low (record l { level = l.base })
 settled_low l h = record { base = h.base; level = h.base; bases = h.bases }
 
--- what a token reaches is at least the level behind it, but for a bracket, behind which the level is the base
+-- what a token reaches is at least the level after it, but for a bracket, after which the level is the base
 low_by : (k : TokenKind) (s : List ℕ) (t : Token) (c : Bool) (l : Level) → Low l → reach_by k s t l (level_by k s t c l) ≤ 100 → Low (level_by k s t c l)
 low_by K.Name s t true l h le = record { base = h.base; level = le; bases = h.bases }
 low_by K.Name s t false l h le = settled_low l h

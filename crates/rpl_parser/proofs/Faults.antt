@@ -76,7 +76,7 @@ bad_fault s ts f x d r e = fault_kind f.kind s ts f (bad_kind s ts f e) d (x, r)
 pub no_memory : (s : List ℕ) (ts : List Token) (f : ParseFault) → first_bad s ts ≡ Some f → f.kind ≡ NoMemory → ⊥
 no_memory s ts f e h = subst OfPayload h (bad_kind s ts f e)
 
--- what is bad in a text is no want of memory
+-- what is bad in a text is not out of memory
 pub bad_no_memory : (s : List ℕ) (ts : List Token) (o : Option ParseFault) → o ≡ first_bad s ts → IfSome o (λ f. f.kind ≢ NoMemory)
 bad_no_memory s ts None e = tt
 bad_no_memory s ts (Some f) e = λ h. no_memory s ts f (sym e) h

@@ -3,7 +3,7 @@ use Rattle.std.proofs.Common.{◌≡◌, ◌≢◌, ℕ, zero, suc, ◌+◌, ◌
 use Rattle.std.proofs.lemmas.List.{length-drop, length-append, take-append-drop}
 use Rattle.std.specs.Prelude.{Bool, true, false, if◌then◌else◌, ◌||◌, IfOk, IfErr}
 use Rattle.rpl_lexer.specs.declared.token.Token.{Token as Lexeme}
-use Rattle.rpl_syntax.specs.Modules.{Said, said}
+use Rattle.rpl_syntax.specs.Modules.{ParsedModule, said}
 use Rattle.rpl_syntax.specs.declared.module.Module.{Module}
 use Rattle.rpl_syntax.specs.Reading.{◌>>=◌}
 use Rattle.rpl_syntax.proofs.Sound.{bind_some, some_is}
@@ -36,7 +36,7 @@ spelt_all : (s : List ℕ) (ts : List Lexeme) (ls : List Placed) → AreLines (S
 spelt_all s ts [] h = h
 spelt_all s ts (l ∷ ls) h = (h.0, h.1, h.2, spelt s h.0 l h.3, spelt_all s h.1 ls h.4)
 
--- the tokens of a statement and of what stands behind it
+-- the tokens of a statement and of what stands after it
 stands_tokens : (s : List ℕ) (p q : List Lexeme) (l : Placed) (h : Spelt s p l) → tokens_of s (p ++ q) ≡ spell_statement h.spelled.tree ++ tokens_of s q
 stands_tokens s p q l h = tokens_both s p q ∙ ap (λ x. x ++ tokens_of s q) h.spelled.spelled
 
@@ -96,13 +96,13 @@ lines_same s (l ∷ ls) (m ∷ ms) ts h k =
     ap (λ x. x ∷ ls) (line_same s k.0 l m (subst (λ x. Spelt s x l) p h.3) k.3)
     ∙ ap (λ xs. m ∷ xs) (lines_same s ls ms k.1 (subst (λ x. AreLines (Spelt s) x ls) q h.4) k.4)
 
-abbrev told : Walk → Said
+abbrev told : Walk → ParsedModule
 told w = record { name = w.name; imports = w.imports; items = w.items }
 
 some_walk : (v w : Walk) → Some v ≡ Some w → v ≡ w
 some_walk v w e = some_is v w e
 
-pub reading_unique : (s : List ℕ) (ts : List Lexeme) (m n : Said) → ReadsModule s ts m → ReadsModule s ts n → m ≡ n
+pub reading_unique : (s : List ℕ) (ts : List Lexeme) (m n : ParsedModule) → ReadsModule s ts m → ReadsModule s ts n → m ≡ n
 reading_unique s ts m n h k =
     let a = order_again h.tree h.blocks in
     let b = order_again k.tree k.blocks in
@@ -110,7 +110,7 @@ reading_unique s ts m n h k =
     let walks = some_walk (out a.stage (outline_walk h.tree)) (out b.stage (outline_walk k.tree)) (sym a.ordered ∙ (ap (order begun) same ∙ b.ordered)) in
     h.stands_for ∙ (ap told walks ∙ sym k.stands_for)
 
-pub module_reads : (s : List ℕ) (ts : List Lexeme) (m : Said) → IsModule s ts m → ReadsModule s ts m
+pub module_reads : (s : List ℕ) (ts : List Lexeme) (m : ParsedModule) → IsModule s ts m → ReadsModule s ts m
 module_reads s ts m h =
     record { tree = h.tree; spelled = spelt_all s ts (outline_lines h.tree) h.spelled; stands_for = h.stands_for; blocks = h.blocks }
 
@@ -147,7 +147,7 @@ lines_again (l ∷ ls) (suc n) s w v ts lt h e =
     walk_on (suc n) n s w refl b.0 ts ne now ∙ (ap (walk n s b.0) rest ∙ lines_again ls n s b.0 v q short h.4 b.2)
 
 -- the module, where the version is known
-abbrev by_known : Said → Numbered → Bool → Result Said ParseFault
+abbrev by_known : ParsedModule → Numbered → Bool → Result ParsedModule ParseFault
 by_known m v known = if known then Ok m else Err (record { at = v.at; kind = Version })
 
 finish_again : (o : Outline) → IsKnown o.version → by_version (outline_said o) o.version ≡ Ok (outline_said o)
@@ -157,7 +157,7 @@ finish_again o h = by_number o.version h
     by_number None k = refl
     by_number (Some v) k = ap (by_known (outline_said o) v) k
 
-pub module_again : (s : List ℕ) (ts : List Lexeme) (m : Said) → IsModule s ts m → module_of s ts ≡ Ok m
+pub module_again : (s : List ℕ) (ts : List Lexeme) (m : ParsedModule) → IsModule s ts m → module_of s ts ≡ Ok m
 module_again s ts m h =
     let o = order_again h.tree h.blocks in
     lines_again (outline_lines h.tree) (suc (length ts)) s begun (out o.stage (outline_walk h.tree)) ts (omega arith) h.spelled o.ordered
@@ -191,15 +191,15 @@ module _ (s : List ℕ) (w : Walk) (c : Bool) (p : List Lexeme) (v : Walk) where
   step_sound e = step_by (too_deep s ground_level p) (line_of (tokens_of s p)) (first_bad s p) refl refl refl e
 
 -- all that is left are statements
-record Left (s : List ℕ) (w : Walk) (ts : List Lexeme) (r : Result Said ParseFault) : Type 0 where
+record Left (s : List ℕ) (w : Walk) (ts : List Lexeme) (r : Result ParsedModule ParseFault) : Type 0 where
   pub lines : List Placed
   pub spelled : AreLines (Stands s) ts lines
   pub last : Walk
   pub ordered : order w lines ≡ Some last
   pub done : r ≡ finish last
 
--- a piece behind some statements is at fault
-record Stopped (s : List ℕ) (w : Walk) (ts : List Lexeme) (r : Result Said ParseFault) : Type 0 where
+-- a piece after some statements is at fault
+record Stopped (s : List ℕ) (w : Walk) (ts : List Lexeme) (r : Result ParsedModule ParseFault) : Type 0 where
   pub lines : List Placed
   pub first : Lexeme
   pub more : List Lexeme
@@ -211,11 +211,11 @@ record Stopped (s : List ℕ) (w : Walk) (ts : List Lexeme) (r : Result Said Par
   pub done : r ≡ Err fault
 
 module _ (n : ℕ) (s : List ℕ) (w : Walk) (t : Lexeme) (ts : List Lexeme) where
-  -- behind the first piece
-  abbrev on : Walk → Result Said ParseFault
+  -- after the first piece
+  abbrev on : Walk → Result ParsedModule ParseFault
   on v = walk n s v (others_of s (t ∷ ts))
 
-  abbrev whole : Result Said ParseFault
+  abbrev whole : Result ParsedModule ParseFault
   whole = walk (suc n) s w (t ∷ ts)
 
   abbrev first_step : Result Walk ParseFault
@@ -269,14 +269,14 @@ module_ends s ts = walk_ends (suc (length ts)) s begun ts (omega arith)
 -- ---- what is read is a module
 
 -- the module that is told, where its version is known
-record Finished (o : Outline) (m : Said) : Type 0 where
+record Finished (o : Outline) (m : ParsedModule) : Type 0 where
   pub said : m ≡ outline_said o
   pub version : IsKnown o.version
 
-finish_sound : (o : Outline) (m : Said) → by_version (outline_said o) o.version ≡ Ok m → Finished o m
+finish_sound : (o : Outline) (m : ParsedModule) → by_version (outline_said o) o.version ≡ Ok m → Finished o m
 finish_sound o m e = by_number o.version refl e
   where
-    ok_said : (x : Said) → by_version x None ≡ Ok m → x ≡ m
+    ok_said : (x : ParsedModule) → by_version x None ≡ Ok m → x ≡ m
     ok_said x k = cc
 
     by_test : (v : Numbered) (b : Bool) → o.version ≡ Some v → is_known v ≡ b → by_known (outline_said o) v b ≡ Ok m → Finished o m
@@ -287,7 +287,7 @@ finish_sound o m e = by_number o.version refl e
     by_number None ev k = record { said = sym (ok_said (outline_said o) k); version = subst IsKnown (sym ev) tt }
     by_number (Some v) ev k = by_test v (is_known v) ev refl k
 
-pub module_sound : (s : List ℕ) (ts : List Lexeme) (m : Said) → module_of s ts ≡ Ok m → IsModule s ts m
+pub module_sound : (s : List ℕ) (ts : List Lexeme) (m : ParsedModule) → module_of s ts ≡ Ok m → IsModule s ts m
 module_sound s ts m e =
     elim (module_ends s ts) [
       | inl c ↦
@@ -305,7 +305,7 @@ walk_err f = Err f
 err_is : (f g : ParseFault) → walk_err f ≡ Err g → f ≡ g
 err_is f g e = cc
 
-abbrev said_err : ParseFault → Result Said ParseFault
+abbrev said_err : ParseFault → Result ParsedModule ParseFault
 said_err f = Err f
 
 said_err_is : (f g : ParseFault) → said_err f ≡ Err g → f ≡ g
@@ -326,7 +326,7 @@ version_fault s ts f o h k e = by_number o.version refl e
     by_number (Some v) ev x = by_test v (is_known v) ev refl x
 
 module _ (s : List ℕ) (before : List Placed) (u : Walk) (reached : reach begun before ≡ Some u) (p q : List Lexeme) where
-  -- behind those before it and the statement
+  -- after those before it and the statement
   next_reach : (l : Line) → reach begun (before ++ placed (first_place p) l ∷ []) ≡ (place u (first_place p) true l >>= λ v. reach v [])
   next_reach l = reach_on before (placed (first_place p) l ∷ []) begun u reached
 
@@ -470,9 +470,9 @@ answers_err s ts (Err f) h = λ ne. fault_sound s ts f (h.0 ne)
 
 -- ---- one or the other
 
-pub module_or_fault : (s : List ℕ) (ts : List Lexeme) → ((m : Said) × IsModule s ts m) ⊎ ((f : ParseFault) × IsModuleFault s ts f)
+pub module_or_fault : (s : List ℕ) (ts : List Lexeme) → ((m : ParsedModule) × IsModule s ts m) ⊎ ((f : ParseFault) × IsModuleFault s ts f)
 module_or_fault s ts = by_answer (module_of s ts) refl
   where
-    by_answer : (r : Result Said ParseFault) → module_of s ts ≡ r → ((m : Said) × IsModule s ts m) ⊎ ((f : ParseFault) × IsModuleFault s ts f)
+    by_answer : (r : Result ParsedModule ParseFault) → module_of s ts ≡ r → ((m : ParsedModule) × IsModule s ts m) ⊎ ((f : ParseFault) × IsModuleFault s ts f)
     by_answer (Ok m) e = inl (m, module_sound s ts m e)
     by_answer (Err f) e = inr (f, fault_sound s ts f e)

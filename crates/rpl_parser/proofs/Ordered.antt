@@ -20,7 +20,7 @@ abbrev pub ends : List Placed → Bool
 ends [] = false
 ends (l ∷ ls) = is_end l.line || ends ls
 
--- behind these statements, where each may stand there
+-- after these statements, where each may stand there
 abbrev pub order : Walk → List Placed → Option Walk
 order w [] = Some w
 order w (l ∷ ls) = place w l.at (ends ls) l.line >>= λ v. order v ls
@@ -122,7 +122,7 @@ early_imports st [] ps w h k =
 early_imports st (i ∷ is) ps w h k =
     told (out st w) (import_lines (i ∷ is) (parts_lines ps)) (import_lines is (parts_lines ps)) (out Packaged (more_imports w i.entries)) _ (more_items (more_imports (more_imports w i.entries) (all_imports is)) (part_entries ps)) (import_early st i.at i.entries w (import_lines is (parts_lines ps)) h) (ap (λ x. record w { imports = x; items = w.items ++ part_entries ps }) (append_assoc w.imports i.entries (all_imports is))) (early_imports Packaged is ps (more_imports w i.entries) refl k)
 
--- what a module says behind its version
+-- what a module says after its version
 abbrev pub outline_walk : Outline → Walk
 outline_walk o = record { stage = Begun; version = o.version; name = title_name o.title; imports = all_imports o.imports; items = part_entries o.parts; hidden = []; rules = [] }
 

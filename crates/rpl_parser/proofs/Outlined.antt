@@ -25,7 +25,7 @@ record PartsAfter (w v : Walk) (ls : List Placed) : Type 0 where
   pub stage : Stage
   pub is : v ≡ out stage (more_items w (part_entries parts))
 
--- the rest of a block behind these hidden and these visible rules, and the parts behind it
+-- the rest of a block after these hidden and these visible rules, and the parts after it
 record BlockAfter (w : Walk) (hs rs : List Rule) (v : Walk) (ls : List Placed) : Type 0 where
   pub rules : List Rule
   pub closes : ℕ
@@ -232,7 +232,7 @@ with_head n t v ls a =
       is = a.is;
     }
 
--- behind the version
+-- after the version
 versioned_after : (n : Option Numbered) (l : Line) (at : ℕ) (ls : List Placed) (v : Walk) → order (out Versioned (record begun { version = n })) (placed at l ∷ ls) ≡ Some v → Outlined v (version_lines n (placed at l ∷ ls))
 versioned_after n (L.Package m) at ls v e =
     let t : Option Title = Some (record { at = at; name = m }) in

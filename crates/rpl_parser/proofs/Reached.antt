@@ -17,7 +17,7 @@ use Rattle.rpl_parser.proofs.Cutting.{is_end}
 use Rattle.rpl_parser.proofs.Ordered.{ends, order, out, outline_walk, order_again}
 use Rattle.rpl_parser.proofs.Outlined.{order_sound}
 
--- behind these statements, where each may stand there and each block is closed later
+-- after these statements, where each may stand there and each block is closed later
 abbrev pub reach : Walk → List Placed → Option Walk
 reach w [] = Some w
 reach w (l ∷ ls) = place w l.at true l.line >>= λ v. reach v ls

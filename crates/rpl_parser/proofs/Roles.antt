@@ -91,7 +91,7 @@ at_cons ts i d lt = let k : suc i ≡ i + 1 = omega arith in drop-cons ts i d lt
 none : Lexeme
 none = record { kind = K.Name; start = 0; end = 0 }
 
--- the tokens from a number on are one and those behind it
+-- the tokens from a number on are one and those after it
 cut : (s : List ℕ) (ts : List Lexeme) (i : ℕ) → i < length ts → (t : Token) × (tokens_of s (drop i ts) ≡ t ∷ tokens_of s (drop (i + 1) ts))
 cut s ts i lt = let t = get_or ts i none in (token_by t.kind s t, ap (tokens_of s) (at_cons ts i none lt))
 

@@ -178,7 +178,7 @@ first_again : (p : Path) (r : List Token) → is_path_end r ≡ true → entry_o
 first_again (S.Last n at) r h = ap (entry_from at) (path_end n r h)
 first_again (S.Under n at p) r h = ap (entry_from at) (path_again n p r h)
 
--- what may stand behind an entry
+-- what may stand after an entry
 abbrev entry_ends : List Token → Bool
 entry_ends [] = true
 entry_ends (T.Sign P.Comma ∷ r) = true

@@ -29,7 +29,7 @@ use Rattle.rpl_parser.specs.Patterns.{IsPattern}
 use Rattle.rpl_parser.specs.Tokens.{capped, capped_most, is_bad, class_token, class_fault, token_by, tokens_of, fault_by, first_bad}
 use Rattle.rpl_parser.specs.declared.fault.ParseFault.{ParseFault}
 
--- ---- bounds, by the lower number, whether there is a comma, and the number behind it
+-- ---- bounds, by the lower number, whether there is a comma, and the number after it
 
 abbrev bad_by : ℕ → Option ℕ → Bool
 bad_by l o = nat_lt (unwrap_or o l) l || (nat_lt 255 l || nat_lt 255 (unwrap_or o l))

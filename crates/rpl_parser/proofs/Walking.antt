@@ -13,7 +13,7 @@ use Rattle.rpl_parser.specs.inside.Read as R
 use Rattle.rpl_parser.specs.Pieces.{piece_len, closes_later}
 use Rattle.rpl_parser.specs.Walks.{Walk, by_place, by_line, by_level, place, step, finish, go_on, walk}
 use Rattle.rpl_parser.specs.declared.fault.ParseFault.{ParseFault}
-use Rattle.rpl_syntax.specs.Modules.{Said}
+use Rattle.rpl_syntax.specs.Modules.{ParsedModule}
 
 pub stands_drop : (s : List ℕ) (ts : List Lexeme) (k : ℕ) → AllStand s ts → AllStand s (drop k ts)
 stands_drop s ts k h i t e =
@@ -47,7 +47,7 @@ module _ (s : List ℕ) (w : Walk) (c : Bool) (p : List Lexeme) where
   step_split : step s w c p ≡ then_placed (first_place p) w c (R.piece_of s p)
   step_split = step_by (first_place p) (first_bad s p) w c (too_deep s ground_level p) (line_of (tokens_of s p))
 
-  -- behind a piece that is a statement
+  -- after a piece that is a statement
   pub step_placed : (l : Line) (b : Option ParseFault) → R.piece_of s p ≡ Ok (l, b) → step s w c p ≡ by_place (first_place p) b (place w (first_place p) c l)
   step_placed l b e = step_split ∙ ap (then_placed (first_place p) w c) e
 
@@ -79,12 +79,12 @@ module _ (n m : ℕ) (s : List ℕ) (w : Walk) (e : n ≡ suc m) where
       ap (λ j. walk j s w (t ∷ ts)) e ∙ ap (λ r. go_on r (λ u. walk m s u (drop (piece_len (tokens_of s (t ∷ ts))) (t ∷ ts)))) h
 
 -- the pieces that are left are walked over as all are
-pub record Left (s : List ℕ) (w : Walk) (left : List Lexeme) (answer : Result Said ParseFault) : Type 0 where
+pub record Left (s : List ℕ) (w : Walk) (left : List Lexeme) (answer : Result ParsedModule ParseFault) : Type 0 where
   pub steps : ℕ
   pub enough : length left < steps
   pub same : walk steps s w left ≡ answer
 
-pub none_left : (s : List ℕ) (w : Walk) (left : List Lexeme) (answer : Result Said ParseFault) → Left s w left answer → length left ≡ 0 → answer ≡ finish w
+pub none_left : (s : List ℕ) (w : Walk) (left : List Lexeme) (answer : Result ParsedModule ParseFault) → Left s w left answer → length left ≡ 0 → answer ≡ finish w
 none_left s w left answer l e = sym l.same ∙ walk_end l.steps s w left (tokens_len s left ∙ e)
 
 -- the first of them was split off
@@ -99,7 +99,7 @@ pub split_of : (s : List ℕ) (left piece rest : List Lexeme) (k : ℕ) → 0 < 
 split_of s left piece rest k more len some inside front back =
     record { len = len; front = front; back = back; some = some more; inside = inside }
 
-module _ (s : List ℕ) (w : Walk) (left piece rest : List Lexeme) (k : ℕ) (answer : Result Said ParseFault) (h : Split s left piece rest k) (l : Left s w left answer) where
+module _ (s : List ℕ) (w : Walk) (left piece rest : List Lexeme) (k : ℕ) (answer : Result ParsedModule ParseFault) (h : Split s left piece rest k) (l : Left s w left answer) where
   less : l.steps ≡ suc (l.steps - 1)
   less = let e = l.enough in omega (arith, e)
 

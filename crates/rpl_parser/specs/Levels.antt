@@ -1,6 +1,6 @@
 -- How deep tokens are nested, counted from left to right with a base, a level and a stack of bases.
 --
--- `!`, `>`, `<` and a name with a colon behind it raise the level by one. `(` and `{` push the base and raise the
+-- `!`, `>`, `<` and a name with a colon after it raise the level by one. `(` and `{` push the base and raise the
 -- level and the base with it; `)` and `}` take the base off again. `&` raises the base. `/` and every atom of one
 -- token set the level back to the base. A bracket's own nesting counts on top of the level where it stands.
 use Rattle.std.specs.Prelude.{ℕ, ◌+◌, Bool, true, false, nat_lt, List, [], ◌∷◌, Option, Some, None, if◌then◌else◌}
@@ -54,7 +54,7 @@ sign_level Dollar l = settled l
 sign_level Tilde l = settled l
 sign_level _ l = l
 
--- behind one more token, of which it is known whether a colon follows
+-- after one more token, of which it is known whether a colon follows
 abbrev pub level_by : TokenKind → List ℕ → Token → (colon : Bool) → Level → Level
 level_by K.Name s t true l = raised l
 level_by K.Name s t false l = settled l
@@ -67,7 +67,7 @@ level_by _ s t colon l = l
 abbrev pub level_after : List ℕ → Token → (colon : Bool) → Level → Level
 level_after s t colon l = level_by t.kind s t colon l
 
--- the level that a token reaches where it stands, beside the level behind it
+-- the level that a token reaches where it stands, beside the level after it
 abbrev pub reach_by : TokenKind → List ℕ → Token → Level → Level → ℕ
 reach_by K.Bracket s t before behind = before.level + nesting (span s t)
 reach_by _ s t before behind = behind.level

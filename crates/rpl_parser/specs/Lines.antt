@@ -40,12 +40,12 @@ abbrev pub comma : List Token → Bool
 comma (T.Sign P.Comma ∷ r) = true
 comma r = false
 
--- entries behind which nothing stands
+-- entries after which nothing stands
 abbrev pub all_of : List Import → List Token → Option (List Import)
 all_of es [] = Some es
 all_of es (t ∷ r) = None
 
--- an entry, and those that are read behind a comma
+-- an entry, and those that are read after a comma
 abbrev pub with_others : (List Token → Option (List Import)) → Import → List Token → Option (List Import)
 with_others others e (T.Sign P.Comma ∷ r) = others r >>= λ es. Some (e ∷ es)
 with_others others e r = all_of (e ∷ []) r
@@ -65,7 +65,7 @@ abbrev pub alias_of : (local : Bool) → List Token → Option Line
 alias_of local (T.Keyword W.Alias ∷ r) = binds local true r
 alias_of local r = binds local false r
 
--- a statement of one keyword, behind that keyword
+-- a statement of one keyword, after that keyword
 abbrev pub alone_of : Line → List Token → Option Line
 alone_of l [] = Some l
 alone_of l (t ∷ r) = None

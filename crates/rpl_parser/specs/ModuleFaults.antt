@@ -14,19 +14,19 @@ use Rattle.rpl_parser.specs.declared.fault.ParseKind.{ParseKind}
 use Rattle.rpl_parser.specs.declared.fault.ParseKind.TheVariants.{NoMemory, TooDeep, Syntax, BadBounds, Class, Version}
 use Rattle.rpl_parser.specs.declared.walk.Numbered.{Numbered}
 
--- the first piece of the tokens, and what stands behind it
+-- the first piece of the tokens, and what stands after it
 abbrev pub first_of : List ℕ → List Lexeme → List Lexeme
 first_of s ts = take (piece_len (tokens_of s ts)) ts
 
 abbrev pub others_of : List ℕ → List Lexeme → List Lexeme
 others_of s ts = drop (piece_len (tokens_of s ts)) ts
 
--- where a statement opens a block, an `end` is among the tokens behind it
+-- where a statement opens a block, an `end` is among the tokens after it
 abbrev pub IsClosed : Line → List Token → Type 0
 IsClosed L.Opens r = closes_later r ≡ true
 IsClosed _ r = Unit {0}
 
--- the first pieces are these statements, and behind them stands the rest
+-- the first pieces are these statements, and after them stands the rest
 abbrev pub PiecesAre : List ℕ → List Lexeme → List Placed → (rest : List Lexeme) → Type 0
 PiecesAre s ts [] rest = ts ≡ rest
 PiecesAre s ts (l ∷ ls) rest =
@@ -39,7 +39,7 @@ pub record MayBegin (ls : List Placed) : Type 0 where
   pub lines : ls ++ more ≡ outline_lines tree
   pub blocks : AllLocalOutside tree.parts
 
--- the piece p is a statement that may stand behind these, with the tokens q behind it
+-- the piece p is a statement that may stand after these, with the tokens q after it
 pub record HasPlace (s : List ℕ) (before : List Placed) (p q : List Lexeme) : Type 0 where
   pub line : Line
   pub spelled : Spells (tokens_of s p) line

@@ -1,4 +1,4 @@
--- What a module is: statements one behind the other, in this order.
+-- What a module is: statements one after the other, in this order.
 --
 --   Module := Version? Package? Import* Part*
 --   Part   := Binding | "grammar" Binding* "end" | "grammar" Binding* "in" Binding* "end"
@@ -7,7 +7,7 @@
 use Rattle.std.specs.Prelude.{◌≡◌, ℕ, Bool, true, false, ◌&&◌, nat_eq, nat_le, List, [], ◌∷◌, ◌++◌, Option, Some, None}
 use Rattle.rpl_lexer.specs.declared.token.Token.{Token as Lexeme}
 use Rattle.rpl_syntax.specs.Grammar.{unprefixed}
-use Rattle.rpl_syntax.specs.Modules.{Rule, Entry, One, Block, Said}
+use Rattle.rpl_syntax.specs.Modules.{Rule, Entry, One, Block, ParsedModule}
 use Rattle.rpl_syntax.specs.declared.module.Import.{Import}
 use Rattle.rpl_syntax.specs.declared.name.QName.{QName}
 use Rattle.rpl_parser.specs.Levels.{ground_level, too_deep}
@@ -45,7 +45,7 @@ pub record Outline : Type 0 where
   pub imports : List Importing
   pub parts : List Part
 
--- ---- spelling: the statements of each, and behind them the statements q
+-- ---- spelling: the statements of each, and after them the statements q
 
 abbrev pub rule_line : Rule → Placed
 rule_line r = placed r.at (L.Binds r.local r.alias r.name r.body)
@@ -98,7 +98,7 @@ abbrev pub title_name : Option Title → Option QName
 title_name None = None
 title_name (Some t) = Some (unprefixed t.name t.at)
 
-abbrev pub outline_said : Outline → Said
+abbrev pub outline_said : Outline → ParsedModule
 outline_said o = record { name = title_name o.title; imports = all_imports o.imports; items = part_entries o.parts }
 
 -- ---- what else is asked
@@ -137,20 +137,20 @@ pub record Stands (s : List ℕ) (p : List Lexeme) (l : Placed) : Type 0 where
   pub spelled : Spells (tokens_of s p) l.line
   pub good : first_bad s p ≡ None
 
--- these tokens are the statements, one behind the other
+-- these tokens are the statements, one after the other
 abbrev pub AreLines : (List Lexeme → Placed → Type 0) → List Lexeme → List Placed → Type 0
 AreLines Is ts [] = ts ≡ []
 AreLines Is ts (l ∷ ls) = (p : List Lexeme) × (q : List Lexeme) × (ts ≡ p ++ q) × Is p l × AreLines Is q ls
 
 -- the tokens of the text are a spelling of the module
-pub record ReadsModule (s : List ℕ) (ts : List Lexeme) (m : Said) : Type 0 where
+pub record ReadsModule (s : List ℕ) (ts : List Lexeme) (m : ParsedModule) : Type 0 where
   pub tree : Outline
   pub spelled : AreLines (Spelt s) ts (outline_lines tree)
   pub stands_for : m ≡ outline_said tree
   pub blocks : AllLocalOutside tree.parts
 
 -- they are, and none of them is at fault
-pub record IsModule (s : List ℕ) (ts : List Lexeme) (m : Said) : Type 0 where
+pub record IsModule (s : List ℕ) (ts : List Lexeme) (m : ParsedModule) : Type 0 where
   pub tree : Outline
   pub spelled : AreLines (Stands s) ts (outline_lines tree)
   pub stands_for : m ≡ outline_said tree

@@ -20,7 +20,7 @@ is_local_or_alias (T.Keyword W.Local) = true
 is_local_or_alias (T.Keyword W.Alias) = true
 is_local_or_alias t = false
 
--- a piece begins behind this token
+-- a piece begins after this token
 abbrev pub begins_piece : Token → List Token → Bool
 begins_piece before (T.Keyword W.Alias ∷ r) = not (is_local before)
 begins_piece before (T.Keyword w ∷ r) = word_begins w
@@ -28,7 +28,7 @@ begins_piece before (T.Name n at ∷ T.Sign P.Equals ∷ r) = not (is_local_or_a
 begins_piece before (T.Sign P.Tilde ∷ T.Sign P.Equals ∷ r) = not (is_local_or_alias before)
 begins_piece before r = false
 
--- how many tokens stand before the next piece, behind this token
+-- how many tokens stand before the next piece, after this token
 abbrev pub front : Token → List Token → ℕ
 front before [] = 0
 front before (t ∷ ts) = if begins_piece before (t ∷ ts) then 0 else suc (front t ts)

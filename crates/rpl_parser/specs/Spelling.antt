@@ -52,7 +52,7 @@ pub data Statement : Type 0 where
   InLine : Statement
   EndLine : Statement
 
--- ---- spelling: the tokens of each, and behind them the tokens r
+-- ---- spelling: the tokens of each, and after them the tokens r
 
 abbrev pub spell_path : Path → List Token → List Token
 spell_path (Last n at) r = T.Name n at ∷ r

@@ -58,7 +58,7 @@ place_in (F.UnknownClass at) = at
 place_in (F.BadRange at) = at
 place_in (F.BadSet at) = at
 
--- a place behind another; every place of a text fits in 64 bits
+-- a place after another; every place of a text fits in 64 bits
 abbrev pub place_behind : (at by : ℕ) → ℕ
 place_behind at by = min (at + by) (2 ^ 64 - 1)
 

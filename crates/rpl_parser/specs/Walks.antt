@@ -4,7 +4,7 @@ use Rattle.std.specs.Prelude.{◌≡◌, ◌≢◌, ℕ, zero, suc, Bool, true, 
 use Rattle.std.specs.Prelude.{Option, Some, None, Result, Ok, Err, if◌then◌else◌}
 use Rattle.rpl_lexer.specs.declared.token.Token.{Token as Lexeme}
 use Rattle.rpl_syntax.specs.Grammar.{unprefixed}
-use Rattle.rpl_syntax.specs.Modules.{Rule, Entry, One, Block, Said}
+use Rattle.rpl_syntax.specs.Modules.{Rule, Entry, One, Block, ParsedModule}
 use Rattle.rpl_syntax.specs.declared.module.Import.{Import}
 use Rattle.rpl_syntax.specs.declared.name.QName.{QName}
 use Rattle.rpl_parser.specs.Levels.{ground_level, too_deep}
@@ -81,7 +81,7 @@ closed w InBlock = Some (shut w)
 closed w BehindIn = Some (shut w)
 closed w _ = None
 
--- behind one more statement that begins at this place, where it may stand there
+-- after one more statement that begins at this place, where it may stand there
 abbrev pub place : Walk → (at : ℕ) → (closes : Bool) → Line → Option Walk
 place w at c (L.Version a b) = versioned w w.stage (record { at = at; major = a; minor = b })
 place w at c (L.Package n) = packaged w w.stage (unprefixed n at)
@@ -113,24 +113,24 @@ abbrev pub by_level : Option ℕ → Result Walk ParseFault → Result Walk Pars
 by_level None r = r
 by_level (Some at) r = Err (record { at = at; kind = TooDeep })
 
--- behind one more piece, or its first fault: the level, the syntax, then the first bad bounds or bracket
+-- after one more piece, or its first fault: the level, the syntax, then the first bad bounds or bracket
 abbrev pub step : List ℕ → Walk → (closes : Bool) → List Lexeme → Result Walk ParseFault
 step s w c p =
     by_level (too_deep s ground_level p) (by_line (first_place p) (first_bad s p) w c (line_of (tokens_of s p)))
 
-abbrev pub by_version : Said → Option Numbered → Result Said ParseFault
+abbrev pub by_version : ParsedModule → Option Numbered → Result ParsedModule ParseFault
 by_version m None = Ok m
 by_version m (Some v) = if is_known v then Ok m else Err (record { at = v.at; kind = Version })
 
-abbrev pub finish : Walk → Result Said ParseFault
+abbrev pub finish : Walk → Result ParsedModule ParseFault
 finish w = by_version (record { name = w.name; imports = w.imports; items = w.items }) w.version
 
-abbrev pub go_on : Result Walk ParseFault → (Walk → Result Said ParseFault) → Result Said ParseFault
+abbrev pub go_on : Result Walk ParseFault → (Walk → Result ParsedModule ParseFault) → Result ParsedModule ParseFault
 go_on (Ok w) rest = rest w
 go_on (Err f) rest = Err f
 
 -- at most n pieces
-abbrev pub walk : ℕ → List ℕ → Walk → List Lexeme → Result Said ParseFault
+abbrev pub walk : ℕ → List ℕ → Walk → List Lexeme → Result ParsedModule ParseFault
 walk zero s w ts = finish w
 walk (suc n) s w [] = finish w
 walk (suc n) s w (t ∷ ts) =
@@ -139,7 +139,7 @@ walk (suc n) s w (t ∷ ts) =
     go_on (step s w (closes_later (tokens_of s rest)) (take k (t ∷ ts))) (λ v. walk n s v rest)
 
 -- the module that a text with these tokens spells, or its first fault
-abbrev pub module_of : List ℕ → List Lexeme → Result Said ParseFault
+abbrev pub module_of : List ℕ → List Lexeme → Result ParsedModule ParseFault
 module_of s ts = walk (suc (length ts)) s begun ts
 
 -- what was returned, seen by view, is the answer, unless memory ran out

@@ -77,7 +77,7 @@ pub fn alone(alloc: Global, parts: Exprs) -> Result<Exprs, Refusal>
     Ok(whole)
 }
 
-/// The expression, with the quantifier behind it if there is one.
+/// The expression, with the quantifier after it if there is one.
 pub fn quantify(alloc: Global, body: Expr, tokens: &[Token]) -> Result<(Expr, &[Token]), Refusal>
     ensures { Gives (λ x. (expr_of x.0, x.1.now)) result (Some (quantified (expr_of body) tokens.now)) }
 {
@@ -94,7 +94,7 @@ pub fn quantify(alloc: Global, body: Expr, tokens: &[Token]) -> Result<(Expr, &[
     }
 }
 
-/// The group of these items, behind which its closing sign stands, and then maybe a quantifier.
+/// The group of these items, after which its closing sign stands, and then maybe a quantifier.
 pub fn close(
     alloc: Global,
     raw: bool,

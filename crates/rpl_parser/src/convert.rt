@@ -51,7 +51,7 @@ fn upper(bounds: Bounds) -> Option<u32>
     }
 }
 
-/// The place so many bytes behind another.
+/// The place so many bytes after another.
 fn behind(at: usize, by: usize) -> usize
     ensures { result ≡ place_behind at by }
 {
@@ -107,7 +107,7 @@ fn name(alloc: Global, text: &str, lexeme: Lexeme) -> Result<Token, AllocError>
     })
 }
 
-/// A name behind a prefix.
+/// A name after a prefix.
 fn qualified(alloc: Global, text: &str, lexeme: Lexeme) -> Result<Token, AllocError>
     requires kind { lexeme.kind ≡ QualifiedKind }
     requires stands { IsToken text.now lexeme }

@@ -123,7 +123,7 @@ fn predicate<'a>(
     Ok((Expr::Prefix(sign, Box::new(alloc, inner)?), rest))
 }
 
-/// The group behind its opening sign.
+/// The group after its opening sign.
 #[cycle(read)]
 fn group<'a>(
     alloc: Global,

@@ -24,7 +24,7 @@ pub enum ParseKind {
     BadBounds {
         /// The number before the comma, or 0.
         least: u64,
-        /// The number behind the comma.
+        /// The number after the comma.
         most: u64,
     },
     /// A bracket has no set. The place in it is that in the bracket.

@@ -3,7 +3,7 @@ ghost use Rattle.std.specs.Prelude.{◌≡◌, ◌⊎◌, ℕ, List, Some, None,
 ghost use Rattle.rpl_lexer.specs.Cut.{IsCut};
 ghost use Rattle.rpl_lexer.specs.declared.token.Token.{Token as Lexeme};
 ghost use Rattle.rpl_syntax.specs.Expression.{Expr};
-ghost use Rattle.rpl_syntax.specs.Modules.{Said};
+ghost use Rattle.rpl_syntax.specs.Modules.{ParsedModule};
 ghost use Rattle.rpl_syntax.specs.Printed.{printed};
 ghost use Rattle.rpl_syntax.specs.Braces.{again, plain};
 ghost use Rattle.rpl_syntax.specs.Texts.{IsReadAs, HasFewTokens};
@@ -48,7 +48,7 @@ pub fn printed_again()
 
 /// The body of each rule of a module can be written, as what a whole text is read as.
 pub fn bodies_can_be_written()
-    ensures { (s : List ℕ) (ts : List Lexeme) (m : Said) →
+    ensures { (s : List ℕ) (ts : List Lexeme) (m : ParsedModule) →
         IsUtf8 s → IsCut s ts → IsModule s ts m → BodiesWritten m.items }
 {}
 
@@ -64,11 +64,12 @@ pub fn one_line()
 /// just their first fault.
 pub fn one_module()
     ensures either { (s : List ℕ) (ts : List Lexeme) →
-        ((m : Said) × IsModule s ts m) ⊎ ((f : ParseFault) × IsModuleFault s ts f) }
-    ensures only { (s : List ℕ) (ts : List Lexeme) (m n : Said) → ReadsModule s ts m → ReadsModule s ts n → m ≡ n }
-    ensures reads { (s : List ℕ) (ts : List Lexeme) (m : Said) → IsModule s ts m → ReadsModule s ts m }
-    ensures read { (s : List ℕ) (ts : List Lexeme) (m : Said) → IsModule s ts m → module_of s ts ≡ Ok m }
-    ensures spelled { (s : List ℕ) (ts : List Lexeme) (m : Said) → module_of s ts ≡ Ok m → IsModule s ts m }
+        ((m : ParsedModule) × IsModule s ts m) ⊎ ((f : ParseFault) × IsModuleFault s ts f) }
+    ensures only { (s : List ℕ) (ts : List Lexeme) (m n : ParsedModule) → ReadsModule s ts m → ReadsModule s ts n
+        → m ≡ n }
+    ensures reads { (s : List ℕ) (ts : List Lexeme) (m : ParsedModule) → IsModule s ts m → ReadsModule s ts m }
+    ensures read { (s : List ℕ) (ts : List Lexeme) (m : ParsedModule) → IsModule s ts m → module_of s ts ≡ Ok m }
+    ensures spelled { (s : List ℕ) (ts : List Lexeme) (m : ParsedModule) → module_of s ts ≡ Ok m → IsModule s ts m }
     ensures refused { (s : List ℕ) (ts : List Lexeme) (f : ParseFault) →
         IsModuleFault s ts f → module_of s ts ≡ Err f }
     ensures faulty { (s : List ℕ) (ts : List Lexeme) (f : ParseFault) →

@@ -12,7 +12,7 @@ use smallvec::SmallVec;
 use std::alloc::{AllocError, Global};
 
 /// The greatest level.
-const MOST_LEVEL: u64 = 100;
+const MAX_LEVEL: u64 = 100;
 
 /// The level, the base to which it goes back, and the bases of the open groups.
 #[derive(Drop)]
@@ -62,7 +62,7 @@ impl Depth {
         self.level = self.base;
     }
 
-    /// Behind a sign.
+    /// After a sign.
     fn sign(&mut self, sign: Punct) -> Result<(), AllocError>
         requires level { self.old.level < 1000 }
         requires base { self.old.base < 1000 }
@@ -82,7 +82,7 @@ impl Depth {
         Ok(())
     }
 
-    /// Behind a token.
+    /// After a token.
     fn past(&mut self, text: &str, token: Token, colon: bool) -> Result<(), AllocError>
         requires stands { IsToken text.now token }
         requires level { self.old.level < 1000 }
@@ -122,7 +122,7 @@ fn is_colon_token(text: &str, token: Token) -> bool
     }
 }
 
-/// The level that a token reaches where it stands, of the levels before it and behind it.
+/// The level that a token reaches where it stands, of the levels before it and after it.
 fn reach(text: &str, token: Token, before: u64, behind: u64) -> u64
     requires stands { IsToken text.now token }
     requires before { before < 1000 }
@@ -147,7 +147,7 @@ pub fn first_deep(alloc: Global, text: &str, tokens: &[Token]) -> Result<Option<
     for (index, token) in tokens.iter().enumerate() {
         let before = depth.level;
         depth.past(text, *token, colon_at(text, tokens, index + 1))?;
-        if reach(text, *token, before, depth.level) > MOST_LEVEL {
+        if reach(text, *token, before, depth.level) > MAX_LEVEL {
             return Ok(Some(token.start));
         }
     }

@@ -57,7 +57,7 @@ fn path<'a>(
     Ok((text.finish(alloc)?, rest))
 }
 
-/// The name behind a `/`, and what follows it.
+/// The name after a `/`, and what follows it.
 fn past_name(tokens: &[Token]) -> Option<(&Chars, &[Token])>
     ensures some { IfSome result (λ x. (at : ℕ) × (tokens.now ≡ T.Sign Slash ∷ T.Name x.0.now at ∷ x.1.now)) }
     ensures none { IfNone result (is_path_end tokens.now ≡ true) }
@@ -235,7 +235,7 @@ fn package(alloc: Global, tokens: &[Token]) -> Result<Line, Refusal>
     }
 }
 
-/// The module's own boundary, behind its `~` and `=`.
+/// The module's own boundary, after its `~` and `=`.
 fn boundary(alloc: Global, tokens: &[Token]) -> Result<Line, Refusal>
     ensures { Gives line_seen result (line_of (T.Sign Tilde ∷ T.Sign Equals ∷ tokens.now)) }
 {

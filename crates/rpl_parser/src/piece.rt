@@ -61,7 +61,7 @@ impl Role {
         matches!(self, Role::Word(Keyword::Local))
     }
 
-    /// No piece begins with a name behind it.
+    /// No piece begins with a name after it.
     fn leads(self) -> bool
         ensures { result ≡ leads self }
     {
@@ -88,7 +88,7 @@ impl Role {
     }
 }
 
-/// How many tokens stand before the next piece, behind the first one of this piece.
+/// How many tokens stand before the next piece, after the first one of this piece.
 fn front_len(text: &str, first: Token, tokens: &[Token]) -> usize
     requires first { IsToken text.now first }
     requires stands { AllStand text.now tokens.now }

@@ -27,7 +27,7 @@ use rpl_lexer::{Token as Lexeme, Tokens};
 use rpl_syntax::Module;
 use std::alloc::Global;
 
-/// Behind a statement that begins at this place and was placed, unless something in it is bad.
+/// After a statement that begins at this place and was placed, unless something in it is bad.
 fn checked(
     at: usize,
     bad: Option<ParseFault>,
@@ -69,7 +69,7 @@ fn read_piece(
     }
 }
 
-/// Takes one more piece, with those behind it.
+/// Takes one more piece, with those after it.
 fn past(
     alloc: Global,
     text: &str,
@@ -104,7 +104,7 @@ fn read_all(alloc: Global, text: &str, lexemes: &[Lexeme]) -> Result<Module, Par
 
 /// Reads a text with its tokens as a module. Statements are taken in order, and the first with a fault decides: first
 /// TooDeep, where the level of nesting passes 100; else Syntax at its first token, where it is no statement or stands
-/// out of its place; else the first by place of BadBounds and Class. Version comes behind all statements, where the
+/// out of its place; else the first by place of BadBounds and Class. Version comes after all statements, where the
 /// version is not 1.0 to 1.4.
 pub fn parse_module(alloc: Global, text: &str, tokens: &Tokens) -> Result<Module, ParseFault>
     requires { IsCut text.now tokens.now }

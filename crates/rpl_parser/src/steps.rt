@@ -7,7 +7,7 @@ ghost use Rattle.rpl_syntax.specs.declared.token.Token.TheVariants as T;
 use rpl_lexer::Punct;
 use rpl_syntax::Token;
 
-/// The first token and those behind it.
+/// The first token and those after it.
 pub fn next(tokens: &[Token]) -> Option<(&Token, &[Token])>
     ensures some { IfSome result (λ x. tokens.now ≡ x.0.now ∷ x.1.now) }
     ensures none { IfNone result (tokens.now ≡ []) }

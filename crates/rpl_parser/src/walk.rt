@@ -31,7 +31,7 @@ pub enum Stage {
     Ruled,
     /// A block is open, and no `in` has come in it.
     InBlock,
-    /// A block is open, behind its `in`.
+    /// A block is open, after its `in`.
     BehindIn,
 }
 
@@ -186,7 +186,7 @@ impl Walk {
         }
     }
 
-    /// Takes one more statement, which begins at this place. The tokens behind it say whether a block is closed.
+    /// Takes one more statement, which begins at this place. The tokens after it say whether a block is closed.
     pub fn place(
         &mut self,
         alloc: Global,

@@ -1,4 +1,4 @@
--- What was there stays, where more is added behind it, and can be had again.
+-- What was there stays, where more is added after it, and can be had again.
 use Rattle.std.proofs.Common.{◌≡◌, ℕ, ◌≤◌, List, [], ◌++◌, length, take, sym, ap, subst, ◌∙◌, arith, append_assoc, length-append}
 use Rattle.std.proofs.lemmas.List.{append-nil}
 use Rattle.std.proofs.Math.Seq.{take-append_seam}

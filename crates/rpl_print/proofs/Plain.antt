@@ -40,7 +40,7 @@ plain_drop zero text h = h
 plain_drop (suc n) [] h = refl
 plain_drop (suc n) (b ∷ bs) h = plain_drop n bs (both (is_plain_byte b) (is_plain bs) h).1
 
--- plain bytes behind a text change nothing
+-- plain bytes after a text change nothing
 pub padded : (text more : List ℕ) → is_plain more ≡ true → is_plain (text ++ more) ≡ is_plain text
 padded text more h = plain_append text more ∙ ap (λ b. is_plain text && b) h ∙ and-true (is_plain text)
 
@@ -53,7 +53,7 @@ next_chunk found rest chunk behind text whole h =
 pub looked_at : (text : List ℕ) (i : ℕ) (found : Bool) → length text ≤ i → (found && is_plain (drop i text)) ≡ is_plain text → found ≡ is_plain text
 looked_at text i found past h = sym (and-true found) ∙ ap (λ bs. found && is_plain bs) (sym (drop_all i text past)) ∙ h
 
--- a text with spaces behind it
+-- a text with spaces after it
 pub short_chunk : (text filled spaces : List ℕ) → filled ≡ text → is_plain spaces ≡ true → is_plain (filled ++ drop (length text) spaces) ≡ is_plain text
 short_chunk text filled spaces same h = ap (λ xs. is_plain (xs ++ drop (length text) spaces)) same ∙ padded text (drop (length text) spaces) (plain_drop (length text) spaces h)
 

@@ -50,7 +50,7 @@ pub fn is_plain(text: &[u8]) -> bool
     is_all & is_plain_short(rest)
 }
 
-/// The same of a short text. Spaces are plain, and make it as long as a chunk.
+/// Whether no byte of a short text needs an escape. Spaces are plain, and make it as long as a chunk.
 #[inline]
 fn is_plain_short(text: &[u8]) -> bool
     requires { length text.now ≤ CHUNK }
@@ -61,7 +61,8 @@ fn is_plain_short(text: &[u8]) -> bool
     are_plain(&chunk)
 }
 
-/// The same, byte by byte. Where the caller knows how many there are, this is a few instructions.
+/// Whether no byte needs an escape, byte by byte. Where the caller knows how many there are, this is a few
+/// instructions.
 #[inline(always)]
 fn are_plain(bytes: &[u8]) -> bool
     ensures { result ≡ Q.is_plain bytes.now }

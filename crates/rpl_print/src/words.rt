@@ -36,7 +36,7 @@ pub fn push_hexadecimal(out: &mut String, number: u32) -> Result<(), NoMemory>
     ensures ok { OnOk result (string_bytes out.new ≡ string_bytes out.old ++ hexadecimal number) }
     ensures err { OnErr result (string_bytes out.new ≡ string_bytes out.old) }
 {
-    let mut digits = InlineText::<MOST_DIGITS>::new();
+    let mut digits = InlineText::<MAX_DIGITS>::new();
     match write!(digits, "{number:x}") {
         Ok(()) => out.push_str(digits.as_str()),
         // It doesn't happen: all digits of a number have room.
@@ -45,4 +45,4 @@ pub fn push_hexadecimal(out: &mut String, number: u32) -> Result<(), NoMemory>
 }
 
 /// How many hexadecimal digits a number has at most.
-const MOST_DIGITS: usize = 8;
+const MAX_DIGITS: usize = 8;

@@ -7,14 +7,14 @@ use Rattle.rpl_core.specs.Instr.{Instr}
 use Rattle.rpl_core.specs.Instr as I
 use Rattle.rpl_safe.specs.Safe.{Shape, Shapes, Given, fresh, next, given_by, next_in, AreIn, IsKept}
 use Rattle.rpl_safe.specs.declared.marks.Mark.{Mark}
-use Rattle.rpl_safe.specs.declared.finding.Search.{Search}
+use Rattle.rpl_safe.specs.declared.finding.MarkSearch.{MarkSearch}
 use Rattle.rpl_safe.specs.inside.Marks.{Marks, marks_at, MarksGiven, next_mark, mark_by, Has, AreMarked, Is, unmarked, Known, Waits, Follows, Found}
 use Rattle.rpl_safe.proofs.Stacks.{Extends, is_grow, is_same, is_one, Related, related_is, same_some}
 use Rattle.rpl_safe.proofs.Puts.{grown_has, has_there, unmarked_less, whence, waits_end, waits_which}
 use Rattle.rpl_safe.proofs.Looking.{none_marked, unmarked_all}
 
 -- the first mark
-pub found_first : (code : List Instr) (s t : Search) (n : ℕ) → 0 < n → n ≡ length code → s.marks.items ≡ replicate n None → s.waiting.items ≡ [] → Has 0 (record { frame = 0; last = None; trees = 0 }) s t → Found code t
+pub found_first : (code : List Instr) (s t : MarkSearch) (n : ℕ) → 0 < n → n ≡ length code → s.marks.items ≡ replicate n None → s.waiting.items ≡ [] → Has 0 (record { frame = 0; last = None; trees = 0 }) s t → Found code t
 found_first code s t n lt len empty none (inr h) =
     let first : Mark = record { frame = 0; last = None; trees = 0 } in
     let z : None ≡ Some first = sym (none_marked n 0) ∙ ap (λ l. marks_at l 0) (sym empty) ∙ h.0 in

@@ -6,7 +6,7 @@ use Rattle.rpl_core.specs.Instr.{Instr}
 use Rattle.rpl_core.specs.Instr as I
 use Rattle.rpl_safe.specs.Safe.{Shape, Shapes, Given, fresh, next, given_by, next_in, AreIn, IsKept}
 use Rattle.rpl_safe.specs.declared.marks.Mark.{Mark}
-use Rattle.rpl_safe.specs.declared.finding.Search.{Search}
+use Rattle.rpl_safe.specs.declared.finding.MarkSearch.{MarkSearch}
 use Rattle.rpl_safe.specs.inside.Marks.{Marks, marks_at, last_of, MarksGiven, with_last, next_mark, mark_by, Has, Clashes, Places, PlacesAll, AreMarked, Is, unmarked, Known, Waits, Follows, Found}
 use Rattle.rpl_safe.proofs.Stacks.{Extends, is_grow, is_same, is_one, Related, related_is, same_some}
 use Rattle.rpl_safe.proofs.Puts.{marked_inside, clash, Grown, grown_on, grown_has, same_search, has_known, has_there, has_fewer, waits_which, waits_end, unmarked_less}
@@ -55,7 +55,7 @@ follows_grow : (code : List Instr) (f g : Marks) → Extends f g → (a : ℕ) (
 follows_grow code f g ext a m h = (h.0, by_grow f g ext (slice_get code a) a m h.0 h.1, marked_grow f g ext h.0 h.2)
 
 -- what is known of an address that is looked at
-module _ (code : List Instr) (s : Search) (h : Known code s.marks.items) (a : ℕ) (m : Mark) (i : Instr) (is_m : marks_at s.marks.items a ≡ Some m) (is_i : slice_get code a ≡ Some i) where
+module _ (code : List Instr) (s : MarkSearch) (h : Known code s.marks.items) (a : ℕ) (m : Mark) (i : Instr) (is_m : marks_at s.marks.items a ≡ Some m) (is_i : slice_get code a ≡ Some i) where
   abbrev sh : Shape
   sh = (h.lists a m is_m).0
 
@@ -83,7 +83,7 @@ module _ (code : List Instr) (s : Search) (h : Known code s.marks.items) (a : �
       absurd (cc)
 
   -- the second of two marks is put, before the first
-  second : (n : ℕ) → n + unmarked s.marks.items ≡ bound → (x y : ℕ × Mark) (mid1 mid2 : Search) → (r : Related n (marks_at s.marks.items) (Some (x ∷ y ∷ [])) (next i a sh)) → Places [] s mid1 true → Has y.0 y.1 mid1 mid2 → Known code mid2.marks.items
+  second : (n : ℕ) → n + unmarked s.marks.items ≡ bound → (x y : ℕ × Mark) (mid1 mid2 : MarkSearch) → (r : Related n (marks_at s.marks.items) (Some (x ∷ y ∷ [])) (next i a sh)) → Places [] s mid1 true → Has y.0 y.1 mid1 mid2 → Known code mid2.marks.items
   second n e x y mid1 mid2 r start has =
       let k1 = subst (Known code) (sym start.0) h in
       let fewer = ap unmarked start.0 in
@@ -91,7 +91,7 @@ module _ (code : List Instr) (s : Search) (h : Known code s.marks.items) (a : �
       has_known code mid1 mid2 y.0 y.1 r.1 k1 (subst (λ l. Is (marks_at l) y.1 r.1) (sym start.0) r.3) (λ shapes kept. (given_there ((x.0, r.0) ∷ (y.0, r.1) ∷ []) r.2 shapes kept).1.0) (omega (arith, e, r.6, fewer, long)) has
 
   -- the marks are put
-  placed : (n : ℕ) → n + unmarked s.marks.items ≡ bound → (gs : MarksGiven) (t : Search) → Related n (marks_at s.marks.items) (Some gs) (next i a sh) → Places gs s t true → Known code t.marks.items × Grown s t × AreMarked (marks_at t.marks.items) gs
+  placed : (n : ℕ) → n + unmarked s.marks.items ≡ bound → (gs : MarksGiven) (t : MarkSearch) → Related n (marks_at s.marks.items) (Some gs) (next i a sh) → Places gs s t true → Known code t.marks.items × Grown s t × AreMarked (marks_at t.marks.items) gs
   placed n e [] t r p = (subst (Known code) (sym p.0) h, same_search s t p.0 p.1, tt)
   placed n e (x ∷ []) t r p =
       let mid = p.0 in
@@ -113,7 +113,7 @@ module _ (code : List Instr) (s : Search) (h : Known code s.marks.items) (a : �
   placed n e (x ∷ y ∷ z ∷ gs) t r p = absurd r
 
   -- or one can't be
-  not_placed : (n : ℕ) → n + unmarked s.marks.items ≡ bound → (gs : MarksGiven) (t : Search) → Related n (marks_at s.marks.items) (Some gs) (next i a sh) → Places gs s t false → (shapes : Shapes) → IsKept code shapes → ⊥
+  not_placed : (n : ℕ) → n + unmarked s.marks.items ≡ bound → (gs : MarksGiven) (t : MarkSearch) → Related n (marks_at s.marks.items) (Some gs) (next i a sh) → Places gs s t false → (shapes : Shapes) → IsKept code shapes → ⊥
   not_placed n e [] t r p shapes kept = absurd p
   not_placed n e (x ∷ []) t r (inl p) shapes kept = absurd p.1
   not_placed n e (x ∷ []) t r (inr p) shapes kept =
@@ -134,7 +134,7 @@ module _ (code : List Instr) (s : Search) (h : Known code s.marks.items) (a : �
   trees_left : (n : ℕ) × (n + unmarked s.marks.items ≡ bound)
   trees_left = let r = h.room a m is_m in (length s.marks.items - unmarked s.marks.items, omega (arith, r))
 
-  pub all_placed : (o : Option MarksGiven) (t : Search) → o ≡ next_mark (marks_at s.marks.items) i a m → PlacesAll o s t true → Known code t.marks.items × Grown s t × Follows code (marks_at t.marks.items) a m
+  pub all_placed : (o : Option MarksGiven) (t : MarkSearch) → o ≡ next_mark (marks_at s.marks.items) i a m → PlacesAll o s t true → Known code t.marks.items × Grown s t × Follows code (marks_at t.marks.items) a m
   all_placed None t q p = absurd (cc)
   all_placed (Some gs) t q p =
       let n = trees_left in
@@ -142,14 +142,14 @@ module _ (code : List Instr) (s : Search) (h : Known code s.marks.items) (a : �
       let k = placed n.0 n.1 gs t r p in
       (k.0, k.1, (gs, ap (λ x. mark_by (marks_at t.marks.items) x a m) is_i ∙ next_grow (marks_at s.marks.items) (marks_at t.marks.items) k.1.ext i a m gs (sym q), k.2))
 
-  pub none_placed : (o : Option MarksGiven) (t : Search) → o ≡ next_mark (marks_at s.marks.items) i a m → PlacesAll o s t false → (shapes : Shapes) → IsKept code shapes → ⊥
+  pub none_placed : (o : Option MarksGiven) (t : MarkSearch) → o ≡ next_mark (marks_at s.marks.items) i a m → PlacesAll o s t false → (shapes : Shapes) → IsKept code shapes → ⊥
   none_placed None t q p = refused_none (let n = trees_left in subst (λ x. Related n.0 (marks_at s.marks.items) x (next i a sh)) (sym q) (rel n.0 n.1))
   none_placed (Some gs) t q p =
       let n = trees_left in
       not_placed n.0 n.1 gs t (subst (λ x. Related n.0 (marks_at s.marks.items) x (next i a sh)) (sym q) (rel n.0 n.1)) p
 
 -- one address that waited is looked at
-pub found_next : (code : List Instr) (s0 s t : Search) (a : ℕ) (m : Mark) → Found code s0 → s0.waiting.items ≡ s.waiting.items ++ a ∷ [] → s.marks.items ≡ s0.marks.items → marks_at s.marks.items a ≡ Some m → Known code t.marks.items × Grown s t × Follows code (marks_at t.marks.items) a m → Found code t
+pub found_next : (code : List Instr) (s0 s t : MarkSearch) (a : ℕ) (m : Mark) → Found code s0 → s0.waiting.items ≡ s.waiting.items ++ a ∷ [] → s.marks.items ≡ s0.marks.items → marks_at s.marks.items a ≡ Some m → Known code t.marks.items × Grown s t × Follows code (marks_at t.marks.items) a m → Found code t
 found_next code s0 s t a m f rest same is k =
     record { known = k.0; waiting = waiting; done = done }
   where

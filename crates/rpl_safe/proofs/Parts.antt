@@ -11,14 +11,14 @@ use Rattle.rpl_safe.specs.Safe.{Shape, Left, Shapes, Given, fresh, on_left, only
 use Rattle.rpl_safe.proofs.Standing.{Stands, stands_front, stands_back, Each, each_append}
 use Rattle.rpl_safe.proofs.Shaping.{Shaped, pushed, deeper, choice_shapes, tested_shapes, body_shapes, many_shapes, not_shapes, and_shapes, lengths_shapes, capture_shapes}
 
--- each address is that of a call, or behind the first address of the frame with a shape of the frame
+-- each address is that of a call, or after the first address of the frame with a shape of the frame
 abbrev pub Beyond : ℕ → Instr → Given → Type 0
 Beyond f i [] = Unit {0}
 Beyond f i (g ∷ gs) = ((i ≡ I.Call g.0) ⊎ ((f < g.0) × (g.1.frame ≡ f))) × Beyond f i gs
 
 module _ (shapes : Shapes) where
-  -- the instruction has what it needs, and goes on where the shapes are as it gives them, in the frame f with at least c
-  -- open trees
+  -- the instruction has what it needs, and goes on where the shapes are as it gives them, in the frame f with at least
+  -- c open trees
   pub record Fine (f c a : ℕ) (i : Instr) (s : Shape) : Type 0 where
     pub given : Given
     pub by : next i a s ≡ Some given

@@ -9,7 +9,7 @@ use Rattle.rpl_core.specs.Instr.{Instr}
 use Rattle.rpl_core.specs.Instr as I
 use Rattle.rpl_core.specs.Code.{Placed, choice_code, tested_choice, many_code, not_code, and_code, behind_code, lengths_code, code, code_all, code_first, size}
 use Rattle.rpl_core.specs.Programs.{calls, calls_any, bodies, place_of}
-use Rattle.rpl_simulation.proofs.Places.{code_long}
+use Rattle.rpl_compile_laws.proofs.Places.{code_long}
 use Rattle.rpl_safe.specs.Safe.{Shape, Shapes, fresh}
 use Rattle.rpl_safe.proofs.Standing.{Stands, stands_front, stands_back, Each, each_append}
 use Rattle.rpl_safe.proofs.Shaping.{Shaped, pushed, deeper, choice_shapes, tested_shapes, body_shapes, many_shapes, not_shapes, and_shapes, lengths_shapes, capture_shapes, shapes_of, shapes_all, shapes_first, bodies_shapes}

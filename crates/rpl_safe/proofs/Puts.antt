@@ -7,7 +7,7 @@ use Rattle.rpl_core.specs.Instr.{Instr}
 use Rattle.rpl_core.specs.Instr as I
 use Rattle.rpl_safe.specs.Safe.{Shape, Shapes, Given, next, given_by, next_in, AreIn, IsKept}
 use Rattle.rpl_safe.specs.declared.marks.Mark.{Mark}
-use Rattle.rpl_safe.specs.declared.finding.Search.{Search}
+use Rattle.rpl_safe.specs.declared.finding.MarkSearch.{MarkSearch}
 use Rattle.rpl_safe.specs.inside.Marks.{Marks, marks_at, last_of, MarksGiven, with_last, next_mark, mark_by, Has, Clashes, Places, PlacesAll, AreMarked, Is, unmarked, Known, Waits, Follows, Found}
 use Rattle.rpl_safe.proofs.Stacks.{Extends, is_grow, is_same, is_one, Related, related_is, same_some}
 
@@ -71,7 +71,7 @@ module _ (code : List Instr) where
           (whence ms b k lt unset a m e)
 
   -- where it clashes there is no way
-  pub clash : (s : Search) (b : ℕ) (k : Mark) (r : Shape) → Known code s.marks.items → Is (marks_at s.marks.items) k r → ((shapes : Shapes) → IsKept code shapes → shapes b ≡ Some r) → Clashes b k s → (shapes : Shapes) → IsKept code shapes → ⊥
+  pub clash : (s : MarkSearch) (b : ℕ) (k : Mark) (r : Shape) → Known code s.marks.items → Is (marks_at s.marks.items) k r → ((shapes : Shapes) → IsKept code shapes → shapes b ≡ Some r) → Clashes b k s → (shapes : Shapes) → IsKept code shapes → ⊥
   clash s b k r h is all (inl far) shapes kept =
       let x = kept.goes_on b r (all shapes kept) in
       let none : slice_get code b ≡ None = slice_get_past code b (omega (arith, h.long, far)) in
@@ -99,14 +99,14 @@ waits_which (x ∷ xs) b a (inl h) = inl (inl h)
 waits_which (x ∷ xs) b a (inr h) = ⊎_elim (λ w. inl (inr w)) (λ e. inr e) (waits_which xs b a h)
 
 -- what a search has become that put some marks
-pub record Grown (old new : Search) : Type 0 where
+pub record Grown (old new : MarkSearch) : Type 0 where
   pub ext : Extends (marks_at old.marks.items) (marks_at new.marks.items)
   pub waits : (a : ℕ) → Waits old.waiting.items a → Waits new.waiting.items a
   pub fresh : (a : ℕ) (m : Mark) → marks_at new.marks.items a ≡ Some m → (marks_at old.marks.items a ≡ Some m) ⊎ Waits new.waiting.items a
   pub known : (a : ℕ) → Waits new.waiting.items a → Waits old.waiting.items a ⊎ ((m : Mark) × (marks_at new.marks.items a ≡ Some m))
   pub left : length new.waiting.items + unmarked new.marks.items ≡ length old.waiting.items + unmarked old.marks.items
 
-pub same_search : (old new : Search) → new.marks.items ≡ old.marks.items → new.waiting.items ≡ old.waiting.items → Grown old new
+pub same_search : (old new : MarkSearch) → new.marks.items ≡ old.marks.items → new.waiting.items ≡ old.waiting.items → Grown old new
 same_search old new e w = record {
   ext = λ a m h. ap (λ l. marks_at l a) e ∙ h;
   waits = λ a h. subst (λ l. Waits l a) (sym w) h;
@@ -115,7 +115,7 @@ same_search old new e w = record {
   left = omega (arith, ap length w, ap unmarked e);
 }
 
-pub grown_on : (a b c : Search) → Grown a b → Grown b c → Grown a c
+pub grown_on : (a b c : MarkSearch) → Grown a b → Grown b c → Grown a c
 grown_on a b c g h = record {
   ext = λ x m e. h.ext x m (g.ext x m e);
   waits = λ x w. h.waits x (g.waits x w);
@@ -124,7 +124,7 @@ grown_on a b c g h = record {
   left = omega (arith, g.left, h.left);
 }
 
-pub grown_has : (old new : Search) (b : ℕ) (k : Mark) → Has b k old new → Grown old new
+pub grown_has : (old new : MarkSearch) (b : ℕ) (k : Mark) → Has b k old new → Grown old new
 grown_has old new b k (inr h) = same_search old new h.1 h.2
 grown_has old new b k (inl h) = record {
   ext = λ a m e. ap (λ l. marks_at l a) h.2 ∙ grows old.marks.items b k h.0 h.1 a m e;
@@ -134,14 +134,14 @@ grown_has old new b k (inl h) = record {
   left = omega (arith, unmarked_less old.marks.items b k h.0 h.1, ap unmarked h.2, ap length h.3, length-append old.waiting.items (b ∷ []));
 }
 
-pub has_there : (old new : Search) (b : ℕ) (k : Mark) → Has b k old new → marks_at new.marks.items b ≡ Some k
+pub has_there : (old new : MarkSearch) (b : ℕ) (k : Mark) → Has b k old new → marks_at new.marks.items b ≡ Some k
 has_there old new b k (inl h) = ap (λ l. marks_at l b) h.2 ∙ now_there old.marks.items b k h.0 h.1
 has_there old new b k (inr h) = ap (λ l. marks_at l b) h.1 ∙ h.0
 
-pub has_fewer : (old new : Search) (b : ℕ) (k : Mark) → Has b k old new → (unmarked new.marks.items ≤ unmarked old.marks.items) × (length new.marks.items ≡ length old.marks.items)
+pub has_fewer : (old new : MarkSearch) (b : ℕ) (k : Mark) → Has b k old new → (unmarked new.marks.items ≤ unmarked old.marks.items) × (length new.marks.items ≡ length old.marks.items)
 has_fewer old new b k (inl h) = (let e = unmarked_less old.marks.items b k h.0 h.1 in omega (arith, e, ap unmarked h.2), ap length h.2 ∙ length-set old.marks.items b (Some k))
 has_fewer old new b k (inr h) = (omega (arith, ap unmarked h.1), ap length h.1)
 
-pub has_known : (code : List Instr) (old new : Search) (b : ℕ) (k : Mark) (s : Shape) → Known code old.marks.items → Is (marks_at old.marks.items) k s → ((shapes : Shapes) → IsKept code shapes → shapes b ≡ Some s) → k.trees + unmarked old.marks.items ≤ length old.marks.items → Has b k old new → Known code new.marks.items
+pub has_known : (code : List Instr) (old new : MarkSearch) (b : ℕ) (k : Mark) (s : Shape) → Known code old.marks.items → Is (marks_at old.marks.items) k s → ((shapes : Shapes) → IsKept code shapes → shapes b ≡ Some s) → k.trees + unmarked old.marks.items ≤ length old.marks.items → Has b k old new → Known code new.marks.items
 has_known code old new b k s h is all room (inl x) = subst (Known code) (sym x.2) (known_put code old.marks.items b k s x.0 x.1 h is all room)
 has_known code old new b k s h is all room (inr x) = subst (Known code) (sym x.1) h

@@ -16,7 +16,7 @@ pub stands_front : {A : Type 0} (f : ℕ → Option A) (a : ℕ) (x y : List A) 
 stands_front f a [] y h = tt
 stands_front f a (i ∷ x) y h = (h.0, stands_front f (a + 1) x y h.1)
 
--- what stands behind it
+-- what stands after it
 pub stands_back : {A : Type 0} (f : ℕ → Option A) (a n : ℕ) (x y : List A) → length x ≡ n → Stands f a (x ++ y) → Stands f (a + n) y
 stands_back f a n [] y q h = let e : a ≡ a + n = omega (arith, q) in subst (λ m. Stands f m y) e h
 stands_back f a n (i ∷ x) y q h =
@@ -41,7 +41,7 @@ Each P a [] (s ∷ ss) = ⊥
 Each P a (i ∷ is) [] = ⊥
 Each P a (i ∷ is) (s ∷ ss) = P a i s × Each P (a + 1) is ss
 
--- of two lists behind each other
+-- of two lists after each other
 pub each_append : (P : ℕ → Instr → Shape → Type 0) (a : ℕ) (x y : List Instr) (u v : List Shape) → Each P a x u → Each P (a + length x) y v → Each P a (x ++ y) (u ++ v)
 each_append P a [] y [] v h k = let e : a + 0 ≡ a = omega arith in subst (λ m. Each P m y v) e k
 each_append P a [] y (s ∷ u) v h k = absurd h

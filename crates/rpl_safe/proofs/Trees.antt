@@ -3,7 +3,7 @@ use Rattle.std.proofs.Common.{◌≡◌, ℕ, zero, suc, ◌+◌, ◌<◌, List,
 use Rattle.rpl_core.specs.Forest.{Forest, NoTree, Tree, Noted, Caught, Begin, Finish, Mark, flat, begins, finishes}
 use Rattle.rpl_safe.specs.Laws.{IsOneTree}
 
--- how many trees are open behind the captures, where k were before them; None where one comes when none is open
+-- how many trees are open after the captures, where k were before them; None where one comes when none is open
 abbrev pub left : ℕ → List Caught → Option ℕ
 left k [] = Some k
 left zero (x ∷ cs) = None
@@ -11,7 +11,7 @@ left (suc k) (Begin c i ∷ cs) = left (suc (suc k)) cs
 left (suc k) (Finish i ∷ cs) = left k cs
 left (suc k) (Mark x i ∷ cs) = left (suc k) cs
 
--- the captures begin one tree, and k trees are open behind them
+-- the captures begin one tree, and k trees are open after them
 abbrev pub Opens : List Caught → ℕ → Type 0
 Opens [] k = ⊥
 Opens (Begin c i ∷ cs) k = left 1 cs ≡ Some k

@@ -8,9 +8,9 @@ use Rattle.rpl_core.specs.Instr.{Instr}
 use Rattle.rpl_core.specs.Instr as I
 use Rattle.rpl_core.specs.Code.{code, size}
 use Rattle.rpl_core.specs.Programs.{calls, bodies, place_of, address, program, Reaches, by_goal, by_rule, IsCode}
-use Rattle.rpl_simulation.specs.Laws.{IsCapture, itself, by_call}
-use Rattle.rpl_simulation.proofs.Places.{code_long, has_all, placed_rule}
-use Rattle.rpl_simulation.proofs.Steps.{HasAt, has_back}
+use Rattle.rpl_compile_laws.specs.Laws.{IsCapture, itself, by_call}
+use Rattle.rpl_compile_laws.proofs.Places.{code_long, has_all, placed_rule}
+use Rattle.rpl_compile_laws.proofs.Steps.{HasAt, has_back}
 use Rattle.rpl_safe.specs.Safe.{Shape, Shapes, Given, fresh, only, next, given_by, next_in, AreIn, Avoids, IsKept, IsOpen, IsTree, CallsTree, IsSafe}
 use Rattle.rpl_safe.specs.Laws.{CodeIsSafeLaw}
 use Rattle.rpl_safe.proofs.Standing.{Stands, stands_front, stands_back, stands_all, Each, each_append, each_map, each_at}
@@ -29,7 +29,7 @@ module _ (marks : ℕ → Bool) where
       go true rest = let h = rest (a + size p + 1) in omega (arith, h)
       go false rest = rest a
 
-  -- a marked rule begins before those behind it
+  -- a marked rule begins before those after it
   place_before : (ps : List Core) (k a q r : ℕ) (p : Core) → slice_get ps q ≡ Some p → marks (k + q) ≡ true → q < r → place_of marks ps k a q < place_of marks ps k a r
   place_before [] k a q r p e m lt = absurd (cc)
   place_before (x ∷ ps) k a zero zero p e m lt = absurd (omega (arith, lt))
@@ -86,7 +86,7 @@ module _ (P : ℕ → Instr → Shape → Type 0) (marks : ℕ → Bool) (at : �
           let e2 = append_assoc (shapes_of at x (fresh a) a) (fresh a ∷ []) (bodies_shapes marks at ps (k + 1) n) in
           subst (λ u. Each P a (code at x a ++ I.Return ∷ bodies marks at ps (k + 1) n) u) e2 (subst (λ y. Each P a y ((shapes_of at x (fresh a) a ++ fresh a ∷ []) ++ bodies_shapes marks at ps (k + 1) n)) e1 both)
 
--- nothing but a call comes to the first address of a frame from behind it
+-- nothing but a call comes to the first address of a frame from after it
 avoids : (shapes : Shapes) (l f : ℕ) (i : Instr) (given : Given) → shapes l ≡ Some (fresh l) → AreIn shapes given → Beyond f i given → (i ≡ I.Call l) ⊎ Avoids l given
 avoids shapes l f i [] e h k = inr tt
 avoids shapes l f i (g ∷ gs) e h k = ⊎_elim (λ same. here same k.0) (λ other. ⊎_elim (λ c. inl c) (λ rest. inr (other, rest)) (avoids shapes l f i gs e h.1 k.1)) (cases_eq g.0 l)

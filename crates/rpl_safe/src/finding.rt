@@ -10,12 +10,12 @@ use std::alloc::Global;
 
 /// The marks found so far, and the addresses that weren't looked at.
 #[derive(Drop)]
-struct Search {
+struct MarkSearch {
     marks: Vec<Option<Mark>>,
     waiting: Vec<u32>,
 }
 
-impl Search {
+impl MarkSearch {
     /// Marks the address; false where it has another mark, or there is no such address.
     fn put(&mut self, address: u32, mark: Mark) -> Result<bool, NoMemory>
         ensures { Puts address mark self.old self.new result }
@@ -65,7 +65,7 @@ pub(crate) fn find_marks(
     ensures { Searched (instructions program.now) result }
 {
     let code = program.code();
-    let mut search = Search {
+    let mut search = MarkSearch {
         marks: vec![in alloc; None; code.len()]?,
         waiting: Vec::new(alloc),
     };
@@ -80,6 +80,6 @@ pub(crate) fn find_marks(
             }
         }
     }
-    let Search { marks, .. } = search;
+    let MarkSearch { marks, .. } = search;
     Ok(Some(marks))
 }

@@ -45,14 +45,14 @@ impl Mark {
         }
     }
 
-    /// The same but for the last entry.
+    /// The mark with another last entry.
     pub(crate) fn with_last(self, last: Option<u32>) -> Mark
         ensures { result ≡ record self { last = last } }
     {
         Mark { last, ..self }
     }
 
-    /// The same but for how many trees are open.
+    /// The mark with so many trees open.
     pub(crate) fn with_trees(self, trees: u32) -> Mark
         ensures { result ≡ record self { trees = trees } }
     {

@@ -75,7 +75,7 @@ fn end_frame(is_right: bool, mark: Mark) -> Next
     }
 }
 
-/// On behind the end of a tree, where one is open.
+/// On after the end of a tree, where one is open.
 fn close(behind: u32, mark: Mark) -> Next
     ensures { given_of result ≡ one_less mark.trees (λ c. to behind (record mark { trees = c })) }
 {

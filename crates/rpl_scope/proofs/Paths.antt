@@ -7,7 +7,7 @@ either : (b : Bool) (x x1 y y1 : List ℕ) (c : ℕ) → x ≡ (if nat_eq c 47 t
 either true x x1 y y1 c h k = h
 either false x x1 y y1 c h k = k
 
--- what stands behind the last slash, one character further
+-- what stands after the last slash, one character further
 pub last_more : (acc p : List ℕ) (c : ℕ) → last_part acc (p ++ c ∷ []) ≡ (if nat_eq c 47 then [] else last_part acc p ++ c ∷ [])
 last_more acc [] c = refl
 last_more acc (d ∷ p) c = either (nat_eq d 47) _ _ _ _ c (last_more [] p c) (last_more (acc ++ d ∷ []) p c)

@@ -1,4 +1,4 @@
--- Names behind a prefix that is empty, or isn't.
+-- Names after a prefix that is empty, or isn't.
 use Rattle.std.proofs.Common.{arith, ◌≡◌, ◌≢◌, ℕ, List, [], ◌∷◌, length, Some, refl, sym, ap, ◌∙◌, true, false, true≢false}
 use Rattle.std.specs.Prelude.{chars, IsUtf8}
 use Rattle.std.specs.Bool.{◌==◌}

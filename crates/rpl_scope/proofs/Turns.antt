@@ -13,7 +13,7 @@ use Rattle.rpl_scope.specs.declared.module.Rule.{Rule as DeclaredRule}
 use Rattle.rpl_scope.proofs.Checking.{front}
 use Rattle.rpl_scope.proofs.Stops.{stops}
 
--- ---- one behind the other
+-- ---- one after the other
 
 pub then_gives : {A B X : Type 0} (see : X → B) (res : Result X Stop) (r : Or A) (x : A) (k : A → Or B) → r ≡ Ok x → Gives see res (k x) → Gives see res (r >>= k)
 then_gives see res r x k h e = subst (λ y. Gives see res (y >>= k)) (sym h) e

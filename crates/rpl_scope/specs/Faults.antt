@@ -40,7 +40,7 @@ abbrev pub unless : {A : Type 0} → Option LoadFault → A → Or A
 unless None x = Ok x
 unless (Some f) x = Err f
 
--- want of memory and a failed read are no faults of the texts: nothing is said of them here
+-- out of memory and a failed read are no faults of the texts: nothing is said of them here
 abbrev pub is_silent : LoadKind → Bool
 is_silent NoMemory = true
 is_silent ReadFault = true
@@ -60,7 +60,7 @@ Gives view (Err s) r = StopIs s r
 abbrev pub Checks : {X : Type 0} → Result X Stop → Option LoadFault → Type 0
 Checks r o = Gives (λ _. tt {0}) r (unless o (tt {0}))
 
--- a stop is for want of memory, or is this fault
+-- a stop is because memory ran out, or is this fault
 abbrev pub IsStop : Stop → LoadFault → Type 0
 IsStop Memory f = Unit {0}
 IsStop (Fault g) f = g ≡ f

@@ -12,7 +12,7 @@ use Rattle.rpl_scope.specs.declared.module.Prefix.{Prefix}
 use Rattle.rpl_scope.specs.declared.module.Referent.{Referent}
 use Rattle.rpl_scope.specs.declared.module.Referent.TheVariants.{Own, Of, BuiltIn}
 
--- what stands behind the last slash, where acc stands behind the last one before
+-- what stands after the last slash, where acc stands after the last one before
 abbrev pub last_part : List ℕ → List ℕ → List ℕ
 last_part acc [] = acc
 last_part acc (c ∷ p) = if nat_eq c 47 then last_part [] p else last_part (acc ++ c ∷ []) p

@@ -12,7 +12,7 @@ use Rattle.rpl_scope.specs.declared.scope.Found.{Found}
 use Rattle.rpl_scope.specs.declared.scope.Found.TheVariants.{To, Unknown, Hidden}
 
 -- A statement that binds a name: the number of its text among those of its module, the place of its first token, and
--- how many statements its module has before it (`start`), a block's rules all being before or behind together. Its
+-- how many statements its module has before it (`start`), a block's rules all being before or after together. Its
 -- name counts where a statement starts at `since` or later: that is `start` in a block, and one more for a binding
 -- alone. A hidden rule counts in its own block alone.
 pub record Rule : Type 0 where
@@ -105,7 +105,7 @@ bound ms m start q = bound_by ms m start q.name q.prefix
 
 -- ---- the rule table
 
--- the number of a module's first rule, behind the boundary and the built-in `halt`
+-- the number of a module's first rule, after the boundary and the built-in `halt`
 abbrev pub first_rule : List Module → ℕ → ℕ
 first_rule [] i = 2
 first_rule (m ∷ ms) zero = 2

@@ -15,7 +15,7 @@ use rpl_syntax::QName;
 use rpl_text::Chars;
 use std::alloc::Global;
 
-/// A name as it is written, behind its prefix and a dot where it has one.
+/// A name as it is written, after its prefix and a dot where it has one.
 pub fn written(alloc: Global, name: &QName) -> Result<Chars, NoMemory>
     ensures { IfOk result (λ text. text ≡ written name.now.prefix name.now.name) }
 {

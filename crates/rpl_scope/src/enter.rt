@@ -20,7 +20,7 @@ fn push_rule(rules: &mut Vec<Rule>, rule: Rule) -> Result<(), NoMemory>
     Ok(())
 }
 
-/// How many rules the module has by now: just those behind them see what is added next.
+/// How many rules the module has by now: just those after them see what is added next.
 pub(crate) fn rules_so_far(own: &Module) -> Result<u32, Stop>
     ensures ok { IfOk result (λ since. since ≡ length (module_seen own.now).rules) }
     ensures err { IfErr result (λ s. s ≡ OutOfMemory) }

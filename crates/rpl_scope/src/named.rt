@@ -74,7 +74,7 @@ impl<V: Copy> Named<V> {
         }
     }
 
-    /// One more name at the end. Where memory is wanting, nothing changes.
+    /// One more name at the end. Where memory runs out, nothing changes.
     pub fn put(&mut self, alloc: Global, name: &Chars, value: V) -> Result<(), NoMemory>
         requires { first_of name.now self.old ≡ None }
         ensures ok { OnOk result (self.new ≡ self.old ++ (name.now, value) ∷ []) }
@@ -85,7 +85,7 @@ impl<V: Copy> Named<V> {
         Ok(())
     }
 
-    /// A name at the end, unless it is there already. Where memory is wanting, nothing changes.
+    /// A name at the end, unless it is there already. Where memory runs out, nothing changes.
     pub fn add(&mut self, alloc: Global, name: &Chars, value: V) -> Result<(), NoMemory>
         ensures ok { OnOk result (self.new ≡ added name.now value self.old) }
         ensures err { OnErr result (self.new ≡ self.old) }

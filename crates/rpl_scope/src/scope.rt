@@ -73,7 +73,7 @@ fn shared(from: &Module, number: u32, name: &Chars) -> Found
     }
 }
 
-/// A name behind a prefix, at a start.
+/// A name after a prefix, at a start.
 fn prefixed(modules: &[Module], start: u32, name: &Chars, prefix: Option<Prefix>) -> Found
     ensures { result ≡ prefixed (modules_seen modules.now) start name.now prefix }
 {

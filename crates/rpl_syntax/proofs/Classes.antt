@@ -64,7 +64,7 @@ all_fine rs h = fine 0 rs h.rises h.chars
 
 -- ---- texts of points and ranges
 
--- what stands behind the `[` of a range, up to its `]`
+-- what stands after the `[` of a range, up to its `]`
 abbrev pair_text : (low high : ℕ) → List ℕ
 pair_text low high = 92 ∷ 85 ∷ (point_digits low ++ 45 ∷ 92 ∷ 85 ∷ point_digits high)
 
@@ -259,7 +259,7 @@ body-open b k p x = refl
 ranges_before : (r : Range) (rs : List Range) (t : List ℕ) → ranges_text (r ∷ rs) ++ t ≡ 91 ∷ (pair_text r.0 r.1 ++ 93 ∷ (ranges_text rs ++ t))
 ranges_before r rs t = append_assoc (range_text r.0 r.1) (ranges_text rs) t ∙ range_before r.0 r.1 (ranges_text rs ++ t)
 
--- the ranges behind some others, up to the closing `]`
+-- the ranges after some others, up to the closing `]`
 more_read : (rs : List Range) (n k p : ℕ) (a : List Range) (cs : List ℕ) → Fine rs → length rs ≤ k → (q : ℕ) × (more (bracket (suc n)) k a (symbols 0 p (ranges_text rs ++ 93 ∷ cs)) ≡ Ok (norm (a ++ rs), symbols 0 q (93 ∷ cs)))
 more_read [] n k p a cs f le = (p, more-shut (bracket (suc n)) k p a cs ∙ ap (λ (x : List Range). Ok (norm x, symbols 0 p (93 ∷ cs))) (sym (append-nil a)))
 more_read (r ∷ rs) n zero p a cs f le = absurd (omega arith)

@@ -37,7 +37,7 @@ payload_of K.Sign w = P.Sign (unwrap_or (punct (slice_index w 0)) U.OpenBrace)
 abbrev pub alone : TokenKind → List ℕ → Lexeme
 alone k w = record { kind = k; start = 0; end = length w }
 
--- behind blanks the token t stands at the front of the bytes b
+-- after blanks the token t stands at the front of the bytes b
 pub record Cuts (b : List ℕ) (t : Token) : Type 0 where
   pub kind : TokenKind
   pub text : List ℕ
@@ -47,7 +47,7 @@ pub record Cuts (b : List ℕ) (t : Token) : Type 0 where
   pub token : IsToken (text ++ rest) (alone kind text)
   pub says : Says 0 (payload_of kind text) t
 
--- the bytes b are the tokens, one behind the other
+-- the bytes b are the tokens, one after the other
 abbrev pub Lexes : List ℕ → List Token → Type 0
 Lexes b [] = gap false b ≡ length b
 Lexes b (t ∷ ts) = (c : Cuts b t) × Lexes c.rest ts
@@ -97,7 +97,7 @@ say_more s l ls u us h k = (u, us, refl, h, k)
 alike_more : (t u : Token) (ts us : List Token) → Alike t u → All_alike ts us → All_alike (t ∷ ts) (u ∷ us)
 alike_more t u ts us h k = (u, us, refl, h, k)
 
--- the tokens of the text s behind the place p, with n before them
+-- the tokens of the text s after the place p, with n before them
 pub record Cutting (s : List ℕ) (p n : ℕ) (ts : List Token) : Type 0 where
   pub lexemes : List Lexeme
   pub tokens : List Token

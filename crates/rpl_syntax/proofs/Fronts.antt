@@ -35,7 +35,7 @@ space r (t ∷ ts) h = let c = h.0 in let b = c.blanks in (record { kind = c.kin
 
 -- ---- signs
 
--- no bounds begin behind an opening brace
+-- no bounds begin after an opening brace
 abbrev pub Free : Punct → List ℕ → Type 0
 Free OpenBrace r = begins_bounds r ≡ false
 Free k r = Unit {0}

@@ -1,6 +1,6 @@
 -- What printing an expression and reading it again makes of it: braces are added, and names get other places.
 --
--- A choice or an `&` that stands as an item is printed in braces, and so is what a quantifier can't stand behind. Read
+-- A choice or an `&` that stands as an item is printed in braces, and so is what a quantifier can't stand after. Read
 -- again, braces are a raw group of one item. Nothing else changes, but for the byte places of names.
 use Rattle.std.specs.Prelude.{Bool, true, false}
 use Rattle.rpl_syntax.specs.declared.name.QName.{QName}

@@ -56,7 +56,7 @@ mutual
     One : (l : Leaf) → Atom
     Group : (raw : Bool) (e : Exp) → Atom
 
--- ---- spelling: the tokens of each, and behind them the tokens r
+-- ---- spelling: the tokens of each, and after them the tokens r
 
 abbrev pub leaf_token : Leaf → Token
 leaf_token (TextLeaf s) = T.Text s

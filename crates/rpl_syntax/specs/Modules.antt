@@ -22,7 +22,7 @@ pub data Entry : Type 0 where
   One : (rule : Rule) → Entry
   Block : (hidden visible : List Rule) → Entry
 
-pub record Said : Type 0 where
+pub record ParsedModule : Type 0 where
   pub name : Option QName
   pub imports : List Import
   pub items : List Entry
@@ -43,5 +43,5 @@ abbrev pub entries_of : List Item → List Entry
 entries_of [] = []
 entries_of (i ∷ is) = entry_of i ∷ entries_of is
 
-abbrev pub said : Module → Said
+abbrev pub said : Module → ParsedModule
 said m = record { name = m.package; imports = m.imports; items = entries_of m.items }

@@ -46,7 +46,7 @@ token_text (T.Bounds l m) = bounds_text l m
 token_text (T.Number n) = decimal n
 token_text (T.Sign k) = mark k ∷ []
 
--- the text of each, and behind it r
+-- the text of each, and after it r
 abbrev mutual
   pub write_exp : Exp → List ℕ → List ℕ
   write_exp (Last s) r = write_seq s r

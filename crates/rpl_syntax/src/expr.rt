@@ -94,7 +94,7 @@ impl Exprs {
         }
     }
 
-    /// Adds an expression at the end. Where memory is wanting, nothing changes.
+    /// Adds an expression at the end. Where memory runs out, nothing changes.
     pub fn push(&mut self, item: Expr) -> Result<(), NoMemory>
         ensures ok { OnOk result (listed self.new ≡ listed self.old ++ item ∷ []) }
         ensures err { OnErr result (listed self.new ≡ listed self.old) }

@@ -19,7 +19,7 @@ pub fn one_reading()
 {}
 
 /// The tokens of the printed text of what some tokens spell are a spelling of it with the braces that printing adds:
-/// a choice or an `&` that stands as an item, and what a quantifier can't stand behind, is then a raw group of one
+/// a choice or an `&` that stands as an item, and what a quantifier can't stand after, is then a raw group of one
 /// item.
 /// But for the places of names, nothing else changes.
 pub fn reads_back()

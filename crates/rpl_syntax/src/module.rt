@@ -24,7 +24,7 @@ pub struct Binding {
 pub enum ImportAs {
     /// The last name of the path.
     Last,
-    /// The name behind `as`.
+    /// The name after `as`.
     Named(Chars),
     /// None: `as .`.
     Plain,

@@ -10,7 +10,7 @@ use std::alloc::Global;
 pub struct QName {
     /// What stands before the dot.
     pub prefix: Option<Chars>,
-    /// The name, or what stands behind the dot.
+    /// The name, or what stands after the dot.
     pub name: Chars,
     /// The byte place of its first character.
     pub at: usize,

@@ -143,7 +143,7 @@ impl Printer {
         Ok(())
     }
 
-    /// An item of a group, with a space behind it where another follows.
+    /// An item of a group, with a space after it where another follows.
     #[cycle(print)]
     fn item_of_group(&mut self, item: &Expr, more: bool) -> Result<(), NoMemory>
         ensures { OnOk result (self.new ≡ self.old ++ item_of_group more (expr_of item.now)) }
@@ -164,7 +164,7 @@ impl Printer {
         Ok(())
     }
 
-    /// A part of a choice, with the slash behind it where another follows.
+    /// A part of a choice, with the slash after it where another follows.
     #[cycle(print)]
     fn part_of_choice(&mut self, part: &Expr, more: bool) -> Result<(), NoMemory>
         ensures { OnOk result (self.new ≡ self.old ++ part_of_choice more (expr_of part.now)) }

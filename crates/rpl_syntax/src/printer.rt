@@ -213,7 +213,7 @@ impl Printer {
         self.put(']')
     }
 
-    /// A name, behind its prefix and a dot where it has one.
+    /// A name, after its prefix and a dot where it has one.
     pub fn name(&mut self, name: &QName) -> Result<(), NoMemory>
         ensures { OnOk result (self.new ≡ self.old ++ name_text name.now) }
     {

@@ -55,7 +55,7 @@ hex-encode (suc n) v (c ∷ cs) = elim (cases_lt c 128) [
       ap (hex (suc n) v) l.is ∙ hex_high n v l.byte l.rest l.high ∙ sym (hex_high n v c cs ge)
 ]
 
--- what an escape is by its letter and the numbers behind it
+-- what an escape is by its letter and the numbers after it
 abbrev pub by_letter : ℕ → Option ℕ → Option ℕ → Option ℕ → Option (ℕ × ℕ)
 by_letter c two four eight =
     if is_kept c then Some (c, 1)

@@ -6,13 +6,13 @@ use Rattle.std.specs.Char.{digit_value}
 use Rattle.rpl_text.specs.Characters.{is_char}
 use Rattle.rpl_text.specs.Places.{at}
 
--- the number v with n hexadecimal digits behind it, which stand at the front; none where they don't
+-- the number v with n hexadecimal digits after it, which stand at the front; none where they don't
 unfoldable pub hex : ℕ → ℕ → List ℕ → Option ℕ
 hex zero v cs = Some v
 hex (suc n) v [] = None
 hex (suc n) v (c ∷ cs) = if nat_lt (digit_value c) 16 then hex n (16 * v + digit_value c) cs else None
 
--- the character with a number, behind a letter and n digits, where it is one and at most the last
+-- the character with a number, after a letter and n digits, where it is one and at most the last
 abbrev pub numbered : ℕ → ℕ → Option ℕ → Option (ℕ × ℕ)
 numbered n last None = None
 numbered n last (Some v) = if is_char v && nat_le v last then Some (v, 1 + n) else None
@@ -22,7 +22,7 @@ abbrev pub is_kept : ℕ → Bool
 is_kept c =
     nat_eq c 92 || (nat_eq c 34 || (nat_eq c 91 || (nat_eq c 93 || (nat_eq c 45 || (nat_eq c 94 || nat_eq c 58)))))
 
--- what stands behind a backslash: the character that it means, and how many characters it takes
+-- what stands after a backslash: the character that it means, and how many characters it takes
 unfoldable pub escape : List ℕ → Option (ℕ × ℕ)
 escape [] = None
 escape (c ∷ cs) =
@@ -35,7 +35,7 @@ escape (c ∷ cs) =
     else (if nat_eq c 85 then numbered 8 0x10_ffff (hex 8 0 cs)  -- \UHHHHHHHH
     else None))))))
 
--- an escape n bytes behind a place, as the place behind it
+-- an escape n bytes after a place, as the place after it
 abbrev pub shifted : ℕ → Option (ℕ × ℕ) → Option (ℕ × ℕ)
 shifted p None = None
 shifted p (Some (c, n)) = Some (c, p + n)
@@ -44,6 +44,6 @@ abbrev pub placed : List ℕ → ℕ → Option (ℕ × ℕ) → Option (ℕ × 
 placed t i None = None
 placed t i (Some (c, n)) = Some (c, at t (i + n))
 
--- the escape whose backslash has the number i in a text: its character, and the place behind it
+-- the escape whose backslash has the number i in a text: its character, and the place after it
 abbrev pub escape_from : List ℕ → ℕ → Option (ℕ × ℕ)
 escape_from t i = placed t (i + 1) (escape (drop (i + 1) t))

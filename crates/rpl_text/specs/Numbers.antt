@@ -4,7 +4,7 @@ use Rattle.std.specs.Prelude.{List, [], ◌∷◌, length, Option, Some, None}
 use Rattle.std.specs.List.{list_all}
 use Rattle.std.specs.Char.{is_ascii_digit}
 
--- the number n with the digits behind it
+-- the number n with the digits after it
 abbrev pub value : ℕ → List ℕ → ℕ
 value n [] = n
 value n (b ∷ bs) = value (n * 10 + (b - 48)) bs

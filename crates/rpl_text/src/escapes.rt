@@ -17,7 +17,7 @@ fn hex_number(bytes: &[u8], digits: usize) -> Option<u32>
     Some(number)
 }
 
-/// The character of a number behind a letter.
+/// The character of a number after a letter.
 fn numbered_char(bytes: &[u8], digits: usize, last: u32) -> Option<(char, usize)>
     requires { digits ≤ 8 }
     ensures value { result ≡ numbered digits last (hex digits 0 bytes.now) }
@@ -30,7 +30,7 @@ fn numbered_char(bytes: &[u8], digits: usize, last: u32) -> Option<(char, usize)
     Some((char::from_u32(number)?, 1 + digits))
 }
 
-/// The character that the bytes behind a backslash mean, and how many of them mean it.
+/// The character that the bytes after a backslash mean, and how many of them mean it.
 ///
 /// The escapes are `\\ \" \n \r \t \[ \] \- \^ \:`, `\xHH` up to 7F, `\uHHHH` and `\UHHHHHHHH` with
 /// digits in either case; None exactly where none of them begins.
@@ -54,7 +54,7 @@ pub fn escape(rest: &[u8]) -> Option<(char, usize)>
     }
 }
 
-/// The bytes behind the one at a place.
+/// The bytes after the one at a place.
 fn bytes_behind(text: &str, place: usize) -> &[u8]
     requires { place < length text.now }
     ensures { result.now ≡ drop (place + 1) text.now }
@@ -75,7 +75,7 @@ fn escape_at(text: &str, place: usize) -> Option<(char, usize)>
 }
 
 /// The character of the escape whose backslash stands at a byte place of the text, and the place
-/// behind the escape; None exactly where no escape stands there.
+/// after the escape; None exactly where no escape stands there.
 pub fn read_escape(text: &str, place: usize) -> Option<(char, usize)>
     requires { slice_get text.now place ≡ Some 92 }
     ensures chars { result ≡ escape_from (chars text.now) (index (chars text.now) place) }

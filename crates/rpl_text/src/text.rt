@@ -8,7 +8,7 @@ use crate::line::{back_in, is_place_in, line_len, pass_in, place_in, slice_in, s
 
 /// A borrowed line, walked over by byte places.
 ///
-/// A place is a number of bytes behind which a character begins, or the line ends. Contracts see
+/// A place is a number of bytes after which a character begins, or the line ends. Contracts see
 /// the line as the list of its characters, by `text_of`.
 #[derive(Clone, Copy)]
 pub struct Text<'a> {
@@ -49,7 +49,7 @@ impl<'a> Text<'a> {
         step_in(self.line, place)
     }
 
-    /// The place behind the marked characters that stand here, `most` at most: it is that of the first character that
+    /// The place after the marked characters that stand here, `most` at most: it is that of the first character that
     /// isn't marked, or the end. Marked are the ASCII characters whose bits in the mask are set: the first word has the
     /// bits of those from 0 to 63, the second of those from 64 to 127.
     pub fn pass(self, place: usize, most: usize, mask: [u64; 2]) -> usize
@@ -73,7 +73,7 @@ impl<'a> Text<'a> {
         back_in(self.line, place, count)
     }
 
-    /// The place of the character with a number, from 0, or the end behind the last one; None
+    /// The place of the character with a number, from 0, or the end after the last one; None
     /// exactly where the number is above that of the end.
     pub fn place_of(self, number: usize) -> Option<usize>
         ensures { result ≡ place_from (text_of self.entry) number }

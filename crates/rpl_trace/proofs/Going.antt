@@ -145,7 +145,7 @@ turn_halts R t a place halt s new pl st n =
 
 -- ---- lengths
 
--- those that are left behind this one, where there are c
+-- those that are left after this one, where there are c
 abbrev pub shorter : Lengths → ℕ → Lengths
 shorter l c = record { body = l.body; length = l.length + 1; count = c; place = l.place }
 
@@ -245,7 +245,7 @@ then_steps R t a b c x y z k l h =
 
 -- ---- answers
 
--- want of memory says nothing
+-- out of memory says nothing
 pub memory_exit : (R : List Core) (t : List ℕ) (s : State) (e : End) (new : State) (r : Result End TraceFault) → IsErrAnd r (λ y. y ≡ NoMemory) → Goes R t s e new r
 memory_exit R t s e new (Ok x) h = absurd h
 memory_exit R t s e new (Err y) h = subst (Refused R t s e) (sym h) tt

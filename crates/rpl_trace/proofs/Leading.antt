@@ -163,7 +163,7 @@ joins : (onward : Onward) (o : Outcome) (f g : Evaluations) (s : Standing) (v : 
 joins onward o f g s v h =
     (h.0, moved onward (ending o) (ending o) (add s (joined f g)) (add (add s f) g) (v + count (joined f g)) (v + count f + count g) refl (sym (add_add s f g)) (let c = count_joined f g in omega arith) h.1)
 
--- nothing behind them
+-- nothing after them
 stops : (onward : Onward) (e : Ending) (f : Evaluations) (s : Standing) (v : ℕ) → onward e (add s (joined f NoneLeft)) (v + count (joined f NoneLeft)) → onward e (add s f) (v + count f)
 stops onward e f s v h = subst (λ x. onward e (add s x) (v + count x)) (joined_none f) h
 
@@ -221,7 +221,7 @@ turn R t onward p i s v (n, h) = (n, turn_by R t onward n (core_at n R t p i) (m
 
 -- ---- lengths
 
--- behind a length at i: the other lengths, where it failed
+-- after a length at i: the other lengths, where it failed
 abbrev pub Shorter : List Core → List ℕ → Onward → Core → ℕ → ℕ → ℕ → Onward
 Shorter R t onward p count k i e s v = OnFailure e (LeadsLengths R t onward p count k i s v) (onward e s v)
 

@@ -43,7 +43,7 @@ stands_counted t s h k = record { tasks = k.tasks; events = k.events; within = o
 pub counted_less : (limit spent tasks more : ℕ) → spent < limit → more ≤ tasks + 4 → 5 * (limit - (spent + 1)) + more + 1 ≤ 5 * (limit - spent) + tasks
 counted_less limit spent tasks more lt le = omega arith
 
--- want of memory, or no room for what comes next
+-- out of memory, or no room for what comes next
 pub refuses : (R : List Core) (t : List ℕ) (s : State) (e : End) (x : TraceFault) → (x ≡ TraceTooLong → s.limit ≤ s.spent)
     → ((o : Ending) (f : Evaluations) → Comes R t o f s e → s.spent < count f) → Refused R t s e x
 refuses R t s e NoMemory h k = tt

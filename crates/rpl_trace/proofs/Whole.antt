@@ -91,7 +91,7 @@ started rs cs a p t limit s mid er ep es em q =
 pub limit_is : (a : Bor Peg) (limit : ℕ) (s mid : State) → s ≡ fresh limit → mid ≡ due (T.Evaluate a) s → mid.limit ≡ limit
 limit_is a limit s mid es em = ap (λ (x : State). x.limit) em ∙ ap (λ (x : State). x.limit) es
 
--- want of memory is no refusal
+-- out of memory is no refusal
 pub memory_alone : {A : Type 0} (P : Type 0) (r : Result A TraceFault) → IsErrAnd r (λ y. y ≡ NoMemory) → IfErr r (λ e. e ≡ TraceTooLong → P)
 memory_alone P (Ok x) h = absurd h
 memory_alone P (Err y) h = λ e. absurd (cc)

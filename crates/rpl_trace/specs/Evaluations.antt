@@ -56,7 +56,7 @@ ending (At w j f) = EndsAt j
 ending (HaltAt w j f) = HaltsAt j
 
 -- evaluations side by side: one, with what is evaluated, where it starts and how it ends, those inside it, and those
--- behind it
+-- after it
 pub data Evaluations : Type 0 where
   NoneLeft : Evaluations
   One : (kind : Kind) (start : ℕ) (ending : Ending) (inside behind : Evaluations) → Evaluations

@@ -4,7 +4,7 @@ use Rattle.rpl_core.specs.Meaning.{Outcome, Open, Fail, At, HaltAt}
 use Rattle.rpl_text.specs.Places.{at}
 use Rattle.rpl_trace.specs.Evaluations.{Ending, Unsaid, Fails, EndsAt, HaltsAt}
 
--- the place in bytes behind a match
+-- the place in bytes after a match
 abbrev pub place_behind : List ℕ → Outcome → Option ℕ
 place_behind t Open = None
 place_behind t (Fail w) = None

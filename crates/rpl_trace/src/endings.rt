@@ -76,7 +76,7 @@ pub(crate) fn if_met(end: End, place: usize) -> End
     }
 }
 
-/// The place behind a match, in bytes.
+/// The place after a match, in bytes.
 pub(crate) fn place_of(end: End) -> Option<usize>
     ensures { (t : List ℕ) → EndStands t end → result ≡ ending_place t (end_seen t end) }
 {

@@ -11,7 +11,7 @@ pub(crate) enum Task<'a> {
     Parts(&'a [Peg]),
     /// The ways that are left of a choice, where the one before them failed.
     Ways { parts: &'a [Peg], place: usize },
-    /// The turns behind one of the body, which began at the place.
+    /// The turns after one of the body, which began at the place.
     Turns { body: &'a Peg, place: usize },
     /// What a `Not` makes of its body.
     Not(usize),

@@ -153,7 +153,7 @@ impl<'a> Tracer<'a> {
         Ok(end)
     }
 
-    /// What is inside it is an evaluation of the body at the place, and a task behind that.
+    /// What is inside it is an evaluation of the body at the place, and a task after that.
     fn nest(&mut self, task: Task<'a>, body: &'a Peg, place: usize) -> Result<End, NoMemory>
         ensures { IfOk result (λ e. (e ≡ E.At place)
             × (state_of self.new ≡ due (T.Evaluate body.entry) (due task.entry (due T.Close (state_of self.old))))) }
@@ -164,7 +164,7 @@ impl<'a> Tracer<'a> {
         Ok(End::At(place))
     }
 
-    /// A turn of the body at the place, and those behind it.
+    /// A turn of the body at the place, and those after it.
     fn turn(&mut self, body: &'a Peg, place: usize) -> Result<End, NoMemory>
         ensures { IfOk result (λ e. (e ≡ E.At place)
             × (state_of self.new ≡ due (T.Evaluate body.entry)

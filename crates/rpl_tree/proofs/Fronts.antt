@@ -79,7 +79,7 @@ get_seam : (before : List Node) (n : Node) (after : List Node) → slice_get (be
 get_seam [] n after = refl
 get_seam (b ∷ before) n after = get_seam before n after
 
--- a node that was opened behind `before`, with all that came since below it
+-- a node that was opened after `before`, with all that came since below it
 abbrev done : ℕ → ℕ → ℕ → List Node → Node
 done label i j below = record { label = label; note = None; start = i; end = j; below = length below }
 

@@ -7,7 +7,7 @@ use Rattle.rpl_core.specs.declared.caught.Caught.{Caught}
 use Rattle.rpl_core.specs.declared.caught.Caught.TheVariants.{Begin, Finish, Note}
 use Rattle.rpl_tree.specs.declared.node.Node.{Node}
 
--- one node over the trees below it, and the trees behind it; a note has nothing below
+-- one node over the trees below it, and the trees after it; a note has nothing below
 abbrev pub node_as : (ℕ → List ℕ) → Node → Option ℕ → Forest → Forest → Forest
 node_as name n None below behind = Tree (name n.label) n.start n.end below behind
 node_as name n (Some text) below behind = Noted (name text) n.start behind
@@ -19,12 +19,12 @@ trees_of (suc most) name [] = NoTree
 trees_of (suc most) name (n ∷ nodes) =
     node_as name n n.note (trees_of most name (take n.below nodes)) (trees_of most name (drop n.below nodes))
 
--- the first node's tree has the next `below` nodes under it, and the trees of the others come behind it
+-- the first node's tree has the next `below` nodes under it, and the trees of the others come after it
 abbrev pub forest_of : (ℕ → List ℕ) → List Node → Forest
 forest_of name nodes = trees_of (length nodes) name nodes
 
 -- The nodes write out the captures, number by number: a tree's node has its label, its places and the number of the
--- nodes below it, which are those directly behind it; a note's has its text, its place twice, and nothing below.
+-- nodes below it, which are those directly after it; a note's has its text, its place twice, and nothing below.
 pub data Write : List Node → List Caught → Type 0 where
   nothing : Write [] []
   a_tree :

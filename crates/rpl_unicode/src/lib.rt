@@ -15,5 +15,5 @@ pub use classes::class_ranges;
 pub use fault::ClassFault;
 pub use folding::{folds, folds_of};
 pub use ranges::{RangeList, characters};
-/// Want of memory, which every call here may answer.
+/// Out of memory, which every call here may answer.
 pub use std::alloc::AllocError as NoMemory;

@@ -92,7 +92,7 @@ bytes-drop (suc k) (c ∷ cs) le =
     let i = bytes-drop k cs (omega arith) in
     let b = len_utf8_bounds c in omega (arith, i, bytes-cons c cs, b.0)
 
--- what an escape stands for, and what is read behind it
+-- what an escape stands for, and what is read after it
 escaped : (cs : List ℕ) (o : Option (ℕ × ℕ)) → escape cs ≡ o
     → ((k : ℕ) → bytes (decoded k cs) ≤ bytes (drop k cs)) → bytes (unescaped o (λ k. decoded k cs)) ≤ 1 + bytes cs
 escaped cs None e ih = omega arith
@@ -102,7 +102,7 @@ escaped cs (Some (c, k)) e ih =
     let d = bytes-drop k cs p.inside in
     let i = ih k in omega (arith, s, d, i, bytes-cons c (decoded k cs))
 
--- a character at the front, where what is behind it is no longer for being read
+-- a character at the front, where what is after it is no longer for being read
 fronted : (c : ℕ) (cs : List ℕ) (quote slash : Bool) → ((k : ℕ) → bytes (decoded k cs) ≤ bytes (drop k cs))
     → bytes (if quote then [] else (if slash then unescaped (escape cs) (λ k. decoded k cs) else c ∷ decoded 0 cs))
     ≤ bytes (c ∷ cs)

@@ -22,7 +22,7 @@ no_nodes (suc most) name (n ∷ ns) le e =
     some None b d h = cc
     some (Some t) b d h = cc
 
--- what stands behind a tree that is alone
+-- what stands after a tree that is alone
 behind_none : (name : ℕ → List ℕ) (n : Node) (o : Option ℕ) (b d : Forest) (label : List ℕ) (start end : ℕ)
     (below : Forest) → node_as name n o b d ≡ Tree label start end below NoTree → d ≡ NoTree
 behind_none name n None b d label start end below e = cc

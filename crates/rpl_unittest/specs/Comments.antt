@@ -20,7 +20,7 @@ use Rattle.rpl_unittest.specs.declared.test.Verb.TheVariants as V
 
 -- ---- which lines are test comments
 
--- what stands behind a front, if the bytes begin with it
+-- what stands after a front, if the bytes begin with it
 abbrev pub behind : List ℕ → List ℕ → Option (List ℕ)
 behind [] bs = Some bs
 behind (w ∷ ws) [] = None
@@ -35,12 +35,12 @@ abbrev pub goes_on : Option (List ℕ) → Bool
 goes_on None = false
 goes_on (Some bs) = begins is_space bs
 
--- the word `test` comes next, with a space or a tab behind it
+-- the word `test` comes next, with a space or a tab after it
 abbrev pub if_test : Option (List ℕ) → Option (List ℕ)
 if_test None = None
 if_test (Some rest) = if goes_on (behind (codes "test") (trimmed rest)) then Some rest else None
 
--- what stands behind the dashes of a test comment; of any other line, nothing
+-- what stands after the dashes of a test comment; of any other line, nothing
 abbrev pub comment_of : List ℕ → Option (List ℕ)
 comment_of line = if_test (behind (codes "--") (trimmed line))
 
@@ -83,12 +83,12 @@ word_by K.Sign s t = of_sign (punct_of s t)
 abbrev pub word_in : List ℕ → Token → Word
 word_in s t = word_by t.kind s t
 
--- a name at the front, and what is behind it
+-- a name at the front, and what is after it
 abbrev pub name_first : List Word → Option (List ℕ × List Word)
 name_first (Name n ∷ rest) = Some (n, rest)
 name_first _ = None
 
--- a part at the front, and what is behind it
+-- a part at the front, and what is after it
 abbrev pub part_first : List Word → Option (List ℕ × List Word)
 part_first (Name n ∷ rest) = Some (n, rest)
 part_first (Qualified n ∷ rest) = Some (n, rest)
@@ -114,7 +114,7 @@ verb_of word =
     else (if bytes_eq word (codes "excludes") then Some V.Excludes
     else None)))
 
--- the part that is asked for, and what is behind it; `accepts` and `rejects` ask for none
+-- the part that is asked for, and what is after it; `accepts` and `rejects` ask for none
 abbrev pub with_part : List ℕ × List Word → Option (List ℕ) × List Word
 with_part (part, rest) = (Some part, rest)
 

@@ -26,7 +26,7 @@ fn past_spaces(bytes: &[u8]) -> &[u8]
     &bytes[spaces(bytes)..]
 }
 
-/// What stands behind a front, if the bytes begin with it.
+/// What stands after a front, if the bytes begin with it.
 fn past<'a>(front: &[u8], bytes: &'a [u8]) -> Option<&'a [u8]>
     ensures { option_copied result ≡ behind front.now bytes.now }
 {
@@ -52,7 +52,7 @@ fn goes_on(rest: Option<&[u8]>) -> bool
     matches!(rest, Some([b' ' | b'\t', ..]))
 }
 
-/// What stands behind the dashes of a test comment.
+/// What stands after the dashes of a test comment.
 fn comment_of(line: &[u8]) -> Option<&[u8]>
     ensures { option_copied result ≡ comment_of line.now }
 {
@@ -68,7 +68,7 @@ fn comment_of(line: &[u8]) -> Option<&[u8]>
     }
 }
 
-/// The same, of the text of a line.
+/// What stands after the dashes of a test comment, of the text of a line.
 pub(crate) fn comment_in(line: &str) -> Option<&str>
     ensures { option_copied result ≡ comment_of line.now }
 {

@@ -18,7 +18,7 @@ pub(crate) struct Question<'a, 'b> {
     pub(crate) texts: &'b [Word<'a>],
 }
 
-/// A name at the front, and what is behind it.
+/// A name at the front, and what is after it.
 fn name_first<'a, 'b>(words: &'b [Word<'a>]) -> Option<(&'a str, &'b [Word<'a>])>
     ensures { first_seen result ≡ S.name_first (words_seen words.now) }
 {
@@ -35,7 +35,7 @@ fn name_first<'a, 'b>(words: &'b [Word<'a>]) -> Option<(&'a str, &'b [Word<'a>])
     }
 }
 
-/// A part at the front, and what is behind it.
+/// A part at the front, and what is after it.
 fn part_first<'a, 'b>(words: &'b [Word<'a>]) -> Option<(&'a str, &'b [Word<'a>])>
     ensures { first_seen result ≡ S.part_first (words_seen words.now) }
 {
@@ -52,7 +52,7 @@ fn part_first<'a, 'b>(words: &'b [Word<'a>]) -> Option<(&'a str, &'b [Word<'a>])
     }
 }
 
-/// What is behind a `local`, if one stands at the front.
+/// What is after a `local`, if one stands at the front.
 fn past_local<'a, 'b>(words: &'b [Word<'a>]) -> &'b [Word<'a>]
     ensures { words_seen result.now ≡ S.past_local (words_seen words.now) }
 {
@@ -86,7 +86,7 @@ fn verb_of(word: &str) -> Option<Verb>
     }
 }
 
-/// The part that is asked for, if any is, and what is behind it.
+/// The part that is asked for, if any is, and what is after it.
 fn part_for<'a, 'b>(verb: Verb, words: &'b [Word<'a>]) -> Option<(Option<&'a str>, &'b [Word<'a>])>
     ensures { part_seen result ≡ S.part_for verb (words_seen words.now) }
 {

@@ -79,7 +79,7 @@ fn is_here(forest: &Forest, index: usize, prefix: &str, part: &str, program: &Pr
     }
 }
 
-/// Some node behind the first has the type.
+/// Some node after the first has the type.
 fn has_type(forest: &Forest, prefix: &str, part: &str, program: &Program) -> bool
     ensures { result ≡ list_any (has_part program.now prefix.now part.now) (drop 1 forest.now) }
 {

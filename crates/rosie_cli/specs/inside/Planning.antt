@@ -13,7 +13,7 @@ use Rattle.rosie_prepare.specs.declared.unready.Unready.TheVariants as U
 use Rattle.rosie_run.specs.Inputs.{names_of}
 use Rattle.rosie_run.specs.Sources.{moment_of}
 use Rattle.rosie_sample.specs.Runs.{sampled_of}
-use Rattle.rosie_verdicts.specs.Seen.{bench_of, trials_of}
+use Rattle.rosie_unittest.specs.Seen.{bench_of, trials_of}
 use Rattle.rpl_check.specs.Checked.{IsWhole}
 use Rattle.rpl_check.specs.Goal.{peg_of}
 use Rattle.rpl_codegen.specs.declared.whole.CompileFault.{CompileFault}
@@ -21,7 +21,7 @@ use Rattle.rpl_codegen.specs.declared.whole.CompileFault.TheVariants as C
 use Rattle.rpl_core.specs.Table.{bodies_of}
 use Rattle.rpl_core.specs.View.{core_of}
 use Rattle.rpl_forms.specs.Rows.{Row}
-use Rattle.rpl_simulation.specs.Laws.{IsCapture}
+use Rattle.rpl_compile_laws.specs.Laws.{IsCapture}
 use Rattle.rosie_cli.specs.Planned.{matching, sampling, tracing}
 use Rattle.rosie_cli.specs.Plans as P
 use Rattle.rosie_cli.specs.declared.goal_plan.Purpose.{Purpose}

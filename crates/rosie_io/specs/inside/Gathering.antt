@@ -7,8 +7,8 @@ use Rattle.rosie_io.specs.Held.{Held}
 use Rattle.rosie_io.specs.Lines.{feeds}
 use Rattle.rosie_io.specs.declared.gather.Found.{Found}
 use Rattle.rosie_io.specs.declared.gather.Found.TheVariants.{Line, Long, End}
-use Rattle.rosie_io.specs.declared.gather.Trouble.{Trouble}
-use Rattle.rosie_io.specs.declared.gather.Trouble.TheVariants.{NoMemory, ReadFault, Spent}
+use Rattle.rosie_io.specs.declared.gather.GatherFault.{GatherFault}
+use Rattle.rosie_io.specs.declared.gather.GatherFault.TheVariants.{NoMemory, ReadFault, Spent}
 
 -- the part of the line that was seen is kept, unless it is too long
 abbrev pub IsKept : Bool → ℕ → List ℕ → List ℕ → Type 0
@@ -27,7 +27,7 @@ pub record Gathered (whole : Bool) (most : ℕ) (tells : Type 0) (old : Held) (r
   pub ended : old.ended ≡ true → now.ended ≡ true
 
 -- the bytes that were left and are left, where they are told: a line within most bytes, a longer one, or none
-abbrev pub Finds : Result Found Trouble → Bool → ℕ → Bool → List ℕ → List ℕ → List ℕ → Type 0
+abbrev pub Finds : Result Found GatherFault → Bool → ℕ → Bool → List ℕ → List ℕ → List ℕ → Type 0
 Finds (Ok Line) whole most ended line left0 left1 = Splits whole ended line left0 left1 × (length line ≤ most)
 Finds (Ok Long) whole most ended line left0 left1 =
     (seen : List ℕ) × Splits whole ended seen left0 left1 × (most < length seen)
@@ -46,7 +46,7 @@ last_kind false [] = End
 last_kind false (b ∷ line) = Line
 
 -- a read that failed or wasn't made came before the line's end
-abbrev pub Stops : Result Found Trouble → Bool → Type 0 → Held → Held → List ℕ → List ℕ → Type 0
+abbrev pub Stops : Result Found GatherFault → Bool → Type 0 → Held → Held → List ℕ → List ℕ → Type 0
 Stops (Ok _) whole tells old now rest0 rest1 = Unit {0}
 Stops (Err NoMemory) whole tells old now rest0 rest1 = Unit {0}
 Stops (Err ReadFault) whole tells old now rest0 rest1 =
@@ -55,14 +55,14 @@ Stops (Err Spent) whole tells old now rest0 rest1 =
     ((got : List ℕ) × NoFeed whole tells old.bytes rest0 rest1 got) × (old.ended ≡ false) × (now.reads ≡ 2 ^ 32)
 
 -- a fault only where the count rose; any other answer leaves it
-abbrev pub HasCause : Result Found Trouble → ℕ → ℕ → Type 0
+abbrev pub HasCause : Result Found GatherFault → ℕ → ℕ → Type 0
 HasCause (Ok _) before now = now ≡ before
 HasCause (Err NoMemory) before now = now ≡ before
 HasCause (Err ReadFault) before now = (before ≤ now) × Rose before now
 HasCause (Err Spent) before now = now ≡ before
 
 -- with 65,536 bytes for each read, no more is held than was held and read, and a line took one byte at least
-abbrev pub Uses : Result Found Trouble → Held → Held → Type 0
+abbrev pub Uses : Result Found GatherFault → Held → Held → Type 0
 Uses (Ok Line) old now = 1 + length now.bytes + 65536 * old.reads ≤ length old.bytes + 65536 * now.reads
 Uses (Ok Long) old now = 1 + length now.bytes + 65536 * old.reads ≤ length old.bytes + 65536 * now.reads
 Uses (Ok End) old now = (now.bytes ≡ []) × (now.ended ≡ true)

@@ -4,15 +4,15 @@ use Rattle.rpl_core.specs.Forest.{Forest, flat}
 use Rattle.rpl_core.specs.Instr.{Instr}
 use Rattle.rpl_core.specs.Meaning.{Outcome}
 use Rattle.rpl_core.specs.Run.{Answer, Matched, Failed, Unfinished, run}
-use Rattle.rpl_encode.specs.Answer.{most_bytes}
+use Rattle.rpl_encode.specs.Answer.{max_answer_bytes}
 use Rattle.rpl_encode.specs.Print.{found, print}
 use Rattle.rosie_jobs.specs.Lines.{budget_of, is_over, made, matches}
 use Rattle.rosie_jobs.specs.declared.settings.Settings.{Settings}
 
 -- the text is kept, or it is too long
 abbrev pub Printed : Bool → List ℕ → List ℕ → Type 0
-Printed true text kept = (kept ≡ text) × (length text ≤ most_bytes)
-Printed false text kept = most_bytes < length text
+Printed true text kept = (kept ≡ text) × (length text ≤ max_answer_bytes)
+Printed false text kept = max_answer_bytes < length text
 
 -- the outcome is what a run within its budget shows: its trees, if it matched
 abbrev pub IsShown : Answer → Outcome → Type 0

@@ -9,13 +9,13 @@ use Rattle.rosie_jobs.specs.Loaded.{IsRead}
 use Rattle.rosie_jobs.specs.declared.unloaded.Unloaded.{Unloaded}
 use Rattle.rosie_jobs.specs.declared.unloaded.Unloaded.TheVariants.{NoMemory, ReadFault, Refused}
 
--- the line has these words, unless memory is wanting
+-- the line has these words, unless memory runs out
 abbrev pub Refuses : List ℕ → List ℕ → Unloaded → Type 0
 Refuses path text NoMemory = Unit {0}
 Refuses path text (Refused line) = string_bytes line ≡ input_fault path text
 Refuses path text ReadFault = ⊥
 
--- what is told of a fault of the file
+-- what is reported of a fault of the file
 abbrev pub IsToldOfFile : List ℕ → FileFault → Unloaded → Type 0
 IsToldOfFile path F.NoMemory u = u ≡ NoMemory
 IsToldOfFile path F.Missing u = Refuses path (codes "no such file") u

@@ -28,7 +28,7 @@ abbrev pub Finds : {X : Type 0} → Option Line → Result X Unready → Type 0
 Finds due (Ok x) = due ≡ None
 Finds due (Err u) = Tells due u
 
--- a failed read is that of the fault's file; any other fault is told by its line
+-- a failed read is that of the fault's file; any other fault is reported by its line
 abbrev pub TellsKind : LoadKind → LoadFault → Unready → Type 0
 TellsKind K.NoMemory f u = u ≡ NoMemory
 TellsKind K.ReadFault f u = u ≡ ReadFault f.file

@@ -6,7 +6,7 @@ use Rattle.rosie_run.specs.Causes.{WriteRose}
 use Rattle.rosie_run.specs.Runs.{IsCutOf}
 use Rattle.rosie_run.specs.Sources.{TookMany}
 use Rattle.rosie_run.specs.declared.ended.Ended.{Ended}
-use Rattle.rosie_run.specs.declared.ended.Why.TheVariants.{ReadFault, Spent}
+use Rattle.rosie_run.specs.declared.ended.ReadStop.TheVariants.{ReadFault, Spent}
 use Rattle.rosie_run.specs.declared.trouble.Trouble.{Trouble}
 use Rattle.std.specs.Prelude.{◌≡◌, ◌≤◌, Err, List, Ok, Result, ℕ}
 

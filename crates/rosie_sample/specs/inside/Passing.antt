@@ -19,7 +19,7 @@ abbrev pub with_line : Counts → Tally → Counts
 with_line counts line =
     record { tally = added counts.tally line; matched = counts.matched + cond line.hit 1 0 }
 
--- so many lines were matched, and just their pieces are written; the lines to come are those behind the number x
+-- so many lines were matched, and just their pieces are written; the lines to come are those after the number x
 pub record Counted (W : Telling) (makes : Makes) (seed lines before x : ℕ) (counts : Counts) (a b : Texts)
     : Type 0 where
   pub done : List Piece

@@ -12,19 +12,19 @@ use Rattle.rosie_run.specs.Report.{tally_of}
 use Rattle.rosie_run.specs.Runs.{IsCutOf}
 use Rattle.rosie_run.specs.declared.ended.Ended.{Ended}
 use Rattle.rosie_run.specs.declared.ended.Ended.TheVariants as E
-use Rattle.rosie_run.specs.declared.ended.Why.TheVariants as Y
+use Rattle.rosie_run.specs.declared.ended.ReadStop.TheVariants as Y
 use Rattle.rosie_run.specs.declared.tally.Tally.{Tally}
 use Rattle.rosie_run.specs.declared.trouble.Trouble.TheVariants as T
 use Rattle.rosie_run.specs.inside.Causes.{SinksEnd, SourceEnds, SpentEnds}
 use Rattle.rosie_run.specs.inside.Passing.{ReadsOn, StopsAt}
 use Rattle.rosie_session.specs.Loading.{Loading}
 use Rattle.rosie_session.specs.Replay.{Turn, pieces_of, turn, turns, turns_from}
-use Rattle.rosie_session.specs.declared.halt.Halt.{Halt}
-use Rattle.rosie_session.specs.declared.halt.Halt.TheVariants as H
-use Rattle.rosie_session.specs.declared.said.Said.{Said}
+use Rattle.rosie_session.specs.declared.session_end.SessionEnd.{SessionEnd}
+use Rattle.rosie_session.specs.declared.session_end.SessionEnd.TheVariants as H
+use Rattle.rosie_session.specs.declared.reply.Reply.{Reply}
 use Rattle.rosie_session.specs.inside.Turning.{Says}
 
-abbrev pub IsEndedBy : Halt → Ended → Type 0
+abbrev pub IsEndedBy : SessionEnd → Ended → Type 0
 IsEndedBy (H.Run T.NoMemory) e = e ≡ E.NoMemory
 IsEndedBy (H.Run T.WriteFault) e = e ≡ E.WriteFault
 IsEndedBy (H.Run T.ReadFault) e = IsCutOf e Y.ReadFault (codes "-")
@@ -44,60 +44,60 @@ pub record IsUnread (w : Loading) (n : ℕ) (s : Session) (left0 path : List ℕ
 
 -- ---- the next line is read, and what is said to it is made
 
-pub record MakesTurn (w : Loading) (n : ℕ) (s0 s1 : Session) (ended : Bool) (left0 left1 : List ℕ) (said : Said)
+pub record MakesTurn (w : Loading) (n : ℕ) (s0 s1 : Session) (ended : Bool) (left0 left1 : List ℕ) (reply : Reply)
     (steps0 steps1 : ℕ) : Type 0 where
   pub line : List ℕ
   pub splits : Splits false ended line left0 left1
-  pub says : Says said (turn w (n + 1) s0 line) s1
+  pub says : Says reply (turn w (n + 1) s0 line) s1
   pub steps : steps1 ≡ steps0 + (turn w (n + 1) s0 line).piece.cost
 
-abbrev pub MakesHalt : Halt → Loading → ℕ → Session → List ℕ → ℕ → ℕ → Type 0
-MakesHalt (H.Run trouble) w n s left0 steps0 steps1 = ReadsOn trouble steps0 steps1
-MakesHalt (H.Unread path) w n s left0 steps0 steps1 =
+abbrev pub MakesEnd : SessionEnd → Loading → ℕ → Session → List ℕ → ℕ → ℕ → Type 0
+MakesEnd (H.Run trouble) w n s left0 steps0 steps1 = ReadsOn trouble steps0 steps1
+MakesEnd (H.Unread path) w n s left0 steps0 steps1 =
     IsUnread w n s left0 (encode_utf8_all path) × (steps1 ≡ steps0)
 
-abbrev pub Makes : Result (Option Said) Halt → Loading → ℕ → Session → Session → Bool → List ℕ → List ℕ → ℕ → ℕ
+abbrev pub Makes : Result (Option Reply) SessionEnd → Loading → ℕ → Session → Session → Bool → List ℕ → List ℕ → ℕ → ℕ
     → Type 0
-Makes (Ok (Some said)) w n s0 s1 ended left0 left1 steps0 steps1 =
-    MakesTurn w n s0 s1 ended left0 left1 said steps0 steps1
+Makes (Ok (Some reply)) w n s0 s1 ended left0 left1 steps0 steps1 =
+    MakesTurn w n s0 s1 ended left0 left1 reply steps0 steps1
 Makes (Ok None) w n s0 s1 ended left0 left1 steps0 steps1 = (left0 ≡ []) × (left1 ≡ []) × (steps1 ≡ steps0)
-Makes (Err halt) w n s0 s1 ended left0 left1 steps0 steps1 = MakesHalt halt w n s0 left0 steps0 steps1
+Makes (Err session_end) w n s0 s1 ended left0 left1 steps0 steps1 = MakesEnd session_end w n s0 left0 steps0 steps1
 
 -- how many lines were passed, and whether there may be more
-abbrev pub Counts : {A : Type 0} → Result (Option A) Halt → Reader → Reader → Type 0
+abbrev pub Counts : {A : Type 0} → Result (Option A) SessionEnd → Reader → Reader → Type 0
 Counts (Ok (Some a)) old now = (now.number ≡ old.number + 1) × (now.done ≡ false)
 Counts (Ok None) old now = now.held.ended ≡ true
-Counts (Err halt) old now = Unit {0}
+Counts (Err session_end) old now = Unit {0}
 
 -- where the input ended first: what was read has no line feed
-abbrev pub StopsBy : Halt → Type 0 → Reader → Reader → List ℕ → List ℕ → Type 0
+abbrev pub StopsBy : SessionEnd → Type 0 → Reader → Reader → List ℕ → List ℕ → Type 0
 StopsBy (H.Run trouble) tells old now rest0 rest1 = StopsAt trouble tells old now rest0 rest1
 StopsBy (H.Unread path) tells old now rest0 rest1 = Unit {0}
 
-abbrev pub Stops : {A : Type 0} → Result A Halt → Type 0 → Reader → Reader → List ℕ → List ℕ → Type 0
+abbrev pub Stops : {A : Type 0} → Result A SessionEnd → Type 0 → Reader → Reader → List ℕ → List ℕ → Type 0
 Stops (Ok a) tells old now rest0 rest1 = Unit {0}
-Stops (Err halt) tells old now rest0 rest1 = StopsBy halt tells old now rest0 rest1
+Stops (Err session_end) tells old now rest0 rest1 = StopsBy session_end tells old now rest0 rest1
 
 -- ---- the counts of faults of the input and of the sinks
 
-abbrev pub InputEnds : Halt → ℕ → ℕ → Type 0
+abbrev pub InputEnds : SessionEnd → ℕ → ℕ → Type 0
 InputEnds (H.Run trouble) before now = SourceEnds trouble before now
 InputEnds (H.Unread path) before now = now ≡ before
 
-abbrev pub InputCause : {A : Type 0} → Result A Halt → ℕ → ℕ → Type 0
+abbrev pub InputCause : {A : Type 0} → Result A SessionEnd → ℕ → ℕ → Type 0
 InputCause (Ok a) before now = now ≡ before
-InputCause (Err halt) before now = InputEnds halt before now
+InputCause (Err session_end) before now = InputEnds session_end before now
 
-abbrev pub SinksBy : Halt → ℕ → ℕ → ℕ → ℕ → Type 0
+abbrev pub SinksBy : SessionEnd → ℕ → ℕ → ℕ → ℕ → Type 0
 SinksBy (H.Run trouble) out0 out1 err0 err1 = SinksEnd trouble out0 out1 err0 err1
 SinksBy (H.Unread path) out0 out1 err0 err1 = (out1 ≡ out0) × (err1 ≡ err0)
 
-abbrev pub SinksCause : {A : Type 0} → Result A Halt → ℕ → ℕ → ℕ → ℕ → Type 0
+abbrev pub SinksCause : {A : Type 0} → Result A SessionEnd → ℕ → ℕ → ℕ → ℕ → Type 0
 SinksCause (Ok a) out0 out1 err0 err1 = (out1 ≡ out0) × (err1 ≡ err0)
-SinksCause (Err halt) out0 out1 err0 err1 = SinksBy halt out0 out1 err0 err1
+SinksCause (Err session_end) out0 out1 err0 err1 = SinksBy session_end out0 out1 err0 err1
 
 -- nothing was written where it came
-abbrev pub IsOfReading : Halt → Type 0
+abbrev pub IsOfReading : SessionEnd → Type 0
 IsOfReading (H.Run T.WriteFault) = ⊥
 IsOfReading (H.Run T.NoMemory) = Unit {0}
 IsOfReading (H.Run T.ReadFault) = Unit {0}
@@ -105,7 +105,7 @@ IsOfReading (H.Run T.Spent) = Unit {0}
 IsOfReading (H.Unread path) = Unit {0}
 
 -- what is written where going on to the next line ends the session
-abbrev pub Breaks : Halt → Telling → Loading → ℕ → Session → List ℕ → Texts → Texts → Type 0
+abbrev pub Breaks : SessionEnd → Telling → Loading → ℕ → Session → List ℕ → Texts → Texts → Type 0
 Breaks (H.Run T.NoMemory) W w n s left0 a b = Fronts W (pieces_of (to_come w n s left0)) a b
 Breaks (H.Run T.WriteFault) W w n s left0 a b = Fronts W (pieces_of (to_come w n s left0)) a b
 Breaks (H.Run T.ReadFault) W w n s left0 a b = Wrote W [] a b
@@ -139,7 +139,7 @@ pub record Cuts (W : Telling) (w : Loading) (rest0 rest1 : List ℕ) (a b : Text
   pub count : length done ≡ feeds got
   pub wrote : Wrote W (pieces_of done) a b
 
--- a file ended it that the line behind those asks for
+-- a file ended it that the line after those asks for
 pub record CutsLoad (W : Telling) (w : Loading) (input path : List ℕ) (a b : Texts) : Type 0 where
   pub done : List Turn
   pub next : Turn
@@ -148,23 +148,23 @@ pub record CutsLoad (W : Telling) (w : Loading) (input path : List ℕ) (a b : T
   pub asks : Contains next.asked path
   pub wrote : Wrote W (pieces_of done) a b
 
-abbrev pub Halts : Halt → Telling → Loading → List ℕ → List ℕ → Texts → Texts → Type 0
-Halts (H.Run T.NoMemory) W w rest0 rest1 a b = Fronts W (pieces_of (turns w rest0)) a b
-Halts (H.Run T.WriteFault) W w rest0 rest1 a b = Fronts W (pieces_of (turns w rest0)) a b
-Halts (H.Run T.ReadFault) W w rest0 rest1 a b = Cuts W w rest0 rest1 a b
-Halts (H.Run T.Spent) W w rest0 rest1 a b = Cuts W w rest0 rest1 a b × (2 ^ 32 ≤ length rest0)
-Halts (H.Unread path) W w rest0 rest1 a b = CutsLoad W w rest0 (encode_utf8_all path) a b
+abbrev pub EndsLines : SessionEnd → Telling → Loading → List ℕ → List ℕ → Texts → Texts → Type 0
+EndsLines (H.Run T.NoMemory) W w rest0 rest1 a b = Fronts W (pieces_of (turns w rest0)) a b
+EndsLines (H.Run T.WriteFault) W w rest0 rest1 a b = Fronts W (pieces_of (turns w rest0)) a b
+EndsLines (H.Run T.ReadFault) W w rest0 rest1 a b = Cuts W w rest0 rest1 a b
+EndsLines (H.Run T.Spent) W w rest0 rest1 a b = Cuts W w rest0 rest1 a b × (2 ^ 32 ≤ length rest0)
+EndsLines (H.Unread path) W w rest0 rest1 a b = CutsLoad W w rest0 (encode_utf8_all path) a b
 
-abbrev pub RunsLines : Result Tally Halt → Telling → Loading → List ℕ → List ℕ → Texts → Texts → Type 0
+abbrev pub RunsLines : Result Tally SessionEnd → Telling → Loading → List ℕ → List ℕ → Texts → Texts → Type 0
 RunsLines (Ok tally) W w rest0 rest1 a b =
     Wrote W (pieces_of (turns w rest0)) a b × (tally ≡ tally_of (pieces_of (turns w rest0)))
-RunsLines (Err halt) W w rest0 rest1 a b = Halts halt W w rest0 rest1 a b
+RunsLines (Err session_end) W w rest0 rest1 a b = EndsLines session_end W w rest0 rest1 a b
 
 -- so many bytes were taken where the reads are spent
-abbrev pub SpentBy : Halt → ℕ → ℕ → Type 0
+abbrev pub SpentBy : SessionEnd → ℕ → ℕ → Type 0
 SpentBy (H.Run trouble) before now = SpentEnds trouble before now
 SpentBy (H.Unread path) before now = Unit {0}
 
-abbrev pub SpentCause : Result Tally Halt → ℕ → ℕ → Type 0
+abbrev pub SpentCause : Result Tally SessionEnd → ℕ → ℕ → Type 0
 SpentCause (Ok tally) before now = Unit {0}
-SpentCause (Err halt) before now = SpentBy halt before now
+SpentCause (Err session_end) before now = SpentBy session_end before now

@@ -17,13 +17,13 @@ use Rattle.rosie_run.specs.Report.{Piece, fault_piece}
 use Rattle.rosie_run.specs.Sources.{Moment, NoFewer, RoseIn, Still, moment_of}
 use Rattle.rosie_run.specs.declared.trouble.Trouble.TheVariants as T
 use Rattle.rosie_session.specs.Replay.{Turn, ok_piece, plain}
-use Rattle.rosie_session.specs.declared.halt.Halt.{Halt}
-use Rattle.rosie_session.specs.declared.halt.Halt.TheVariants as H
-use Rattle.rosie_session.specs.declared.said.Said.{Said}
+use Rattle.rosie_session.specs.declared.session_end.SessionEnd.{SessionEnd}
+use Rattle.rosie_session.specs.declared.session_end.SessionEnd.TheVariants as H
+use Rattle.rosie_session.specs.declared.reply.Reply.{Reply}
 
 -- the texts and the mark are those of the piece
-abbrev pub IsSaid : Said → Piece → Type 0
-IsSaid s p = IsMade s.mark s.out.items s.err.items p
+abbrev pub IsReply : Reply → Piece → Type 0
+IsReply s p = IsMade s.mark s.out.items s.err.items p
 
 -- the job is the one that is due, or a line is
 abbrev pub GivesJob : Result MatchJob Unready → OrLine Job → Type 0
@@ -47,47 +47,47 @@ Judges (Ok a) t before after = (t.piece ≡ ok_piece after) × (t.session ≡ af
 Judges (Err u) t before after = JudgesEnd u t before
 
 -- where nothing is said: the path that wasn't read is one that was asked for
-abbrev pub IsHalted : Halt → Turn → Type 0
-IsHalted (H.Run trouble) t = trouble ≡ T.NoMemory
-IsHalted (H.Unread path) t = Contains t.asked (encode_utf8_all path)
+abbrev pub IsEndOf : SessionEnd → Turn → Type 0
+IsEndOf (H.Run trouble) t = trouble ≡ T.NoMemory
+IsEndOf (H.Unread path) t = Contains t.asked (encode_utf8_all path)
 
--- nothing but want of memory, or a file that wasn't read
-abbrev pub IsInner : Halt → Type 0
+-- nothing but out of memory, or a file that wasn't read
+abbrev pub IsInner : SessionEnd → Type 0
 IsInner (H.Run trouble) = trouble ≡ T.NoMemory
 IsInner (H.Unread path) = Unit {0}
 
--- what is said, and the session behind it
-abbrev pub Says : Said → Turn → Session → Type 0
-Says said t now = IsSaid said t.piece × (now ≡ t.session)
+-- what is said, and the session after it
+abbrev pub Says : Reply → Turn → Session → Type 0
+Says reply t now = IsReply reply t.piece × (now ≡ t.session)
 
-abbrev pub Turns : Result Said Halt → Turn → Session → Type 0
-Turns (Ok said) t now = Says said t now
-Turns (Err halt) t now = IsHalted halt t
+abbrev pub Turns : Result Reply SessionEnd → Turn → Session → Type 0
+Turns (Ok reply) t now = Says reply t now
+Turns (Err session_end) t now = IsEndOf session_end t
 
 -- the steps that were made
-abbrev pub HaltSteps : Halt → ℕ → ℕ → Type 0
-HaltSteps (H.Run trouble) before now = Unit {0}
-HaltSteps (H.Unread path) before now = now ≡ before
+abbrev pub EndSteps : SessionEnd → ℕ → ℕ → Type 0
+EndSteps (H.Run trouble) before now = Unit {0}
+EndSteps (H.Unread path) before now = now ≡ before
 
-abbrev pub StepsBy : Result Said Halt → Turn → ℕ → ℕ → Type 0
-StepsBy (Ok said) t before now = now ≡ before + t.piece.cost
-StepsBy (Err halt) t before now = HaltSteps halt before now
+abbrev pub StepsBy : Result Reply SessionEnd → Turn → ℕ → ℕ → Type 0
+StepsBy (Ok reply) t before now = now ≡ before + t.piece.cost
+StepsBy (Err session_end) t before now = EndSteps session_end before now
 
 -- the counts of the files: a read failed only where one of them rose
-abbrev pub HaltFiles : Halt → Moment → Moment → Type 0
-HaltFiles (H.Run T.NoMemory) f0 f1 = NoFewer f0 f1
-HaltFiles (H.Run T.WriteFault) f0 f1 = Still f0 f1
-HaltFiles (H.Run T.ReadFault) f0 f1 = Still f0 f1
-HaltFiles (H.Run T.Spent) f0 f1 = Still f0 f1
-HaltFiles (H.Unread path) f0 f1 = NoFewer f0 f1 × RoseIn f0 f1
+abbrev pub EndFiles : SessionEnd → Moment → Moment → Type 0
+EndFiles (H.Run T.NoMemory) f0 f1 = NoFewer f0 f1
+EndFiles (H.Run T.WriteFault) f0 f1 = Still f0 f1
+EndFiles (H.Run T.ReadFault) f0 f1 = Still f0 f1
+EndFiles (H.Run T.Spent) f0 f1 = Still f0 f1
+EndFiles (H.Unread path) f0 f1 = NoFewer f0 f1 × RoseIn f0 f1
 
-abbrev pub FilesBy : {A : Type 0} → Result A Halt → Moment → Moment → Type 0
+abbrev pub FilesBy : {A : Type 0} → Result A SessionEnd → Moment → Moment → Type 0
 FilesBy (Ok a) f0 f1 = Still f0 f1
-FilesBy (Err halt) f0 f1 = HaltFiles halt f0 f1
+FilesBy (Err session_end) f0 f1 = EndFiles session_end f0 f1
 
 -- What a turn leaves of the files, which are only read: a read failed only where a count of failures rose. Where
--- nothing is said, memory is wanting or a file wasn't read.
-pub record Leaves {F : Type 0} (S : Ghosts F) (result : Result Said Halt) (old new : F) : Type 0 where
+-- nothing is said, memory runs out or a file wasn't read.
+pub record Leaves {F : Type 0} (S : Ghosts F) (result : Result Reply SessionEnd) (old new : F) : Type 0 where
   pub inner : IfErr result IsInner
   pub cause : FilesBy result (moment_of S old) (moment_of S new)
   pub taken : NotFewer (S.taken old) (S.taken new)

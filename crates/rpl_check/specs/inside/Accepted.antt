@@ -1,8 +1,8 @@
 -- What is known of a table without faults.
 use Rattle.std.specs.Prelude.{◌≡◌, ℕ, ◌<◌, Bool, true, false, List, length, Some, None, slice_get}
 use Rattle.rpl_core.specs.Core.{Core}
-use Rattle.rpl_simulation.specs.Static.{may_be_empty}
-use Rattle.rpl_simulation.specs.Static.{may_halt, predicates_stay}
+use Rattle.rpl_compile_laws.specs.Static.{may_be_empty}
+use Rattle.rpl_compile_laws.specs.Static.{may_halt, predicates_stay}
 use Rattle.rpl_check.specs.Causes.{first_cause}
 use Rattle.rpl_check.specs.Facts.{IsLeast, Solves}
 use Rattle.rpl_check.specs.Laws.{CallsStay}

@@ -2,8 +2,8 @@
 use Rattle.std.specs.Prelude.{◌≡◌, ℕ, ◌<◌, ◌≤◌, Bool, true, List, length, Some, slice_get}
 use Rattle.rpl_core.specs.Core.{Core}
 use Rattle.rpl_core.specs.Programs.{calls}
-use Rattle.rpl_simulation.specs.Static.{may_be_empty}
-use Rattle.rpl_simulation.specs.Static.{may_halt}
+use Rattle.rpl_compile_laws.specs.Static.{may_be_empty}
+use Rattle.rpl_compile_laws.specs.Static.{may_halt}
 use Rattle.rpl_check.specs.declared.facts.Fact as F
 use Rattle.rpl_check.specs.declared.facts.Fact.TheVariants as V
 use Rattle.rpl_check.specs.Facts.{Solves, IsLeast, Follows, passes}

@@ -3,10 +3,10 @@ use Rattle.std.specs.Prelude.{◌≡◌, ℕ, ◌+◌, ◌-◌, ◌<◌, ◌≤�
 use Rattle.std.specs.Prelude.{List, length, Option, Some, None, slice_index_or}
 use Rattle.rpl_core.specs.Core.{Core, Set, Seq, Choice, Many, Not, And, Behind, Call, Capture, Note, Start, End, Halt}
 use Rattle.rpl_core.specs.Core.{Cores, NoMore, Then}
-use Rattle.rpl_simulation.specs.Static.{may_be_empty, all_may_be_empty, any_may_be_empty}
+use Rattle.rpl_compile_laws.specs.Static.{may_be_empty, all_may_be_empty, any_may_be_empty}
 use Rattle.rpl_core.specs.inside.Marks.{marked, unmarked, waits}
 use Rattle.rpl_check.specs.inside.Rounds.{OverReach}
-use Rattle.rpl_check.specs.declared.recursion.Search.{Search}
+use Rattle.rpl_check.specs.declared.recursion.BlockSearch.{BlockSearch}
 
 -- the rule stands before a, or the list, which begins there, marks it
 abbrev pub marked_from : ℕ → List Bool → ℕ → Bool
@@ -77,15 +77,15 @@ pub record AreReached (R : List Core) (m : ℕ → Bool) (r a e : ℕ) (list : L
   pub inside : (q : ℕ) → waits list q ≡ true → (a ≤ q) × (q < e)
 
 -- the rule is one of the block
-abbrev pub in_block : Search → ℕ → Bool
+abbrev pub in_block : BlockSearch → ℕ → Bool
 in_block s r = nat_le s.start r && nat_lt (r - s.start) (length s.marks.items)
 
 -- the rule is one of the block, and was found
-abbrev pub found : Search → ℕ → Bool
+abbrev pub found : BlockSearch → ℕ → Bool
 found s r = nat_le s.start r && marked s.marks.items (r - s.start)
 
 -- the rules of the block that pass the test are found as well, and those found anew wait
-pub record Finds (test : ℕ → Bool) (old new : Search) : Type 0 where
+pub record Finds (test : ℕ → Bool) (old new : BlockSearch) : Type 0 where
   pub start : new.start ≡ old.start
   pub long : length new.marks.items ≡ length old.marks.items
   pub marks : (r : ℕ) → found new r ≡ (found old r || (in_block old r && test r))

@@ -12,7 +12,7 @@ abbrev pub applied : Operator → List Range → List Range → List Range
 applied Both a c = both a c
 applied Without a c = without a c
 
--- the operator at the place p, `&&` or `--`, and the place behind it
+-- the operator at the place p, `&&` or `--`, and the place after it
 abbrev pub OperatorAt : List ℕ → ℕ → Option (Operator × ℕ) → Type 0
 OperatorAt t p None =
     ((begins 38 (symbols_from t p) && begins 38 (rest (symbols_from t p))) ≡ false)

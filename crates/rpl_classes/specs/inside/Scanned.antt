@@ -12,7 +12,7 @@ use Rattle.rpl_classes.specs.declared.symbols.Symbol.TheVariants.{Plain, Escaped
 use Rattle.rpl_classes.specs.declared.fault.SetFault.{SetFault}
 use Rattle.rpl_classes.specs.declared.fault.SetFault.TheVariants.{NoMemory}
 
--- what stands behind a symbol, where q is the place behind it
+-- what stands after a symbol, where q is the place after it
 abbrev pub behind : List ℕ → Symbol → ℕ → List Placed
 behind t (Plain c) q = symbols_from t q
 behind t (Escaped c) q = symbols_from t q
@@ -30,18 +30,18 @@ pub record Scanned (t : List ℕ) (p : ℕ) (x : Symbol) (q : ℕ) : Type 0 wher
   pub next : IsPlace t q
   pub forward : GoesOn t x p q
 
--- the symbols s, behind the place p, begin at the place q
+-- the symbols s, after the place p, begin at the place q
 pub record Passed (t : List ℕ) (p : ℕ) (s : List Placed) (q : ℕ) : Type 0 where
   pub left : s ≡ symbols_from t q
   pub next : IsPlace t q
   pub forward : p < q
 
--- the place behind a plain character, where it stands at the place p
+-- the place after a plain character, where it stands at the place p
 abbrev pub Accepts : List ℕ → ℕ → ℕ → Option ℕ → Type 0
 Accepts t p c None = begins c (symbols_from t p) ≡ false
 Accepts t p c (Some q) = (begins c (symbols_from t p) ≡ true) × Passed t p (rest (symbols_from t p)) q
 
--- the place q behind blanks, or behind a name
+-- the place q after blanks, or after a name
 pub record Skipped (t : List ℕ) (p : ℕ) (s : List Placed) (q : ℕ) : Type 0 where
   pub left : s ≡ symbols_from t q
   pub next : IsPlace t q
@@ -51,7 +51,7 @@ pub record Worded (t : List ℕ) (p q : ℕ) : Type 0 where
   pub word : word (symbols_from t p) ≡ slice_range t (index t p) (index t q)
   pub past : Skipped t p (past_word (symbols_from t p)) q
 
--- a character of a list at the place p, and the place behind it
+-- a character of a list at the place p, and the place after it
 abbrev pub TakesMember : List ℕ → ℕ → Option (ℕ × ℕ) → Type 0
 TakesMember t p None = is_member (first (symbols_from t p)) ≡ false
 TakesMember t p (Some (c, q)) =
@@ -59,7 +59,7 @@ TakesMember t p (Some (c, q)) =
     × (char_of (first (symbols_from t p)) ≡ c)
     × Passed t p (rest (symbols_from t p)) q
 
--- a list of three with its ends, the place of its `-`, and the place behind its `]`
+-- a list of three with its ends, the place of its `-`, and the place after its `]`
 pub record RangeFound (t : List ℕ) (p low dash high q : ℕ) : Type 0 where
   pub is : is_range (symbols_from t p) ≡ true
   pub low_end : char_of (first (symbols_from t p)) ≡ low
@@ -77,17 +77,17 @@ StepsList t p is_first (Ok (Some c, q)) =
     × IsPlace t q
     × (p < q)
 
--- what was read is the reading: the set and the place behind it, or the fault; or memory ran out
+-- what was read is the reading: the set and the place after it, or the fault; or memory ran out
 abbrev pub Gives : List ℕ → Result (List Range × ℕ) SetFault → Reading → Type 0
 Gives t (Ok (a, q)) r = r ≡ Ok (a, symbols_from t q)
 Gives t (Err e) r = e ≢ NoMemory → r ≡ Err e
 
--- it ends at a place behind p
+-- it ends at a place after p
 abbrev pub Ends : List ℕ → ℕ → Result (List Range × ℕ) SetFault → Type 0
 Ends t p (Ok (a, q)) = IsPlace t q × (p < q)
 Ends t p (Err e) = Unit {0}
 
--- a class's name from the place o to the place e, and the place behind the class
+-- a class's name from the place o to the place e, and the place after the class
 pub record NameFound (t : List ℕ) (o e q : ℕ) : Type 0 where
   pub is : is_name (symbols_from t o) ≡ true
   pub text : word (symbols_from t o) ≡ slice_range t (index t o) (index t e)
@@ -96,7 +96,7 @@ pub record NameFound (t : List ℕ) (o e q : ℕ) : Type 0 where
   pub order : o ≤ e
   pub behind : Passed t o (rest (rest (past_word (symbols_from t o)))) q
 
--- a class behind its `[`, which stands at the place p
+-- a class after its `[`, which stands at the place p
 pub record ClassFound (t : List ℕ) (p : ℕ) (negated : Bool) (o e q : ℕ) : Type 0 where
   pub is : is_class (symbols_from t p) ≡ true
   pub mark : begins 94 (rest (symbols_from t p)) ≡ negated
@@ -109,7 +109,7 @@ abbrev pub with_place : Result (List Range) SetFault → ℕ → Result (List Ra
 with_place (Ok a) q = Ok (a, q)
 with_place (Err e) q = Err e
 
--- the place behind a plain character that stands twice at the place p
+-- the place after a plain character that stands twice at the place p
 abbrev pub AcceptsTwice : List ℕ → ℕ → ℕ → Option ℕ → Type 0
 AcceptsTwice t p c None = (begins c (symbols_from t p) && begins c (rest (symbols_from t p))) ≡ false
 AcceptsTwice t p c (Some q) =

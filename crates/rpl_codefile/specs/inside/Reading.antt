@@ -19,7 +19,7 @@ abbrev pub ◌>>=◌ : {A B : Type 0} → Option A → (A → Option B) → Opti
 None >>= f = None
 (Some x) >>= f = f x
 
--- a number and the bytes behind it
+-- a number and the bytes after it
 abbrev pub number_at : Width → List ℕ → Option (ℕ × List ℕ)
 number_at w bytes =
     if nat_lt (length bytes) (byte_len w) then None
@@ -105,7 +105,7 @@ text_at bytes = do
   if nat_lt (length n.1) n.0 then None
       else (if is_utf8 (take n.0 n.1) then Some (chars (take n.0 n.1), drop n.0 n.1) else None)
 
--- behind the eight bytes
+-- after the eight bytes
 unfoldable pub file_at : List ℕ → Option File
 file_at bytes = do
   s ← number_at w32 bytes

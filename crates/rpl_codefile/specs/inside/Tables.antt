@@ -6,7 +6,7 @@ use Rattle.regex_class.specs.Ranges.{Range}
 use Rattle.rpl_core.specs.Numbers.{AreInRange}
 use Rattle.rpl_core.specs.declared.instr.Instr as R
 use Rattle.rpl_core.specs.declared.instr.Instr.TheVariants as V
-use Rattle.rpl_draft.specs.Uses.{KeepsOnce, labels_in, sets_in}
+use Rattle.rpl_intern.specs.Uses.{KeepsOnce, labels_in, sets_in}
 use Rattle.rpl_codefile.specs.Spelling.{file_of, says}
 use Rattle.rpl_codefile.specs.inside.Reading.{◌>>=◌}
 use Rattle.rpl_codefile.specs.declared.tables.Table.{Table}

@@ -16,7 +16,7 @@ abbrev pub body_len : Option Core → ℕ
 body_len None = 0
 body_len (Some p) = len p + 1
 
--- the same if the rule is marked, and nothing else
+-- a body with its return, if there is such a rule and it is marked
 abbrev pub rule_len : Bool → Option Core → ℕ
 rule_len b o = if b then body_len o else 0
 

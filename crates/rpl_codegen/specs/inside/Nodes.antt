@@ -57,10 +57,10 @@ abbrev mutual
 abbrev pub nodes_in : Core → List Node
 nodes_in p = node p None ∷ inner_nodes p
 
--- the same of a core that is tested
+-- the nodes of a core that is tested, and of those in it
 abbrev pub tested_nodes : Core → List Node
 tested_nodes p = node p (H.head p) ∷ inner_nodes p
 
--- the same of a part of a sequence
+-- the nodes of a part of a sequence, and of those in it
 abbrev pub numbered_nodes : ℕ → Core → List Node
 numbered_nodes k p = part_node k p ∷ inner_nodes p

@@ -6,8 +6,8 @@ use Rattle.rpl_core.specs.Instr.{Instr}
 use Rattle.rpl_core.specs.Instr as I
 use Rattle.rpl_core.specs.View.{core_of}
 use Rattle.rpl_core.specs.declared.peg.Peg.{Peg}
-use Rattle.rpl_draft.specs.Written.{Adds}
-use Rattle.rpl_draft.specs.declared.draft.Draft.{Draft}
+use Rattle.rpl_intern.specs.Written.{Adds}
+use Rattle.rpl_intern.specs.declared.draft.Draft.{Draft}
 use Rattle.rpl_codegen.specs.declared.layout.Layout.{Layout}
 
 -- the draft has this code more, placed where it begins

@@ -4,10 +4,10 @@ use Rattle.rpl_core.specs.Core.{Core}
 use Rattle.rpl_core.specs.Programs.{calls, Reaches}
 use Rattle.rpl_core.specs.inside.Marks.{unmarked, waits}
 use Rattle.rpl_core.specs.Marked.{marked}
-use Rattle.rpl_core.specs.declared.reach.Search.{Search}
+use Rattle.rpl_core.specs.declared.reach.RuleSearch.{RuleSearch}
 
 -- the rules of the table that pass the test are marked as well, and those marked anew wait
-pub record Marks (test : ℕ → Bool) (old new : Search) : Type 0 where
+pub record Marks (test : ℕ → Bool) (old new : RuleSearch) : Type 0 where
   pub long : length new.marks.items ≡ length old.marks.items
   pub marks : (r : ℕ)
       → marked new.marks.items r ≡ (marked old.marks.items r || (nat_lt r (length old.marks.items) && test r))
@@ -16,7 +16,7 @@ pub record Marks (test : ℕ → Bool) (old new : Search) : Type 0 where
   pub left : length new.waiting.items + unmarked new.marks.items ≡ length old.waiting.items + unmarked old.marks.items
 
 -- how far the search has come: what it marks is reached, and what a rule calls is marked unless that rule still waits
-pub record Reached (R : List Core) (g : Core) (s : Search) : Type 0 where
+pub record Reached (R : List Core) (g : Core) (s : RuleSearch) : Type 0 where
   pub long : length s.marks.items ≡ length R
   pub under : (r : ℕ) → marked s.marks.items r ≡ true → Reaches R g r
   pub known : (r : ℕ) → waits s.waiting.items r ≡ true → marked s.marks.items r ≡ true

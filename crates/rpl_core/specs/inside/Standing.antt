@@ -26,7 +26,7 @@ abbrev mutual
   all_call_only test NoMore = true
   all_call_only test (Then p ps) = calls_only test p && all_call_only test ps
 
--- so does the body of a rule, if there is one
+-- each rule that the body of a rule calls passes the test, if there is a body
 abbrev pub body_calls_only : (ℕ → Bool) → Option Core → Bool
 body_calls_only test None = true
 body_calls_only test (Some p) = calls_only test p

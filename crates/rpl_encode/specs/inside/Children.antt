@@ -13,13 +13,13 @@ is_hit_by labels n None = bytes_eq (encode_utf8_all (label_in labels n.label)) (
 is_hit_by labels n (Some text) = false
 
 -- its text is printed, among those of hits alone or of all nodes
-abbrev pub is_wanted : List (List ℕ) → Bool → Node → Bool
-is_wanted labels only_hits n = not only_hits || is_hit_by labels n n.note
+abbrev pub is_printed : List (List ℕ) → Bool → Node → Bool
+is_printed labels only_hits n = not only_hits || is_hit_by labels n n.note
 
 -- the texts that are printed
-abbrev pub wanted : Bool → List ℕ → Forest → List (List ℕ)
-wanted true line f = hits line f
-wanted false line f = texts line f
+abbrev pub printed_texts : Bool → List ℕ → Forest → List (List ℕ)
+printed_texts true line f = hits line f
+printed_texts false line f = texts line f
 
 abbrev pub is_some_text : List (List ℕ) → Bool
 is_some_text [] = false

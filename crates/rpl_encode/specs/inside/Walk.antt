@@ -29,7 +29,7 @@ abbrev pub comma : Bool → List ℕ
 comma true = []
 comma false = codes ","
 
--- what stands behind its fields, whether there are nodes below it or not
+-- what stands after its fields, whether there are nodes below it or not
 abbrev pub ending : Bool → List ℕ
 ending true = codes ",\"subs\":["
 ending false = codes "}"

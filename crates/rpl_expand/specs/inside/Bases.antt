@@ -11,7 +11,7 @@ use Rattle.rpl_expand.specs.inside.Scopes.{scope_seen}
 use Rattle.rpl_expand.specs.declared.base.Base.{Base}
 use Rattle.rpl_expand.specs.declared.mode.Mode.{Mode}
 
--- what stands for the rules so far behind a look-behind
+-- what stands for the rules so far in a look-behind
 abbrev pub base_inners : Base → Inners
 base_inners b = inners_of (rules_of b.rules.now)
 
@@ -22,20 +22,20 @@ base_scope b = scope_seen b.scope (base_inners b)
 abbrev pub Knows : Base → Type 0
 Knows b = KnowsInners b.known.now (base_inners b)
 
--- a core there, or what stands for it behind a look-behind
-abbrev pub shown : Base → (inside : Bool) → Core → Core
-shown b inside p = seen inside (base_inners b) p
+-- a core there, or what stands for it in a look-behind
+abbrev pub shown : Base → (in_lookbehind : Bool) → Core → Core
+shown b in_lookbehind p = seen in_lookbehind (base_inners b) p
 
-abbrev pub shown_all : Base → (inside : Bool) → Cores → Cores
-shown_all b inside ps = seen_all inside (base_inners b) ps
+abbrev pub shown_all : Base → (in_lookbehind : Bool) → Cores → Cores
+shown_all b in_lookbehind ps = seen_all in_lookbehind (base_inners b) ps
 
 -- the core of an expression there, or what stands for it
 abbrev pub core_at : Base → Mode → Expr → Core
-core_at b m e = shown b m.inside (E.core m.casing (base_scope b) e)
+core_at b m e = shown b m.in_lookbehind (E.core m.casing (base_scope b) e)
 
 abbrev pub cores_at : Base → Mode → Exprs → Cores
-cores_at b m es = shown_all b m.inside (E.cores m.casing (base_scope b) es)
+cores_at b m es = shown_all b m.in_lookbehind (E.cores m.casing (base_scope b) es)
 
 -- the items of a cooked group, with the boundary between them
 abbrev pub spaced_at : Base → Mode → Exprs → Cores
-spaced_at b m es = shown_all b m.inside (E.spaced m.casing (base_scope b) es)
+spaced_at b m es = shown_all b m.in_lookbehind (E.spaced m.casing (base_scope b) es)

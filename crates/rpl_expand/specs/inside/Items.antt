@@ -14,7 +14,7 @@ abbrev pub prefix_at : Option Expr → Bool
 prefix_at None = false
 prefix_at (Some e) = is_prefix (expr_of e)
 
--- no boundary stands behind the item with this number: it is the last, or a predicate
+-- no boundary stands after the item with this number: it is the last, or a predicate
 abbrev pub alone : List Expr → ℕ → Bool
 alone items n = nat_eq (n + 1) (length items) || prefix_at (slice_get items n)
 

@@ -6,7 +6,7 @@ use Rattle.rpl_expand.specs.Expansion as E
 use Rattle.rpl_expand.specs.Sets.{rule_of}
 use Rattle.rpl_expand.specs.declared.scope.Scope.{Scope}
 
--- the scope, behind rules that these stand for
+-- the scope, after rules that these stand for
 abbrev pub scope_seen : Scope → Inners → E.Scope
 scope_seen s I =
     record { rule = λ q. rule_of (resolved (set_seen s.set.now) s.at q); boundary = s.boundary; inners = I }

@@ -3,7 +3,7 @@ use Rattle.std.specs.Prelude.{◌≡◌, ◌<◌, ℕ, List, [], ◌∷◌, Opti
 use Rattle.rpl_text.specs.Places.{index, IsPlace}
 use Rattle.rpl_lexer.specs.Payloads.{decoded}
 
--- from the byte place p on a character is read, and what is behind it stands at the place q; or the text is done
+-- from the byte place p on a character is read, and what is after it stands at the place q; or the text is done
 abbrev pub Decodes : List ℕ → ℕ → Option (ℕ × ℕ) → Type 0
 Decodes t p None = decoded 0 (drop (index t p) t) ≡ []
 Decodes t p (Some (c, q)) =

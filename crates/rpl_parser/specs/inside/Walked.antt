@@ -15,6 +15,6 @@ walk_of w = record {
   rules = rules_of w.rules;
 }
 
--- behind one more rule of a block
+-- after one more rule of a block
 abbrev pub inside : W.Walk → Rule → W.Walk
 inside w r = record w { rules = w.rules ++ r ∷ [] }

@@ -1,4 +1,4 @@
--- What was there, where more was added behind it.
+-- What was there, where more was added after it.
 use Rattle.std.specs.Prelude.{◌≡◌, ℕ, List, ◌++◌}
 
 -- the bytes that there were stand before all that came

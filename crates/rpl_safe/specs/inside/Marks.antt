@@ -9,7 +9,7 @@ use Rattle.std.specs.Global.{Vec}
 use Rattle.rpl_safe.specs.declared.marks.Mark.{Mark}
 use Rattle.rpl_safe.specs.declared.marks.Next.{Next}
 use Rattle.rpl_safe.specs.declared.marks.Next.TheVariants as N
-use Rattle.rpl_safe.specs.declared.finding.Search.{Search}
+use Rattle.rpl_safe.specs.declared.finding.MarkSearch.{MarkSearch}
 
 -- a mark for each address that has one
 abbrev pub Marks : Type 0
@@ -73,7 +73,7 @@ given_of (N.To a m) = Some ((a, m) ∷ [])
 given_of (N.ToBoth a m b k) = Some ((a, m) ∷ (b, k) ∷ [])
 
 -- what the search has become where the address got the mark, or had it
-abbrev pub Has : ℕ → Mark → Search → Search → Type 0
+abbrev pub Has : ℕ → Mark → MarkSearch → MarkSearch → Type 0
 Has b k old new =
     ((b < length old.marks.items) × (marks_at old.marks.items b ≡ None)
     × (new.marks.items ≡ set old.marks.items b (Some k)) × (new.waiting.items ≡ old.waiting.items ++ b ∷ []))
@@ -81,10 +81,10 @@ Has b k old new =
     × (new.marks.items ≡ old.marks.items) × (new.waiting.items ≡ old.waiting.items))
 
 -- it cannot have it
-abbrev pub Clashes : ℕ → Mark → Search → Type 0
+abbrev pub Clashes : ℕ → Mark → MarkSearch → Type 0
 Clashes b k old = (length old.marks.items ≤ b) ⊎ ((m : Mark) × (marks_at old.marks.items b ≡ Some m) × (m ≢ k))
 
-abbrev pub Puts : {E : Type 0} → ℕ → Mark → Search → Search → Result Bool E → Type 0
+abbrev pub Puts : {E : Type 0} → ℕ → Mark → MarkSearch → MarkSearch → Result Bool E → Type 0
 Puts b k old new (Ok true) = Has b k old new
 Puts b k old new (Ok false) = Clashes b k old
 Puts b k old new (Err e) = Unit {0}
@@ -99,14 +99,14 @@ AreMarked marks [] = Unit {0}
 AreMarked marks (g ∷ gs) = (marks g.0 ≡ Some g.1) × AreMarked marks gs
 
 -- the marks are put, the last one first
-abbrev pub Places : MarksGiven → Search → Search → Bool → Type 0
+abbrev pub Places : MarksGiven → MarkSearch → MarkSearch → Bool → Type 0
 Places [] old new true = (new.marks.items ≡ old.marks.items) × (new.waiting.items ≡ old.waiting.items)
 Places [] old new false = ⊥
-Places (g ∷ gs) old new true = (mid : Search) × Places gs old mid true × Has g.0 g.1 mid new
+Places (g ∷ gs) old new true = (mid : MarkSearch) × Places gs old mid true × Has g.0 g.1 mid new
 Places (g ∷ gs) old new false =
-    ((mid : Search) × Places gs old mid false) ⊎ ((mid : Search) × Places gs old mid true × Clashes g.0 g.1 mid)
+    ((mid : MarkSearch) × Places gs old mid false) ⊎ ((mid : MarkSearch) × Places gs old mid true × Clashes g.0 g.1 mid)
 
-abbrev pub PlacesAll : Option MarksGiven → Search → Search → Bool → Type 0
+abbrev pub PlacesAll : Option MarksGiven → MarkSearch → MarkSearch → Bool → Type 0
 PlacesAll None old new b = b ≡ false
 PlacesAll (Some gs) old new b = Places gs old new b
 
@@ -147,13 +147,13 @@ abbrev pub Follows : List Instr → Marks → ℕ → Mark → Type 0
 Follows code marks a m = (gs : MarksGiven) × (mark_by marks (slice_get code a) a m ≡ Some gs) × AreMarked marks gs
 
 -- how far the search has come
-pub record Found (code : List Instr) (s : Search) : Type 0 where
+pub record Found (code : List Instr) (s : MarkSearch) : Type 0 where
   pub known : Known code s.marks.items
   pub waiting : (a : ℕ) → Waits s.waiting.items a → (m : Mark) × (marks_at s.marks.items a ≡ Some m)
   pub done : (a : ℕ) (m : Mark) → marks_at s.marks.items a ≡ Some m
       → Waits s.waiting.items a ⊎ Follows code (marks_at s.marks.items) a m
 
-abbrev pub PutsAll : {E : Type 0} → Option MarksGiven → Search → Search → Result Bool E → Type 0
+abbrev pub PutsAll : {E : Type 0} → Option MarksGiven → MarkSearch → MarkSearch → Result Bool E → Type 0
 PutsAll o old new (Ok b) = PlacesAll o old new b
 PutsAll o old new (Err e) = Unit {0}
 

@@ -63,7 +63,7 @@ pub record Steps (R : List Core) (t : List ℕ) (old : State) (e : End) (new : S
   pub ends : EndStands t next
   pub limit : new.limit ≡ old.limit
 
--- Refused, there are more evaluations than the limit; want of memory says nothing.
+-- Refused, there are more evaluations than the limit; out of memory says nothing.
 abbrev pub Refused : List Core → List ℕ → State → End → TraceFault → Type 0
 Refused R t s e NoMemory = Unit {0}
 Refused R t s e TraceTooLong = (o : Ending) (f : Evaluations) → Comes R t o f s e → s.limit < count f

@@ -79,7 +79,7 @@ OnFailure Fails P Q = P
 OnFailure (EndsAt i) P Q = Q
 OnFailure (HaltsAt i) P Q = Q
 
--- behind a turn of the body p at i
+-- after a turn of the body p at i
 abbrev pub Turned : List Core → List ℕ → Core → ℕ → Onward → Onward
 Turned R t p i onward Unsaid s v = onward Unsaid (vanished s) v
 Turned R t p i onward Fails s v = onward (EndsAt i) (vanished s) v

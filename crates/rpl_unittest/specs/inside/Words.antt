@@ -20,7 +20,7 @@ word_seen W.Other = S.Other
 abbrev pub words_seen : List Word → List S.Word
 words_seen = map word_seen
 
--- bytes, and the words behind them
+-- bytes, and the words after them
 abbrev pub first_seen : Option (Bor (List ℕ) × Bor (List Word)) → Option (List ℕ × List S.Word)
 first_seen None = None
 first_seen (Some (n, rest)) = Some (n.now, words_seen rest.now)
@@ -29,7 +29,7 @@ abbrev pub bytes_of : Option (Bor (List ℕ)) → Option (List ℕ)
 bytes_of None = None
 bytes_of (Some b) = Some b.now
 
--- a part or none, and the words behind it
+-- a part or none, and the words after it
 abbrev pub part_seen : Option (Option (Bor (List ℕ)) × Bor (List Word)) → Option (Option (List ℕ) × List S.Word)
 part_seen None = None
 part_seen (Some (p, rest)) = Some (bytes_of p, words_seen rest.now)

@@ -1,6 +1,6 @@
 use Rattle.std.proofs.Common.{◌∙◌, ap, sym, subst}
 use Rattle.rosie_prepare.specs.Answers.{IsAsked}
-use Rattle.rosie_show.proofs.Texts.{one_text}
+use Rattle.rosie_inspect.proofs.Texts.{one_text}
 use Rattle.rpl_package.specs.Names.{all_listed}
 use Rattle.rpl_package.specs.Sets.{set_seen}
 use Rattle.rosie_cli.specs.Listing.{Lists}

@@ -5,7 +5,7 @@ use Rattle.rosie_jobs.specs.Jobs.{matcher_of, runner_of, tracer_of}
 use Rattle.rosie_cli.specs.Plans.{inputs_of}
 use Rattle.rosie_cli.specs.Report.{KnowsInputs}
 use Rattle.rosie_cli.specs.inside.Planning.{plan_of, IsSaid}
-use Rattle.rosie_verdicts.specs.Seen.{bench_of, trials_of}
+use Rattle.rosie_unittest.specs.Seen.{bench_of, trials_of}
 use Rattle.rosie_cli.proofs.Whole.{match-runs, names-go, said-goes, test-runs, told-names, unread-names}
 use Rattle.rosie_cli.proofs.top.run_plan.Goals as goal
 

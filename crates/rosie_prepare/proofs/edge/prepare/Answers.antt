@@ -1,6 +1,6 @@
 use Rattle.std.proofs.Common.{subst}
 use Rattle.rosie_prepare.proofs.Loads.{asked_prepared, asked_through, stops_next}
-use Rattle.rosie_prepare.specs.Views.{wanted_seen}
+use Rattle.rosie_prepare.specs.Views.{request_seen}
 use Rattle.rosie_prepare.specs.inside.Steps.{StopsWith}
 use Rattle.rpl_package.specs.Loading.{world}
 use Rattle.rpl_package.specs.Patterns.{load_pattern}
@@ -10,12 +10,12 @@ use Rattle.rosie_prepare.proofs.edge.prepare.Goals as goal
 
 pub returns-in_err-expr-clause-asked : goal.returns-in_err-expr-clause-asked
 returns-in_err-expr-clause-asked g c = λ tells asked r h.
-    let w = c.args.wanted.now in
+    let w = c.args.request.now in
     let out = world (g.F.Source.tree c.args.files.now) w.folders.now in
     let p = set_seen c.in_ok-set.set in
     let u = c.in_err-expr.field-0.0 in
     let stops = subst (λ tree. StopsWith u (load_pattern (world tree w.folders.now) p h.parse)) c.in_ok-set.ensures.tree
     (c.in_err-expr.ensures.gives tells h.parse h.reads) in
     asked_through c.from_residual-in_err-expr.result u asked c.from_residual-in_err-expr.ensures.1
-    (asked_prepared _ (wanted_seen w) asked r h u
+    (asked_prepared _ (request_seen w) asked r h u
     (stops_next u (load out w.roots.now) p (λ q. load_pattern out q h.parse) (c.in_ok-set.ensures.gives tells) stops))

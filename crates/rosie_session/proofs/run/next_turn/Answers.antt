@@ -3,10 +3,10 @@ use Rattle.std.specs.Prelude.{Result, Ok}
 use Rattle.rosie_repl.specs.Edits.{edit_of}
 use Rattle.rosie_repl.specs.States.{session_of}
 use Rattle.rosie_session.specs.Replay.{edit_turn}
-use Rattle.rosie_session.specs.declared.halt.Halt.{Halt}
-use Rattle.rosie_session.specs.declared.said.Said.{Said}
-use Rattle.rosie_session.specs.inside.Turning.{IsHalted, Says, StepsBy}
-use Rattle.rosie_session.proofs.Lines.{makes-halt, makes-long, makes-no-text, makes-text}
+use Rattle.rosie_session.specs.declared.session_end.SessionEnd.{SessionEnd}
+use Rattle.rosie_session.specs.declared.reply.Reply.{Reply}
+use Rattle.rosie_session.specs.inside.Turning.{IsEndOf, Says, StepsBy}
+use Rattle.rosie_session.proofs.Lines.{makes-session_end, makes-long, makes-no-text, makes-text}
 use Rattle.rosie_session.proofs.Turns.{inner_input, inner_reading, inner_stops}
 use Rattle.rosie_session.proofs.run.next_turn.Goals as goal
 
@@ -17,15 +17,15 @@ returns-in-Ok-answer-clause-makes g c = λ ft it w is.
     let s0 = session_of c.args.state.now in
     let s1 = session_of c.answer.new.state in
     let n = c.number-number.result in
-    let said = c.in-Ok-answer.said in
-    let says = subst (λ (x : List ℕ). Says said (edit_turn w n s0 (edit_of x)) s1) c.line.ensures
+    let reply = c.in-Ok-answer.reply in
+    let says = subst (λ (x : List ℕ). Says reply (edit_turn w n s0 (edit_of x)) s1) c.line.ensures
     (c.in-Ok-answer.ensures.turns ft w is) in
-    let made : Result Said Halt = Ok said in
+    let made : Result Reply SessionEnd = Ok reply in
     let steps = subst
     (λ (x : List ℕ). StepsBy made (edit_turn w n s0 (edit_of x)) c.args.steps.now c.answer.new.steps) c.line.ensures
     (c.in-Ok-answer.ensures.steps ft w is) in
     makes-text w c.args.reader.now.number n s0 s1 _ _ _ (c.number-number.ensures ∙ count.0) c.next.new.self.text sp.0
-    sp.1 sp.2 said _ _ says steps
+    sp.1 sp.2 reply _ _ says steps
 
 pub returns-in-Err-answer-clause-makes : goal.returns-in-Err-answer-clause-makes
 returns-in-Err-answer-clause-makes g c = λ ft it w is.
@@ -33,21 +33,21 @@ returns-in-Err-answer-clause-makes g c = λ ft it w is.
     let count = rw c.in-Text.is at c.in-Ok.ensures.numbers in
     let s0 = session_of c.args.state.now in
     let n = c.number-number.result in
-    let halt = c.in-Err-answer.halt in
-    let halted = subst (λ (x : List ℕ). IsHalted halt (edit_turn w n s0 (edit_of x))) c.line.ensures
+    let session_end = c.in-Err-answer.session_end in
+    let halted = subst (λ (x : List ℕ). IsEndOf session_end (edit_turn w n s0 (edit_of x))) c.line.ensures
     (c.in-Err-answer.ensures.turns ft w is) in
-    makes-halt w c.args.reader.now.number n s0 s0 _ _ _ (c.number-number.ensures ∙ count.0) c.next.new.self.text sp.0
-    sp.1 sp.2 halt _ _ halted (c.in-Err-answer.ensures.steps ft w is)
+    makes-session_end w c.args.reader.now.number n s0 s0 _ _ _ (c.number-number.ensures ∙ count.0) c.next.new.self.text sp.0
+    sp.1 sp.2 session_end _ _ halted (c.in-Err-answer.ensures.steps ft w is)
 
 pub returns-in-Err-answer-clause-stops : goal.returns-in-Err-answer-clause-stops
-returns-in-Err-answer-clause-stops g c = inner_stops c.in-Err-answer.halt _ _ _ _ _ c.in-Err-answer.ensures.leaves.inner
+returns-in-Err-answer-clause-stops g c = inner_stops c.in-Err-answer.session_end _ _ _ _ _ c.in-Err-answer.ensures.leaves.inner
 
 pub returns-in-Err-answer-clause-of_reading : goal.returns-in-Err-answer-clause-of_reading
-returns-in-Err-answer-clause-of_reading g c = inner_reading c.in-Err-answer.halt c.in-Err-answer.ensures.leaves.inner
+returns-in-Err-answer-clause-of_reading g c = inner_reading c.in-Err-answer.session_end c.in-Err-answer.ensures.leaves.inner
 
 pub returns-in-Err-answer-clause-cause : goal.returns-in-Err-answer-clause-cause
 returns-in-Err-answer-clause-cause g c =
-    inner_input c.in-Err-answer.halt _ _ c.in-Err-answer.ensures.leaves.inner c.in-Ok.ensures.cause
+    inner_input c.in-Err-answer.session_end _ _ c.in-Err-answer.ensures.leaves.inner c.in-Ok.ensures.cause
 
 pub returns-in_ok-wrong-in-TooLong-clause-makes : goal.returns-in_ok-wrong-in-TooLong-clause-makes
 returns-in_ok-wrong-in-TooLong-clause-makes g c = λ ft it w is.

@@ -8,9 +8,9 @@ use Rattle.rosie_run.proofs.Passing.{fronts-same, wrote-one, wrote-same}
 use Rattle.rosie_run.specs.Outputs.{texts}
 use Rattle.rosie_session.specs.Loading.{IsLoading}
 use Rattle.rosie_session.specs.inside.Passing.{InputEnds, SinksBy}
-use Rattle.rosie_session.proofs.Onward.{passed-end, passed-front, passed-halt, passed-line, passed-start, passed-still}
+use Rattle.rosie_session.proofs.Onward.{passed-end, passed-front, passed-session_end, passed-line, passed-start, passed-still}
 use Rattle.rosie_session.proofs.Lines.{breaks-none, fronts-turn, sinks-none}
-use Rattle.rosie_session.proofs.Turns.{files-halt, memory_runs, spent-halt}
+use Rattle.rosie_session.proofs.Turns.{files-session_end, memory_runs, spent-session_end}
 use Rattle.rosie_session.proofs.run.run_lines.Goals as goal
 
 pub lines-init : goal.lines-init
@@ -34,7 +34,7 @@ lines-init g c = let e = c.in_ok-reader.ensures in rw e (record {
 pub lines-preserved : goal.lines-preserved
 lines-preserved g c =
     let e = c.in-Ok-next_turn.ensures in
-    let o = c.in-Ok-write_said.ensures in
+    let o = c.in-Ok-write_reply.ensures in
     let numbers = rw c.in-Some.is at e.numbers in record {
       opened = numbers.1;
       parts = e.keeps.whole ∙ c.lines.invariant.parts;
@@ -42,9 +42,9 @@ lines-preserved g c =
       passed = λ ft it w is.
           let is' = subst (λ (x : Tree). IsLoading x c.args.folders.now w) (sym c.lines.invariant.tree) is in
           let m = rw c.in-Some.is at (e.makes ft it w is') in
-          let a = texts g.O.Sink.written g.O.Sink.number g.E.Sink.written c.flush_said.new.out c.flush_said.new.err c.lines.steps in
+          let a = texts g.O.Sink.written g.O.Sink.number g.E.Sink.written c.flush_reply.new.out c.flush_reply.new.err c.lines.steps in
           let b =
-          texts g.O.Sink.written g.O.Sink.number g.E.Sink.written c.write_said.new.out c.write_said.new.err
+          texts g.O.Sink.written g.O.Sink.number g.E.Sink.written c.write_reply.new.out c.write_reply.new.err
           c.next_turn.new.steps in
           passed-line _ w _ _ _ _ _ _ _ _ (passed-still _ w _ _ _ _ _ _ _ _ (c.lines.invariant.passed ft it w is) a
           (record { out = c.in-Ok.ensures.out; err = c.in-Ok.ensures.err; number = c.in-Ok.ensures.number; steps = refl }))
@@ -81,12 +81,12 @@ pub returns-in-None-clause-runs : goal.returns-in-None-clause-runs
 returns-in-None-clause-runs g c = λ ft it w is.
     let is' = subst (λ (x : Tree). IsLoading x c.args.folders.now w) (sym c.lines.invariant.tree) is in
     let p = rw c.in-None.is at (c.in-Ok-next_turn.ensures.makes ft it w is') in
-    let a = texts g.O.Sink.written g.O.Sink.number g.E.Sink.written c.flush_said.new.out c.flush_said.new.err c.lines.steps in
+    let a = texts g.O.Sink.written g.O.Sink.number g.E.Sink.written c.flush_reply.new.out c.flush_reply.new.err c.lines.steps in
     let b =
-    texts g.O.Sink.written g.O.Sink.number g.E.Sink.written c.flush_said.new.out c.flush_said.new.err c.next_turn.new.steps in
+    texts g.O.Sink.written g.O.Sink.number g.E.Sink.written c.flush_reply.new.out c.flush_reply.new.err c.next_turn.new.steps in
     passed-end _ w _ _ _ _ _ _ _ _ (passed-still _ w _ _ _ _ _ _ _ _ (c.lines.invariant.passed ft it w is) a
     (record { out = c.in-Ok.ensures.out; err = c.in-Ok.ensures.err; number = c.in-Ok.ensures.number; steps = refl })) b p.0
-    (wrote-same _ a b refl refl refl p.2 (g.met.O.Sink.number_fits c.flush_said.new.out))
+    (wrote-same _ a b refl refl refl p.2 (g.met.O.Sink.number_fits c.flush_reply.new.out))
 
 pub returns-in-None-clause-rest : goal.returns-in-None-clause-rest
 returns-in-None-clause-rest g c = λ it.
@@ -98,24 +98,24 @@ pub returns-in-Err-next_turn-clause-runs : goal.returns-in-Err-next_turn-clause-
 returns-in-Err-next_turn-clause-runs g c = λ ft it w is.
     let e = c.in-Err-next_turn.ensures in
     let is' = subst (λ (x : Tree). IsLoading x c.args.folders.now w) (sym c.lines.invariant.tree) is in
-    let a = texts g.O.Sink.written g.O.Sink.number g.E.Sink.written c.flush_said.new.out c.flush_said.new.err c.lines.steps in
+    let a = texts g.O.Sink.written g.O.Sink.number g.E.Sink.written c.flush_reply.new.out c.flush_reply.new.err c.lines.steps in
     let b =
-    texts g.O.Sink.written g.O.Sink.number g.E.Sink.written c.flush_said.new.out c.flush_said.new.err c.next_turn.new.steps in
-    passed-halt _ w _ _ _ _ _ _ _ _ (passed-still _ w _ _ _ _ _ _ _ _ (c.lines.invariant.passed ft it w is) a
+    texts g.O.Sink.written g.O.Sink.number g.E.Sink.written c.flush_reply.new.out c.flush_reply.new.err c.next_turn.new.steps in
+    passed-session_end _ w _ _ _ _ _ _ _ _ (passed-still _ w _ _ _ _ _ _ _ _ (c.lines.invariant.passed ft it w is) a
     (record { out = c.in-Ok.ensures.out; err = c.in-Ok.ensures.err; number = c.in-Ok.ensures.number; steps = refl }))
-    c.in-Err-next_turn.halt _ it c.lines.reader c.next_turn.new.reader _ b refl c.lines.invariant.parts e.stops
-    (breaks-none _ w _ (session_of c.lines.state) _ a b c.in-Err-next_turn.halt (e.makes ft it w is') refl refl refl
-    (g.met.O.Sink.number_fits c.flush_said.new.out)) (e.reads.bytes it)
+    c.in-Err-next_turn.session_end _ it c.lines.reader c.next_turn.new.reader _ b refl c.lines.invariant.parts e.stops
+    (breaks-none _ w _ (session_of c.lines.state) _ a b c.in-Err-next_turn.session_end (e.makes ft it w is') refl refl refl
+    (g.met.O.Sink.number_fits c.flush_reply.new.out)) (e.reads.bytes it)
 
 pub returns-in-Err-next_turn-clause-cause : goal.returns-in-Err-next_turn-clause-cause
 returns-in-Err-next_turn-clause-cause g c =
-    subst (λ x. InputEnds c.in-Err-next_turn.halt x (g.I.Source.faults c.next_turn.new.input)) c.lines.invariant.input_faults
+    subst (λ x. InputEnds c.in-Err-next_turn.session_end x (g.I.Source.faults c.next_turn.new.input)) c.lines.invariant.input_faults
     c.in-Err-next_turn.ensures.cause
 
 pub returns-in-Err-next_turn-clause-spent : goal.returns-in-Err-next_turn-clause-spent
 returns-in-Err-next_turn-clause-spent g c =
     let e = c.in-Err-next_turn.ensures in
-    spent-halt c.in-Err-next_turn.halt _ _ _ _ _ _ _ e.stops (λ lt.
+    spent-session_end c.in-Err-next_turn.session_end _ _ _ _ _ _ _ e.stops (λ lt.
     let a = e.reads.taken lt in
     let later = e.reads.later in
     let b = c.lines.invariant.taken (omega arith) in
@@ -123,45 +123,45 @@ returns-in-Err-next_turn-clause-spent g c =
 
 pub returns-in-Err-next_turn-clause-files : goal.returns-in-Err-next_turn-clause-files
 returns-in-Err-next_turn-clause-files g c =
-    files-halt c.in-Err-next_turn.halt _ _ _ c.lines.invariant.files_still c.in-Err-next_turn.ensures.files
+    files-session_end c.in-Err-next_turn.session_end _ _ _ c.lines.invariant.files_still c.in-Err-next_turn.ensures.files
 
 pub returns-in-Err-next_turn-clause-sinks : goal.returns-in-Err-next_turn-clause-sinks
 returns-in-Err-next_turn-clause-sinks g c =
-    let halt = c.in-Err-next_turn.halt in
-    let o1 = g.O.Sink.faults c.flush_said.new.out in
-    let r1 = g.E.Sink.faults c.flush_said.new.err in
-    subst (λ x. SinksBy halt x o1 (g.E.Sink.faults c.args.err.now) r1)
+    let session_end = c.in-Err-next_turn.session_end in
+    let o1 = g.O.Sink.faults c.flush_reply.new.out in
+    let r1 = g.E.Sink.faults c.flush_reply.new.err in
+    subst (λ x. SinksBy session_end x o1 (g.E.Sink.faults c.args.err.now) r1)
     (c.in-Ok.ensures.cause.0 ∙ c.lines.invariant.out_faults)
-    (subst (λ x. SinksBy halt o1 o1 x r1) (c.in-Ok.ensures.cause.1 ∙ c.lines.invariant.err_faults)
-    (sinks-none halt o1 r1 c.in-Err-next_turn.ensures.of_reading))
+    (subst (λ x. SinksBy session_end o1 o1 x r1) (c.in-Ok.ensures.cause.1 ∙ c.lines.invariant.err_faults)
+    (sinks-none session_end o1 r1 c.in-Err-next_turn.ensures.of_reading))
 
-pub returns-in-Err-write_said-clause-runs : goal.returns-in-Err-write_said-clause-runs
-returns-in-Err-write_said-clause-runs g c = λ ft it w is.
+pub returns-in-Err-write_reply-clause-runs : goal.returns-in-Err-write_reply-clause-runs
+returns-in-Err-write_reply-clause-runs g c = λ ft it w is.
     let e = c.in-Ok-next_turn.ensures in
-    let o = c.in-Err-write_said.ensures in
+    let o = c.in-Err-write_reply.ensures in
     let is' = subst (λ (x : Tree). IsLoading x c.args.folders.now w) (sym c.lines.invariant.tree) is in
     let m = rw c.in-Some.is at (e.makes ft it w is') in
-    let a = texts g.O.Sink.written g.O.Sink.number g.E.Sink.written c.flush_said.new.out c.flush_said.new.err c.lines.steps in
+    let a = texts g.O.Sink.written g.O.Sink.number g.E.Sink.written c.flush_reply.new.out c.flush_reply.new.err c.lines.steps in
     passed-front _ w _ _ _ _ _ _ _ _ (passed-still _ w _ _ _ _ _ _ _ _ (c.lines.invariant.passed ft it w is) a
     (record { out = c.in-Ok.ensures.out; err = c.in-Ok.ensures.err; number = c.in-Ok.ensures.number; steps = refl })) _
     (fronts-turn _ w c.lines.reader.number (session_of c.lines.state) _ a _ m.line _ _ _ _ m.splits.lines m.says.0
     o.out o.err)
 
-pub returns-in-Err-write_said-clause-files : goal.returns-in-Err-write_said-clause-files
-returns-in-Err-write_said-clause-files g c =
+pub returns-in-Err-write_reply-clause-files : goal.returns-in-Err-write_reply-clause-files
+returns-in-Err-write_reply-clause-files g c =
     let e = c.in-Ok-next_turn.ensures in record {
       faults = e.files.faults ∙ c.lines.invariant.files_still.faults;
       opens = e.files.opens ∙ c.lines.invariant.files_still.opens;
     }
 
-pub returns-in-Err-write_said-clause-sinks : goal.returns-in-Err-write_said-clause-sinks
-returns-in-Err-write_said-clause-sinks g c =
-    let o1 = g.O.Sink.faults c.write_said.new.out in
-    let r1 = g.E.Sink.faults c.write_said.new.err in
+pub returns-in-Err-write_reply-clause-sinks : goal.returns-in-Err-write_reply-clause-sinks
+returns-in-Err-write_reply-clause-sinks g c =
+    let o1 = g.O.Sink.faults c.write_reply.new.out in
+    let r1 = g.E.Sink.faults c.write_reply.new.err in
     subst (λ x. WriteRose x o1 (g.E.Sink.faults c.args.err.now) r1)
     (c.in-Ok.ensures.cause.0 ∙ c.lines.invariant.out_faults)
-    (subst (λ x. WriteRose (g.O.Sink.faults c.flush_said.new.out) o1 x r1) (c.in-Ok.ensures.cause.1 ∙ c.lines.invariant.err_faults)
-    c.in-Err-write_said.ensures.cause)
+    (subst (λ x. WriteRose (g.O.Sink.faults c.flush_reply.new.out) o1 x r1) (c.in-Ok.ensures.cause.1 ∙ c.lines.invariant.err_faults)
+    c.in-Err-write_reply.ensures.cause)
 
 pub returns-in_err-reader-clause-runs : goal.returns-in_err-reader-clause-runs
 returns-in_err-reader-clause-runs g c = λ ft it w is.

@@ -1,5 +1,5 @@
 use Rattle.rosie_run.specs.Sources.{moment_of}
-use Rattle.rosie_session.proofs.Ending.{breaks-halt, runs-all, sources-halt, writes-halt}
+use Rattle.rosie_session.proofs.Ending.{breaks-session_end, runs-all, sources-session_end, writes-session_end}
 use Rattle.rosie_session.proofs.run.run_session.Goals as goal
 
 pub returns-in-Ok-clause-runs : goal.returns-in-Ok-clause-runs
@@ -16,16 +16,16 @@ pub returns-in-Err-clause-runs : goal.returns-in-Err-clause-runs
 returns-in-Err-clause-runs g c = λ ft it w is.
     let i0 = moment_of g.I.Source c.args.input.now in
     let i1 = moment_of g.I.Source c.run_lines.new.input in
-    breaks-halt _ w i0 i1 _ _ _ _ c.in-Err.halt c.ended_by.result c.ended_by.ensures c.in-Err.ensures.cause
+    breaks-session_end _ w i0 i1 _ _ _ _ c.in-Err.session_end c.ended_by.result c.ended_by.ensures c.in-Err.ensures.cause
     c.in-Err.ensures.spent c.in-Err.ensures.files (c.in-Err.ensures.runs ft it w is)
 
 pub returns-in-Err-clause-cause : goal.returns-in-Err-clause-cause
 returns-in-Err-clause-cause g c =
     let i0 = moment_of g.I.Source c.args.input.now in
     let i1 = moment_of g.I.Source c.run_lines.new.input in
-    sources-halt i0 i1 _ _ c.in-Err.ensures.opens c.in-Err.halt c.ended_by.result c.ended_by.ensures
+    sources-session_end i0 i1 _ _ c.in-Err.ensures.opens c.in-Err.session_end c.ended_by.result c.ended_by.ensures
     c.in-Err.ensures.cause c.in-Err.ensures.spent c.in-Err.ensures.files
 
 pub returns-in-Err-clause-sinks : goal.returns-in-Err-clause-sinks
 returns-in-Err-clause-sinks g c =
-    writes-halt c.in-Err.halt c.ended_by.result _ _ _ _ c.ended_by.ensures c.in-Err.ensures.sinks
+    writes-session_end c.in-Err.session_end c.ended_by.result _ _ _ _ c.ended_by.ensures c.in-Err.ensures.sinks

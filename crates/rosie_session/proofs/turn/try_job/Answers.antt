@@ -2,8 +2,8 @@ use Rattle.rosie_jobs.specs.Jobs.{matcher_of}
 use Rattle.rosie_session.proofs.Turns.{job_cost, job_said}
 use Rattle.rosie_session.proofs.turn.try_job.Goals as goal
 
-pub returns-clause-said : goal.returns-clause-said
-returns-clause-said g c = λ ran is.
+pub returns-clause-reply : goal.returns-clause-reply
+returns-clause-reply g c = λ ran is.
     job_said c.in_ok-mark.mark _ _ c.out-text.result.now c.err-fault.result.now _ _ (matcher_of c.args.job.now) ran
     c.args.number c.args.line.now is c.in_ok-mark.ensures.made c.out-text.ensures c.err-fault.ensures
     c.in_ok-told.ensures c.in_ok-copy_of.ensures

@@ -9,7 +9,7 @@ returns-in_ok-try_job-in-Ok-clause-turns g c = λ t w is.
     let j = c.in-Ok.ensures.gives t w is in
     let p = chars c.args.pattern.now in
     try_made w c.args.number (session_of c.args.state.now) c.args.line.now (Some p) p refl c.in_ok-try_job-in-Ok.field-0
-    j.0 j.1 (c.in_ok-try_job-in-Ok.ensures.said j.0 j.2)
+    j.0 j.1 (c.in_ok-try_job-in-Ok.ensures.reply j.0 j.2)
 
 pub returns-in_ok-try_job-in-Ok-clause-steps : goal.returns-in_ok-try_job-in-Ok-clause-steps
 returns-in_ok-try_job-in-Ok-clause-steps g c = λ t w is.

@@ -9,7 +9,7 @@ use Rattle.rpl_core.specs.Table.{bodies_of}
 use Rattle.rpl_core.specs.View.{core_of}
 use Rattle.rpl_core.specs.declared.program.Program.{Program}
 use Rattle.rpl_codegen.specs.Compiled.{DoesAsMeant, IsSafeIfCapture}
-use Rattle.rpl_simulation.proofs.Whole.{simulation_holds}
+use Rattle.rpl_compile_laws.proofs.Whole.{simulation_holds}
 use Rattle.rpl_safe.proofs.Whole.{code_is_safe_holds}
 use Rattle.rpl_codegen.proofs.compiling.compile.Goals as goal
 

@@ -9,7 +9,7 @@ use Rattle.rpl_codegen.proofs.layout.marked_size.Goals as goal
 
 pub returns-in-None-clause-nodes : goal.returns-in-None-clause-nodes
 returns-in-None-clause-nodes c =
-    let nodes = c.args.plan.now.nodes.items in
+    let nodes = c.args.measured.now.nodes.items in
     let R = bodies_of (rules_of c.args.rules.now) in
     let k = c.args.number in
     let none = none_there (rules_of c.args.rules.now) k c.in-None.ensures in
@@ -30,4 +30,4 @@ returns-in_ok-shape-in-Some-clause-nodes c =
     let k = c.args.number in
     let is = body_is (rules_of c.args.rules.now) k c.in-Some.rule.now c.in-Some.ensures in
     let same = ap (λ b. rule_nodes b (slice_get R k)) c.if-not-marks-number.false ∙ ap (rule_nodes true) is in
-    c.in_ok-shape-in-Some.ensures.nodes ∙ ap (λ ns. c.args.plan.now.nodes.items ++ ns) (sym same)
+    c.in_ok-shape-in-Some.ensures.nodes ∙ ap (λ ns. c.args.measured.now.nodes.items ++ ns) (sym same)

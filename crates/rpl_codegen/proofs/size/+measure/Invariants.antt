@@ -12,12 +12,12 @@ use Rattle.rpl_codegen.proofs.size.+measure.Given as goal
 abbrev pub invariant-measure_all-loop-number : goal.invariant-measure_all-loop-number
 invariant-measure_all-loop-number l =
     (l.total ≤ 1048577) × (min 1048577 (l.total + len_all (cores (drop l.number l.parts))) ≡ min 1048577 (len_all (cores l.parts)))
-    × (l.plan.nodes.items ++ parts_nodes l.number (cores (drop l.number l.parts)) ≡ l.fn.plan.nodes.items ++ parts_nodes 0 (cores l.parts))
-    × (l.kept ≡ length l.plan.ranges.items)
-    × Gathers l.fn.plan.ranges.items l.plan.ranges.items (H.first_head (cores l.parts)) l.first.has_head
+    × (l.measured.nodes.items ++ parts_nodes l.number (cores (drop l.number l.parts)) ≡ l.fn.measured.nodes.items ++ parts_nodes 0 (cores l.parts))
+    × (l.kept ≡ length l.measured.ranges.items)
+    × Gathers l.fn.measured.ranges.items l.measured.ranges.items (H.first_head (cores l.parts)) l.first.has_head
 
 abbrev pub invariant-measure_first-loop-number : goal.invariant-measure_first-loop-number
 invariant-measure_first-loop-number l =
     (l.total ≤ 1048577) × (min 1048577 (l.total + len_first (cores (drop l.number l.parts))) ≡ min 1048577 (len_first (cores l.parts)))
-    × (l.plan.nodes.items ++ choice_nodes (cores (drop l.number l.parts)) ≡ l.fn.plan.nodes.items ++ choice_nodes (cores l.parts))
-    × ((new : List Range) (found : Bool) → Gathers l.plan.ranges.items new (option_map norm (H.all_heads (cores (drop l.number l.parts)))) found → Gathers l.fn.plan.ranges.items new (option_map norm (H.all_heads (cores l.parts))) (l.all && found))
+    × (l.measured.nodes.items ++ choice_nodes (cores (drop l.number l.parts)) ≡ l.fn.measured.nodes.items ++ choice_nodes (cores l.parts))
+    × ((new : List Range) (found : Bool) → Gathers l.measured.ranges.items new (option_map norm (H.all_heads (cores (drop l.number l.parts)))) found → Gathers l.fn.measured.ranges.items new (option_map norm (H.all_heads (cores l.parts))) (l.all && found))

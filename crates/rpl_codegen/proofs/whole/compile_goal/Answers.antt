@@ -7,8 +7,8 @@ use Rattle.rpl_core.specs.Table.{bodies_of}
 use Rattle.rpl_core.specs.View.{core_of}
 use Rattle.rpl_codegen.specs.inside.Laid.{LaysOut}
 use Rattle.rpl_core.specs.Marked.{marked}
-use Rattle.rpl_draft.specs.Uses.{sets_in, labels_in}
-use Rattle.rpl_draft.specs.Written.{Adds}
+use Rattle.rpl_intern.specs.Uses.{sets_in, labels_in}
+use Rattle.rpl_intern.specs.Written.{Adds}
 use Rattle.rpl_codegen.proofs.Finish.{finished, is_code, program_means, kept}
 use Rattle.rpl_codegen.proofs.Jumps.{program_length}
 use Rattle.rpl_codegen.proofs.whole.compile_goal.Goals.{After-drop-marks-2}
@@ -33,19 +33,19 @@ program_of-requires c =
     (finished d d1 c.in_ok-marks.marks.items R g c.requires c.in_ok-marks.ensures c.new-draft.ensures.code adds).1
 
 -- the program of the goal, and that the draft holds it
-abbrev wanted : After-drop-marks-2 → List Instr
-wanted c = program (marked c.in_ok-marks.marks.items) (bodies_of (rules_of c.args.rules.now)) (core_of c.args.goal.now)
+abbrev goal_code : After-drop-marks-2 → List Instr
+goal_code c = program (marked c.in_ok-marks.marks.items) (bodies_of (rules_of c.args.rules.now)) (core_of c.args.goal.now)
 
-written : (c : After-drop-marks-2) → Adds c.new-draft.result c.emit_whole.new.draft (wanted c)
+written : (c : After-drop-marks-2) → Adds c.new-draft.result c.emit_whole.new.draft (goal_code c)
 written c =
     subst (λ b. Adds c.new-draft.result c.emit_whole.new.draft (program (marked b) (bodies_of (rules_of c.args.rules.now)) (core_of c.args.goal.now))) c.deref-2.ensures.value c.in_ok-emit_whole.ensures
 
-means : (c : After-drop-marks-2) → instructions c.in_ok-program_of.field-0 ≡ wanted c
+means : (c : After-drop-marks-2) → instructions c.in_ok-program_of.field-0 ≡ goal_code c
 means c =
     let d = c.emit_whole.new.draft in
     let e = c.in_ok-program_of.ensures in
     let is = finished c.new-draft.result d c.in_ok-marks.marks.items (bodies_of (rules_of c.args.rules.now)) (core_of c.args.goal.now) c.requires c.in_ok-marks.ensures c.new-draft.ensures.code (written c) in
-    program_means c.in_ok-program_of.field-0 d.code d.sets d.labels (wanted c) e.code e.sets e.labels is.0
+    program_means c.in_ok-program_of.field-0 d.code d.sets d.labels (goal_code c) e.code e.sets e.labels is.0
 
 pub returns-clause-code : goal.returns-clause-code
 returns-clause-code c = is_code c.in_ok-marks.marks.items (bodies_of (rules_of c.args.rules.now)) (core_of c.args.goal.now) _ c.in_ok-marks.ensures (means c)
@@ -54,10 +54,10 @@ pub returns-clause-sets : goal.returns-clause-sets
 returns-clause-sets c =
     let e = c.in_ok-program_of.ensures in
     let a = written c in
-    kept (sets_in (wanted c)) _ c.new-draft.result.sets c.emit_whole.new.draft.sets c.in_ok-program_of.field-0.sets (ap sets_in (sym (means c))) c.new-draft.ensures.sets (sym e.sets) a.sets
+    kept (sets_in (goal_code c)) _ c.new-draft.result.sets c.emit_whole.new.draft.sets c.in_ok-program_of.field-0.sets (ap sets_in (sym (means c))) c.new-draft.ensures.sets (sym e.sets) a.sets
 
 pub returns-clause-labels : goal.returns-clause-labels
 returns-clause-labels c =
     let e = c.in_ok-program_of.ensures in
     let a = written c in
-    kept (labels_in (wanted c)) _ c.new-draft.result.labels c.emit_whole.new.draft.labels c.in_ok-program_of.field-0.labels (ap labels_in (sym (means c))) c.new-draft.ensures.labels (sym e.labels) a.labels
+    kept (labels_in (goal_code c)) _ c.new-draft.result.labels c.emit_whole.new.draft.labels c.in_ok-program_of.field-0.labels (ap labels_in (sym (means c))) c.new-draft.ensures.labels (sym e.labels) a.labels

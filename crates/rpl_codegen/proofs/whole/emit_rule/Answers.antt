@@ -7,9 +7,9 @@ use Rattle.rpl_core.specs.Table.{bodies_of}
 use Rattle.rpl_core.specs.View.{core_of}
 use Rattle.rpl_codegen.specs.inside.Laid.{body_len, rule_code, rule_nodes}
 use Rattle.rpl_codegen.specs.inside.Taken.{left}
-use Rattle.rpl_draft.specs.Written.{Adds}
+use Rattle.rpl_intern.specs.Written.{Adds}
 use Rattle.rpl_codegen.specs.inside.Written.{address_of}
-use Rattle.rpl_draft.proofs.Adding.{adds_then, adds_none}
+use Rattle.rpl_intern.proofs.Adding.{adds_then, adds_none}
 use Rattle.rpl_codegen.proofs.Lengths.{code_length}
 use Rattle.rpl_core.proofs.Search.{body_is, none_there}
 use Rattle.rpl_codegen.proofs.Taking.{as_begins, as_taken, takes_none}

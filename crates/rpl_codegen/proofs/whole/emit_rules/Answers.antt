@@ -8,9 +8,9 @@ use Rattle.rpl_core.specs.View.{core_of}
 use Rattle.rpl_codegen.specs.inside.Laid.{rule_code, rule_nodes}
 use Rattle.rpl_core.specs.Marked.{marked}
 use Rattle.rpl_codegen.specs.inside.Taken.{left}
-use Rattle.rpl_draft.specs.Written.{Adds}
+use Rattle.rpl_intern.specs.Written.{Adds}
 use Rattle.rpl_codegen.specs.inside.Written.{address_of}
-use Rattle.rpl_draft.proofs.Adding.{adds_then}
+use Rattle.rpl_intern.proofs.Adding.{adds_then}
 use Rattle.rpl_codegen.proofs.Layouts.{bodies_here, bodies_len_here, rule_length}
 use Rattle.rpl_codegen.proofs.Taking.{as_begins, begins_behind, begins_front, nodes_here}
 use Rattle.rpl_codegen.proofs.whole.emit_rules.Goals as goal

@@ -2,11 +2,11 @@ use Rattle.std.proofs.Common.{◌≤◌, ◌+◌, length, drop}
 use Rattle.rpl_core.specs.Listed.{rules_of}
 use Rattle.rpl_core.specs.Programs.{bodies}
 use Rattle.rpl_core.specs.Table.{bodies_of}
-use Rattle.rpl_draft.specs.declared.draft.Draft.{Draft}
+use Rattle.rpl_intern.specs.declared.draft.Draft.{Draft}
 use Rattle.rpl_codegen.specs.inside.Laid.{bodies_len, bodies_nodes}
 use Rattle.rpl_core.specs.Marked.{marked}
 use Rattle.rpl_codegen.specs.inside.Taken.{Begins, left}
-use Rattle.rpl_draft.specs.Written.{Adds}
+use Rattle.rpl_intern.specs.Written.{Adds}
 use Rattle.rpl_codegen.specs.inside.Written.{address_of}
 use Rattle.rpl_codegen.proofs.whole.emit_rules.Given as goal
 

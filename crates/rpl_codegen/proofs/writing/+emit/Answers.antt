@@ -12,11 +12,11 @@ use Rattle.rpl_core.proofs.Rows.{seq_view, choice_view}
 use Rattle.rpl_codegen.specs.inside.Sizes.{len, len_all, len_first, many_len, not_len}
 use Rattle.rpl_codegen.specs.inside.Nodes.{behind_nodes, choice_nodes, inner_nodes, nodes_in, part_node, parts_nodes, tested_nodes}
 use Rattle.rpl_codegen.specs.inside.Taken.{Begins, head_at, left, size_at}
-use Rattle.rpl_draft.specs.Written.{Adds}
+use Rattle.rpl_intern.specs.Written.{Adds}
 use Rattle.rpl_codegen.specs.inside.Written.{address_of, test_code}
-use Rattle.rpl_draft.specs.declared.draft.Draft.{Draft}
+use Rattle.rpl_intern.specs.declared.draft.Draft.{Draft}
 use Rattle.rpl_codegen.specs.declared.size.Node.{Node}
-use Rattle.rpl_draft.proofs.Adding.{adds_none, adds_then}
+use Rattle.rpl_intern.proofs.Adding.{adds_none, adds_then}
 use Rattle.rpl_codegen.proofs.Lengths.{all_length, code_length, first_length}
 use Rattle.rpl_codegen.proofs.Parts.{len_first_here, code_first_here, drop_last, no_parts, part_of}
 use Rattle.rpl_codegen.proofs.Passing.{no_nodes_left, steps, steps_as}

@@ -2,12 +2,12 @@ use Rattle.std.proofs.Common.{◌≡◌, ℕ, ◌+◌, ◌-◌, ◌*◌, ◌≤�
 use Rattle.rpl_core.specs.Code as C
 use Rattle.rpl_core.specs.View.{core_of, cores, listed}
 use Rattle.rpl_core.specs.declared.peg.Peg.TheViews as V
-use Rattle.rpl_draft.specs.declared.draft.Draft.{Draft}
+use Rattle.rpl_intern.specs.declared.draft.Draft.{Draft}
 use Rattle.rpl_codegen.specs.inside.Sizes.{len, len_all, len_first}
 use Rattle.rpl_codegen.specs.inside.Nodes.{choice_nodes, inner_nodes, parts_nodes, behind_nodes, nodes_in}
 use Rattle.rpl_codegen.specs.inside.Taken.{Begins, Takes, left}
 use Rattle.rpl_codegen.specs.declared.size.Nodes.{Nodes}
-use Rattle.rpl_draft.specs.Written.{Adds}
+use Rattle.rpl_intern.specs.Written.{Adds}
 use Rattle.rpl_codegen.specs.inside.Written.{address_of}
 use Rattle.rpl_codegen.proofs.Weights.{weight}
 use Rattle.rpl_codegen.proofs.writing.+emit.Given as goal

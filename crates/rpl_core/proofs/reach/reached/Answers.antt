@@ -6,7 +6,7 @@ use Rattle.rpl_core.specs.Programs.{calls, by_rule}
 use Rattle.rpl_core.specs.Table.{bodies_of}
 use Rattle.rpl_core.specs.View.{core_of}
 use Rattle.rpl_core.specs.Marked.{marked}
-use Rattle.rpl_core.specs.declared.reach.Search.{Search}
+use Rattle.rpl_core.specs.declared.reach.RuleSearch.{RuleSearch}
 use Rattle.rpl_core.proofs.RuleMarks.{marks_none}
 use Rattle.rpl_core.proofs.Search.{search_begins, search_goes_on, search_ends, unmarked_list, body_at, body_is}
 use Rattle.rpl_core.proofs.Search.{no_body}
@@ -38,7 +38,7 @@ pub loop-number-preserved : goal.loop-number-preserved
 loop-number-preserved c =
     let rules = rules_of c.args.rules.now in
     let q = c.in-Some.number in
-    let s : Search = record { marks = c.loop-number.search.marks; waiting = c.pop.new.self } in
+    let s : RuleSearch = record { marks = c.loop-number.search.marks; waiting = c.pop.new.self } in
     search_goes_on (bodies_of rules) (core_of c.args.goal.now) c.loop-number.search s s q (λ r. false)
     c.loop-number.invariant c.in-Some.ensures.items refl (λ r reached e. absurd (cc))
     (λ r p is e. absurd (no_body rules q p c.in_default-get.ensures is)) (marks_none s)

@@ -2,17 +2,17 @@ use Rattle.std.proofs.Common.{◌+◌, ◌-◌, [], ◌∷◌, ◌++◌, refl, s
 use Rattle.std.specs.Prelude.{◌||◌, if◌then◌else◌}
 use Rattle.rpl_core.specs.Program.{labels_of}
 use Rattle.rpl_encode.specs.Answer.{line_by_line}
-use Rattle.rpl_encode.specs.inside.Children.{is_some_text, wanted}
+use Rattle.rpl_encode.specs.inside.Children.{is_some_text, printed_texts}
 use Rattle.rpl_encode.specs.inside.Walk.{text_at}
 use Rattle.rpl_encode.proofs.Nodes.{got_within}
-use Rattle.rpl_encode.proofs.Listing.{texts_left, wanted_step, first_below, none_left, text_step, found_step, or_false}
+use Rattle.rpl_encode.proofs.Listing.{texts_left, printed_step, first_below, none_left, text_step, found_step, or_false}
 use Rattle.rpl_encode.proofs.children.put_texts.Goals as goal
 use Rattle.rpl_encode.proofs.children.put_texts.Goals.{then-wants+in_ok-put_line, else-wants}
 
 pub loop-node-init : goal.loop-node-init
 loop-node-init c =
     let labels = labels_of c.args.program.now in
-    let all = ap (texts_left labels c.args.line.now c.args.only_hits c.args.forest.now 1) c.below_first-left.ensures ∙ ap (wanted c.args.only_hits c.args.line.now) (first_below labels c.args.forest.now) in
+    let all = ap (texts_left labels c.args.line.now c.args.only_hits c.args.forest.now 1) c.below_first-left.ensures ∙ ap (printed_texts c.args.only_hits c.args.line.now) (first_below labels c.args.forest.now) in
     (ap (λ ts. c.args.out.now.items ++ (line_by_line ts)) all, ap is_some_text all)
 
 pub overflow_add-index : goal.overflow_add-index
@@ -25,7 +25,7 @@ loop-node-preserved c =
     let nodes = c.args.forest.now in
     let now = texts_left labels line c.args.only_hits nodes c.saturating_add-index.result (c.loop-node.left - (1 + c.min-below.result)) in
     let text = text_at labels line c.in-Some.node in
-    let step = wanted_step labels line c.args.only_hits nodes c.loop-node.index c.saturating_add-index.result c.loop-node.left (c.loop-node.left - (1 + c.min-below.result)) c.min-below.result c.in-Some.node c.in-Some.ensures.some.1 c.in-Some.ensures.some.0 (omega (arith, c.len-count.ensures)) c.min-below.ensures c.saturating_add-index.ensures refl in
+    let step = printed_step labels line c.args.only_hits nodes c.loop-node.index c.saturating_add-index.result c.loop-node.left (c.loop-node.left - (1 + c.min-below.result)) c.min-below.result c.in-Some.node c.in-Some.ensures.some.1 c.in-Some.ensures.some.0 (omega (arith, c.len-count.ensures)) c.min-below.ensures c.saturating_add-index.ensures refl in
     elim c.if-wants.branch [
       | then-wants+in_ok-put_line w ↦
           let chosen = step ∙ ap (λ b. if b then text ∷ now else now) (sym c.wants.ensures ∙ w.if-wants.true) in

@@ -4,7 +4,7 @@ use Rattle.rpl_encode.specs.inside.Walk.{rest_of}
 use Rattle.rpl_encode.proofs.Walking.{pending, one_if}
 use Rattle.rpl_encode.proofs.tree.put_below.Given as goal
 
--- what is written, with the rest behind it, is the whole
+-- what is written, with the rest after it, is the whole
 abbrev pub invariant-loop-innermost : goal.invariant-loop-innermost
 invariant-loop-innermost l =
     l.out.items ++ (rest_of (labels_of l.source.program.now) l.source.line.now (drop l.index l.forest) (pending l.innermost l.lists.items) l.is_first)

@@ -1,4 +1,4 @@
-use Rattle.rpl_encode.specs.Answer.{most_bytes}
+use Rattle.rpl_encode.specs.Answer.{max_answer_bytes}
 use Rattle.std.proofs.Common.{rules, [], ◌∷◌, sym, ap, ◌∙◌, ◌++◌, append_assoc}
 use Rattle.std.specs.Prelude.{reverse}
 use Rattle.rpl_core.specs.Program.{labels_of}
@@ -13,5 +13,5 @@ returns-clause-text c =
 pub returns-in_err-put_below-clause-too_long : goal.returns-in_err-put_below-clause-too_long
 returns-in_err-put_below-clause-too_long c =
     let whole = tree_whole (labels_of c.args.source.program.now) c.args.source.line.now c.args.forest.now c.in-Some.root c.has_subs-has_subs.result (reverse c.open_root.new.lists.items) (sym c.in-Some.ensures) (rw c.len.ensures at c.has_subs-has_subs.ensures) (opened _ _ _ c.in_ok-open_root.ensures) in
-    let more = longer most_bytes c.args.out.now.items c.put_node.new.out.items _ _ _ c.in_ok-put_node.ensures whole in
+    let more = longer max_answer_bytes c.args.out.now.items c.put_node.new.out.items _ _ _ c.in_ok-put_node.ensures whole in
     search rules

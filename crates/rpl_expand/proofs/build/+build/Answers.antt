@@ -29,7 +29,7 @@ use Rattle.rpl_expand.proofs.build.+build.Goals as goal
 
 pub build-returns-in-Text : goal.build-returns-in-Text
 build-returns-in-Text t c =
-    let b = c.args.mode.inside in
+    let b = c.args.mode.in_lookbehind in
     let k = c.args.mode.casing in
     let I = inners_of (rules_of c.args.base.now.rules.now) in
     let s = scope_seen c.args.base.now.scope I in
@@ -39,7 +39,7 @@ build-returns-in-Text t c =
 
 pub build-returns-in-Class : goal.build-returns-in-Class
 build-returns-in-Class t c =
-    let b = c.args.mode.inside in
+    let b = c.args.mode.in_lookbehind in
     let k = c.args.mode.casing in
     let I = inners_of (rules_of c.args.base.now.rules.now) in
     let s = scope_seen c.args.base.now.scope I in
@@ -48,7 +48,7 @@ build-returns-in-Class t c =
 
 pub build-returns-in-Any : goal.build-returns-in-Any
 build-returns-in-Any t c =
-    let b = c.args.mode.inside in
+    let b = c.args.mode.in_lookbehind in
     let k = c.args.mode.casing in
     let I = inners_of (rules_of c.args.base.now.rules.now) in
     let s = scope_seen c.args.base.now.scope I in
@@ -57,7 +57,7 @@ build-returns-in-Any t c =
 
 pub build-returns-in-Start : goal.build-returns-in-Start
 build-returns-in-Start t c =
-    let b = c.args.mode.inside in
+    let b = c.args.mode.in_lookbehind in
     let k = c.args.mode.casing in
     let I = inners_of (rules_of c.args.base.now.rules.now) in
     let s = scope_seen c.args.base.now.scope I in
@@ -65,7 +65,7 @@ build-returns-in-Start t c =
 
 pub build-returns-in-End : goal.build-returns-in-End
 build-returns-in-End t c =
-    let b = c.args.mode.inside in
+    let b = c.args.mode.in_lookbehind in
     let k = c.args.mode.casing in
     let I = inners_of (rules_of c.args.base.now.rules.now) in
     let s = scope_seen c.args.base.now.scope I in
@@ -73,7 +73,7 @@ build-returns-in-End t c =
 
 pub build-returns-in-Cooked : goal.build-returns-in-Cooked
 build-returns-in-Cooked t c =
-    let b = c.args.mode.inside in
+    let b = c.args.mode.in_lookbehind in
     let k = c.args.mode.casing in
     let I = inners_of (rules_of c.args.base.now.rules.now) in
     let s = scope_seen c.args.base.now.scope I in
@@ -84,7 +84,7 @@ build-returns-in-Cooked t c =
 
 pub build-returns-in-Raw : goal.build-returns-in-Raw
 build-returns-in-Raw t c =
-    let b = c.args.mode.inside in
+    let b = c.args.mode.in_lookbehind in
     let k = c.args.mode.casing in
     let I = inners_of (rules_of c.args.base.now.rules.now) in
     let s = scope_seen c.args.base.now.scope I in
@@ -95,7 +95,7 @@ build-returns-in-Raw t c =
 
 pub build-returns-in_ok-parts-in-Choice : goal.build-returns-in_ok-parts-in-Choice
 build-returns-in_ok-parts-in-Choice t c =
-    let b = c.args.mode.inside in
+    let b = c.args.mode.in_lookbehind in
     let k = c.args.mode.casing in
     let I = inners_of (rules_of c.args.base.now.rules.now) in
     let s = scope_seen c.args.base.now.scope I in
@@ -116,8 +116,8 @@ build_raw-returns-in_ok-parts-in_default t c =
       | build_raw-in_default-via-else-items-lt1+else-items-lt2 w ↦ grind (arith, nat_tests)
     ] in
     c.seq.ensures ∙ ap C.Seq c.in_ok-parts-in_default.ensures
-    ∙ sym (ap (shown base mode.inside) (P.raw_more mode.casing (base_scope base) es many)
-    ∙ seen_seq mode.inside (base_inners base) (P.parts mode.casing (base_scope base) es))
+    ∙ sym (ap (shown base mode.in_lookbehind) (P.raw_more mode.casing (base_scope base) es many)
+    ∙ seen_seq mode.in_lookbehind (base_inners base) (P.parts mode.casing (base_scope base) es))
 
 pub build_cooked-returns-in_ok-parts-in_default : goal.build_cooked-returns-in_ok-parts-in_default
 build_cooked-returns-in_ok-parts-in_default t c =
@@ -130,12 +130,12 @@ build_cooked-returns-in_ok-parts-in_default t c =
       | build_cooked-in_default-via-else-items-lt1+else-items-lt2 w ↦ grind (arith, nat_tests)
     ] in
     c.seq.ensures ∙ ap C.Seq c.in_ok-parts-in_default.ensures
-    ∙ sym (ap (shown b c.args.mode.inside) (P.cooked_more k (base_scope b) es many)
-    ∙ seen_seq c.args.mode.inside (base_inners b) (P.items k (base_scope b) es))
+    ∙ sym (ap (shown b c.args.mode.in_lookbehind) (P.cooked_more k (base_scope b) es many)
+    ∙ seen_seq c.args.mode.in_lookbehind (base_inners b) (P.items k (base_scope b) es))
 
 pub build_all-loop-item-preserved : goal.build_all-loop-item-preserved
 build_all-loop-item-preserved t c =
-    let b = c.args.mode.inside in
+    let b = c.args.mode.in_lookbehind in
     let k = c.args.mode.casing in
     let I = inners_of (rules_of c.args.base.now.rules.now) in
     let s = scope_seen c.args.base.now.scope I in
@@ -147,7 +147,7 @@ build_all-loop-item-preserved t c =
 
 pub build_all-returns : goal.build_all-returns
 build_all-returns t c =
-    let b = c.args.mode.inside in
+    let b = c.args.mode.in_lookbehind in
     let k = c.args.mode.casing in
     let I = inners_of (rules_of c.args.base.now.rules.now) in
     let s = scope_seen c.args.base.now.scope I in
@@ -157,7 +157,7 @@ build_all-returns t c =
 
 pub build_spaced-loop-number-preserved : goal.build_spaced-loop-number-preserved
 build_spaced-loop-number-preserved t c =
-    let b = c.args.mode.inside in
+    let b = c.args.mode.in_lookbehind in
     let k = c.args.mode.casing in
     let I = inners_of (rules_of c.args.base.now.rules.now) in
     let s = scope_seen c.args.base.now.scope I in
@@ -174,7 +174,7 @@ build_spaced-loop-number-preserved t c =
 
 pub build_spaced-returns : goal.build_spaced-returns
 build_spaced-returns t c =
-    let b = c.args.mode.inside in
+    let b = c.args.mode.in_lookbehind in
     let k = c.args.mode.casing in
     let I = inners_of (rules_of c.args.base.now.rules.now) in
     let s = scope_seen c.args.base.now.scope I in
@@ -184,13 +184,13 @@ build_spaced-returns t c =
 
 -- a repetition there, where it is known whether its body is cooked
 repeat_at : (base : Base) (mode : Mode) (body : Expr) (l : ℕ) (m : Option ℕ) (cooked : Bool) → is_cooked body ≡ cooked
-    → shown base mode.inside
+    → shown base mode.in_lookbehind
     (F.repeated (is_cooked body) (C.Call base.scope.boundary) (core mode.casing (base_scope base) body) l m)
-    ≡ F.repeated cooked (shown base mode.inside (C.Call base.scope.boundary)) (core_at base mode body) l m
+    ≡ F.repeated cooked (shown base mode.in_lookbehind (C.Call base.scope.boundary)) (core_at base mode body) l m
 repeat_at base mode body l m cooked test =
     let q = C.Call base.scope.boundary in
-    seen_repeated mode.inside (base_inners base) (is_cooked body) q (core mode.casing (base_scope base) body) l m
-    ∙ ap (λ x. F.repeated x (shown base mode.inside q) (core_at base mode body) l m) test
+    seen_repeated mode.in_lookbehind (base_inners base) (is_cooked body) q (core mode.casing (base_scope base) body) l m
+    ∙ ap (λ x. F.repeated x (shown base mode.in_lookbehind q) (core_at base mode body) l m) test
 
 pub build_repeat-returns-then-not-is_cooked : goal.build_repeat-returns-then-not-is_cooked
 build_repeat-returns-then-not-is_cooked t c =
@@ -206,7 +206,7 @@ build_repeat-returns-then-is_once t c =
     let base = c.args.base.now in
     let body = expr_of c.args.body.now in
     let l = c.args.least in
-    let q = shown base c.args.mode.inside (C.Call base.scope.boundary) in
+    let q = shown base c.args.mode.in_lookbehind (C.Call base.scope.boundary) in
     let test = sym c.is_cooked.ensures ∙ c.if-not-is_cooked.false in
     let most : c.args.most ≡ Some 1 = c.is_once.ensures.most c.if-is_once.true in
     let same = repeat_at base c.args.mode body l c.args.most true test

@@ -9,11 +9,11 @@ use Rattle.rpl_expand.proofs.measure.+measure.Given as goal
 abbrev pub invariant-measure_all-loop-part : goal.invariant-measure_all-loop-part
 invariant-measure_all-loop-part l =
     (c : Casing) (I : Inners) → KnowsInners l.known I
-    → Adds l.sum (seen_all l.inside I (parts c (scope_seen l.scope I) (drop l.part-index l.parts)))
-    (seen_all l.inside I (parts c (scope_seen l.scope I) l.parts))
+    → Adds l.sum (seen_all l.in_lookbehind I (parts c (scope_seen l.scope I) (drop l.part-index l.parts)))
+    (seen_all l.in_lookbehind I (parts c (scope_seen l.scope I) l.parts))
 
 abbrev pub invariant-measure_spaced-loop-number : goal.invariant-measure_spaced-loop-number
 invariant-measure_spaced-loop-number l =
     (c : Casing) (I : Inners) → KnowsInners l.known I
-    → Adds l.sum (seen_all l.inside I (items c (scope_seen l.scope I) (drop l.number l.items)))
-    (seen_all l.inside I (items c (scope_seen l.scope I) l.items))
+    → Adds l.sum (seen_all l.in_lookbehind I (items c (scope_seen l.scope I) (drop l.number l.items)))
+    (seen_all l.in_lookbehind I (items c (scope_seen l.scope I) l.items))

@@ -4,7 +4,7 @@ use Rattle.rpl_core.specs.Listed.{rules_of}
 use Rattle.rpl_core.specs.Programs.{calls}
 use Rattle.rpl_core.specs.Table.{bodies_of}
 use Rattle.rpl_core.specs.View.{core_of}
-use Rattle.rpl_simulation.specs.Laws.{IsCapture}
+use Rattle.rpl_compile_laws.specs.Laws.{IsCapture}
 use Rattle.rpl_macro.proofs.Names.{chars_low, encode_low}
 use Rattle.rpl_syntax.specs.View.{expr_of}
 use Rattle.rpl_package.specs.Sets.{set_seen}
@@ -36,7 +36,7 @@ returns-in-Err-clause-exactly c =
     let is = goal_is s.result c.args.set.now I (expr_of c.args.e.now) r.result s.ensures.set s.ensures.at s.ensures.boundary r.ensures in
     let known = subst (λ l. KnowsInners l I) (sym c.deref.ensures.value) c.in_ok-known.ensures.knows in
     let p = own s.result I (expr_of c.args.e.now) r.result in
-    let due = subst (Answers (size_fault None p)) c.in-Err.is (c.check_goal.ensures I known) in
+    let due = subst (Answers (size_fault None p)) c.in-Err.is (c.check_goal_size.ensures I known) in
     subst (λ q. IsDue (size_fault None q) (fault_named c.in-Err.fault)) is due
 
 pub returns-clause-exactly : goal.returns-clause-exactly
@@ -47,7 +47,7 @@ returns-clause-exactly c =
     let known = subst (λ l. KnowsInners l I) (sym c.deref.ensures.value) c.in_ok-known.ensures.knows in
     let is = goal_is s.result c.args.set.now I (expr_of c.args.e.now) r.result s.ensures.set s.ensures.at s.ensures.boundary r.ensures in
     let p = own s.result I (expr_of c.args.e.now) r.result in
-    sym (ap (size_fault None) is) ∙ subst (Answers (size_fault None p)) c.in_default.is (c.check_goal.ensures I known)
+    sym (ap (size_fault None) is) ∙ subst (Answers (size_fault None p)) c.in_default.is (c.check_goal_size.ensures I known)
 
 pub returns-clause-goal : goal.returns-clause-goal
 returns-clause-goal c =
@@ -64,7 +64,7 @@ returns-clause-goal c =
     ∙ ap (λ n. captured (not r) n (core_of c.in_ok-body.body)) name
     ∙ ap (captured (not r) word)
     (c.in_ok-body.ensures
-    ∙ ap₂ (λ k b. seen b I (core k (scope_seen s I) e)) c.plain.ensures.casing c.plain.ensures.inside)
+    ∙ ap₂ (λ k b. seen b I (core k (scope_seen s I) e)) c.plain.ensures.casing c.plain.ensures.in_lookbehind)
     ∙ is
 
 pub returns-clause-calls : goal.returns-clause-calls

@@ -7,7 +7,7 @@ use Rattle.rpl_forms.proofs.count.error.Goals as goal
 
 pub returns : goal.returns
 returns c = λ I t h.
-    let b = c.args.inside in
+    let b = c.args.in_lookbehind in
     let one = seen_note b I t in
     let note = c.leaf.ensures (seen b I (Note t)) one.0 one.1 in
     subst (Counts c.pair.result) (sym (seen_pair b I (Note t) (Call halt_rule)))

@@ -10,5 +10,5 @@ returns c = λ p I f.
     let hit = c.capture-hit.ensures p (mark_name Hit) I f in
     let skip =
     c.capture-before.ensures (passed p) (mark_name Skip) I
-    (subst (Counts c.passed.result) (sym (seen_passed c.args.inside I p)) (c.passed.ensures _ f)) in
-    subst (Counts c.pair.result) (sym (seen_kept c.args.inside I p)) (c.pair.ensures _ _ skip hit)
+    (subst (Counts c.passed.result) (sym (seen_passed c.args.in_lookbehind I p)) (c.passed.ensures _ f)) in
+    subst (Counts c.pair.result) (sym (seen_kept c.args.in_lookbehind I p)) (c.pair.ensures _ _ skip hit)

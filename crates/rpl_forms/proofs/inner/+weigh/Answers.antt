@@ -9,7 +9,7 @@ use Rattle.rpl_forms.proofs.inner.+weigh.Goals as goal
 
 pub weigh-returns-in-Seq : goal.weigh-returns-in-Seq
 weigh-returns-in-Seq t c = λ I h.
-    let b = c.args.inside in
+    let b = c.args.in_lookbehind in
     let same =
     sym (seen_seq b I (cores c.as_slice.result.now))
     ∙ ap (seen b I) (seq_core c.args.peg.now c.in-Seq.parts c.as_slice.result.now c.in-Seq.is c.as_slice.ensures) in
@@ -17,7 +17,7 @@ weigh-returns-in-Seq t c = λ I h.
 
 pub weigh-returns-in-Choice : goal.weigh-returns-in-Choice
 weigh-returns-in-Choice t c = λ I h.
-    let b = c.args.inside in
+    let b = c.args.in_lookbehind in
     let same =
     sym (seen_choice b I (cores c.as_slice-in-Choice.result.now))
     ∙ ap (seen b I) (choice_core c.args.peg.now c.in-Choice.parts c.as_slice-in-Choice.result.now c.in-Choice.is
@@ -27,7 +27,7 @@ weigh-returns-in-Choice t c = λ I h.
 
 pub weigh_all-returns : goal.weigh_all-returns
 weigh_all-returns t c = λ I h.
-    let b = c.args.inside in
+    let b = c.args.in_lookbehind in
     let none =
     ap (λ l. seen_all b I (cores l)) (drop_all c.loop-part.part-index c.args.parts.now c.loop-part-test.false)
     ∙ seen_nothing b I in
@@ -35,7 +35,7 @@ weigh_all-returns t c = λ I h.
 
 pub weigh_all-loop-part-preserved : goal.weigh_all-loop-part-preserved
 weigh_all-loop-part-preserved t c = λ I h.
-    let b = c.args.inside in
+    let b = c.args.in_lookbehind in
     let ps = c.args.parts.now in
     let i = c.loop-part.part-index in
     let p = c.part-item.result in

@@ -16,5 +16,5 @@ returns c =
     let all = whole_inners rs c.len.result c.len.ensures.count in
     let same =
     ap (λ l. called c.args.rule (slice_get l c.args.rule)) all
-    ∙ sym (ap (λ b. seen b I (C.Call c.args.rule)) c.if-not-inside.false) in
+    ∙ sym (ap (λ b. seen b I (C.Call c.args.rule)) c.if-not-in_lookbehind.false) in
     subst (λ q. IfOk c.inline_call.result (λ p. core_of p ≡ q)) same c.inline_call.ensures

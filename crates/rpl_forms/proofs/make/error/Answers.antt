@@ -13,7 +13,7 @@ use Rattle.rpl_forms.proofs.make.error.Goals as goal
 pub returns : goal.returns
 returns c =
     let I = inners_of (rules_of c.args.rules.now) in
-    let b = c.args.inside in
+    let b = c.args.in_lookbehind in
     let t = text_of (expr_of c.args.arg.now) in
     let same =
     ap₂ F.pair (c.in_ok-told.ensures I) c.in_ok-end.ensures ∙ sym (seen_pair b I (C.Note t) (C.Call F.halt_rule)) in

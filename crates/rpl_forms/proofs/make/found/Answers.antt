@@ -8,4 +8,4 @@ pub returns : goal.returns
 returns c =
     IfOk-weaker c.pair.result _ _ (λ q h. λ I p e.
     let before = c.in_ok-before.ensures ∙ ap F.passed e in
-    h ∙ ap₂ F.pair before (c.in_ok-hit.ensures I p e) ∙ sym (seen_found c.args.inside I p)) c.pair.ensures
+    h ∙ ap₂ F.pair before (c.in_ok-hit.ensures I p e) ∙ sym (seen_found c.args.in_lookbehind I p)) c.pair.ensures

@@ -8,6 +8,6 @@ pub returns : goal.returns
 returns c =
     IfOk-weaker c.pair.result _ _ (λ q h. λ I p e.
     let before =
-    c.in_ok-before.ensures ∙ ap F.passed e ∙ sym (seen_passed c.args.inside I p) in
+    c.in_ok-before.ensures ∙ ap F.passed e ∙ sym (seen_passed c.args.in_lookbehind I p) in
     h ∙ ap₂ F.pair (c.in_ok-before-2.ensures I (F.passed p) before) (c.in_ok-hit.ensures I p e)
-    ∙ sym (seen_kept c.args.inside I p)) c.pair.ensures
+    ∙ sym (seen_kept c.args.in_lookbehind I p)) c.pair.ensures

@@ -8,5 +8,5 @@ use Rattle.rpl_forms.proofs.make.message.Goals as goal
 pub returns-in_default : goal.returns-in_default
 returns-in_default c =
     let none = c.empty.ensures ∙ sym (no_text c.args.arg.now c.in_default.not-Text) in
-    IfOk-weaker c.note-in_default-2.result _ _ (λ q h. λ I. h I ∙ ap (λ t. seen c.args.inside I (C.Note t)) none)
+    IfOk-weaker c.note-in_default-2.result _ _ (λ q h. λ I. h I ∙ ap (λ t. seen c.args.in_lookbehind I (C.Note t)) none)
     c.note-in_default-2.ensures

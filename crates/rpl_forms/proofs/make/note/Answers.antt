@@ -4,11 +4,11 @@ use Rattle.rpl_core.specs.View.{cores}
 use Rattle.rpl_forms.proofs.Seen.{seen_note_inside, seen_note_outside}
 use Rattle.rpl_forms.proofs.make.note.Goals as goal
 
-pub returns-then-inside : goal.returns-then-inside
-returns-then-inside c =
+pub returns-then-in_lookbehind : goal.returns-then-in_lookbehind
+returns-then-in_lookbehind c =
     λ I. c.seq.ensures ∙ ap (λ ps. C.Seq (cores ps)) c.new.ensures
-    ∙ sym (seen_note_inside c.args.inside I c.args.text.now c.if-inside.true)
+    ∙ sym (seen_note_inside c.args.in_lookbehind I c.args.text.now c.if-in_lookbehind.true)
 
 pub returns : goal.returns
 returns c =
-    λ I. ap C.Note c.in_ok-copy.ensures ∙ sym (seen_note_outside c.args.inside I c.args.text.now c.if-inside.false)
+    λ I. ap C.Note c.in_ok-copy.ensures ∙ sym (seen_note_outside c.args.in_lookbehind I c.args.text.now c.if-in_lookbehind.false)

@@ -22,8 +22,8 @@ returns-in-Fault-clause-fault c =
     let h = stands_is s bs st c.behind-in-loop-bytes.result.now _ _ c.as_bytes-bytes.ensures.value c.behind-in-loop-bytes.ensures c.front.ensures.value c.in-Fault.is in
     λ _. (c.loop-bytes.items.items, whole s c.loop-bytes.items.items (Fails (st + c.in-Fault.skip) c.in-Fault.kind) (c.loop-bytes.invariant.so_far [] _ (fault_here s c.loop-bytes.at (length c.loop-bytes.items.items) st c.in-Fault.kind c.in-Fault.skip w.0 lt h)))
 
-pub returns-then-len-ge-MOST_TOKENS-clause-fault : goal.returns-then-len-ge-MOST_TOKENS-clause-fault
-returns-then-len-ge-MOST_TOKENS-clause-fault c =
+pub returns-then-len-ge-MAX_TOKENS-clause-fault : goal.returns-then-len-ge-MAX_TOKENS-clause-fault
+returns-then-len-ge-MAX_TOKENS-clause-fault c =
     let s = c.args.text.now in
     let bs = c.as_bytes-bytes.result.now in
     let st = c.loop-bytes.at + c.gap_len.result in

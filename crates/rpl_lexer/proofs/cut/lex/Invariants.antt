@@ -6,7 +6,7 @@ use Rattle.rpl_lexer.proofs.cut.lex.Given as goal
 abbrev pub decreases-loop-bytes : goal.decreases-loop-bytes
 decreases-loop-bytes l = length l.text - l.at
 
--- what is a chain from here on, is one behind the tokens so far
+-- what is a chain from here on, is one after the tokens so far
 abbrev pub invariant-loop-bytes : goal.invariant-loop-bytes
 invariant-loop-bytes l = record {
   inside : l.at ≤ length l.text;

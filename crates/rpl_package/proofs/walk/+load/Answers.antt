@@ -11,7 +11,7 @@ use Rattle.rpl_scope.specs.Faults.{IsStop, fault_at}
 use Rattle.rpl_scope.specs.Seen.{module_seen, modules_seen}
 use Rattle.rpl_scope.specs.declared.fault.LoadKind.TheVariants.{ImportCycle, ImportMissing, Duplicate}
 use Rattle.rpl_package.specs.Built.{Becomes, IsAsked, on, same as stays}
-use Rattle.rpl_package.specs.Loading.{is_loading, world, walk, reach as reached, brought, import_entry, import_entries, said_of, with_text}
+use Rattle.rpl_package.specs.Loading.{is_loading, world, walk, load_import as reached, brought, import_entry, import_entries, said_of, with_text}
 use Rattle.rpl_package.specs.Stocks.{stock_seen, state_seen}
 use Rattle.rpl_package.proofs.Leaving.{after, still, unread}
 use Rattle.rpl_package.proofs.Building.{asks_by, brings, texts_on}
@@ -21,7 +21,7 @@ use Rattle.rpl_package.proofs.Walking.{reach_fresh, reach_cycle, reach_missing, 
 use Rattle.rpl_package.proofs.Keeping.{keeps_same, keeps_trans}
 use Rattle.rpl_scope.proofs.Checking.{front}
 use Rattle.rpl_package.proofs.walk.+load.Goals as goal
-use Rattle.rpl_package.proofs.walk.+load.Goals.{reach-then-len-ge-MOST_MODULES-via-then-len-ge-MOST_MODULES, reach-then-len-ge-MOST_MODULES-via-else-len-ge-MOST_MODULES+then-len}
+use Rattle.rpl_package.proofs.walk.+load.Goals.{load_import-then-len-ge-MAX_MODULES-via-then-len-ge-MAX_MODULES, load_import-then-len-ge-MAX_MODULES-via-else-len-ge-MAX_MODULES+then-len}
 
 pub load_module-returns-in-Err-clause-gives : goal.load_module-returns-in-Err-clause-gives
 load_module-returns-in-Err-clause-gives g t c = λ tells bytes r.
@@ -64,8 +64,8 @@ load_own-returns-clause-gives g t c = λ tells.
     let led = own_leads W (walk W c.args.depth) (stock_seen c.args.stock.now) c.args.stock.now.held.items c.args.importer.file.now c.args.path c.args.label (said c.args.text.now) _ _ free held c.empty_module-own.ensures in
     sym led.0 ∙ c.in_default.ensures.gives tells
 
-pub reach-returns-in-Ok-finish-clause-gives : goal.reach-returns-in-Ok-finish-clause-gives
-reach-returns-in-Ok-finish-clause-gives g t c = λ tells.
+pub load_import-returns-in-Ok-finish-clause-gives : goal.load_import-returns-in-Ok-finish-clause-gives
+load_import-returns-in-Ok-finish-clause-gives g t c = λ tells.
     let W = world (g.F.Source.tree c.args.files.now) c.args.importer.folders.now in
     let S = stock_seen c.args.stock.now in
     let hs = c.args.stock.now.held.items in
@@ -78,16 +78,16 @@ reach-returns-in-Ok-finish-clause-gives g t c = λ tells.
     reach_fresh W (walk W c.args.depth) hs c.args.importer.file.now i S c.in-Ok-Some.found.file found.0 (state_seen c.load_module.new.stock c.in-Ok.from) free (sym c.get.ensures ∙ c.in_default.is) found.1 room walked
     ∙ ap₂ (λ n s. Ok (n, s)) (sym c.in-Ok-finish.ensures.number) (sym c.in-Ok-finish.ensures.stock)
 
-pub reach-returns-in-Err-clause-gives : goal.reach-returns-in-Err-clause-gives
-reach-returns-in-Err-clause-gives g t c = λ tells.
+pub load_import-returns-in-Err-clause-gives : goal.load_import-returns-in-Err-clause-gives
+load_import-returns-in-Err-clause-gives g t c = λ tells.
     let W = world (g.F.Source.tree c.args.files.now) c.args.importer.folders.now in
     let i = c.args.import.now in
     let free = ap (is_loading i.path) (sym c.deref.ensures.value) ∙ sym c.is_loading.ensures ∙ c.if-is_loading.false in
     let new = sym c.get.ensures ∙ c.in_default.is in
     reach_unread W (walk W c.args.depth) c.args.stock.now.held.items c.args.importer.file.now i (stock_seen c.args.stock.now) free new c.in-Err.stop c.in-Err.ensures.quiet (c.in-Err.ensures.asks tells)
 
-pub reach-returns-in-Err-load_module-clause-gives : goal.reach-returns-in-Err-load_module-clause-gives
-reach-returns-in-Err-load_module-clause-gives g t c = λ tells.
+pub load_import-returns-in-Err-load_module-clause-gives : goal.load_import-returns-in-Err-load_module-clause-gives
+load_import-returns-in-Err-load_module-clause-gives g t c = λ tells.
     let ds = c.args.importer.folders.now in
     let W = world (g.F.Source.tree c.args.files.now) ds in
     let S = stock_seen c.args.stock.now in
@@ -152,8 +152,8 @@ load_own-returns-then-is_taken-clause-gives g t c = λ tells.
     own_taken W (walk W c.args.depth) (stock_seen c.args.stock.now) c.args.stock.now.held.items f c.args.path c.args.label (said c.args.text.now) taken c.fault_at.result
     (subst (λ a. IsStop c.fault_at.result (fault_at f a (Duplicate c.args.label))) c.requires.at c.fault_at.ensures)
 
-pub reach-returns-then-is_loading-clause-gives : goal.reach-returns-then-is_loading-clause-gives
-reach-returns-then-is_loading-clause-gives g t c = λ tells.
+pub load_import-returns-then-is_loading-clause-gives : goal.load_import-returns-then-is_loading-clause-gives
+load_import-returns-then-is_loading-clause-gives g t c = λ tells.
     let W = world (g.F.Source.tree c.args.files.now) c.args.importer.folders.now in
     let f = c.args.importer.file.now in
     let i = c.args.import.now in
@@ -161,8 +161,8 @@ reach-returns-then-is_loading-clause-gives g t c = λ tells.
     reach_cycle W (walk W c.args.depth) c.args.stock.now.held.items f i (stock_seen c.args.stock.now) loading c.fault_at.result
     (subst (λ p. IsStop c.fault_at.result (fault_at f i.at (ImportCycle p))) c.in_ok-copy.ensures c.fault_at.ensures)
 
-pub reach-returns-in-Ok-None-clause-gives : goal.reach-returns-in-Ok-None-clause-gives
-reach-returns-in-Ok-None-clause-gives g t c = λ tells.
+pub load_import-returns-in-Ok-None-clause-gives : goal.load_import-returns-in-Ok-None-clause-gives
+load_import-returns-in-Ok-None-clause-gives g t c = λ tells.
     let W = world (g.F.Source.tree c.args.files.now) c.args.importer.folders.now in
     let f = c.args.importer.file.now in
     let i = c.args.import.now in
@@ -173,8 +173,8 @@ reach-returns-in-Ok-None-clause-gives g t c = λ tells.
     reach_missing W (walk W c.args.depth) c.args.stock.now.held.items f i (stock_seen c.args.stock.now) free new stop found
     (subst (λ p. IsStop stop (fault_at f i.at (ImportMissing p))) c.in_ok-copy-in-Ok-None.ensures c.fault_at-in-Ok-None.ensures)
 
-pub reach-returns-then-len-ge-MOST_MODULES-clause-gives : goal.reach-returns-then-len-ge-MOST_MODULES-clause-gives
-reach-returns-then-len-ge-MOST_MODULES-clause-gives g t c = λ tells.
+pub load_import-returns-then-len-ge-MAX_MODULES-clause-gives : goal.load_import-returns-then-len-ge-MAX_MODULES-clause-gives
+load_import-returns-then-len-ge-MAX_MODULES-clause-gives g t c = λ tells.
     let W = world (g.F.Source.tree c.args.files.now) c.args.importer.folders.now in
     let S = stock_seen c.args.stock.now in
     let hs = c.args.stock.now.held.items in
@@ -183,15 +183,15 @@ reach-returns-then-len-ge-MOST_MODULES-clause-gives g t c = λ tells.
     let new = sym c.get.ensures ∙ c.in_default.is in
     let found = rw c.in-Ok-Some.field-0-is at c.in-Ok-Some.ensures.found tells in
     let count : length S.modules ≡ length c.args.stock.now.modules.items = length-map c.args.stock.now.modules.items module_seen in
-    let full : nat_lt (length S.modules + length hs) 1024 ≡ false = elim c.then-len-ge-MOST_MODULES.branch [
-      | reach-then-len-ge-MOST_MODULES-via-then-len-ge-MOST_MODULES w ↦ grind (arith, nat_tests, count)
-      | reach-then-len-ge-MOST_MODULES-via-else-len-ge-MOST_MODULES+then-len w ↦ grind (arith, nat_tests, count)
+    let full : nat_lt (length S.modules + length hs) 1024 ≡ false = elim c.then-len-ge-MAX_MODULES.branch [
+      | load_import-then-len-ge-MAX_MODULES-via-then-len-ge-MAX_MODULES w ↦ grind (arith, nat_tests, count)
+      | load_import-then-len-ge-MAX_MODULES-via-else-len-ge-MAX_MODULES+then-len w ↦ grind (arith, nat_tests, count)
     ] in
-    reach_full W (walk W c.args.depth) hs c.args.importer.file.now i S free new c.fault_at-then-len-ge-MOST_MODULES.result c.in-Ok-Some.found.file found.0 found.1 full c.fault_at-then-len-ge-MOST_MODULES.ensures
+    reach_full W (walk W c.args.depth) hs c.args.importer.file.now i S free new c.fault_at-then-len-ge-MAX_MODULES.result c.in-Ok-Some.found.file found.0 found.1 full c.fault_at-then-len-ge-MAX_MODULES.ensures
 
 pub enter_import-returns-clause-built : goal.enter_import-returns-clause-built
 enter_import-returns-clause-built g t c =
-    let S = stock_seen c.reach.new.stock in
+    let S = stock_seen c.load_import.new.stock in
     brings c.args.stock.now.held.items c.args.importer.file.now c.args.import.now (state_seen c.args.stock.now c.args.own.now) (c.in-Ok.number, S) (module_seen c.take_in.new.own) c.requires.asked c.in-Ok.ensures.built
     (ap (λ l. take_in c.args.importer.file.now c.args.import.now c.in-Ok.number (modules_seen l) (module_seen c.args.own.now)) (sym c.deref.ensures.value) ∙ c.in_default.ensures)
 

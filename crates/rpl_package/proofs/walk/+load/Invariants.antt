@@ -11,8 +11,8 @@ use Rattle.rpl_package.proofs.walk.+load.Given as goal
 abbrev pub decreases-load_module : goal.decreases-load_module
 decreases-load_module g l = 6 * l.depth + 0
 
-abbrev pub decreases-reach : goal.decreases-reach
-decreases-reach g l = 6 * l.depth + 1
+abbrev pub decreases-load_import : goal.decreases-load_import
+decreases-load_import g l = 6 * l.depth + 1
 
 abbrev pub decreases-enter_import : goal.decreases-enter_import
 decreases-enter_import g l = 6 * l.depth + 2

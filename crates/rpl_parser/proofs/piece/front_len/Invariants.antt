@@ -4,7 +4,7 @@ use Rattle.rpl_parser.specs.Tokens.{token_by, tokens_of}
 use Rattle.rpl_parser.proofs.Roles.{sample}
 use Rattle.rpl_parser.proofs.piece.front_len.Given as goal
 
--- the tokens that are left, behind any token of the role `before`
+-- the tokens that are left, after any token of the role `before`
 abbrev pub invariant-loop-index : goal.invariant-loop-index
 invariant-loop-index l =
     l.index + front (sample l.before) (tokens_of l.text (drop l.index l.tokens))

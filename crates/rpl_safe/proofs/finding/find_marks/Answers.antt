@@ -4,14 +4,14 @@ use Rattle.std.specs.Prelude.{true, false, Ok}
 use Rattle.rpl_core.specs.Numbers.{instr_of}
 use Rattle.rpl_core.specs.Program.{instructions, sets_of, labels_of, code_of}
 use Rattle.rpl_safe.specs.inside.Marks.{Found, Puts, marks_at, next_mark, given_of, unmarked}
-use Rattle.rpl_safe.specs.declared.finding.Search.{Search}
+use Rattle.rpl_safe.specs.declared.finding.MarkSearch.{MarkSearch}
 use Rattle.rpl_safe.proofs.Placing.{found_begin, look_on, look_off, waits_marked, waits_inside, few_trees, found_end, read_instr}
 use Rattle.rpl_safe.proofs.finding.find_marks.Goals.{Else-not-branch}
 use Rattle.rpl_safe.proofs.finding.find_marks.Goals as goal
 
 pub loop-address-init : goal.loop-address-init
 loop-address-init c =
-    let begun : Search = record { marks = c.in_ok-vec.field-0; waiting = c.new.result } in
+    let begun : MarkSearch = record { marks = c.in_ok-vec.field-0; waiting = c.new.result } in
     found_begin (instructions c.args.program.now) begun c.put.new.self (length c.code-code.result.now) c.in_ok-put.field-0 c.put.result c.in_ok-put.was (omega (arith, c.requires.some, ap length c.code-code.ensures.same)) (ap length c.code-code.ensures.same ∙ sym (length-map (code_of c.args.program.now) (instr_of (sets_of c.args.program.now) (labels_of c.args.program.now)))) (c.in_ok-vec.ensures.items_if_clones_equal (λ y e. grind arith)) c.new.ensures.items (subst (λ m. Puts 0 m begun c.put.new.self c.put.result) c.fresh.ensures c.put.ensures)
 
 pub goes_on-next-requires-clause-trees : goal.goes_on-next-requires-clause-trees
@@ -23,7 +23,7 @@ goes_on-next-requires-clause-trees c =
 pub returns-then-not-branch : goal.returns-then-not-branch
 returns-then-not-branch c =
     let p = c.args.program.now in
-    let s : Search = record { marks = c.loop-address.search.marks; waiting = c.pop.new.self } in
+    let s : MarkSearch = record { marks = c.loop-address.search.marks; waiting = c.pop.new.self } in
     look_off (instructions p) c.loop-address.search s c.put_all.new.self c.in-Some.address c.in-Some-mark_at.mark (instr_of (sets_of p) (labels_of p) c.in-Some-get.instr.now) (given_of c.goes_on-next.result) c.put_all.result
     c.loop-address.invariant c.in-Some.ensures.items refl
     (sym (ap (λ l. marks_at l c.in-Some.address) c.deref.ensures.value) ∙ sym c.mark_at.ensures ∙ c.in-Some-mark_at.is)
@@ -35,7 +35,7 @@ returns-then-not-branch c =
 looked : (c : Else-not-branch) → Found (instructions c.args.program.now) c.put_all.new.self × (length c.put_all.new.self.waiting.items + unmarked c.put_all.new.self.marks.items < length c.loop-address.search.waiting.items + unmarked c.loop-address.search.marks.items)
 looked c =
     let p = c.args.program.now in
-    let s : Search = record { marks = c.loop-address.search.marks; waiting = c.pop.new.self } in
+    let s : MarkSearch = record { marks = c.loop-address.search.marks; waiting = c.pop.new.self } in
     look_on (instructions p) c.loop-address.search s c.put_all.new.self c.in-Some.address c.in-Some-mark_at.mark (instr_of (sets_of p) (labels_of p) c.in-Some-get.instr.now) (given_of c.goes_on-next.result) c.put_all.result
     c.loop-address.invariant c.in-Some.ensures.items refl
     (sym (ap (λ l. marks_at l c.in-Some.address) c.deref.ensures.value) ∙ sym c.mark_at.ensures ∙ c.in-Some-mark_at.is)

@@ -1,5 +1,5 @@
 use Rattle.std.proofs.lemmas.Grind.{merely}
-use Rattle.rpl_simulation.proofs.Answering.{answer_holds}
+use Rattle.rpl_compile_laws.proofs.Answering.{answer_holds}
 use Rattle.rosie_jobs.proofs.job.Job.new.Goals as goal
 
 pub invariant_of-result : goal.invariant_of-result

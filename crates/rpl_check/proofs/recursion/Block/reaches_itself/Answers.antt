@@ -4,7 +4,7 @@ use Rattle.std.proofs.lemmas.List.{get_or_read, nil_from_length, length-replicat
 use Rattle.std.specs.Prelude.{false}
 use Rattle.rpl_core.specs.inside.Marks.{marked, waits}
 use Rattle.rpl_check.specs.inside.Search.{AreReached}
-use Rattle.rpl_check.specs.declared.recursion.Search.{Search}
+use Rattle.rpl_check.specs.declared.recursion.BlockSearch.{BlockSearch}
 use Rattle.rpl_check.proofs.Following.{follow_begins, follow_on}
 use Rattle.rpl_check.proofs.Rings.{itself_is, looked_on, looked_reached}
 use Rattle.rpl_check.proofs.Settling.{no_marks}
@@ -26,7 +26,7 @@ loop-next-preserved c =
     let m = empty_in c.args.self.now in
     let a = c.args.self.now.start in
     let n = c.args.self.now.end - a in
-    let s1 : Search = record { start = c.loop-next.search.start; marks = c.loop-next.search.marks; waiting = c.pop.new.self } in (
+    let s1 : BlockSearch = record { start = c.loop-next.search.start; marks = c.loop-next.search.marks; waiting = c.pop.new.self } in (
       follow_on R m c.args.number a n c.loop-next.search s1 c.find_calls_of-in-Some.new.search c.in-Some.next c.loop-next.invariant.0 c.in-Some.ensures.items refl refl c.in_ok-find_calls_of-2.ensures,
       looked_on R m c.args.number a n c.loop-next.search s1 c.find_calls_of-in-Some.new.search c.in-Some.next c.loop-next.looked.items _ c.loop-next.invariant.0 c.loop-next.invariant.1 c.in-Some.ensures.items refl refl c.in_ok-find_calls_of-2.ensures c.in_ok-push.ensures.items,
     )

@@ -22,7 +22,7 @@ loop-number-init c =
     let g = core_of c.args.goal.now in
     let bodies = bodies_nodes m R 0 in
     let zero = place_zero m R 0 (len g + 1) in
-    (omega (arith, zero, c.in_ok-shape.ensures.size), ap length c.new-addresses.ensures.items, (λ r lt. absurd (omega arith)), ap (λ l. l ++ bodies) c.in_ok-shape.ensures.nodes ∙ append_assoc c.args.plan.now.nodes.items (nodes_in g) bodies)
+    (omega (arith, zero, c.in_ok-shape.ensures.size), ap length c.new-addresses.ensures.items, (λ r lt. absurd (omega arith)), ap (λ l. l ++ bodies) c.in_ok-shape.ensures.nodes ∙ append_assoc c.args.measured.now.nodes.items (nodes_in g) bodies)
 
 pub loop-number-preserved : goal.loop-number-preserved
 loop-number-preserved c =
@@ -41,7 +41,7 @@ loop-number-preserved c =
       omega (arith, turn, inv.0, c.in_ok-size.ensures.size, c.capped-next-in-loop-number.ensures),
       ap length grown ∙ length-append items (c.loop-number.next ∷ []) ∙ ap (λ k. k + 1) inv.1,
       λ r below. ap (λ l. get_or l r 0) grown ∙ addresses_more items n c.loop-number.next place inv.1 inv.2 inv.0 r below,
-      listed_turn c.loop-number.plan.nodes.items _ (rule_nodes (m n) (slice_get R n)) _ (bodies_nodes m (drop (n + 1) R) (n + 1)) _ c.in_ok-size.ensures.nodes here inv.3,
+      listed_turn c.loop-number.measured.nodes.items _ (rule_nodes (m n) (slice_get R n)) _ (bodies_nodes m (drop (n + 1) R) (n + 1)) _ c.in_ok-size.ensures.nodes here inv.3,
     )
 
 pub returns-clause-nodes : goal.returns-clause-nodes
@@ -51,7 +51,7 @@ returns-clause-nodes c =
     let m = marked c.args.marks.now in
     let n = c.loop-number.number in
     let none = drop_all n R (omega (arith, length-map rules (λ r. core_of r.body))) in
-    sym (ap (λ l. c.loop-number.plan.nodes.items ++ bodies_nodes m l n) none ∙ append_nil c.loop-number.plan.nodes.items) ∙ c.loop-number.invariant.3
+    sym (ap (λ l. c.loop-number.measured.nodes.items ++ bodies_nodes m l n) none ∙ append_nil c.loop-number.measured.nodes.items) ∙ c.loop-number.invariant.3
 
 pub returns-clause-layout : goal.returns-clause-layout
 returns-clause-layout c =

@@ -6,7 +6,7 @@ use Rattle.rpl_tree.specs.inside.Built.{built}
 use Rattle.rpl_tree.proofs.Fronts.{built_is}
 use Rattle.rpl_tree.proofs.building.Building.fill.Goals as goal
 
--- behind the last capture nothing is left to take in
+-- after the last capture nothing is left to take in
 pub returns : goal.returns
 returns c = λ name f e.
     built_is name f c.args.caught.now c.loop-c.self.nodes.items (reverse c.loop-c.self.open.items) e

@@ -1,5 +1,0 @@
-use Rattle.rosie_cases.proofs.command.run_on.Given as goal
-
--- the steps are counted on the ledger of the blank
-abbrev pub ghosts-run_counted : goal.ghosts-run_counted
-ghosts-run_counted a = record { name = a.blank.name; parts = a.blank.parts }

@@ -1,0 +1,70 @@
+// The text of the names that a pattern may use.
+ghost use Rattle.std.specs.Prelude.{◌≡◌, ◌++◌, map, IfOk, OnOk, string_bytes};
+ghost use Rattle.std.specs.List.{concat};
+ghost use Rattle.rpl_package.specs.Names.{all_listed};
+ghost use Rattle.rpl_package.specs.Sets.{set_seen};
+ghost use Rattle.rosie_inspect.specs.Names.{label_text, name_line, IsNamesText};
+
+use rpl_core::NoMemory;
+use rpl_package::{Listed, Names, PackageSet};
+use rpl_print::push_text;
+use rpl_text::Chars;
+use std::alloc::Global;
+
+/// Adds the type of a name's nodes.
+fn push_label(line: &mut String, label: &Option<Chars>) -> Result<(), NoMemory>
+    ensures { OnOk result (string_bytes line.new ≡ string_bytes line.old ++ label_text label.now) }
+{
+    match label {
+        None => line.push_str(" alias -"),
+        Some(label) => {
+            line.push_str(" capture ")?;
+            push_text(line, label)
+        }
+    }
+}
+
+/// The line of a name.
+fn make_line(alloc: Global, listed: &Listed) -> Result<String, NoMemory>
+    ensures { IfOk result (λ line. string_bytes line ≡ name_line listed.now) }
+{
+    let mut line = String::new(alloc);
+    push_text(&mut line, &listed.name)?;
+    push_label(&mut line, &listed.label)?;
+    line.push_str("\n")?;
+    Ok(line)
+}
+
+/// The lines of names.
+fn make_lines(alloc: Global, names: &Names) -> Result<Vec<String>, NoMemory>
+    ensures { IfOk result (λ lines. map (λ l. string_bytes l) lines.items ≡ map name_line names.now) }
+{
+    let mut lines = Vec::new(alloc);
+    for listed in names.as_slice() {
+        lines.push(make_line(alloc, listed)?)?;
+    }
+    Ok(lines)
+}
+
+/// Lines one after the other.
+fn join(alloc: Global, lines: &[String]) -> Result<String, NoMemory>
+    ensures { IfOk result (λ text. string_bytes text ≡ concat (map (λ l. string_bytes l) lines.now)) }
+{
+    let mut text = String::new(alloc);
+    for line in lines {
+        text.push_str(line.as_str())?;
+    }
+    Ok(text)
+}
+
+/// A line for each name that a pattern may use, in the order of their bytes: the name, then ` capture ` and the type of
+/// its nodes, or ` alias -` where it makes none.
+pub fn names_text(alloc: Global, set: &PackageSet) -> Result<String, NoMemory>
+    ensures { IfOk result (λ text. IsNamesText (all_listed (set_seen set.now)) (string_bytes text)) }
+{
+    let names = set.names(alloc)?;
+    let mut lines = make_lines(alloc, &names)?;
+    // They are in this order already; that a name has no character before the space is not said of a set.
+    lines.sort()?;
+    join(alloc, &lines)
+}

@@ -1,5 +1,0 @@
-use Rattle.rosie_show.proofs.Rows.{one_pattern_text}
-use Rattle.rosie_show.proofs.laws.one_expansion.Goals as goal
-
-pub returns : goal.returns
-returns c = one_pattern_text

@@ -1,5 +1,0 @@
-use Rattle.rosie_show.proofs.Texts.{one_text}
-use Rattle.rosie_show.proofs.laws.one_names_text.Goals as goal
-
-pub returns : goal.returns
-returns c = one_text

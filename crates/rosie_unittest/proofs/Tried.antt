@@ -1,0 +1,90 @@
+-- What tests are tried with.
+use Rattle.std.proofs.Common.{ℕ, ◌≡◌, ◌<◌, ◌≤◌, true, false, cond, List, [], ◌∷◌, ◌++◌, length, refl, sym, ◌∙◌, ap, subst, arith}
+use Rattle.std.proofs.Common.{append_assoc, append-nil, get_or}
+use Rattle.std.specs.Prelude.{Option, Some, map, nat_lt}
+use Rattle.std.proofs.Math.Logic.{∥∥₁_map, ∥∥₁_map₂}
+use Rattle.std.proofs.lemmas.List.{get_or-map, length-map}
+use Rattle.std.proofs.lemmas.Grind.{merely}
+use Rattle.std.proofs.lemmas.List.Elements.{All-push}
+use Rattle.rpl_core.specs.Core.{Core}
+use Rattle.rpl_core.specs.Instr.{Instr}
+use Rattle.rpl_core.specs.Programs.{IsCode}
+use Rattle.rpl_core.proofs.Codes.{code_holds}
+use Rattle.rpl_codegen.specs.Compiled.{HasLongCode}
+use Rattle.rpl_package.specs.declared.targets.Target.{Target}
+use Rattle.rpl_unittest.specs.declared.test.Test.{Test}
+use Rattle.rosie_jobs.specs.Lines.{Job}
+use Rattle.rosie_unittest.specs.Suites.{AreTrials, IsSubject, goal_of, subject_unless_long}
+use Rattle.rosie_unittest.specs.Trials.{Subject, TooLong, Runs, Trial}
+use Rattle.rosie_unittest.specs.inside.Ready.{AreReady, IsReady, IsReadyTrial, IsText}
+
+module _ (R : List Core) where
+  job_with : Core → List Instr → Job
+  job_with g code = record { rules = R; goal = g; code = code }
+
+  -- every subject that is due has this code
+  coded : (t : Target) (due : Subject) (code : List Instr) → IsSubject R (Some t) due → IsCode R (goal_of t) code → due ≡ subject_unless_long (job_with (goal_of t) code)
+  unfolding job_with
+  coded t due code h is = h.2 ∙ ap (λ c. subject_unless_long (record { rules = R; goal = goal_of t; code = c })) (code_holds R (goal_of t) h.0 code h.1 is)
+
+  pub runs-due : (t : Target) (g : Core) (code : List Instr) (due : Subject) → IsSubject R (Some t) due → g ≡ goal_of t → IsCode R g code → length code ≤ 1048576 → due ≡ Runs (record { rules = R; goal = g; code = code })
+  unfolding job_with
+  runs-due t g code due h e is fits =
+      let test : nat_lt 1048576 (length code) ≡ false = grind (arith, fits) in
+      coded t due code h (subst (λ x. IsCode R x code) e is)
+      ∙ ap (λ b. cond b TooLong (Runs (job_with (goal_of t) code))) test
+      ∙ ap (λ x. Runs (job_with x code)) (sym e)
+
+  pub long-due : (t : Target) (g : Core) (due : Subject) → IsSubject R (Some t) due → g ≡ goal_of t → HasLongCode R g → due ≡ TooLong
+  unfolding job_with
+  long-due t g due h e long =
+      let more = long.2 in
+      let test : nat_lt 1048576 (length long.0) ≡ true = grind (arith, more) in
+      coded t due long.0 h (subst (λ x. IsCode R x long.0) e long.1)
+      ∙ ap (λ b. cond b TooLong (Runs (job_with (goal_of t) long.0))) test
+
+-- ---- the tests in turn
+
+-- of the trials that are due, these are the first, and those of the other tests come after
+pub record Passed (R : List Core) (target : List ℕ → Option Target) (due so_far : List Trial) (rest : List Test) : Type 0 where
+  pub more : List Trial
+  pub split : due ≡ so_far ++ more
+  pub others : AreTrials R target rest more
+
+pub all-first : (R : List Core) (target : List ℕ → Option Target) (due : List Trial) (tests : List Test) → AreTrials R target tests due → Passed R target due [] tests
+all-first R target due tests h = record { more = due; split = refl; others = h }
+
+pub all-next :
+    (R : List Core) (target : List ℕ → Option Target) (due so_far : List Trial) (t : Test) (tests rest : List Test) (s : Subject)
+    → tests ≡ t ∷ rest → Passed R target due so_far tests → ((x : Subject) → IsSubject R (target t.name) x → x ≡ s)
+    → Passed R target due (so_far ++ record { test = t; subject = s } ∷ []) rest
+all-next R target due so_far t tests rest s e h same =
+    let k = subst (λ ts. AreTrials R target ts h.more) e h.others in
+    record {
+      more = k.1;
+      split =
+          h.split ∙ ap (λ xs. so_far ++ xs) (k.4 ∙ ap (λ x. record { test = t; subject = x } ∷ k.1) (same k.0 k.2))
+          ∙ sym (append_assoc so_far (record { test = t; subject = s } ∷ []) k.1);
+      others = k.3;
+    }
+
+pub all-last : (R : List Core) (target : List ℕ → Option Target) (due so_far : List Trial) (tests : List Test) → tests ≡ [] → Passed R target due so_far tests → due ≡ so_far
+all-last R target due so_far tests e h =
+    h.split ∙ ap (λ xs. so_far ++ xs) (subst (λ ts. AreTrials R target ts h.more) e h.others) ∙ append-nil so_far
+
+-- ---- and each of them is ready
+
+pub ready-none : ∥ AreReady [] ∥₁
+ready-none = merely (λ k d lt. absurd (omega arith))
+
+pub ready-next : (ts : List Trial) (t : Trial) → ∥ AreReady ts ∥₁ → IsText t.test.text → ∥ IsReady t.subject ∥₁ → ∥ AreReady (ts ++ t ∷ []) ∥₁
+ready-next ts t h text s = ∥∥₁_map₂ h s (λ r k. All-push IsReadyTrial ts t r (text, k))
+
+pub nothing-left : {X : Type 0} (xs : List X) → length xs ≡ 0 → xs ≡ []
+nothing-left [] h = refl
+nothing-left (x ∷ xs) h = absurd (omega arith)
+
+-- one of them
+pub ready-at : {X : Type 0} (f : X → Trial) (xs : List X) (i : ℕ) (x : X) → i < length xs → x ≡ get_or xs i x → ∥ AreReady (map f xs) ∥₁ → ∥ IsReadyTrial (f x) ∥₁
+ready-at f xs i x lt e h =
+    ∥∥₁_map h (λ r. subst IsReadyTrial (get_or-map f xs i x (f x) lt ∙ ap f (sym e)) (r i (f x) (let l = length-map xs f in omega arith)))

@@ -1,0 +1,72 @@
+use Rattle.std.proofs.Common.{◌≡◌, ◌<◌, ℕ, List, [], ◌∷◌, length, Option, Some, None, refl, sym, ap, subst, ◌∙◌, arith}
+use Rattle.std.specs.Prelude.{Ok, chars, map}
+use Rattle.rosie_prepare.specs.Prepared.{bodies}
+use Rattle.rosie_prepare.proofs.Passing.{bodies-rows_of, due_through, own_through}
+use Rattle.rpl_core.specs.Table.{bodies_of}
+use Rattle.rpl_expand.specs.Sets.{table_of}
+use Rattle.rpl_load_laws.proofs.Lists.{nth_found}
+use Rattle.rpl_package.specs.Owned.{or_top, own, package_name, root_module}
+use Rattle.rpl_package.specs.Sets.{set_seen}
+use Rattle.rpl_package.specs.Targets.{then}
+use Rattle.rpl_package.specs.Views.{text_found}
+use Rattle.rpl_scope.specs.Packages.{nth}
+use Rattle.rosie_unittest.specs.Seen.{suite_of}
+use Rattle.rosie_unittest.specs.Suites.{AreTrials}
+use Rattle.rosie_unittest.specs.Tried.{trial_of}
+use Rattle.rosie_unittest.proofs.Loads.{again-tells, bench_with, refused-due, refused-own, tests-due}
+use Rattle.rosie_unittest.proofs.loading.suite_over.Goals as goal
+
+pub returns-clause-prepares : goal.returns-clause-prepares
+returns-clause-prepares c = λ r h.
+    let p = set_seen c.args.ready.set in
+    let rules = c.args.ready.rules in
+    let m = c.in-Some.number in
+    let name = chars c.in-Some-package.name.now in
+    let made = c.in_ok-subjects.field-0 in
+    let trials = map (trial_of (bodies_of rules) made.subjects.items) made.trials.items in
+    let same : bodies (table_of p) ≡ bodies_of rules = sym (ap bodies c.requires.rows) ∙ bodies-rows_of rules in
+    let tells =
+    again-tells p c.args.file c.args.budget c.args.text.now r m name (sym c.in-Some.ensures.gives)
+    (sym c.in-Some-package.ensures) h in
+    tests-due p m (bench_with c.args.file c.args.budget name) c.args.text.now r c.in_ok-tests.tests trials c.in_ok-tests.ensures.tests
+    (λ due is. c.in_ok-subjects.ensures.trials due (subst (λ R. AreTrials R (own p m) c.in_ok-tests.tests due) same is)) tells
+    ∙ ap (λ x. Ok (record { bench = bench_with c.args.file c.args.budget x; trials = trials })) (sym c.in_ok-prefix.ensures)
+
+pub returns-in_err-tests-clause-prepares : goal.returns-in_err-tests-clause-prepares
+returns-in_err-tests-clause-prepares c = λ r h.
+    let p = set_seen c.args.ready.set in
+    let m = c.in-Some.number in
+    let name = chars c.in-Some-package.name.now in
+    let u = c.in_err-tests.field-0.0 in
+    due_through suite_of c.from_residual-in_err-tests.result u r c.from_residual-in_err-tests.ensures.1
+    (refused-due p m c.args.file c.args.budget name c.args.text.now r u c.in_err-tests.ensures.bad
+    (again-tells p c.args.file c.args.budget c.args.text.now r m name (sym c.in-Some.ensures.gives)
+    (sym c.in-Some-package.ensures) h))
+
+pub returns-in_err-tests-clause-own : goal.returns-in_err-tests-clause-own
+returns-in_err-tests-clause-own c =
+    let u = c.in_err-tests.field-0.0 in
+    own_through c.from_residual-in_err-tests.result u c.from_residual-in_err-tests.ensures.1
+    (refused-own c.args.file c.args.text.now u c.in_err-tests.ensures.bad)
+
+first_there : (roots : List (Option ℕ)) → 0 < length roots → (o : Option ℕ) × (nth roots 0 ≡ Some o)
+first_there [] h = absurd (omega (arith, h))
+first_there (o ∷ os) h = (o, refl)
+
+-- the root has a module
+pub unreachable-requires : goal.unreachable-requires
+unreachable-requires c =
+    let p = set_seen c.args.ready.set in
+    let f = first_there p.roots c.requires.root in
+    let some : root_module p 0 ≡ Some (or_top p.top f.0) = ap (λ o. (then) o (λ x. Some (or_top p.top x))) f.1 in
+    let none : root_module p 0 ≡ None = sym c.root_module.ensures.gives ∙ c.in_default.is in
+    let e : None ≡ Some (or_top p.top f.0) = sym none ∙ some in cc
+
+-- which is one of the set
+pub unreachable-requires-in_default-package : goal.unreachable-requires-in_default-package
+unreachable-requires-in_default-package c =
+    let p = set_seen c.args.ready.set in
+    let m = nth_found p.stock.modules c.in-Some.number c.in-Some.ensures.within in
+    let some : package_name p c.in-Some.number ≡ Some m.0.label = ap (λ o. (then) o (λ x. Some x.label)) m.1 in
+    let none : package_name p c.in-Some.number ≡ None = sym c.package.ensures ∙ ap text_found c.in_default-package.is in
+    let e : None ≡ Some m.0.label = sym none ∙ some in cc

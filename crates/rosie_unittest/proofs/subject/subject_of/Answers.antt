@@ -1,0 +1,33 @@
+use Rattle.std.proofs.Common.{◌≤◌, subst, sym}
+use Rattle.std.proofs.lemmas.List.{length-map}
+use Rattle.std.proofs.lemmas.Grind.{merely}
+use Rattle.rpl_compile_laws.proofs.Answering.{answer_holds}
+use Rattle.rpl_core.specs.Numbers.{instr_of}
+use Rattle.rpl_core.specs.Program.{instructions}
+use Rattle.rpl_core.specs.Table.{bodies_of}
+use Rattle.rosie_unittest.specs.Suites.{IsSubject}
+use Rattle.rosie_unittest.proofs.Tried.{runs-due, long-due}
+use Rattle.rosie_unittest.proofs.subject.subject_of.Goals as goal
+
+pub returns-in-Ok-clause-subject : goal.returns-in-Ok-clause-subject
+returns-in-Ok-clause-subject c = λ due is.
+    let R = bodies_of c.args.rules.now in
+    let p = c.in-Ok.program in
+    let fits = subst (λ n. n ≤ 1048576) (sym (length-map p.code (instr_of p.sets p.labels))) c.in-Ok.ensures.fits in
+    runs-due R c.in-Some.target _ (instructions c.in-Ok.program) due (subst (λ o. IsSubject R o due) c.in-Some.is is)
+    c.in_ok-goal.ensures.goal c.in-Ok.ensures.code fits
+
+pub returns-in-Ok-clause-ready : goal.returns-in-Ok-clause-ready
+returns-in-Ok-clause-ready c =
+    let w = c.in_ok-goal.ensures.whole in
+    merely (record {
+      meant = λ t chars b. answer_holds w.stays.0 _ _ _ w.stays.1 c.in-Ok.ensures.code t chars (w.shut t) b;
+      label = c.in_ok-goal.ensures.root.0;
+      root = c.in_ok-goal.ensures.root.1;
+    })
+
+pub returns-in-CodeTooLong-clause-subject : goal.returns-in-CodeTooLong-clause-subject
+returns-in-CodeTooLong-clause-subject c = λ due is.
+    let R = bodies_of c.args.rules.now in
+    long-due R c.in-Some.target _ due (subst (λ o. IsSubject R o due) c.in-Some.is is) c.in_ok-goal.ensures.goal
+    (c.in-Err.ensures.too_long c.in-CodeTooLong.is)

@@ -1,0 +1,51 @@
+-- What is known of what tests are tried with, and how a test comes out by its trees.
+use Rattle.std.specs.Prelude.{◌≡◌, ◌≤◌, ℕ, true, nat_lt, if◌then◌else◌, List, length, Option, encode_utf8_all}
+use Rattle.std.specs.List.{All}
+use Rattle.std.specs.Str.{all_scalars}
+use Rattle.rpl_core.specs.Captures.{all_named}
+use Rattle.rpl_core.specs.Forest.{Forest, NoTree, Tree, flat}
+use Rattle.rpl_core.specs.declared.caught.Caught.{Caught}
+use Rattle.rpl_encode.specs.Answer.{answer, max_answer_bytes}
+use Rattle.rpl_encode.specs.declared.style.Style.TheVariants.{Json}
+use Rattle.rpl_compile_laws.specs.Laws.{IsCapture}
+use Rattle.rpl_unittest.specs.Verdicts.{is_met, label_in, part_of}
+use Rattle.rpl_unittest.specs.declared.test.Test.{Test}
+use Rattle.rosie_jobs.specs.Lines.{Job}
+use Rattle.rosie_jobs.specs.Meant.{IsMeant}
+use Rattle.rosie_unittest.specs.Trials.{Subject, Unbound, TooLong, Runs, Trial}
+use Rattle.rosie_unittest.specs.declared.verdict.Verdict.{Verdict}
+use Rattle.rosie_unittest.specs.declared.verdict.Verdict.TheVariants.{Met, Unmet, LongAnswer}
+
+-- the code does what the goal means, and a match is one tree
+pub record IsReadyJob (job : Job) : Type 0 where
+  pub meant : IsMeant job
+  pub label : List ℕ
+  pub root : IsCapture job.rules label job.goal
+
+abbrev pub IsReady : Subject → Type 0
+IsReady Unbound = Unit {0}
+IsReady TooLong = Unit {0}
+IsReady (Runs job) = IsReadyJob job
+
+-- a text of a file
+pub record IsText (t : List ℕ) : Type 0 where
+  pub scalars : all_scalars t ≡ true
+  pub short : length (encode_utf8_all t) ≤ 1048576
+
+abbrev pub IsReadyTrial : Trial → Type 0
+IsReadyTrial t = IsText t.test.text × IsReady t.subject
+
+abbrev pub AreReady : List Trial → Type 0
+AreReady = All IsReadyTrial
+
+-- the captures are those of one tree, under the names of their numbers
+abbrev pub AreOfTree : List (List ℕ) → List Caught → Type 0
+AreOfTree labels caught =
+    (label : List ℕ) × (start : ℕ) × (end : ℕ) × (below : Forest)
+    × (all_named (label_in labels) caught ≡ flat (Tree label start end below NoTree))
+
+-- how a test comes out by what was found on its text, whose places count bytes
+abbrev pub by_found : (prefix : List ℕ) → Test → Option Forest → Verdict
+by_found prefix t found =
+    if nat_lt max_answer_bytes (length (answer Json (encode_utf8_all t.text) found)) then LongAnswer
+    else (if is_met t.verb prefix (part_of t.part) (encode_utf8_all t.text) found then Met else Unmet)

@@ -1,0 +1,124 @@
+// From a file to its tests, each with what it is tried with.
+ghost use Rattle.std.specs.Prelude.{◌≡◌, ◌<◌, ◌≤◌, ◌∷◌, [], ℕ, List, Ok, IfErr, IfOk, encode_utf8_all};
+ghost use Rattle.std.specs.Prelude.{false, length};
+ghost use Rattle.std.specs.List.{All};
+ghost use Rattle.rosie_io.specs.Loading.{NotFewer};
+ghost use Rattle.rosie_prepare.specs.Answers.{HasCause, IsAsked, Prepares};
+ghost use Rattle.rosie_prepare.specs.Prepared.{OrLine};
+ghost use Rattle.rosie_run.specs.Sources.{moment};
+ghost use Rattle.rpl_expand.specs.Sets.{table_of};
+ghost use Rattle.rpl_forms.specs.Rows.{rows_of};
+ghost use Rattle.rpl_package.specs.Sets.{set_seen};
+ghost use Rattle.rpl_package.specs.declared.rooted.Root.TheVariants.{File};
+ghost use Rattle.rpl_unittest.specs.Comments.{HasTests};
+ghost use Rattle.rosie_unittest.specs.Limits.{SuitePays};
+ghost use Rattle.rosie_unittest.specs.Seen.{bench_of, suite_of, trials_of};
+ghost use Rattle.rosie_unittest.specs.Suites as S;
+ghost use Rattle.rosie_unittest.specs.inside.Steps.{IsBadTest, IsOwn};
+
+use crate::reading::read_again;
+use crate::suite::Suite;
+use crate::trial::{Trials, trials_of};
+use rosie_io::Files;
+use rosie_prepare::{PreparedRules, Unready, prepare_rules};
+use rosie_run::{NoMemory, line_fault};
+use rpl_package::{LibPath, Root, Roots};
+use rpl_print::text_of;
+use rpl_text::Chars;
+use rpl_unittest::{TestFault, Tests, read_tests};
+use std::alloc::Global;
+
+/// The file as the one root.
+fn one_root(alloc: Global, file: &Chars) -> Result<Roots, NoMemory>
+    ensures { IfOk result (λ roots. roots ≡ File file.now ∷ []) }
+{
+    let mut roots = Roots::new(alloc);
+    roots.push(Root::File(file.copy(alloc)?))?;
+    Ok(roots)
+}
+
+/// The tests that the comments of the file's text say, or the line of the first bad one.
+fn tests_in(alloc: Global, file: &Chars, text: &str) -> Result<Tests, Unready>
+    ensures tests { IfOk result (HasTests text.now) }
+    ensures short { IfOk result (λ tests. All (λ t. length (encode_utf8_all t.text) ≤ length text.now) tests) }
+    ensures bad { IfErr result (IsBadTest file.now text.now) }
+{
+    match read_tests(alloc, text) {
+        Ok(tests) => Ok(tests),
+        Err(fault) => match fault {
+            TestFault::NoMemory => Err(Unready::NoMemory),
+            TestFault::BadTest { line } => {
+                let told = line_fault(alloc, text_of(file), line, "bad test")?;
+                Err(Unready::Refused(told))
+            }
+        },
+    }
+}
+
+/// The tests of the file's text, over its packages; or the line of its first bad test comment.
+fn suite_over(
+    alloc: Global,
+    ready: PreparedRules,
+    file: Chars,
+    budget: Option<u64>,
+    text: &str,
+) -> Result<Suite, Unready>
+    requires rows { rows_of ready.rules ≡ table_of (set_seen ready.set) }
+    requires root { 0 < length (set_seen ready.set).roots }
+    requires short { length text.now ≤ 1048576 }
+    ensures prepares { (r : OrLine S.Suite) → S.ComesAgain (set_seen ready.set) file budget (Ok text.now) r
+        → Prepares suite_of result r }
+    ensures own { IfErr result IsOwn }
+{
+    let PreparedRules { set, rules } = ready;
+    let Some(number) = set.root_module(0) else {
+        unreachable!()
+    };
+    let Some(name) = set.package(number) else {
+        unreachable!()
+    };
+    let prefix = Chars::from_str(alloc, name)?;
+    let tests = tests_in(alloc, &file, text)?;
+    let Trials { subjects, trials } = trials_of(alloc, &set, &rules, number, tests)?;
+    Ok(Suite {
+        file,
+        prefix,
+        budget,
+        rules,
+        subjects,
+        trials,
+    })
+}
+
+/// The tests of a file, each with what it is tried with; or the line of the first fault.
+///
+/// The file is loaded as the one root, over these folders, and read once more for its test comments. Each test is tried
+/// with the rule of its name in the file's own module. `budget` is how many steps of the machine a test may take; where
+/// it isn't given, it is a million, and a thousand for each character of the text.
+pub fn load_suite<F: Files>(
+    alloc: Global,
+    files: &mut F,
+    folders: &LibPath,
+    file: Chars,
+    budget: Option<u64>,
+) -> Result<Suite, Unready>
+    ensures prepares { F.tells → (asked : List (List ℕ)) → (r : OrLine S.Suite)
+        → S.IsSuite (F.tree files.old) folders.now file budget asked r → Prepares suite_of result r }
+    ensures asked { F.tells → (asked : List (List ℕ)) → (r : OrLine S.Suite)
+        → S.IsSuite (F.tree files.old) folders.now file budget asked r → IfErr result (λ u. IsAsked u asked) }
+    ensures due { IfOk result (λ suite. SuitePays (bench_of suite) (trials_of suite)) }
+    ensures cause { HasCause result (moment F.rest F.taken F.faults F.failed_opens files.old)
+        (moment F.rest F.taken F.faults F.failed_opens files.new) }
+    ensures taken { NotFewer (F.taken files.old) (F.taken files.new) }
+    ensures tree { F.tree files.new ≡ F.tree files.old }
+    ensures closed { F.is_open files.old ≡ false → F.is_open files.new ≡ false }
+{
+    let roots = one_root(alloc, &file)?;
+    match prepare_rules(alloc, files, folders, &roots) {
+        Ok(ready) => match read_again(alloc, files, &file) {
+            Ok(text) => suite_over(alloc, ready, file, budget, text.as_str()),
+            Err(unready) => Err(unready),
+        },
+        Err(unready) => Err(unready),
+    }
+}

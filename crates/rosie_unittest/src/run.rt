@@ -1,0 +1,126 @@
+// The run of the tests.
+ghost use Rattle.std.specs.Prelude.{◌≡◌, ◌+◌, ◌<◌, length, IfErr, IfOk, OnOk};
+ghost use Rattle.rosie_run.specs.Causes.{WritesCause};
+ghost use Rattle.rosie_run.specs.Outputs.{texts};
+ghost use Rattle.rosie_run.specs.Runs.{Runs, IsNoCut};
+ghost use Rattle.rosie_run.specs.Where.{Nowhere};
+ghost use Rattle.rpl_core.specs.Table.{bodies_of};
+ghost use Rattle.rosie_unittest.specs.Trials as T;
+ghost use Rattle.rosie_unittest.specs.inside.Ready.{IsReadyJob, IsReadyTrial, IsText};
+
+use crate::subject::{Compiled, Subject};
+use crate::suite::Suite;
+use crate::telling::{tell_counts, tell_test};
+use crate::tester::{Tester, judge_none};
+use crate::trial::Trial;
+use crate::verdict::Verdict;
+use rosie_io::Sink;
+use rosie_jobs::budget_or;
+use rosie_run::{Ended, NoMemory, Tally};
+use rpl_machine::{Answer, RunFault, Steps, run};
+use rpl_print::text_of;
+use rpl_text::Text;
+use rpl_unittest::Test;
+use std::alloc::{AllocError, Global};
+use std::sync::ledger::Ledger;
+
+impl Suite {
+    ghost use Rattle.rosie_unittest.specs.Seen.{bench_of, trials_of};
+    ghost use Rattle.rosie_unittest.specs.Tried.{job_of, trial_of};
+
+    /// How a test comes out whose goal has its code.
+    fn try_goal<L: Ledger>(
+        &self,
+        test: &Test,
+        compiled: &Compiled,
+        tester: &mut Tester,
+        steps: &mut Steps<L>,
+    ) -> Result<Verdict, NoMemory>
+        requires ready { ∥ IsReadyJob (job_of (bodies_of self.now.rules) compiled.now) ∥₁ }
+        requires text { IsText test.now.text }
+        ensures verdict { IfOk result (λ verdict. verdict ≡ T.verdict_of (bench_of self.now) test.now
+            (T.Runs (job_of (bodies_of self.now.rules) compiled.now))) }
+        ensures steps { OnOk result (steps.new ≡ steps.old + T.cost_of (bench_of self.now) test.now
+            (T.Runs (job_of (bodies_of self.now.rules) compiled.now))) }
+    {
+        let text = text_of(&test.text);
+        let prefix = text_of(&self.prefix);
+        let program = &compiled.program;
+        let budget = budget_or(self.budget, text);
+        match run(program, Text::new(text), budget, &mut tester.scratch, steps) {
+            Ok(answer) => match answer {
+                Answer::At { .. } => tester.judge_match(test, prefix, program),
+                Answer::Fail { .. } => Ok(judge_none(test, prefix, program)),
+            },
+            Err(fault) => match fault {
+                RunFault::Budget => Ok(Verdict::Spent),
+                RunFault::NoMemory => Err(AllocError),
+            },
+        }
+    }
+
+    /// How a test comes out.
+    fn try_test<L: Ledger>(
+        &self,
+        trial: &Trial,
+        tester: &mut Tester,
+        steps: &mut Steps<L>,
+    ) -> Result<Verdict, NoMemory>
+        requires placed { trial.now.subject < length self.now.subjects.items }
+        requires ready { ∥ IsReadyTrial (trial_of (bodies_of self.now.rules) self.now.subjects.items trial.now) ∥₁ }
+        ensures verdict { IfOk result (λ verdict. verdict ≡ T.verdict_in (bench_of self.now)
+            (trial_of (bodies_of self.now.rules) self.now.subjects.items trial.now)) }
+        ensures steps { OnOk result (steps.new ≡ steps.old + T.cost_of (bench_of self.now) trial.now.test
+            (trial_of (bodies_of self.now.rules) self.now.subjects.items trial.now).subject) }
+    {
+        match &self.subjects[trial.subject].subject {
+            Subject::Unbound => Ok(Verdict::Unmet),
+            Subject::TooLong => Ok(Verdict::LongCode),
+            Subject::Runs(compiled) => self.try_goal(&trial.test, compiled, tester, steps),
+        }
+    }
+
+    /// Tries the tests in turn, and writes the line of each that isn't met, and the counts at the end. A code that is
+    /// too long ends the run.
+    pub fn run<O: Sink, E: Sink, L: Ledger>(
+        &self,
+        alloc: Global,
+        out: &mut O,
+        err: &mut E,
+        steps: &mut Steps<L>,
+    ) -> Result<Tally, Ended>
+        ensures runs { Runs result (record { out = O.tells; err = E.tells; counts = O.counts })
+            (T.suite_pieces (bench_of self.now) (trials_of self.now)) Nowhere
+            (texts O.written O.number E.written out.old err.old steps.old)
+            (texts O.written O.number E.written out.new err.new steps.new) }
+        ensures no_cut { IfErr result IsNoCut }
+        ensures sinks { WritesCause result (O.faults out.old) (O.faults out.new) (E.faults err.old)
+            (E.faults err.new) }
+    {
+        let file = text_of(&self.file);
+        let mut tester = Tester::new(alloc)?;
+        let mut tally = Tally::new();
+        let mut unmet = 0;
+        'tests: for trial in &self.trials {
+            let verdict = self.try_test(trial, &mut tester, steps)?;
+            let told = tell_test(alloc, file, &trial.test, verdict, out, err)?;
+            tally = tally.and(told);
+            if tally.stop {
+                return Ok(tally);
+            }
+            unmet += one_if_unmet(verdict);
+        }
+        let told = tell_counts(alloc, file, self.trials.len() as u64, unmet, out, err)?;
+        Ok(tally.and(told))
+    }
+}
+
+/// What a verdict adds to the number of those that aren't met.
+fn one_if_unmet(verdict: Verdict) -> u64
+    ensures { result ≡ T.one_if_unmet verdict }
+{
+    match verdict {
+        Verdict::Unmet => 1,
+        _ => 0,
+    }
+}

@@ -1,0 +1,29 @@
+// The tests of a file, each with what it is tried with.
+ghost use Rattle.std.specs.Prelude.{◌<◌, length, map};
+ghost use Rattle.std.specs.List.{All};
+ghost use Rattle.rpl_core.specs.Table.{bodies_of};
+ghost use Rattle.rosie_unittest.specs.Tried.{trial_of};
+ghost use Rattle.rosie_unittest.specs.inside.Ready.{AreReady};
+
+use crate::subject::Entry;
+use crate::trial::Trial;
+use rpl_check::Checked;
+use rpl_text::Chars;
+
+/// The tests of a file, each with what it is tried with.
+#[derive(Drop)]
+pub struct Suite {
+    /// The file's name, as it is given.
+    pub(crate) file: Chars,
+    /// The name of its package, empty where it has none.
+    pub(crate) prefix: Chars,
+    /// The machine's steps that a test may take, where they are given.
+    pub(crate) budget: Option<u64>,
+    /// The rules of all that is loaded.
+    pub(crate) rules: Checked,
+    /// What the tests are tried with.
+    pub(crate) subjects: Vec<Entry>,
+    pub(crate) trials: Vec<Trial>,
+    ghost ready: { ∥ AreReady (map (trial_of (bodies_of rules) subjects.items) trials.items) ∥₁ },
+    ghost placed: { All (λ t. t.subject < length subjects.items) trials.items },
+}

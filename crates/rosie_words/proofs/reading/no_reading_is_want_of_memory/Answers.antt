@@ -1,5 +1,0 @@
-use Rattle.rosie_words.proofs.Memory.{reading_lacks}
-use Rattle.rosie_words.proofs.reading.no_reading_is_want_of_memory.Goals as goal
-
-pub returns : goal.returns
-returns c = reading_lacks

@@ -1,5 +1,0 @@
-use Rattle.rpl_compared.proofs.tests.endings.answer.Given as goal
-
--- the steps are counted on the ledger of the blank
-abbrev pub ghosts-answer_on : goal.ghosts-answer_on
-ghosts-answer_on a = record { name = a.blank.name; parts = a.blank.parts }

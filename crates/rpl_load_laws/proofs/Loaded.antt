@@ -1,0 +1,48 @@
+-- The laws of loaded sets.
+use Rattle.std.proofs.Common.{None}
+use Rattle.rpl_scope.specs.Packages.{nth}
+use Rattle.rpl_package.specs.Goals.{pattern_file}
+use Rattle.rpl_load_laws.proofs.Building.{set_of}
+use Rattle.rpl_load_laws.proofs.Goals.{stand_by}
+use Rattle.rpl_load_laws.proofs.Names as N
+use Rattle.rpl_load_laws.proofs.Naming.{goal_names, said_names}
+use Rattle.rpl_load_laws.proofs.Owning.{own_is_rule}
+use Rattle.rpl_load_laws.proofs.Scoping.{make_trees, rules_in_order, scope_over}
+use Rattle.rpl_load_laws.proofs.Tables.{all_bound}
+use Rattle.rpl_load_laws.proofs.Told as T
+use Rattle.rpl_load_laws.specs.Laws.{LoadedIsBound, ModulesAreApart, OwnNamesAreRules, PatternsResolve, ScopesAreOver, StatementsResolve}
+use Rattle.rpl_load_laws.specs.Laws.{TableIsDistinct, TablesAreInOrder, ToldIsBuilt, TreesAreMade}
+
+pub told_is_built : ToldIsBuilt
+told_is_built tree folders p h = T.told_is_built tree folders p h
+
+pub loaded_is_bound : LoadedIsBound
+loaded_is_bound p h = all_bound p (set_of p h).stock.sound
+
+pub statements_resolve : StatementsResolve
+statements_resolve p h n e q is c = said_names p (set_of p h).stock.sound n e q is c
+
+pub patterns_resolve : PatternsResolve
+patterns_resolve tree folders e p q h c =
+    let is = T.goal_passes tree folders e p h in
+    let set = set_of p is.built in
+    let stand = stand_by pattern_file e p.stock (nth p.stock.modules p.top) is.passes in
+    goal_names p set.stock.sound e q set.top stand c
+
+pub tables_are_in_order : TablesAreInOrder
+tables_are_in_order p h rs same = rules_in_order p rs same (set_of p h).stock.sound
+
+pub scopes_are_over : ScopesAreOver
+scopes_are_over p h rs n same = scope_over p rs same (set_of p h).stock.sound n
+
+pub trees_are_made : TreesAreMade
+trees_are_made p h rs same = make_trees p rs same (set_of p h).stock.sound None
+
+pub own_names_are_rules : OwnNamesAreRules
+own_names_are_rules p h rs i n t same e = own_is_rule p rs same (set_of p h).stock.sound i n t e
+
+pub modules_are_apart : ModulesAreApart
+modules_are_apart p h = N.modules_apart p h
+
+pub table_is_distinct : TableIsDistinct
+table_is_distinct p h = N.table_distinct p h

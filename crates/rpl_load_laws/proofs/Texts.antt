@@ -1,0 +1,216 @@
+-- What the texts that are read say: no block has a boundary, no rule has a dot in its name, and no star is the package
+-- name of a text or stands last in the path of an import.
+use Rattle.std.proofs.Common.{◌≡◌, ◌≢◌, ℕ, List, [], ◌∷◌, ◌++◌, length, Option, Some, None, sym, ap, subst, refl}
+use Rattle.std.proofs.Common.{◌∙◌, arith}
+use Rattle.std.specs.Prelude.{true, false, Result, Ok, Err}
+use Rattle.std.specs.List.{AllByRecursion}
+use Rattle.std.proofs.lemmas.List.{length-append}
+use Rattle.std.proofs.lemmas.List.Elements.{All-contains, All-from_recursion}
+use Rattle.rpl_lexer.specs.Cut.{IsCut}
+use Rattle.rpl_lexer.specs.Cutting.{cut_of}
+use Rattle.rpl_lexer.specs.Forms.{IsName, is_name}
+use Rattle.rpl_lexer.specs.declared.fault.LexFault.{LexFault}
+use Rattle.rpl_lexer.specs.declared.punct.Punct.TheVariants.{Comma}
+use Rattle.rpl_lexer.specs.declared.token.Token.{Token as Lexeme}
+use Rattle.rpl_lexer.proofs.Computing.{cut_found}
+use Rattle.rpl_lexer.proofs.Cuts.{tokens_stand}
+use Rattle.rpl_syntax.specs.Modules.{Rule, ParsedModule}
+use Rattle.rpl_syntax.specs.declared.module.Import.{Import}
+use Rattle.rpl_syntax.specs.declared.name.QName.{QName}
+use Rattle.rpl_syntax.specs.declared.token.Token.{Token}
+use Rattle.rpl_syntax.specs.declared.token.Token.TheVariants as T
+use Rattle.rpl_parser.specs.Order.{Placed, Title, Importing, Part, Alone, Whole, Halves, NoneLocal, LocalOutside}
+use Rattle.rpl_parser.specs.Order.{AllLocalOutside, rule_lines, part_lines, parts_lines, import_lines, title_lines}
+use Rattle.rpl_parser.specs.Order.{version_lines, outline_lines, part_entry, part_entries, Stands, AreLines, IsModule}
+use Rattle.rpl_parser.specs.Order.{all_imports, title_name}
+use Rattle.rpl_parser.specs.Spelling as S
+use Rattle.rpl_parser.specs.Spelling.{Line, Statement, spell_statement, Path, As, Entries, spell_path, spell_as}
+use Rattle.rpl_parser.specs.Spelling.{spell_entries, path_text, entries}
+use Rattle.rpl_parser.specs.Tokens.{AllStand, tokens_of}
+use Rattle.rpl_parser.specs.Walks.{module_of}
+use Rattle.rpl_parser.specs.declared.fault.ParseFault.{ParseFault}
+use Rattle.rpl_parser.specs.declared.walk.Numbered.{Numbered}
+use Rattle.rpl_parser.proofs.Cutting.{take_all, drop_all}
+use Rattle.rpl_parser.proofs.Modules.{module_sound}
+use Rattle.rpl_parser.proofs.Told.{all_said}
+use Rattle.rpl_parser.proofs.Walking.{stands_take, stands_drop}
+use Rattle.rpl_package.specs.Loading.{label_of}
+use Rattle.rpl_package.specs.Tables.{boundary_name}
+use Rattle.rpl_package.specs.Texts.{of_cut, of_parse}
+use Rattle.rpl_package.specs.Built.{IsSaid, IsAsked, by_text, by_goal}
+use Rattle.rpl_load_laws.proofs.Asked.{goal_ends}
+use Rattle.rpl_load_laws.proofs.Entering.{AreUnmarked, IsPlainEntry, ArePlainEntries}
+use Rattle.rpl_load_laws.proofs.FullNames.{AreDotless, AreDotlessEntries, HasNoDot, IsDotlessEntry, mark_has_none, star}
+use Rattle.rpl_load_laws.proofs.Lists.{all_append}
+use Rattle.rpl_load_laws.proofs.Words.{All_named, EndsWell, all_named, name_ends, no_dot, no_star, under_ends}
+
+-- ---- imports
+
+abbrev ImportEnds : Import → Type 0
+ImportEnds i = EndsWell i.path
+
+path_ends : (p : Path) (r : List Token) → All_named (spell_path p r) → EndsWell (path_text p) × All_named r
+path_ends (S.Last n at) r f = (name_ends n false f.0, f.1)
+path_ends (S.Under n at p) r f =
+    let k = path_ends p r f.1.1 in (under_ends n (path_text p) false f.0 k.0, k.1)
+
+as_rest : (a : As) (r : List Token) → All_named (spell_as a r) → All_named r
+as_rest S.NoAs r f = f
+as_rest (S.AsName n at) r f = f.1.1
+as_rest S.AsDot r f = f.1.1
+
+entries_end : (es : Entries) → All_named (spell_entries es) → AllByRecursion ImportEnds (entries es)
+entries_end (S.Single p a) f = ((path_ends p (spell_as a []) f).0, tt)
+entries_end (S.More p a es) f =
+    let r = T.Sign Comma ∷ spell_entries es in
+    let k = path_ends p (spell_as a r) f in
+    (k.0, entries_end es (as_rest a r k.1).1)
+
+-- ---- a statement
+
+not_mark : (n : List ℕ) → IsName n false → n ≢ boundary_name
+not_mark n h e = let k : is_name boundary_name ≡ true = subst (λ x. is_name x ≡ true) e h.name in absurd (cc)
+
+abbrev LinePlain : Line → Type 0
+LinePlain (S.Binds local alias name body) = (local ≡ false → name ≢ boundary_name) × HasNoDot name
+LinePlain (S.Package name) = name ≢ star
+LinePlain (S.Imports es) = AllByRecursion ImportEnds es
+LinePlain _ = Unit {0}
+
+abbrev LinesPlain : List Placed → Type 0
+LinesPlain [] = Unit {0}
+LinesPlain (l ∷ ls) = LinePlain l.line × LinesPlain ls
+
+statement_plain : (t : Statement) → All_named (spell_statement t) → LinePlain (S.line t)
+statement_plain (S.RplLine a b) f = tt
+statement_plain (S.PackageLine n at) f = no_star n false f.1.0
+statement_plain (S.ImportLine es) f = entries_end es f.1
+statement_plain (S.BindingLine true true n at e) f = (λ h. absurd (cc), no_dot n false f.1.1.0)
+statement_plain (S.BindingLine true false n at e) f = (λ h. absurd (cc), no_dot n false f.1.0)
+statement_plain (S.BindingLine false true n at e) f = (λ h. not_mark n f.1.0, no_dot n false f.1.0)
+statement_plain (S.BindingLine false false n at e) f = (λ h. not_mark n f.0, no_dot n false f.0)
+statement_plain (S.BoundaryLine e) f = (λ h. absurd (cc), mark_has_none)
+statement_plain S.GrammarLine f = tt
+statement_plain S.InLine f = tt
+statement_plain S.EndLine f = tt
+
+line_plain : (s : List ℕ) (p : List Lexeme) (l : Placed) → AllStand s p → Stands s p l → LinePlain l.line
+line_plain s p l a h =
+    let f = all_named s p (tokens_of s p) a (all_said s p h.good) in
+    subst LinePlain (sym h.spelled.stands_for) (statement_plain h.spelled.tree (subst All_named h.spelled.spelled f))
+
+front_stands : (s : List ℕ) (p q : List Lexeme) → AllStand s (p ++ q) → AllStand s p
+front_stands s p q h = subst (AllStand s) (take_all p q)
+    (stands_take s (p ++ q) (length p) (let l = length-append p q in omega (arith, l)) h)
+
+back_stands : (s : List ℕ) (p q : List Lexeme) → AllStand s (p ++ q) → AllStand s q
+back_stands s p q h = subst (AllStand s) (drop_all p q) (stands_drop s (p ++ q) (length p) h)
+
+lines_plain : (s : List ℕ) (ts : List Lexeme) (ls : List Placed) → AllStand s ts
+    → AreLines (Stands s) ts ls → LinesPlain ls
+lines_plain s ts [] a h = tt
+lines_plain s ts (l ∷ ls) a h =
+    let b = subst (AllStand s) h.2 a in
+    (line_plain s h.0 l (front_stands s h.0 h.1 b) h.3, lines_plain s h.1 ls (back_stands s h.0 h.1 b) h.4)
+
+-- ---- modules
+
+rules_plain : (rs : List Rule) (q : List Placed) → NoneLocal rs → LinesPlain (rule_lines rs q) → AreUnmarked rs
+    × LinesPlain q
+rules_plain [] q n h = (tt, h)
+rules_plain (r ∷ rs) q n h = let k = rules_plain rs q n.1 h.1 in ((h.0.0 n.0, k.0), k.1)
+
+part_plain : (p : Part) (q : List Placed) → LocalOutside p → LinesPlain (part_lines p q) → IsPlainEntry (part_entry p)
+    × LinesPlain q
+part_plain (Alone r) q n h = (tt, h.1)
+part_plain (Whole o vs c) q n h = let k = rules_plain vs _ n h.1 in ((tt, k.0), k.1.1)
+part_plain (Halves o hs i vs c) q n h =
+    let j = rules_plain hs _ n.0 h.1 in
+    let k = rules_plain vs _ n.1 j.1.1 in
+    ((j.0, k.0), k.1.1)
+
+parts_plain : (ps : List Part) → AllLocalOutside ps → LinesPlain (parts_lines ps) → ArePlainEntries (part_entries ps)
+parts_plain [] n h = tt
+parts_plain (p ∷ ps) n h = let k = part_plain p (parts_lines ps) n.0 h in (k.0, parts_plain ps n.1 k.1)
+
+rules_dotless : (rs : List Rule) (q : List Placed) → LinesPlain (rule_lines rs q) → AreDotless rs × LinesPlain q
+rules_dotless [] q h = (tt, h)
+rules_dotless (r ∷ rs) q h = let k = rules_dotless rs q h.1 in ((h.0.1, k.0), k.1)
+
+part_dotless : (p : Part) (q : List Placed) → LinesPlain (part_lines p q) → IsDotlessEntry (part_entry p)
+    × LinesPlain q
+part_dotless (Alone r) q h = (h.0.1, h.1)
+part_dotless (Whole o vs c) q h = let k = rules_dotless vs _ h.1 in ((tt, k.0), k.1.1)
+part_dotless (Halves o hs i vs c) q h =
+    let j = rules_dotless hs _ h.1 in
+    let k = rules_dotless vs _ j.1.1 in
+    ((j.0, k.0), k.1.1)
+
+parts_dotless : (ps : List Part) → LinesPlain (parts_lines ps) → AreDotlessEntries (part_entries ps)
+parts_dotless [] h = tt
+parts_dotless (p ∷ ps) h = let k = part_dotless p (parts_lines ps) h in (k.0, parts_dotless ps k.1)
+
+imports_end : (is : List Importing) (q : List Placed) → LinesPlain (import_lines is q)
+    → AllByRecursion ImportEnds (all_imports is) × LinesPlain q
+imports_end [] q h = (tt, h)
+imports_end (i ∷ is) q h =
+    let k = imports_end is q h.1 in (all_append ImportEnds i.entries (all_imports is) h.0 k.0, k.1)
+
+past_title : (o : Option Title) (q : List Placed) → LinesPlain (title_lines o q)
+    → ((n : QName) → title_name o ≡ Some n → n.name ≢ star) × LinesPlain q
+past_title None q h = (λ n e. absurd (cc), h)
+past_title (Some t) q h = (λ n e g. h.0 (let k : t.name ≡ n.name = cc in k ∙ g), h.1)
+
+past_version : (o : Option Numbered) (q : List Placed) → LinesPlain (version_lines o q) → LinesPlain q
+past_version None q h = h
+past_version (Some v) q h = h.1
+
+-- what is known of all that is read
+pub record IsPlain (t : ParsedModule) : Type 0 where
+  pub unmarked : ArePlainEntries t.items
+  pub dotless : AreDotlessEntries t.items
+  pub title : (n : QName) → t.name ≡ Some n → n.name ≢ star
+  pub imports : AllByRecursion ImportEnds t.imports
+
+module_plain : (s : List ℕ) (ts : List Lexeme) (m : ParsedModule) → IsCut s ts → IsModule s ts m → IsPlain m
+module_plain s ts m c h =
+    let all = lines_plain s ts (outline_lines h.tree) (λ i t e. tokens_stand s ts i t c e) h.spelled in
+    let title = past_title h.tree.title _ (past_version h.tree.version _ all) in
+    let imports = imports_end h.tree.imports _ title.1 in
+    subst IsPlain (sym h.stands_for) (record {
+      unmarked = parts_plain h.tree.parts h.blocks imports.1;
+      dotless = parts_dotless h.tree.parts imports.1;
+      title = title.0;
+      imports = imports.0;
+    })
+
+-- ---- texts
+
+by_parse : (f s : List ℕ) (ts : List Lexeme) (t : ParsedModule) (r : Result ParsedModule ParseFault) → IsCut s ts → module_of s ts ≡ r
+    → of_parse f r ≡ Ok t → IsPlain t
+by_parse f s ts t (Ok x) c e h = let k : x ≡ t = cc in module_plain s ts t c (module_sound s ts t (e ∙ ap Ok k))
+by_parse f s ts t (Err x) c e h = absurd (cc)
+
+by_cut : (f s : List ℕ) (t : ParsedModule) (r : Result (List Lexeme) LexFault) → cut_of s ≡ r → of_cut f (module_of s) r ≡ Ok t
+    → IsPlain t
+by_cut f s t (Ok ts) e h = by_parse f s ts t (module_of s ts) (cut_found s ts e) refl h
+by_cut f s t (Err x) e h = absurd (cc)
+
+pub plain_text : (t : ParsedModule) → IsSaid t → IsPlain t
+plain_text t h = by_cut h.file h.bytes t (cut_of h.bytes) refl h.read
+
+-- ---- package names
+
+asked_ends : (i : Import) → IsAsked i → EndsWell i.path
+asked_ends i (by_text t is c) =
+    All-contains ImportEnds t.imports i (All-from_recursion ImportEnds t.imports (plain_text t is).imports) c
+asked_ends i (by_goal q g p) = goal_ends q i.path g p
+
+by_title : (o : Option QName) (path : List ℕ) → ((n : QName) → o ≡ Some n → n.name ≢ star) → EndsWell path
+    → label_of o path ≢ star
+by_title None path f e = e
+by_title (Some q) path f e = f q refl
+
+-- that of an imported text is no star
+pub label_plain : (t : ParsedModule) (i : Import) → IsSaid t → IsAsked i → label_of t.name i.path ≢ star
+label_plain t i is a = by_title t.name i.path (plain_text t is).title (asked_ends i a)

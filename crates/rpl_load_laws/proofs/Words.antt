@@ -1,0 +1,116 @@
+-- What the tokens of a text say of names: none has a dot, and what stands last in a path is no star.
+use Rattle.std.proofs.Common.{arith, ◌≡◌, ◌≢◌, ℕ, suc, ◌+◌, List, [], ◌∷◌, ◌++◌, drop}
+use Rattle.std.proofs.Common.{refl, sym, ap, subst, ◌∙◌, append_assoc}
+use Rattle.std.specs.Prelude.{Bool, true, false, nat_eq, if◌then◌else◌, chars}
+use Rattle.std.proofs.lemmas.Bool.{and_parts}
+use Rattle.std.proofs.lemmas.Bool.Decides.{nat_tests}
+use Rattle.std.proofs.lemmas.List.{append-nil}
+use Rattle.std.proofs.lemmas.Str.{chars-IsAscii}
+use Rattle.rpl_lexer.specs.Bytes.{is_letter, is_word, begins, run}
+use Rattle.rpl_lexer.specs.Forms.{Form, IsName, IsPair, each, is_name}
+use Rattle.rpl_lexer.specs.Fronts.{first_name}
+use Rattle.rpl_lexer.specs.Payloads.{payload_by, span}
+use Rattle.rpl_lexer.specs.declared.token.Token.{Token as Lexeme}
+use Rattle.rpl_lexer.specs.declared.token.TokenKind.{TokenKind}
+use Rattle.rpl_lexer.specs.declared.token.TokenKind.TheVariants as K
+use Rattle.rpl_syntax.specs.Texts.{Say, Says}
+use Rattle.rpl_syntax.specs.declared.token.Token.{Token}
+use Rattle.rpl_syntax.specs.declared.token.Token.TheVariants as T
+use Rattle.rpl_syntax.proofs.Fronts.{name_ascii, halves}
+use Rattle.rpl_syntax.proofs.Said.{form_of}
+use Rattle.rpl_parser.specs.Tokens.{AllStand}
+use Rattle.rpl_scope.specs.Imports.{last_part}
+use Rattle.rpl_load_laws.proofs.FullNames.{HasNoDot, star}
+
+-- ---- a name
+
+word_no_dot : (c : ℕ) → is_word c ≡ true → c ≢ 46
+word_no_dot c h = grind (arith, nat_tests)
+
+word_no_slash : (c : ℕ) → is_word c ≡ true → nat_eq c 47 ≡ false
+word_no_slash c h = grind (arith, nat_tests)
+
+pub words_no_dot : (n : List ℕ) → each is_word n ≡ true → HasNoDot n
+words_no_dot [] h = tt
+words_no_dot (c ∷ n) h =
+    let p = and_parts (is_word c) (each is_word n) h in (word_no_dot c p.0, words_no_dot n p.1)
+
+words_of : (n : List ℕ) (b : Bool) → IsName n b → each is_word n ≡ true
+words_of n b h = (and_parts (begins is_letter n) (each is_word n) h.name).1
+
+pub no_dot : (n : List ℕ) (b : Bool) → IsName n b → HasNoDot n
+no_dot n b h = words_no_dot n (words_of n b h)
+
+pub no_star : (n : List ℕ) (b : Bool) → IsName n b → n ≢ star
+no_star n b h e = let k : is_name star ≡ true = subst (λ x. is_name x ≡ true) e h.name in absurd (cc)
+
+-- ---- a path
+
+-- what stands last in it is no star
+abbrev pub EndsWell : List ℕ → Type 0
+EndsWell p = last_part [] p ≢ star
+
+last_word : (acc n : List ℕ) → each is_word n ≡ true → last_part acc n ≡ acc ++ n
+last_word acc [] h = sym (append-nil acc)
+last_word acc (c ∷ n) h =
+    let p = and_parts (is_word c) (each is_word n) h in
+    ap (λ b. if b then last_part [] n else last_part (acc ++ c ∷ []) n) (word_no_slash c p.0)
+    ∙ last_word (acc ++ c ∷ []) n p.1 ∙ append_assoc acc (c ∷ []) n
+
+last_behind : (acc n q : List ℕ) → each is_word n ≡ true → last_part acc (n ++ 47 ∷ q) ≡ last_part [] q
+last_behind acc [] q h = refl
+last_behind acc (c ∷ n) q h =
+    let p = and_parts (is_word c) (each is_word n) h in
+    ap (λ b. if b then last_part [] (n ++ 47 ∷ q) else last_part (acc ++ c ∷ []) (n ++ 47 ∷ q)) (word_no_slash c p.0)
+    ∙ last_behind (acc ++ c ∷ []) n q p.1
+
+pub name_ends : (n : List ℕ) (b : Bool) → IsName n b → EndsWell n
+name_ends n b h e = no_star n b h (sym (last_word [] n (words_of n b h)) ∙ e)
+
+pub under_ends : (n q : List ℕ) (b : Bool) → IsName n b → EndsWell q → EndsWell (n ++ 47 ∷ q)
+under_ends n q b h k e = k (sym (last_behind [] n q (words_of n b h)) ∙ e)
+
+-- ---- tokens
+
+abbrev pub Named_token : Token → Type 0
+Named_token (T.Name n at) = IsName n false
+Named_token (T.Qualified p n at) = IsName p false × IsName n false
+Named_token _ = Unit {0}
+
+abbrev pub All_named : List Token → Type 0
+All_named [] = Unit {0}
+All_named (t ∷ ts) = Named_token t × All_named ts
+
+chars_named : (w : List ℕ) → IsName w false → IsName (chars w) false
+chars_named w h = subst (λ x. IsName x false) (sym (chars-IsAscii w (name_ascii w false h))) h
+
+pair_named : (w : List ℕ) → IsPair w
+    → IsName (chars (first_name w)) false × IsName (chars (drop (run is_word w + 1) w)) false
+pair_named w h =
+    let k = halves h.prefix h.name h.before h.behind in
+    let before : h.prefix ≡ first_name w = sym (ap first_name h.is ∙ k.prefix) in
+    let behind : h.name ≡ drop (run is_word w + 1) w = sym (ap (λ x. drop (run is_word x + 1) x) h.is ∙ k.name) in (
+      chars_named (first_name w) (subst (λ x. IsName x false) before h.before),
+      chars_named (drop (run is_word w + 1) w) (subst (λ x. IsName x false) behind h.behind),
+    )
+
+named_as : (t u : Token) → t ≡ u → Named_token u → Named_token t
+named_as t u e h = subst Named_token (sym e) h
+
+token_named : (k : TokenKind) (s : List ℕ) (l : Lexeme) (t : Token) → Form k (span s l)
+    → Says l.start (payload_by k s l) t → Named_token t
+token_named K.Name s l t f e = named_as t _ e (chars_named (span s l) f)
+token_named K.Qualified s l t f e = named_as t _ e (pair_named (span s l) f)
+token_named K.Keyword s l t f e = named_as t _ e tt
+token_named K.Text s l t f e = named_as t _ e tt
+token_named K.Bracket s l t f e = named_as t _ e.3 tt
+token_named K.Bounds s l t f e = named_as t _ e.1 tt
+token_named K.Number s l t f e = named_as t _ e tt
+token_named K.Sign s l t f e = named_as t _ e tt
+
+-- the names that the tokens of a text say are names
+pub all_named : (s : List ℕ) (ls : List Lexeme) (ts : List Token) → AllStand s ls → Say s ls ts → All_named ts
+all_named s [] ts h k = subst All_named (sym k) tt
+all_named s (l ∷ ls) ts h k =
+    let f = form_of s l (h 0 l refl) in
+    subst All_named (sym k.2) (token_named l.kind s l k.0 f k.3, all_named s ls k.1 (λ i r e. h (suc i) r e) k.4)

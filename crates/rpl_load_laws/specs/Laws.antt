@@ -1,0 +1,129 @@
+-- What holds of every set of packages that is loaded, from real files too.
+use Rattle.std.specs.Prelude.{◌≡◌, ◌<◌, ℕ, Bool, true, List, length, Option, Some, None, Result, Ok, map, slice_get}
+use Rattle.std.specs.List.{Contains}
+use Rattle.rpl_core.specs.Core.{Core, Capture}
+use Rattle.rpl_core.specs.Order.{IsInOrder}
+use Rattle.rpl_core.specs.Table.{AreDistinct, bodies_of, blocks_of}
+use Rattle.rpl_core.specs.declared.rules.Rule.{Rule}
+use Rattle.rpl_forms.specs.Rows.{rows_of, inners_of}
+use Rattle.rpl_expand.specs.Sets.{captures_of, scope_of, statements, table_of}
+use Rattle.rpl_expand.specs.Table.{AreBound, IsOver, MakeTrees}
+use Rattle.rpl_syntax.specs.Expression.{Expr}
+use Rattle.rpl_syntax.specs.declared.name.QName.{QName}
+use Rattle.rpl_scope.specs.Bodies.{names}
+use Rattle.rpl_scope.specs.Faults.{Or}
+use Rattle.rpl_scope.specs.Packages.{Module, nth}
+use Rattle.rpl_package.specs.Goals.{ReadsGoal}
+use Rattle.rpl_package.specs.Loading.{world}
+use Rattle.rpl_package.specs.Owned.{own}
+use Rattle.rpl_package.specs.Patterns.{load_pattern}
+use Rattle.rpl_package.specs.Roots.{Packages, load}
+use Rattle.rpl_package.specs.Targets.{body, resolved}
+use Rattle.rpl_package.specs.declared.rooted.Root.{Root}
+use Rattle.rpl_package.specs.declared.targets.NameFault.{NameFault}
+use Rattle.rpl_package.specs.declared.targets.Target.{Target}
+use Rattle.rpl_package.specs.Built.{IsBuilt}
+
+-- ---- loaded sets
+
+-- Among these files and library folders, the set is what some roots are loaded to, or what comes of such a set when a
+-- pattern is loaded over it.
+pub data IsLoaded (tree : List (List ℕ × List ℕ)) (folders : List (List ℕ)) : Packages → Type 0 where
+  by_roots : (roots : List Root) (p : Packages) → (load (world tree folders) roots).answer ≡ Ok p
+      → IsLoaded tree folders p
+  by_pattern : (p q : Packages) (fixed find : Bool) (text : List ℕ) (read : Or Expr) (e : Expr)
+      → ReadsGoal fixed find text read → IsLoaded tree folders p
+      → (load_pattern (world tree folders) p read).answer ≡ Ok (e, q) → IsLoaded tree folders q
+
+-- the pattern e is loaded over such a set, which is p then
+pub record HasPattern (tree : List (List ℕ × List ℕ)) (folders : List (List ℕ)) (e : Expr)
+    (p : Packages) : Type 0 where
+  pub before : Packages
+  pub loaded : IsLoaded tree folders before
+  pub fixed : Bool
+  pub find : Bool
+  pub text : List ℕ
+  pub read : Or Expr
+  pub reads : ReadsGoal fixed find text read
+  pub loads : (load_pattern (world tree folders) before read).answer ≡ Ok (e, p)
+
+-- all of these are built
+abbrev pub ToldIsBuilt : Type 0
+ToldIsBuilt =
+    (tree : List (List ℕ × List ℕ)) (folders : List (List ℕ)) (p : Packages) → IsLoaded tree folders p → IsBuilt p
+
+-- it holds of every set that is built, whatever the files were
+abbrev pub OfAllBuilt : (Packages → Type 0) → Type 0
+OfAllBuilt P = (p : Packages) → IsBuilt p → P p
+
+-- ---- the order of statements
+
+-- each name of a statement is bound to an earlier rule or to one of its block, the boundary in force is an earlier
+-- rule, and the rules of a block stand side by side
+abbrev pub LoadedIsBound : Type 0
+LoadedIsBound = OfAllBuilt (λ p. AreBound (statements p))
+
+-- ---- what names stand for
+
+abbrev pub IsFound : Result Target NameFault → Type 0
+IsFound r = (t : Target) × (r ≡ Ok t)
+
+-- each name that a statement says stands for a rule
+abbrev pub StatementsResolve : Type 0
+StatementsResolve =
+    OfAllBuilt (λ p. (n : ℕ) (e : Expr) (q : QName) → body p n ≡ Some e → Contains (names e) q
+    → IsFound (resolved p (Some n) q))
+
+-- and each that the pattern says
+abbrev pub PatternsResolve : Type 0
+PatternsResolve =
+    (tree : List (List ℕ × List ℕ)) (folders : List (List ℕ)) (e : Expr) (p : Packages) (q : QName)
+    → HasPattern tree folders e p → Contains (names e) q → IsFound (resolved p None q)
+
+-- ---- what the expansion asks of its scopes
+
+-- these rules are those of the table of the set
+abbrev pub AreRulesOf : List Rule → Packages → Type 0
+AreRulesOf rs p = rows_of rs ≡ table_of p
+
+-- the table is in order: a rule calls no later one but those of its block
+abbrev pub TablesAreInOrder : Type 0
+TablesAreInOrder = OfAllBuilt (λ p. (rs : List Rule) → AreRulesOf rs p → IsInOrder (bodies_of rs) (blocks_of rs))
+
+-- the scopes of statements, and with None that of the pattern, are over the rules of the table
+abbrev pub ScopesAreOver : Type 0
+ScopesAreOver =
+    OfAllBuilt (λ p. (rs : List Rule) (n : Option ℕ) → AreRulesOf rs p
+    → IsOver (bodies_of rs) (scope_of p n (inners_of rs)))
+
+-- a name in the pattern that is said to make a tree is bound to a rule whose body is a capture
+abbrev pub TreesAreMade : Type 0
+TreesAreMade =
+    OfAllBuilt (λ p. (rs : List Rule) → AreRulesOf rs p
+    → MakeTrees (bodies_of rs) (captures_of p) (scope_of p None (inners_of rs)))
+
+-- the target is a rule of the table of these bodies, and its body is a capture where it is said to make a tree
+pub record IsRuleOf (R : List Core) (t : Target) : Type 0 where
+  pub within : t.rule < length R
+  pub captures : t.captures ≡ true → (label : List ℕ) × (p : Core) × (slice_get R t.rule ≡ Some (Capture label p))
+
+-- the target of each name that a statement of a module binds is such a rule
+abbrev pub OwnNamesAreRules : Type 0
+OwnNamesAreRules =
+    OfAllBuilt (λ p. (rs : List Rule) (i : ℕ) (n : List ℕ) (t : Target) → AreRulesOf rs p → own p i n ≡ Some t
+    → IsRuleOf (bodies_of rs) t)
+
+-- ---- names of rules
+
+-- no two rules of one of these modules have one name
+abbrev pub RulesAreDistinct : List Module → Type 0
+RulesAreDistinct ms = (i : ℕ) (m : Module) → nth ms i ≡ Some m → AreDistinct (map (λ r. r.name) m.rules)
+
+-- in a set no two rules of a module have one name, and no two modules have one package name
+abbrev pub ModulesAreApart : Type 0
+ModulesAreApart =
+    OfAllBuilt (λ p. RulesAreDistinct p.stock.modules × AreDistinct (map (λ m. m.label) p.stock.modules))
+
+-- so no two rules of its table, the built-in ones among them, have one full name
+abbrev pub TableIsDistinct : Type 0
+TableIsDistinct = OfAllBuilt (λ p. AreDistinct (map (λ r. r.name) (table_of p)))

@@ -1,0 +1,476 @@
+// The machine's steps on a list of characters, one at a time.
+ghost use Rattle.std.specs.Prelude.{if◌then◌else◌, ◌≡◌, ◌<◌, ◌≤◌, ◌+◌, ◌^◌, nat_eq, nat_lt, true, OnOk, IfOk};
+ghost use Rattle.std.specs.Prelude.{Some, None, [], ◌∷◌, ◌++◌, length, take, map, reverse, slice_get, slice_index_or};
+ghost use Rattle.rpl_core.specs.Core.{fits};
+ghost use Rattle.rpl_core.specs.Forest.{Finish, begins, finishes};
+ghost use Rattle.rpl_core.specs.Machine as M;
+ghost use Rattle.rpl_core.specs.Run as Run;
+ghost use Rattle.rpl_core.specs.Numbers.{instr_of};
+ghost use Rattle.rpl_core.specs.Program.{instructions, sets_of, labels_of};
+ghost use Rattle.rpl_reference.specs.inside.States.{state_of, stack_of, captures_of, entry_of};
+ghost use Rattle.rpl_reference.specs.Answers.{caught_of};
+ghost use Rattle.rpl_reference.specs.Answers.{IsAnswer, answer_of};
+ghost use Rattle.rpl_reference.specs.inside.States.{ended_as};
+
+use rpl_core::{Instr, Program};
+use rpl_text::Chars;
+use std::alloc::{AllocError, Global};
+
+/// An entry of the stack.
+#[derive(Clone, Copy)]
+pub enum Entry {
+    /// Where a call goes on.
+    ReturnTo(usize),
+    /// Where a failure goes on: the address, the place and the number of captures.
+    Retry(usize, usize, usize),
+}
+
+/// A capture, with its text in place. Places count characters from 0.
+#[derive(Drop)]
+pub enum Caught {
+    /// A tree of this type begins.
+    Begin { label: Chars, place: usize },
+    /// It ends.
+    Finish { place: usize },
+    /// A note of this text.
+    Note { text: Chars, place: usize },
+}
+
+/// Where a run is.
+#[derive(Clone, Copy)]
+pub enum Stage {
+    Going { address: usize, place: usize },
+    Failing,
+    Ended { place: usize },
+}
+
+/// A run: its stage, its stack with the top last, and its captures.
+#[derive(Drop)]
+pub struct Machine {
+    stage: Stage,
+    stack: Vec<Entry>,
+    caught: Vec<Caught>,
+}
+
+/// How a run ended, after how many steps.
+#[derive(Drop)]
+pub enum Answer {
+    At {
+        place: usize,
+        steps: u64,
+        caught: Vec<Caught>,
+    },
+    Fail {
+        steps: u64,
+    },
+}
+
+/// The set with this number holds the character.
+fn holds(program: &Program, set: u32, c: char) -> bool
+    ensures { result ≡ fits (Some c) (slice_index_or (sets_of program.now) set []) }
+{
+    match program.set(set) {
+        Some(set) => set.has(c),
+        None => false,
+    }
+}
+
+/// The place after the character at the place, if that is in the set with this number.
+fn next(program: &Program, set: u32, text: &[char], place: usize) -> Option<usize>
+    ensures { result ≡
+        (if fits (slice_get text.now place) (slice_index_or (sets_of program.now) set []) then Some (place + 1)
+        else None) }
+{
+    if place < text.len() && holds(program, set, text[place]) {
+        Some(place + 1)
+    } else {
+        None
+    }
+}
+
+/// A copy of the text with this number.
+fn text_of(alloc: Global, program: &Program, id: u32) -> Result<Chars, AllocError>
+    ensures { IfOk result (λ t. t ≡ slice_index_or (labels_of program.now) id []) }
+{
+    match program.label(id) {
+        Some(text) => Chars::from_str(alloc, text),
+        None => Chars::from_str(alloc, ""),
+    }
+}
+
+/// One where a tree begins, else none.
+fn begin_here(one: &Caught) -> usize
+    ensures count { result ≡ begins (caught_of one.now ∷ []) }
+    ensures small { result ≤ 1 }
+{
+    match one {
+        Caught::Begin { .. } => 1,
+        Caught::Finish { .. } => 0,
+        Caught::Note { .. } => 0,
+    }
+}
+
+/// How many trees begin.
+fn count_begins(caught: &[Caught]) -> usize
+    ensures { result ≡ begins (map caught_of caught.now) }
+{
+    let mut count = 0;
+    for one in caught {
+        count += begin_here(one);
+    }
+    count
+}
+
+/// One where a tree ends, else none.
+fn finish_here(one: &Caught) -> usize
+    ensures count { result ≡ finishes (caught_of one.now ∷ []) }
+    ensures small { result ≤ 1 }
+{
+    match one {
+        Caught::Begin { .. } => 0,
+        Caught::Finish { .. } => 1,
+        Caught::Note { .. } => 0,
+    }
+}
+
+/// How many trees end.
+fn count_finishes(caught: &[Caught]) -> usize
+    ensures { result ≡ finishes (map caught_of caught.now) }
+{
+    let mut count = 0;
+    for one in caught {
+        count += finish_here(one);
+    }
+    count
+}
+
+impl Machine {
+    /// A run that hasn't begun: at the first address and the first place.
+    fn new(alloc: Global) -> Machine
+        ensures { state_of result ≡ M.start_state }
+    {
+        Machine {
+            stage: Stage::Going {
+                address: 0,
+                place: 0,
+            },
+            stack: Vec::new(alloc),
+            caught: Vec::new(alloc),
+        }
+    }
+
+    /// Goes on at the address and the place.
+    fn go(&mut self, address: usize, place: usize)
+        ensures { state_of self.new ≡ M.Going address place (stack_of self.old) (captures_of self.old) }
+    {
+        self.stage = Stage::Going { address, place };
+    }
+
+    /// Is failing.
+    fn fail(&mut self)
+        ensures { state_of self.new ≡ M.Failing (stack_of self.old) (captures_of self.old) }
+    {
+        self.stage = Stage::Failing;
+    }
+
+    /// Goes on if the test holds, else is failing.
+    fn go_if(&mut self, holds: bool, address: usize, place: usize)
+        ensures { state_of self.new ≡
+            (if holds then M.Going address place (stack_of self.old) (captures_of self.old)
+            else M.Failing (stack_of self.old) (captures_of self.old)) }
+    {
+        if holds {
+            self.go(address, place);
+        } else {
+            self.fail();
+        }
+    }
+
+    /// Has failed for good.
+    fn stop(&mut self)
+        ensures { state_of self.new ≡ M.Failing [] (captures_of self.old) }
+    {
+        self.stack.clear();
+        self.stage = Stage::Failing;
+    }
+
+    /// Has ended with a match.
+    fn end(&mut self, place: usize)
+        ensures { state_of self.new ≡ M.Ended place (captures_of self.old) }
+    {
+        self.stage = Stage::Ended { place };
+    }
+
+    /// Adds a capture and goes on at the address and the place.
+    fn note(&mut self, one: Caught, address: usize, place: usize) -> Result<(), AllocError>
+        ensures { OnOk result (state_of self.new ≡
+            M.Going address place (stack_of self.old) (captures_of self.old ++ caught_of one ∷ [])) }
+    {
+        self.caught.push(one)?;
+        self.stage = Stage::Going { address, place };
+        Ok(())
+    }
+
+    /// Adds an entry and goes on at the address and the place.
+    fn enter(&mut self, entry: Entry, address: usize, place: usize) -> Result<(), AllocError>
+        ensures { OnOk result (state_of self.new ≡
+            M.Going address place (entry_of entry ∷ stack_of self.old) (captures_of self.old)) }
+    {
+        self.stack.push(entry)?;
+        self.stage = Stage::Going { address, place };
+        Ok(())
+    }
+
+    /// Goes back to the first so many captures, and on at the address and the place.
+    fn back_to(&mut self, captures: usize, address: usize, place: usize)
+        ensures { state_of self.new ≡ M.Going address place (stack_of self.old) (take captures (captures_of self.old)) }
+    {
+        self.caught.truncate(captures);
+        self.stage = Stage::Going { address, place };
+    }
+
+    /// One step of a failing state.
+    fn resume(&mut self)
+        ensures { state_of self.new ≡ M.resume (stack_of self.old) (captures_of self.old) }
+    {
+        match self.stack.pop() {
+            None => self.fail(),
+            Some(Entry::ReturnTo(_)) => self.fail(),
+            Some(Entry::Retry(address, place, captures)) => self.back_to(captures, address, place),
+        }
+    }
+
+    /// The step of `commit`.
+    fn commit(&mut self, to: usize, place: usize)
+        ensures { state_of self.new ≡ M.on_retry (stack_of self.old) (captures_of self.old)
+            (λ a j n rest. M.Going to place rest (captures_of self.old)) }
+    {
+        match self.stack.pop() {
+            None => self.stop(),
+            Some(Entry::ReturnTo(_)) => self.stop(),
+            Some(Entry::Retry(_, _, _)) => self.go(to, place),
+        }
+    }
+
+    /// The step of `failtwice`.
+    fn fail_twice(&mut self)
+        ensures { state_of self.new ≡ M.on_retry (stack_of self.old) (captures_of self.old)
+            (λ a j n rest. M.Failing rest (captures_of self.old)) }
+    {
+        match self.stack.pop() {
+            None => self.stop(),
+            Some(Entry::ReturnTo(_)) => self.stop(),
+            Some(Entry::Retry(_, _, _)) => self.fail(),
+        }
+    }
+
+    /// The step of `backcommit`.
+    fn back_commit(&mut self, to: usize)
+        ensures { state_of self.new ≡ M.on_retry (stack_of self.old) (captures_of self.old)
+            (λ a j n rest. M.Going to j rest (take n (captures_of self.old))) }
+    {
+        match self.stack.pop() {
+            None => self.stop(),
+            Some(Entry::ReturnTo(_)) => self.stop(),
+            Some(Entry::Retry(_, from, captures)) => self.back_to(captures, to, from),
+        }
+    }
+
+    /// The step of `partialcommit`.
+    fn partial_commit(&mut self, to: usize, place: usize) -> Result<(), AllocError>
+        ensures { OnOk result (state_of self.new ≡ M.on_retry (stack_of self.old) (captures_of self.old)
+            (λ a j n rest.
+            M.Going to place (M.Retry a place (length (captures_of self.old)) ∷ rest) (captures_of self.old))) }
+    {
+        match self.stack.pop() {
+            None => {
+                self.stop();
+                Ok(())
+            }
+            Some(Entry::ReturnTo(_)) => {
+                self.stop();
+                Ok(())
+            }
+            Some(Entry::Retry(next, _, _)) => {
+                let entry = Entry::Retry(next, place, self.caught.len());
+                self.enter(entry, to, place)
+            }
+        }
+    }
+
+    /// The step of `meet`.
+    fn meet(&mut self, to: usize, place: usize)
+        ensures { state_of self.new ≡ M.on_retry (stack_of self.old) (captures_of self.old)
+            (λ a j n rest.
+            if nat_eq place j then M.Going to j rest (take n (captures_of self.old))
+            else M.Failing (stack_of self.old) (captures_of self.old)) }
+    {
+        match self.stack.last() {
+            None => self.stop(),
+            Some(Entry::ReturnTo(_)) => self.stop(),
+            Some(Entry::Retry(_, from, _)) => {
+                if place == *from {
+                    self.back_commit(to);
+                } else {
+                    self.fail();
+                }
+            }
+        }
+    }
+
+    /// The step of `return`.
+    fn go_back(&mut self, place: usize)
+        ensures { state_of self.new ≡ M.on_return (stack_of self.old) (captures_of self.old)
+            (λ a rest. M.Going a place rest (captures_of self.old)) }
+    {
+        match self.stack.pop() {
+            None => self.stop(),
+            Some(Entry::ReturnTo(to)) => self.go(to, place),
+            Some(Entry::Retry(_, _, _)) => self.stop(),
+        }
+    }
+
+    /// The step of `halt`, which stands at the address.
+    fn halt(&mut self, address: usize, place: usize) -> Result<(), AllocError>
+        ensures { OnOk result (state_of self.new ≡
+            (if nat_lt (finishes (captures_of self.old)) (begins (captures_of self.old))
+            then M.Going address place (stack_of self.old) (captures_of self.old ++ Finish place ∷ [])
+            else M.Ended place (captures_of self.old))) }
+    {
+        if count_finishes(&self.caught) < count_begins(&self.caught) {
+            self.note(Caught::Finish { place }, address, place)
+        } else {
+            self.end(place);
+            Ok(())
+        }
+    }
+
+    /// One step of the instruction, which stands at the address.
+    fn act(
+        &mut self,
+        alloc: Global,
+        program: &Program,
+        text: &[char],
+        instr: Instr,
+        address: usize,
+        place: usize,
+    ) -> Result<(), AllocError>
+        requires { address + 1 < 2 ^ 64 }
+        ensures { OnOk result (state_of self.new ≡
+            M.act
+            (Some (instr_of (sets_of program.now) (labels_of program.now) instr))
+            text.now address place (stack_of self.old) (captures_of self.old)) }
+    {
+        let after = address + 1;
+        match instr {
+            Instr::Set(set) => match next(program, set, text, place) {
+                Some(next) => self.go(after, next),
+                None => self.fail(),
+            },
+            Instr::Start => self.go_if(place == 0, after, place),
+            Instr::End => self.go_if(place == text.len(), after, place),
+            Instr::Choice(to) => {
+                let entry = Entry::Retry(to as usize, place, self.caught.len());
+                self.enter(entry, after, place)?;
+            }
+            Instr::Commit(to) => self.commit(to as usize, place),
+            Instr::FailTwice => self.fail_twice(),
+            Instr::BackCommit(to) => self.back_commit(to as usize),
+            Instr::Fail => self.fail(),
+            Instr::Back(count) => match place.checked_sub(count as usize) {
+                Some(before) => self.go(after, before),
+                None => self.fail(),
+            },
+            Instr::Meet(to) => self.meet(to as usize, place),
+            Instr::Call(to) => self.enter(Entry::ReturnTo(after), to as usize, place)?,
+            Instr::Return => self.go_back(place),
+            Instr::Open(label) => {
+                let label = text_of(alloc, program, label)?;
+                self.note(Caught::Begin { label, place }, after, place)?;
+            }
+            Instr::Close => self.note(Caught::Finish { place }, after, place)?,
+            Instr::Note(text) => {
+                let text = text_of(alloc, program, text)?;
+                self.note(Caught::Note { text, place }, after, place)?;
+            }
+            Instr::Finish => self.end(place),
+            Instr::TestSet(to, set) => match next(program, set, text, place) {
+                Some(_) => self.go(after, place),
+                None => self.go(to as usize, place),
+            },
+            Instr::Span(set) => match next(program, set, text, place) {
+                Some(next) => self.go(address, next),
+                None => self.go(after, place),
+            },
+            Instr::PartialCommit(to) => self.partial_commit(to as usize, place)?,
+            Instr::Halt => self.halt(address, place)?,
+        }
+        Ok(())
+    }
+
+    /// One step; a run that is over stays.
+    fn step(&mut self, alloc: Global, program: &Program, text: &[char]) -> Result<(), AllocError>
+        ensures { OnOk result (state_of self.new ≡ M.step (instructions program.now) text.now (state_of self.old)) }
+    {
+        match self.stage {
+            Stage::Ended { .. } => {}
+            Stage::Failing => self.resume(),
+            Stage::Going { address, place } => {
+                let code = program.code();
+                if address < code.len() {
+                    self.act(alloc, program, text, code[address], address, place)?;
+                } else {
+                    self.stop();
+                }
+            }
+        }
+        Ok(())
+    }
+
+    /// The run has ended.
+    fn is_over(&self) -> bool
+        ensures { result ≡ M.is_over (state_of self.now) }
+    {
+        match self.stage {
+            Stage::Going { .. } => false,
+            Stage::Failing => self.stack.is_empty(),
+            Stage::Ended { .. } => true,
+        }
+    }
+
+    /// How a run that is over has ended, after so many steps.
+    fn answer(self, steps: u64) -> Answer
+        requires { M.is_over (state_of self) ≡ true }
+        ensures { answer_of result ≡ ended_as steps (state_of self) }
+    {
+        match self.stage {
+            Stage::Ended { place } => Answer::At {
+                place,
+                steps,
+                caught: self.caught,
+            },
+            _ => Answer::Fail { steps },
+        }
+    }
+}
+
+/// Runs the program on the text, in at most `budget` steps; None exactly where it needs more.
+pub fn run(
+    alloc: Global,
+    program: &Program,
+    text: &[char],
+    budget: u64,
+) -> Result<Option<Answer>, AllocError>
+    ensures { IfOk result (IsAnswer (Run.run (instructions program.now) text.now budget)) }
+{
+    let mut machine = Machine::new(alloc);
+    let mut steps = 0;
+    'steps: while !machine.is_over() {
+        if steps == budget {
+            return Ok(None);
+        }
+        machine.step(alloc, program, text)?;
+        steps += 1;
+    }
+    Ok(Some(machine.answer(steps)))
+}

@@ -1,0 +1,207 @@
+// Outcomes, and what is made of them.
+ghost use Rattle.std.specs.Prelude.{◌≡◌, ◌+◌, ◌-◌, ◌^◌, min, IfOk};
+ghost use Rattle.rpl_core.specs.Meaning as M;
+ghost use Rattle.rpl_core.specs.Forest.{NoTree};
+ghost use Rattle.rpl_reference.specs.Outcomes.{forest_of, outcome_of, capped};
+
+use crate::forest::{Forest, joined, tree};
+use rpl_text::Chars;
+use std::alloc::{AllocError, Global};
+
+/// An outcome with its work. `At` and `HaltAt` have the place after the match and the trees; `Open` says that the
+/// depth didn't suffice.
+#[derive(Drop)]
+pub enum Outcome {
+    Open,
+    Fail {
+        work: u64,
+    },
+    At {
+        work: u64,
+        place: usize,
+        trees: Forest,
+    },
+    HaltAt {
+        work: u64,
+        place: usize,
+        trees: Forest,
+    },
+}
+
+/// Both works together; it stays at the greatest number.
+pub fn plus(a: u64, b: u64) -> u64
+    ensures { result ≡ min (a + b) (2 ^ 64 - 1) }
+{
+    a.saturating_add(b)
+}
+
+/// The outcome for more work.
+pub fn more(work: u64, o: Outcome) -> Outcome
+    ensures { outcome_of result ≡ capped (M.more work (outcome_of o)) }
+{
+    match o {
+        Outcome::Open => Outcome::Open,
+        Outcome::Fail { work: w } => Outcome::Fail {
+            work: plus(work, w),
+        },
+        Outcome::At {
+            work: w,
+            place,
+            trees,
+        } => Outcome::At {
+            work: plus(work, w),
+            place,
+            trees,
+        },
+        Outcome::HaltAt {
+            work: w,
+            place,
+            trees,
+        } => Outcome::HaltAt {
+            work: plus(work, w),
+            place,
+            trees,
+        },
+    }
+}
+
+/// The outcome with trees before its own, for more work.
+pub fn prefixed(alloc: Global, work: u64, before: Forest, o: Outcome) -> Result<Outcome, AllocError>
+    ensures { IfOk result (λ r. outcome_of r ≡ capped (M.prefixed work (forest_of before) (outcome_of o))) }
+{
+    match o {
+        Outcome::Open => Ok(Outcome::Open),
+        Outcome::Fail { work: w } => Ok(Outcome::Fail {
+            work: plus(work, w),
+        }),
+        Outcome::At {
+            work: w,
+            place,
+            trees,
+        } => Ok(Outcome::At {
+            work: plus(work, w),
+            place,
+            trees: joined(alloc, before, trees)?,
+        }),
+        Outcome::HaltAt {
+            work: w,
+            place,
+            trees,
+        } => Ok(Outcome::HaltAt {
+            work: plus(work, w),
+            place,
+            trees: joined(alloc, before, trees)?,
+        }),
+    }
+}
+
+/// A match of one core that ends at the place, without trees.
+pub fn found(place: usize) -> Outcome
+    ensures { outcome_of result ≡ M.At 1 place NoTree }
+{
+    Outcome::At {
+        work: 1,
+        place,
+        trees: Forest::NoTree,
+    }
+}
+
+/// A match that stays at the place, for one more work.
+pub fn stays(work: u64, place: usize) -> Outcome
+    ensures { outcome_of result ≡ capped (M.At (1 + work) place NoTree) }
+{
+    Outcome::At {
+        work: plus(1, work),
+        place,
+        trees: Forest::NoTree,
+    }
+}
+
+/// A match at the place if the test holds.
+pub fn only_if(holds: bool, place: usize) -> Outcome
+    ensures { outcome_of result ≡ M.only_if holds place }
+{
+    if holds {
+        found(place)
+    } else {
+        Outcome::Fail { work: 1 }
+    }
+}
+
+/// A match at the place where the body fails.
+pub fn if_fails(o: Outcome, place: usize) -> Outcome
+    ensures { outcome_of result ≡ capped (M.if_fails (outcome_of o) place) }
+{
+    match o {
+        Outcome::Open => Outcome::Open,
+        Outcome::Fail { work } => stays(work, place),
+        Outcome::At { work, .. } | Outcome::HaltAt { work, .. } => Outcome::Fail {
+            work: plus(1, work),
+        },
+    }
+}
+
+/// A match at the place where the body succeeds.
+pub fn if_matches(o: Outcome, place: usize) -> Outcome
+    ensures { outcome_of result ≡ capped (M.if_matches (outcome_of o) place) }
+{
+    match o {
+        Outcome::Open => Outcome::Open,
+        Outcome::At { work, .. } => stays(work, place),
+        Outcome::Fail { work } | Outcome::HaltAt { work, .. } => Outcome::Fail {
+            work: plus(1, work),
+        },
+    }
+}
+
+/// The body's trees under one tree that starts at the place.
+pub fn under(alloc: Global, label: &Chars, place: usize, o: Outcome) -> Result<Outcome, AllocError>
+    ensures { IfOk result (λ r. outcome_of r ≡ capped (M.under label.now place (outcome_of o))) }
+{
+    match o {
+        Outcome::Open => Ok(Outcome::Open),
+        Outcome::Fail { work } => Ok(Outcome::Fail {
+            work: plus(1, work),
+        }),
+        Outcome::At {
+            work,
+            place: end,
+            trees,
+        } => Ok(Outcome::At {
+            work: plus(1, work),
+            place: end,
+            trees: tree(alloc, label, place, end, trees)?,
+        }),
+        Outcome::HaltAt {
+            work,
+            place: end,
+            trees,
+        } => Ok(Outcome::HaltAt {
+            work: plus(1, work),
+            place: end,
+            trees: tree(alloc, label, place, end, trees)?,
+        }),
+    }
+}
+
+/// A match at the place where the body ends just there, else what the other lengths give.
+pub fn ends_here(o: Outcome, place: usize, others: Outcome) -> Outcome
+    ensures { outcome_of result ≡ capped (M.ends_here (outcome_of o) place (outcome_of others)) }
+{
+    match o {
+        Outcome::Open => Outcome::Open,
+        Outcome::Fail { work } => more(plus(1, work), others),
+        Outcome::At {
+            work,
+            place: end,
+            ..
+        } => {
+            if end == place {
+                stays(work, place)
+            } else {
+                more(plus(1, work), others)
+            }
+        }
+        Outcome::HaltAt { work, .. } => more(plus(1, work), others),
+    }
+}

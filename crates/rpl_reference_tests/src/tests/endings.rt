@@ -1,0 +1,143 @@
+// What comes of a goal: what the check and the compiler make of it, and how it ends on a line by its meaning and by
+// both machines.
+ghost use Rattle.std.specs.Prelude.{◌≡◌, ◌<◌};
+
+use crate::tests::shown::{show_match, show_outcome, show_plain};
+use rpl_check::{CheckFault, check, check_pattern};
+use rpl_codegen::compile;
+use rpl_core::{Peg, Program, Rules, calls_are_rules, is_in_order};
+use rpl_machine::{Answer, RunFault, Scratch, Steps, run};
+use rpl_reference::{Outcome, evaluate};
+use rpl_text::Text;
+use std::alloc::{AllocError, Global};
+use std::marker::Brand;
+use std::sync::ledger::{Blank, Ledger};
+
+/// The steps that a run may make.
+const BUDGET: u64 = 100_000;
+
+/// The turns and calls that may stand one in the other.
+const DEPTH: u32 = 40;
+
+/// An answer as text, and how much it took: work, or steps. Where it isn't found within the depth or the budget, it is
+/// `open`.
+#[derive(Drop)]
+pub(crate) struct Ending {
+    pub(crate) shown: String,
+    pub(crate) cost: u64,
+}
+
+/// An answer that wasn't found.
+fn open(alloc: Global) -> Result<Ending, AllocError> {
+    let shown = String::from_str(alloc, "open")?;
+    Ok(Ending { shown, cost: 0 })
+}
+
+/// The line's characters.
+fn characters(alloc: Global, line: &str) -> Result<Vec<char>, AllocError> {
+    let mut chars = Vec::new(alloc);
+    for c in line.chars() {
+        chars.push(c)?;
+    }
+    Ok(chars)
+}
+
+/// The ending that the goal means, with its work.
+pub(crate) fn meant(
+    alloc: Global,
+    rules: &Rules,
+    goal: &Peg,
+    line: &str,
+) -> Result<Ending, AllocError> {
+    let chars = characters(alloc, line)?;
+    let outcome = evaluate(alloc, DEPTH, rules, &chars, goal, 0)?;
+    let cost = match &outcome {
+        Outcome::Open => 0,
+        Outcome::Fail { work } | Outcome::At { work, .. } | Outcome::HaltAt { work, .. } => *work,
+    };
+    let shown = show_outcome(alloc, &outcome)?;
+    Ok(Ending { shown, cost })
+}
+
+/// What comes of a goal over a table: code, or that calls or blocks are out of order, or the first fault, or nothing
+/// where memory runs out or the code is too long.
+#[derive(Drop)]
+pub(crate) enum Judged {
+    Code(Program),
+    Unordered,
+    Fault(CheckFault),
+    NoCode,
+}
+
+/// What the check and the compiler make of a goal.
+pub(crate) fn judge(alloc: Global, rules: Rules, goal: Peg) -> Judged {
+    if !is_in_order(&rules) {
+        return Judged::Unordered;
+    }
+    let checked = match check(alloc, rules) {
+        Ok(checked) => checked,
+        Err(fault) => return Judged::Fault(fault),
+    };
+    if !calls_are_rules(checked.rules(), &goal) {
+        return Judged::Unordered;
+    }
+    let goal = match check_pattern(alloc, &checked, goal) {
+        Ok(goal) => goal,
+        Err(fault) => return Judged::Fault(fault),
+    };
+    match compile(alloc, &checked, &goal) {
+        Ok(program) => Judged::Code(program),
+        Err(_) => Judged::NoCode,
+    }
+}
+
+/// The ending of the plain machine, with its steps.
+pub(crate) fn plain(alloc: Global, program: &Program, line: &str) -> Result<Ending, AllocError> {
+    let chars = characters(alloc, line)?;
+    let Some(answer) = rpl_reference::run(alloc, program, &chars, BUDGET)? else {
+        return open(alloc);
+    };
+    let cost = match &answer {
+        rpl_reference::Answer::Fail { steps } | rpl_reference::Answer::At { steps, .. } => *steps,
+    };
+    let shown = show_plain(alloc, &answer)?;
+    Ok(Ending { shown, cost })
+}
+
+fn answer_on<L: Ledger>(
+    program: &Program,
+    line: Text<'_>,
+    scratch: &mut Scratch,
+    blank: Blank,
+) -> Result<Answer, RunFault>
+    requires name { blank.name ≡ L.name }
+    requires parts { blank.parts ≡ L.parts }
+    requires some { 0 < blank.parts }
+{
+    let mut steps = Steps::<L>::new(blank);
+    run(program, line, BUDGET, scratch, &mut steps)
+}
+
+fn answer(program: &Program, line: Text<'_>, scratch: &mut Scratch) -> Result<Answer, RunFault> {
+    answer_on::<Brand>(program, line, scratch, Blank::new(1))
+}
+
+/// The ending of the machine, with its steps. Where it has no answer, that is `open` too.
+pub(crate) fn real(
+    alloc: Global,
+    program: &Program,
+    line: &str,
+    scratch: &mut Scratch,
+) -> Result<Ending, AllocError> {
+    match answer(program, Text::new(line), scratch) {
+        Ok(Answer::At { place, steps }) => {
+            let shown = show_match(alloc, program, line, scratch.captures(), place)?;
+            Ok(Ending { shown, cost: steps })
+        }
+        Ok(Answer::Fail { steps }) => {
+            let shown = String::from_str(alloc, "fail")?;
+            Ok(Ending { shown, cost: steps })
+        }
+        Err(_) => open(alloc),
+    }
+}
