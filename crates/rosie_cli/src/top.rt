@@ -197,6 +197,19 @@ fn run_command<F: Files, I: Source, O: Sink, E: Sink, L: Ledger>(
 
 /// Does what the words say: `words` are those after the program's name, `input` is the standard input, and `steps`
 /// counts the machine's steps.
+///
+/// # Examples
+///
+/// ```
+/// let mut files = StdFiles::new(rt);
+/// let mut input = StdSource::new(rt.stdin());
+/// let mut out = StdSink::new(out);
+/// let mut err = StdSink::new(rt.stderr());
+/// let mut steps = Steps::<L>::new(blank);
+/// rosie(
+///     alloc, words, &mut files, &mut input, &mut out, &mut err, &mut steps,
+/// )
+/// ```
 pub fn rosie<F: Files, I: Source, O: Sink, E: Sink, L: Ledger>(
     alloc: Global,
     words: &[String],

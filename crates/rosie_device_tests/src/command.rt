@@ -45,7 +45,7 @@ fn call_of(this: Device, that: Device, call: u64) -> u64 {
     if this == that { call } else { 0 }
 }
 
-fn words(alloc: Global) -> Result<Vec<String>, NoMemory> {
+pub(crate) fn words(alloc: Global) -> Result<Vec<String>, NoMemory> {
     let mut words = Vec::new(alloc);
     for word in WORDS.split(' ') {
         words.push(String::from_str(alloc, word)?)?;

@@ -1,8 +1,11 @@
 //! Tests of what a process doesn't show. One run of the whole command over files and streams in memory, in which each
 //! call of each device fails in turn: what is written, byte for byte, and the status, worked by hand. Calls of the
-//! system that a signal interrupts. The calls of a list. Nothing stands on this crate.
+//! system that a signal interrupts. The calls of a list. The public calls from words and a pattern to an answer, whose
+//! comments have their examples from there. Nothing stands on this crate.
 #![tactic(auto)]
 
+#[cfg(test)]
+mod calls;
 #[cfg(test)]
 mod command;
 #[cfg(test)]

@@ -150,6 +150,15 @@ impl<'a> Reader<'a> {
 /// The command that the words ask for, its options and defaults filled in.
 ///
 /// `words` are those after the program's name. A fault is the first of the words, or `NoMemory`.
+///
+/// # Examples
+///
+/// ```
+/// let words = words(alloc)?;
+/// let command = read_words(alloc, &words)?;
+/// assert!(rt; command.steps && command.style == Style::Line && command.folders.len() == 1);
+/// assert!(rt; matches!(command.what, What::Match { .. }));
+/// ```
 pub fn read_words(alloc: Global, words: &[String]) -> Result<Command, UsageFault>
     ensures ok { IfOk result (λ command. reading (words_of words.now) ≡ Ok command) }
     ensures fault { IfErr result (λ fault. fault ≢ E.NoMemory → reading (words_of words.now) ≡ Err fault) }

@@ -64,6 +64,15 @@ impl Checked {
 /// Blocks, and rules outside blocks, are taken in the order of the table. Of each the look-behinds of all its rules
 /// come first, then left recursion, then empty loops, then halts under predicates. It needs a table in order, as every
 /// expansion is.
+///
+/// # Examples
+///
+/// ```
+/// let rules = expand(alloc, &set)?;
+/// let goal = expand_pattern(alloc, &set, &rules, &expr)?;
+/// let checked = check(alloc, rules)?;
+/// let goal = check_pattern(alloc, &checked, goal)?;
+/// ```
 pub fn check(alloc: Global, rules: Rules) -> Result<Checked, CheckFault>
     requires { IsInOrder (bodies_in rules) (blocks_in rules) }
     ensures exactly { (d : Facts (bodies_in rules)) × Answers (first_fault d (blocks_in rules)) result }

@@ -61,6 +61,15 @@ fn read_spelled(alloc: Global, bytes: &[u8]) -> Result<Program, CodeFault>
 
 /// The program of a code file. `NotCode` exactly where the bytes are the spelling of no code; `NotSafe` exactly where
 /// they are that of a code that isn't safe.
+///
+/// # Examples
+///
+/// ```
+/// let bytes = write_code(alloc, &program)?;
+/// let again = read_code(alloc, bytes.as_slice())?;
+/// assert!(rt; again.code().len() == program.code().len());
+/// assert!(rt; read_code(alloc, b"not code".as_slice()).is_err());
+/// ```
 pub fn read_code(alloc: Global, bytes: &[u8]) -> Result<Program, CodeFault>
     ensures ok { IfOk result (λ p. Spells (instructions p) bytes.now × IsSafe (instructions p)) }
     ensures not_code { result ≡ Err CodeFault.NotCode → SpellsNone bytes.now }

@@ -19,6 +19,14 @@ use std::alloc::Global;
 ///
 /// The code does on every text what the goal means, with no further premise: a check has shown that this is never
 /// open.
+///
+/// # Examples
+///
+/// ```
+/// let checked = check(alloc, rules)?;
+/// let goal = check_pattern(alloc, &checked, goal)?;
+/// let program = compile(alloc, &checked, &goal)?;
+/// ```
 pub fn compile(alloc: Global, checked: &Checked, goal: &CheckedPeg) -> Result<Program, CompileFault>
     requires { IsWhole (bodies_of checked.now) (core_of (peg_of goal.now)) }
     ensures code { IfOk result (λ p. IsCode (bodies_of checked.now) (core_of (peg_of goal.now)) (instructions p)) }

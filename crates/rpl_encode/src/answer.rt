@@ -92,6 +92,14 @@ impl AnswerText {
 }
 
 /// The text of a line's outcome in a style.
+///
+/// # Examples
+///
+/// ```
+/// let forest = build(alloc, scratch.captures())?;
+/// let text = encode(alloc, Style::Subs, "31. May", Some(&forest), &program)?;
+/// assert!(rt; text.as_slice() == b"31\n".as_slice());
+/// ```
 pub fn encode(
     alloc: Global,
     style: Style,

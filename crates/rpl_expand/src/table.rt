@@ -121,6 +121,14 @@ fn halt_name(set: &PackageSet) -> &str
 /// its order. The first rule whose core is too large is answered instead, before anything is made of it.
 ///
 /// No two of these rules have one full name, as in every set that is loaded.
+///
+/// # Examples
+///
+/// ```
+/// let expr = load_pattern(alloc, &mut files, &folders, &mut set, &goal)?;
+/// let rules = expand(alloc, &set)?;
+/// let goal = expand_pattern(alloc, &set, &rules, &expr)?;
+/// ```
 pub fn expand(alloc: Global, set: &PackageSet) -> Result<Rules, ExpandFault>
     requires { AreDistinct (map (λ r. r.name) (table_of (set_seen set.now))) }
     ensures exactly { Answers (table_fault 0 (table_of (set_seen set.now))) result }

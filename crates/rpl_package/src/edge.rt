@@ -42,6 +42,15 @@ pub fn fault_of(alloc: Global, stop: Stop) -> LoadFault
 /// package name is then a prefix in the top module. The first fault of all is answered, in the order that
 /// `specs/Loading.antt` and `specs/Roots.antt` say, and `ReadFault` only where a read or an open failed. Every file is
 /// closed afterwards.
+///
+/// # Examples
+///
+/// ```
+/// let mut roots = Roots::new(alloc);
+/// roots.push(Root::Given(Chars::from_str(alloc, "day = [0-9]{2}")?))?;
+/// let folders = LibPath::new(alloc);
+/// let set = load(alloc, files, &folders, &roots)?;
+/// ```
 pub fn load<F: Files>(
     alloc: Global,
     files: &mut F,
@@ -68,6 +77,17 @@ pub fn load<F: Files>(
 ///
 /// After a refusal the set is as it was. The first fault is answered, in the order that `specs/Patterns.antt` says, and
 /// `ReadFault` only where a read or an open failed. Every file is closed afterwards.
+///
+/// # Examples
+///
+/// ```
+/// let goal = Goal {
+///     text: "{day \".\"}",
+///     fixed: false,
+///     find: false,
+/// };
+/// let expr = load_pattern(alloc, &mut files, &folders, &mut set, &goal)?;
+/// ```
 pub fn load_pattern<F: Files>(
     alloc: Global,
     files: &mut F,

@@ -64,6 +64,13 @@ impl Forest {
 }
 
 /// The trees of these captures.
+///
+/// # Examples
+///
+/// ```
+/// let forest = build(alloc, scratch.captures())?;
+/// assert!(rt; forest.len() == 2);
+/// ```
 pub fn build(alloc: Global, caught: &[Caught]) -> Result<Forest, NoMemory>
     ensures { IfOk result (BuildsEach caught.now) }
 {

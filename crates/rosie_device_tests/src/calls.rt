@@ -1,0 +1,108 @@
+// The public calls of the crates, as a program makes them that has a pattern and a line. The examples in
+// the comments of these calls are lines of this file.
+ghost use Rattle.std.specs.Prelude.{◌≡◌, ◌<◌};
+
+use crate::command::words;
+use rosie_io::{Files, SureFiles, Tree};
+use rosie_words::{What, read_words};
+use rpl_check::{check, check_pattern};
+use rpl_codefile::{read_code, write_code};
+use rpl_codegen::compile;
+use rpl_core::{Program, calls_are_rules, is_in_order};
+use rpl_encode::{Style, encode};
+use rpl_expand::{expand, expand_pattern};
+use rpl_machine::{Answer, RunFault, Scratch, Steps, run};
+use rpl_package::{Goal, LibPath, PackageSet, Root, Roots, load, load_pattern};
+use rpl_text::{Chars, Text};
+use rpl_tree::build;
+use std::alloc::Global;
+use std::marker::Brand;
+use std::sync::ledger::{Blank, Ledger};
+use std::test::Fail;
+
+#[test]
+fn words_are_a_command(rt: HostRuntime) -> Result<(), Fail> {
+    let alloc = rt.alloc();
+    let words = words(alloc)?;
+    let command = read_words(alloc, &words)?;
+    assert!(rt; command.steps && command.style == Style::Line && command.folders.len() == 1);
+    assert!(rt; matches!(command.what, What::Match { .. }));
+    Ok(())
+}
+
+/// The set of one text, in which a day has two digits.
+fn days<F: Files>(alloc: Global, files: &mut F) -> Result<PackageSet, Fail> {
+    let mut roots = Roots::new(alloc);
+    roots.push(Root::Given(Chars::from_str(alloc, "day = [0-9]{2}")?))?;
+    let folders = LibPath::new(alloc);
+    let set = load(alloc, files, &folders, &roots)?;
+    Ok(set)
+}
+
+/// The program of `{day "."}`.
+fn program(alloc: Global) -> Result<Program, Fail> {
+    let mut files = SureFiles::new(Tree::new(alloc));
+    let mut set = days(alloc, &mut files)?;
+    let folders = LibPath::new(alloc);
+    let goal = Goal {
+        text: "{day \".\"}",
+        fixed: false,
+        find: false,
+    };
+    let expr = load_pattern(alloc, &mut files, &folders, &mut set, &goal)?;
+    let rules = expand(alloc, &set)?;
+    let goal = expand_pattern(alloc, &set, &rules, &expr)?;
+    if !is_in_order(&rules) || !calls_are_rules(&rules, &goal) {
+        return Err(Fail::new("a set that was loaded is out of order"));
+    }
+    let checked = check(alloc, rules)?;
+    let goal = check_pattern(alloc, &checked, goal)?;
+    let program = compile(alloc, &checked, &goal)?;
+    Ok(program)
+}
+
+fn answer_on<L: Ledger>(
+    program: &Program,
+    line: Text<'_>,
+    scratch: &mut Scratch,
+    blank: Blank,
+) -> Result<Answer, RunFault>
+    requires name { blank.name ≡ L.name }
+    requires parts { blank.parts ≡ L.parts }
+    requires some { 0 < blank.parts }
+{
+    let mut steps = Steps::<L>::new(blank);
+    run(program, line, 1_000, scratch, &mut steps)
+}
+
+fn answer(program: &Program, line: Text<'_>, scratch: &mut Scratch) -> Result<Answer, RunFault> {
+    answer_on::<Brand>(program, line, scratch, Blank::new(1))
+}
+
+#[test]
+fn a_line_is_answered(rt: HostRuntime) -> Result<(), Fail> {
+    let alloc = rt.alloc();
+    let program = program(alloc)?;
+    let mut scratch = Scratch::new(alloc);
+    let answer = answer(&program, Text::new("31. May"), &mut scratch)?;
+    assert!(rt; matches!(answer, Answer::At { place: 3, .. }));
+    let forest = build(alloc, scratch.captures())?;
+    assert!(rt; forest.len() == 2);
+    let text = encode(alloc, Style::Subs, "31. May", Some(&forest), &program)?;
+    assert!(rt; text.as_slice() == b"31\n".as_slice());
+    Ok(())
+}
+
+#[test]
+fn a_code_file_is_read_again(rt: HostRuntime) -> Result<(), Fail> {
+    let alloc = rt.alloc();
+    let program = program(alloc)?;
+    if program.code().is_empty() || program.code().len() > 1_048_576 {
+        return Err(Fail::new("no pattern has such a code"));
+    }
+    let bytes = write_code(alloc, &program)?;
+    let again = read_code(alloc, bytes.as_slice())?;
+    assert!(rt; again.code().len() == program.code().len());
+    assert!(rt; read_code(alloc, b"not code".as_slice()).is_err());
+    Ok(())
+}
