@@ -118,7 +118,7 @@ fn halt_name(set: &PackageSet) -> &str
 }
 
 /// The rule table of a set of packages: the boundary, the built-in `halt`, and a rule for each statement of the set in
-/// its order. The first rule whose core is too large is answered instead, before anything is made of it.
+/// its order. The first rule whose core is too large is answered instead. Each is counted before it is made.
 ///
 /// No two of these rules have one full name, as in every set that is loaded.
 ///
@@ -167,7 +167,7 @@ fn check_goal_size(
 }
 
 /// The core of a pattern over the rule table of its set, under its root capture unless it is the name of a rule that
-/// makes a tree; or that it is too large, and then nothing is made of it.
+/// makes a tree; or that it is too large. It is counted before it is made.
 pub fn expand_pattern(
     alloc: Global,
     set: &PackageSet,
