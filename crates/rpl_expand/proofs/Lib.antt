@@ -9,6 +9,7 @@ pub mod Standing
 mod Views
 pub mod TableSteps
 pub mod Norms
+pub mod Folding
 pub mod MacroLaw
 pub mod Still
 pub mod Printing

@@ -98,8 +98,8 @@ pub record FoldsOnce : Type 0 where
   pub cases_out : (r : List Range) → widened (folded r) ≡ folded r
 
 -- The macro that a name means has the core of the expression that its equation gives, where the name that `error` uses
--- stands for the built-in rule, as it does in every module.
+-- stands for the built-in rule, as it does wherever an expression of a loaded set stands (`rpl_load_laws`).
 abbrev pub MacroIsEquation : Type 0
 MacroIsEquation =
-    FoldsOnce → (c : Casing) (s : Scope) (q : QName) (p : Expr) (k : Macro) → kind_of q.name ≡ Some k
-    → s.rule halt ≡ halt_rule → core c s (X.Macro q p) ≡ core c s (applied k p)
+    (c : Casing) (s : Scope) (q : QName) (p : Expr) (k : Macro) → kind_of q.name ≡ Some k → s.rule halt ≡ halt_rule
+    → core c s (X.Macro q p) ≡ core c s (applied k p)

@@ -2,8 +2,8 @@
 ghost use Rattle.std.specs.Prelude.{◌≤◌};
 ghost use Rattle.rpl_core.specs.Core.{Core};
 ghost use Rattle.rpl_core.specs.Lengths.{least};
-ghost use Rattle.rpl_expand.specs.Laws.{ExactlyTurns, GroupOfOne, HasParts, MacroIsEquation, StillCallsNothing};
-ghost use Rattle.rpl_expand.specs.Laws.{UciKeepsOthers};
+ghost use Rattle.rpl_expand.specs.Laws.{ExactlyTurns, FoldsOnce, GroupOfOne, HasParts, MacroIsEquation};
+ghost use Rattle.rpl_expand.specs.Laws.{StillCallsNothing, UciKeepsOthers};
 ghost use Rattle.rpl_forms.specs.Sizes.{nodes};
 
 /// The core of `{e}` is that of `e`.
@@ -22,9 +22,11 @@ pub fn still_calls_nothing()
     ensures { StillCallsNothing }
 {}
 
-/// A macro has the core of the expression that its equation gives.
+/// Folding a set twice is folding it once, and takes in both cases of its ASCII letters; so a macro has the core of the
+/// expression that its equation gives.
 pub fn macro_is_equation()
-    ensures { MacroIsEquation }
+    ensures folding { FoldsOnce }
+    ensures equation { MacroIsEquation }
 {}
 
 /// `uci` of a text without letters has the core of that text.
