@@ -70,7 +70,7 @@ kept hs s t (rooted gs a u x q is name fresh unheld b) h =
     }
 
 -- a module that is done stays as it is
-stays : (hs : List Head) (s t : State) → Becomes hs s t → (i : ℕ) (m : Module) → nth s.stock.modules i ≡ Some m
+pub stays : (hs : List Head) (s t : State) → Becomes hs s t → (i : ℕ) (m : Module) → nth s.stock.modules i ≡ Some m
     → nth t.stock.modules i ≡ Some m
 stays hs s t (same gs x) i m h = h
 stays hs s t (on gs a b c f g) i m h = stays hs b t g i m (stays hs s b f i m h)

@@ -19,6 +19,7 @@ pub mod Naming
 pub mod Scoping
 pub mod Owning
 pub mod Building
+pub mod Macros
 pub mod FullNames
 pub mod Under
 pub mod Merely
@@ -26,4 +27,5 @@ pub mod Labels
 pub mod Loaded
 pub mod Distinct
 pub mod Told
+pub mod Bounds
 pub mod Names

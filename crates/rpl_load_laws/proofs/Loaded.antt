@@ -1,6 +1,7 @@
 -- The laws of loaded sets.
 use Rattle.std.proofs.Common.{None}
 use Rattle.rpl_scope.specs.Packages.{nth}
+use Rattle.rpl_package.proofs.Numbering.{nth_within}
 use Rattle.rpl_package.specs.Goals.{pattern_file}
 use Rattle.rpl_load_laws.proofs.Building.{set_of}
 use Rattle.rpl_load_laws.proofs.Goals.{stand_by}
@@ -8,10 +9,10 @@ use Rattle.rpl_load_laws.proofs.Names as N
 use Rattle.rpl_load_laws.proofs.Naming.{goal_names, said_names}
 use Rattle.rpl_load_laws.proofs.Owning.{own_is_rule}
 use Rattle.rpl_load_laws.proofs.Scoping.{make_trees, rules_in_order, scope_over}
-use Rattle.rpl_load_laws.proofs.Tables.{all_bound}
+use Rattle.rpl_load_laws.proofs.Tables.{all_bound, each_stated}
 use Rattle.rpl_load_laws.proofs.Told as T
 use Rattle.rpl_load_laws.specs.Laws.{LoadedIsBound, ModulesAreApart, OwnNamesAreRules, PatternsResolve, ScopesAreOver, StatementsResolve}
-use Rattle.rpl_load_laws.specs.Laws.{TableIsDistinct, TablesAreInOrder, ToldIsBuilt, TreesAreMade}
+use Rattle.rpl_load_laws.specs.Laws.{RulesHaveStatements, TableIsDistinct, TablesAreInOrder, ToldIsBuilt, TopIsThere, TreesAreMade}
 
 pub told_is_built : ToldIsBuilt
 told_is_built tree folders p h = T.told_is_built tree folders p h
@@ -46,3 +47,9 @@ modules_are_apart p h = N.modules_apart p h
 
 pub table_is_distinct : TableIsDistinct
 table_is_distinct p h = N.table_distinct p h
+
+pub top_is_there : TopIsThere
+top_is_there p h = let top = (set_of p h).top in nth_within p.stock.modules p.top top.0 top.1
+
+pub rules_have_statements : RulesHaveStatements
+rules_have_statements p h n lt = each_stated p n lt

@@ -116,7 +116,7 @@ listed p k (suc n) f (suc i) lt =
     (omega (arith, l)) in (h.0, ap (statement_at p) (on j) ∙ h.1)) i (omega (arith, lt)) in
     ap (λ o. slice_get (with_one o (statements_from p (k + 1) n)) (suc i)) here ∙ rest ∙ ap (statement_at p) (on i)
 
-each_stated : (p : Packages) (i : ℕ) → i < length (rows p.stock.modules) → (s : Statement)
+pub each_stated : (p : Packages) (i : ℕ) → i < length (rows p.stock.modules) → (s : Statement)
     × (statement_at p (2 + i) ≡ Some s)
 each_stated p i lt =
     let f = nth_found (rows p.stock.modules) i lt in

@@ -70,7 +70,7 @@ by_size : (b : Bool) (f s : List ℕ) (t : ParsedModule)
 by_size true f s t h = absurd (cc)
 by_size false f s t h = by_form (is_utf8 s) f s t refl h
 
-read_so : (f bytes : List ℕ) (t : ParsedModule) → module_text f bytes ≡ Ok t → IsSaid t
+pub read_so : (f bytes : List ℕ) (t : ParsedModule) → module_text f bytes ≡ Ok t → IsSaid t
 read_so f bytes t h = by_size (nat_lt max_text_bytes (length bytes)) f bytes t h
 
 -- ---- the walk
@@ -88,8 +88,8 @@ brings hs f i s r m asked (inr h) e =
     (imported hs s u f i l.text m asked l.said l.makes.free l.makes.comes
     (ap (λ x. take_in f i x.0 x.1.modules s.own) (sym h.2) ∙ e))
 
-record IsBuiltWalk (below : Walk) : Type 0 where
-  each : (s : Stock) (hs : List Head) (f path bytes : List ℕ) (t : State) → (below s hs f path bytes).answer ≡ Ok t
+pub record IsBuiltWalk (below : Walk) : Type 0 where
+  pub each : (s : Stock) (hs : List Head) (f path bytes : List ℕ) (t : State) → (below s hs f path bytes).answer ≡ Ok t
       → Loads hs path s t
 
 module _ (w : World) (below : Walk) (built : IsBuiltWalk below) (hs : List Head) (f : List ℕ) (i : Import) where
@@ -112,7 +112,7 @@ module _ (w : World) (below : Walk) (built : IsBuiltWalk below) (hs : List Head)
       let c = both (search w i.path).answer (λ o. (fresh w below hs f i s o).answer) r e in
       fresh_reached s c.0 r c.2
 
-  reached : (s : Stock) (r : ℕ × Stock) → (load_import w below hs f i s).answer ≡ Ok r → Reaches hs i.path s r
+  pub reached : (s : Stock) (r : ℕ × Stock) → (load_import w below hs f i s).answer ≡ Ok r → Reaches hs i.path s r
   reached s r e =
       known_reached s (first_of i.path s.paths) r refl
       (unless_fault (is_loading i.path hs) f i.at (ImportCycle i.path)
@@ -174,7 +174,7 @@ module _ (w : World) (below : Walk) (built : IsBuiltWalk below) (s : Stock) (hs 
   own_in e = by_name_of (is_taken label hs s) refl e
 
 module _ (w : World) (reads : (f bytes : List ℕ) (t : ParsedModule) → w.text f bytes ≡ Ok t → IsSaid t) where
-  walks : (n : ℕ) → IsBuiltWalk (walk w n)
+  pub walks : (n : ℕ) → IsBuiltWalk (walk w n)
   walks zero = record { each = λ s hs f path bytes t e. absurd (cc) }
   walks (suc n) = record {
     each = λ s hs f path bytes t e.

@@ -1,26 +1,34 @@
 -- What holds of every set of packages that is loaded, from real files too.
-use Rattle.std.specs.Prelude.{◌≡◌, ◌<◌, ℕ, Bool, true, List, length, Option, Some, None, Result, Ok, map, slice_get}
+use Rattle.std.specs.Prelude.{◌≡◌, ◌<◌, ◌+◌, ℕ, Bool, true, List, length, Option, Some, None, Result, Ok, map}
+use Rattle.std.specs.Prelude.{slice_get}
 use Rattle.std.specs.List.{Contains}
 use Rattle.rpl_core.specs.Core.{Core, Capture}
 use Rattle.rpl_core.specs.Order.{IsInOrder}
 use Rattle.rpl_core.specs.Table.{AreDistinct, bodies_of, blocks_of}
 use Rattle.rpl_core.specs.declared.rules.Rule.{Rule}
+use Rattle.rpl_forms.specs.Inlining.{Inners}
 use Rattle.rpl_forms.specs.Rows.{rows_of, inners_of}
-use Rattle.rpl_expand.specs.Sets.{captures_of, scope_of, statements, table_of}
-use Rattle.rpl_expand.specs.Table.{AreBound, IsOver, MakeTrees}
-use Rattle.rpl_syntax.specs.Expression.{Expr}
+use Rattle.rpl_expand.specs.Expansion.{core}
+use Rattle.rpl_expand.specs.Sets.{captures_of, scope_of, statement_at, statements, table_of}
+use Rattle.rpl_expand.specs.Table.{AreBound, IsOver, MakeTrees, Statement}
+use Rattle.rpl_macro.specs.Kinds.{kind_of}
+use Rattle.rpl_macro.specs.Macros.{applied_if}
+use Rattle.rpl_macro.specs.declared.casing.Casing.{Casing}
+use Rattle.rpl_syntax.specs.Expression.{Expr, Macro}
 use Rattle.rpl_syntax.specs.declared.name.QName.{QName}
 use Rattle.rpl_scope.specs.Bodies.{names}
 use Rattle.rpl_scope.specs.Faults.{Or}
 use Rattle.rpl_scope.specs.Packages.{Module, nth}
 use Rattle.rpl_package.specs.Goals.{ReadsGoal}
-use Rattle.rpl_package.specs.Loading.{world}
+use Rattle.rpl_package.specs.Loading.{Stock, walk, world}
 use Rattle.rpl_package.specs.Owned.{own}
 use Rattle.rpl_package.specs.Patterns.{load_pattern}
 use Rattle.rpl_package.specs.Roots.{Packages, load}
+use Rattle.rpl_package.specs.Tables.{rows}
 use Rattle.rpl_package.specs.Targets.{body, resolved}
 use Rattle.rpl_package.specs.declared.rooted.Root.{Root}
 use Rattle.rpl_package.specs.declared.targets.NameFault.{NameFault}
+use Rattle.rpl_package.specs.declared.stock.Head.{Head}
 use Rattle.rpl_package.specs.declared.targets.Target.{Target}
 use Rattle.rpl_package.specs.Built.{IsBuilt}
 
@@ -112,6 +120,40 @@ abbrev pub OwnNamesAreRules : Type 0
 OwnNamesAreRules =
     OfAllBuilt (λ p. (rs : List Rule) (i : ℕ) (n : List ℕ) (t : Target) → AreRulesOf rs p → own p i n ≡ Some t
     → IsRuleOf (bodies_of rs) t)
+
+-- ---- macros
+
+-- an expression stands there: in the statement of this rule, or with None in the pattern
+abbrev pub HasText : Packages → Option ℕ → Type 0
+HasText p None = Unit {0}
+HasText p (Some n) = (e : Expr) × (body p n ≡ Some e)
+
+-- Wherever a macro stands in a set, its core is that of the expression that its equation makes of its argument, also
+-- where that has the name `halt` of `error` in it.
+abbrev pub MacrosAreEquations : Type 0
+MacrosAreEquations =
+    OfAllBuilt (λ p. (n : Option ℕ) (I : Inners) (c : Casing) (q : QName) (e : Expr) → HasText p n
+    → core c (scope_of p n I) (Macro q e) ≡ core c (scope_of p n I) (applied_if (kind_of q.name) e))
+
+-- ---- what the definitions look for is there
+
+-- the module that the pattern's names are looked up in
+abbrev pub TopIsThere : Type 0
+TopIsThere = OfAllBuilt (λ p. p.top < length p.stock.modules)
+
+-- the statement of each rule of the table but the two built-in ones
+abbrev pub RulesHaveStatements : Type 0
+RulesHaveStatements =
+    OfAllBuilt (λ p. (n : ℕ) → n < length (rows p.stock.modules) → (s : Statement) × (statement_at p (2 + n) ≡ Some s))
+
+-- Where a file is walked, fewer modules are loaded and being loaded than there may be. So the bound on files that are
+-- read one inside the other is never met: with a larger one the walk is the same.
+abbrev pub WalksAreWhole : Type 0
+WalksAreWhole =
+    (tree : List (List ℕ × List ℕ)) (folders : List (List ℕ)) (k : ℕ) (s : Stock) (hs : List Head)
+    (file path bytes : List ℕ) → length s.modules + length hs < (world tree folders).most
+    → walk (world tree folders) (k + (world tree folders).most) s hs file path bytes
+    ≡ walk (world tree folders) (world tree folders).most s hs file path bytes
 
 -- ---- names of rules
 

@@ -8,9 +8,10 @@
 //! `specs/Laws.antt`.
 #![tactic(auto)]
 
-ghost use Rattle.rpl_load_laws.specs.Laws.{LoadedIsBound, ModulesAreApart, OwnNamesAreRules, PatternsResolve};
-ghost use Rattle.rpl_load_laws.specs.Laws.{ScopesAreOver, StatementsResolve, TableIsDistinct, TablesAreInOrder};
-ghost use Rattle.rpl_load_laws.specs.Laws.{ToldIsBuilt, TreesAreMade};
+ghost use Rattle.rpl_load_laws.specs.Laws.{LoadedIsBound, MacrosAreEquations, ModulesAreApart, OwnNamesAreRules};
+ghost use Rattle.rpl_load_laws.specs.Laws.{PatternsResolve, RulesHaveStatements, ScopesAreOver, StatementsResolve};
+ghost use Rattle.rpl_load_laws.specs.Laws.{TableIsDistinct, TablesAreInOrder, ToldIsBuilt, TopIsThere, TreesAreMade};
+ghost use Rattle.rpl_load_laws.specs.Laws.{WalksAreWhole};
 
 /// Where the files are told, each set that roots are loaded to, and that a pattern brings more modules to, is built.
 pub fn told_is_built()
@@ -56,4 +57,22 @@ pub fn trees_are_made()
 /// to make a tree.
 pub fn own_names_are_rules()
     ensures { OwnNamesAreRules }
+{}
+
+/// Wherever a macro stands in a set, in a statement or in the pattern, its core is that of the expression that
+/// `rpl_macro`'s `apply` makes of its argument.
+pub fn macros_are_equations()
+    ensures { MacrosAreEquations }
+{}
+
+/// What the definitions of a set look for is there: its top module, and a statement for each rule of its table but the
+/// two built-in ones.
+pub fn nothing_is_missing()
+    ensures top { TopIsThere }
+    ensures statements { RulesHaveStatements }
+{}
+
+/// The bound on files that are read one inside the other changes nothing: that on modules is met before it.
+pub fn walks_are_whole()
+    ensures { WalksAreWhole }
 {}
