@@ -11,13 +11,13 @@ use Rattle.rpl_package.specs.Roots.{Packages, begun, top_head}
 use Rattle.rpl_package.specs.declared.stock.Head.{Head}
 use Rattle.rpl_package.specs.Built.{Becomes, same, on, text, said, again, imported, rooted, opened, headed}
 use Rattle.rpl_package.specs.Built.{IsAsked, Loads, Reaches, IsBuilt, by_roots, by_name, packages}
-use Rattle.rpl_load_laws.proofs.FullNames.{star}
+use Rattle.rpl_load_laws.proofs.FullNames.{HasNoDot, star}
 use Rattle.rpl_load_laws.proofs.Goals.{replaced_at}
 use Rattle.rpl_load_laws.proofs.Labels.{AreLabelled, AreFree, labels, free_with, done, label_more}
 use Rattle.rpl_load_laws.proofs.Lists.{nth_end, nth_last, nth_more}
 use Rattle.rpl_load_laws.proofs.Steps.{both}
 use Rattle.rpl_load_laws.proofs.Texts.{label_plain, plain_text}
-use Rattle.rpl_load_laws.proofs.Under.{AreUnder, under_kept, label_kept, statements_in, taken_in, prefix_at}
+use Rattle.rpl_load_laws.proofs.Under.{AreUnder, under_kept, label_kept, plain_rules, statements_in, taken_in, prefix_at}
 
 -- ---- all rules stand under their names
 
@@ -36,7 +36,13 @@ under_more ms m h own = record { each = λ i x g. by i x (nth_end ms m i x g) }
     by i x (inr g) = subst AreUnder (sym g.1) own
 
 nothing_under : (path : Option (List ℕ)) (label : List ℕ) → AreUnder (empty_module path label)
-nothing_under path label = record { each = λ k r g. absurd (cc); dotless = λ k r g. absurd (cc) }
+nothing_under path label = record {
+  each = λ k r g. absurd (cc);
+  dotless = λ k r g. absurd (cc);
+  names = tt;
+  plain = tt;
+  prefixes = tt;
+}
 
 starts : (s : Stock) (path : Option (List ℕ)) (label : List ℕ) → AllUnder s.modules → Kept (opened s path label)
 starts s path label h = record { all = h; own = nothing_under path label }
@@ -44,29 +50,44 @@ starts s path label h = record { all = h; own = nothing_under path label }
 kept : (hs : List Head) (s t : State) → Becomes hs s t → Kept s → Kept t
 kept hs s t (same gs x) h = h
 kept hs s t (on gs a b c f g) h = kept hs b t g (kept hs s b f h)
-kept hs s t (text gs a f) h = record { all = h.all; own = record { each = h.own.each; dotless = h.own.dotless } }
+kept hs s t (text gs a f) h = record {
+  all = h.all;
+  own = record {
+    each = h.own.each;
+    dotless = h.own.dotless;
+    names = h.own.names;
+    plain = h.own.plain;
+    prefixes = h.own.prefixes;
+  };
+}
 kept hs s t (said gs a f k x m is e) h = record {
   all = h.all;
-  own = statements_in AreUnder under_kept f k s.stock.modules x.items s.own m (plain_text x is).dotless h.own e;
+  own = statements_in AreUnder HasNoDot under_kept f k s.stock.modules x.items s.own m (plain_text x is).dotless h.own e;
 }
 kept hs s t (again gs a f i j m asked k e) h = record {
   all = h.all;
-  own = taken_in AreUnder under_kept f i j s.stock.modules s.own m h.own e;
+  own = taken_in AreUnder HasNoDot under_kept f i j s.stock.modules s.own m
+      (plain_rules (nth s.stock.modules j) (λ y at. h.all.each j y at)) h.own e;
 }
 kept hs s t (imported gs a u f i x m asked is unheld b e) h =
     let l = label_of x.name i.path in
     let p : Option (List ℕ) = Some i.path in
     let r = kept (headed hs p l) (opened s.stock p l) u b (starts s.stock p l h.all) in
+    let all = under_more u.stock.modules u.own r.all r.own in
+    let n = length u.stock.modules in
+    let ms = (finished u.stock u.own).modules in
     record {
-      all = under_more u.stock.modules u.own r.all r.own;
-      own = taken_in AreUnder under_kept f i (length u.stock.modules) (finished u.stock u.own).modules s.own m h.own e;
+      all = all;
+      own = taken_in AreUnder HasNoDot under_kept f i n ms s.own m (plain_rules (nth ms n) (λ y at. all.each n y at))
+          h.own e;
     }
 kept hs s t (rooted gs a u x q is name fresh unheld b) h =
     let l = q.name in
     let r = kept (headed hs None l) (opened s.stock None l) u b (starts s.stock None l h.all) in
     record {
       all = under_more u.stock.modules u.own r.all r.own;
-      own = record { each = h.own.each; dotless = h.own.dotless };
+      own = under_kept.prefix s.own l (record { since = length s.own.rules; number = length u.stock.modules }) h.own
+          fresh;
     }
 
 -- a module that is done stays as it is
@@ -205,8 +226,9 @@ put_apart f e j i s t (Some m) h at g =
     let c = both (add_prefix f e.at e.path j m) (λ n. Ok (with_module s i n)) t g in
     let k : with_module s i c.0 ≡ t = (let q = c.2 in cc) in
     let o = first_of e.path m.prefixes in
-    let label = prefix_at (λ y. y.label ≡ m.label) (label_kept m.label) f e.at e.path j m c.0 o refl c.1 in
-    let own = prefix_at AreUnder under_kept f e.at e.path j m c.0 o (h.apart.under.each i m at) c.1 in
+    let label = prefix_at (λ y. y.label ≡ m.label) (λ k. Unit {0}) (label_kept m.label) f e.at e.path j m c.0 o refl refl
+    c.1 in
+    let own = prefix_at AreUnder HasNoDot under_kept f e.at e.path j m c.0 o refl (h.apart.under.each i m at) c.1 in
     subst (λ x. IsApart x i) k (with_apart s i m c.0 h at own label)
 
 -- so it is in every set that is built

@@ -21,11 +21,13 @@ pub mod Owning
 pub mod Building
 pub mod Macros
 pub mod FullNames
+pub mod Apart
 pub mod Under
 pub mod Merely
 pub mod Labels
 pub mod Loaded
 pub mod Distinct
+pub mod Listing
 pub mod Told
 pub mod Bounds
 pub mod Names

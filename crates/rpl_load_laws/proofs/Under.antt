@@ -1,5 +1,6 @@
--- Each rule of a module stands under its name there, so that no two have one name; and no name has a dot.
-use Rattle.std.proofs.Common.{◌≡◌, ◌⊎◌, inl, inr, ℕ, ◌+◌, List, [], ◌∷◌, ◌++◌, length, Option, Some, None, refl, sym, ap}
+-- Each rule of a module stands under its name there, so that no two have one name; no name and no prefix stands there
+-- twice; and no name has a dot.
+use Rattle.std.proofs.Common.{◌≡◌, ◌⊎◌, inl, inr, ℕ, suc, ◌+◌, List, [], ◌∷◌, ◌++◌, length, Option, Some, None, refl, sym, ap}
 use Rattle.std.proofs.Common.{subst, ◌∙◌}
 use Rattle.std.specs.Prelude.{Bool, true, false, nat_eq, ◌||◌, if◌then◌else◌, Ok}
 use Rattle.std.specs.List.{AllByRecursion}
@@ -20,6 +21,7 @@ use Rattle.rpl_scope.specs.declared.fault.LoadKind.TheVariants.{Duplicate}
 use Rattle.rpl_scope.specs.declared.module.Entry.{Entry}
 use Rattle.rpl_scope.specs.declared.module.Prefix.{Prefix}
 use Rattle.rpl_scope.specs.declared.module.Referent.TheVariants.{Own, Of}
+use Rattle.rpl_load_laws.proofs.Apart.{AllApart, dotless_more, keys, keys_more}
 use Rattle.rpl_load_laws.proofs.FullNames.{AreDotless, AreDotlessEntries, HasNoDot, IsDotlessEntry}
 use Rattle.rpl_load_laws.proofs.Lists.{all_append, first_more, nth_end}
 use Rattle.rpl_load_laws.proofs.Steps.{both, passed}
@@ -28,6 +30,23 @@ pub record AreUnder (m : Module) : Type 0 where
   pub each : (k : ℕ) (r : Rule) → nth m.rules k ≡ Some r
       → (e : Entry) × (first_of r.name m.names ≡ Some e) × (e.referent ≡ Own k)
   pub dotless : (k : ℕ) (r : Rule) → nth m.rules k ≡ Some r → HasNoDot r.name
+  pub names : AllApart (keys m.names)
+  pub plain : AllByRecursion HasNoDot (keys m.names)
+  pub prefixes : AllApart (keys m.prefixes)
+
+all_at : {A : Type 0} (P : A → Type 0) (xs : List A) → ((k : ℕ) (x : A) → nth xs k ≡ Some x → P x) → AllByRecursion P xs
+all_at P [] f = tt
+all_at P (x ∷ xs) f = (f 0 x refl, all_at P xs (λ k y h. f (suc k) y h))
+
+-- no rule of a module, if it is there, has a dot in its name
+pub plain_rules : (o : Option Module) → ((m : Module) → o ≡ Some m → AreUnder m)
+    → AllByRecursion (λ r. HasNoDot r.name) (rules_at o)
+plain_rules None f = tt
+plain_rules (Some m) f = all_at (λ (r : Rule). HasNoDot r.name) m.rules (f m refl).dotless
+
+pub all_unit : (rs : List Rule) → AllByRecursion (λ r. Unit {0}) rs
+all_unit [] = tt
+all_unit (r ∷ rs) = (tt, all_unit rs)
 
 -- so two rules of one name are one
 pub one_of_name : (m : Module) (j k : ℕ) (q r : Rule) → AreUnder m → nth m.rules j ≡ Some q → nth m.rules k ≡ Some r
@@ -58,11 +77,11 @@ first_new n (p ∷ ps) x h =
 
 -- ---- what holds of a module when rules, prefixes and names come into it
 
--- one rule, prefix or name more keeps it
-pub record IsKept (P : Module → Type 0) : Type 0 where
+-- one rule, prefix or name more keeps it, where that isn't there yet, and D holds of the name
+pub record IsKept (P : Module → Type 0) (D : List ℕ → Type 0) : Type 0 where
   pub rule : (m : Module) (r : Rule) → P m → HasNoDot r.name → first_of r.name m.names ≡ None → P (with_rule m r)
-  pub prefix : (m : Module) (k : List ℕ) (x : Prefix) → P m → P (with_prefix m k x)
-  pub name : (m : Module) (k : List ℕ) (x : Entry) → P m → P (with_name m k x)
+  pub prefix : (m : Module) (k : List ℕ) (x : Prefix) → P m → first_of k m.prefixes ≡ None → P (with_prefix m k x)
+  pub name : (m : Module) (k : List ℕ) (x : Entry) → P m → D k → first_of k m.names ≡ None → P (with_name m k x)
 
 -- no rule of a statement has a dot in its name
 block_dotless : (k start : ℕ) (hidden : Bool) (bs : List S.Rule) → AreDotless bs
@@ -76,7 +95,7 @@ rules_dotless k n (S.Block h v) d =
     all_append (λ (r : Rule). HasNoDot r.name) (block_rules k n true h) (block_rules k n false v)
     (block_dotless k n true h d.0) (block_dotless k n false v d.1)
 
-module _ (P : Module → Type 0) (keeps : IsKept P) where
+module _ (P : Module → Type 0) (D : List ℕ → Type 0) (keeps : IsKept P D) where
   entered : (f : List ℕ) (r : Rule) (m n : Module) (o : Option Entry) → HasNoDot r.name → first_of r.name m.names ≡ o
       → P m → enter_at o f r m ≡ Ok n → P n
   entered f r m n None d none h e = let s : with_rule m r ≡ n = cc in subst P s (keeps.rule m r h d none)
@@ -109,44 +128,45 @@ module _ (P : Module → Type 0) (keeps : IsKept P) where
   same_or true f at k m n e h = let s : m ≡ n = cc in subst P s h
   same_or false f at k m n e h = absurd (cc)
 
-  pub prefix_at : (f : List ℕ) (at : ℕ) (k : List ℕ) (j : ℕ) (m n : Module) (o : Option Prefix) → P m
-      → add_prefix_at o f at k j m ≡ Ok n → P n
-  prefix_at f at k j m n None h e =
+  pub prefix_at : (f : List ℕ) (at : ℕ) (k : List ℕ) (j : ℕ) (m n : Module) (o : Option Prefix)
+      → first_of k m.prefixes ≡ o → P m → add_prefix_at o f at k j m ≡ Ok n → P n
+  prefix_at f at k j m n None new h e =
       let x : Prefix = record { since = length m.rules; number = j } in
       let s : with_prefix m k x ≡ n = cc in
-      subst P s (keeps.prefix m k x h)
-  prefix_at f at k j m n (Some q) h e = same_or (nat_eq q.number j) f at k m n e h
+      subst P s (keeps.prefix m k x h new)
+  prefix_at f at k j m n (Some q) there h e = same_or (nat_eq q.number j) f at k m n e h
 
-  name_at : (f : List ℕ) (at i k : ℕ) (x : List ℕ) (m n : Module) (o : Option Entry) → P m
-      → add_name_at o f at i k x m ≡ Ok n → P n
-  name_at f at i k x m n None h e =
+  name_at : (f : List ℕ) (at i k : ℕ) (x : List ℕ) (m n : Module) (o : Option Entry) → D x
+      → first_of x m.names ≡ o → P m → add_name_at o f at i k x m ≡ Ok n → P n
+  name_at f at i k x m n None d new h e =
       let y : Entry = record { since = length m.rules; local = false; hidden = false; referent = Of i k } in
       let s : with_name m x y ≡ n = cc in
-      subst P s (keeps.name m x y h)
-  name_at f at i k x m n (Some q) h e = same_or (is_same q.referent i k) f at x m n e h
+      subst P s (keeps.name m x y h d new)
+  name_at f at i k x m n (Some q) d there h e = same_or (is_same q.referent i k) f at x m n e h
 
-  seen_at : (b : Bool) (f : List ℕ) (at i : ℕ) (r : ℕ × Rule) (m n : Module) → P m
+  seen_at : (b : Bool) (f : List ℕ) (at i : ℕ) (r : ℕ × Rule) (m n : Module) → D r.1.name → P m
       → (if b then Ok m else add_name_at (first_of r.1.name m.names) f at i r.0 r.1.name m) ≡ Ok n → P n
-  seen_at true f at i r m n h e = let s : m ≡ n = cc in subst P s h
-  seen_at false f at i r m n h e = name_at f at i r.0 r.1.name m n (first_of r.1.name m.names) h e
+  seen_at true f at i r m n d h e = let s : m ≡ n = cc in subst P s h
+  seen_at false f at i r m n d h e = name_at f at i r.0 r.1.name m n (first_of r.1.name m.names) d refl h e
 
-  names_in : (f : List ℕ) (at i k : ℕ) (rs : List Rule) (m n : Module) → P m
+  names_in : (f : List ℕ) (at i k : ℕ) (rs : List Rule) (m n : Module) → AllByRecursion (λ r. D r.name) rs → P m
       → in_turn (add_name f at i) (numbered k rs) m ≡ Ok n → P n
-  names_in f at i k [] m n h e = let s : m ≡ n = cc in subst P s h
-  names_in f at i k (r ∷ rs) m n h e =
+  names_in f at i k [] m n d h e = let s : m ≡ n = cc in subst P s h
+  names_in f at i k (r ∷ rs) m n d h e =
       let c = both (add_name f at i (k, r) m) (in_turn (add_name f at i) (numbered (k + 1) rs)) n e in
-      names_in f at i (k + 1) rs c.0 n (seen_at (r.local || r.hidden) f at i (k, r) m c.0 h c.1) c.2
+      names_in f at i (k + 1) rs c.0 n d.1 (seen_at (r.local || r.hidden) f at i (k, r) m c.0 d.0 h c.1) c.2
 
-  by_form : (f : List ℕ) (i : Import) (form : ImportAs) (j : ℕ) (ms : List Module) (m n : Module) → P m
-      → take_as f i form j ms m ≡ Ok n → P n
-  by_form f i Last j ms m n h e =
-      prefix_at f i.at (last_part [] i.path) j m n (first_of (last_part [] i.path) m.prefixes) h e
-  by_form f i (Named p) j ms m n h e = prefix_at f i.at p j m n (first_of p m.prefixes) h e
-  by_form f i Plain j ms m n h e = names_in f i.at j 0 (rules_at (nth ms j)) m n h e
+  by_form : (f : List ℕ) (i : Import) (form : ImportAs) (j : ℕ) (ms : List Module) (m n : Module)
+      → AllByRecursion (λ r. D r.name) (rules_at (nth ms j)) → P m → take_as f i form j ms m ≡ Ok n → P n
+  by_form f i Last j ms m n d h e =
+      prefix_at f i.at (last_part [] i.path) j m n (first_of (last_part [] i.path) m.prefixes) refl h e
+  by_form f i (Named p) j ms m n d h e = prefix_at f i.at p j m n (first_of p m.prefixes) refl h e
+  by_form f i Plain j ms m n d h e = names_in f i.at j 0 (rules_at (nth ms j)) m n d h e
 
-  pub taken_in : (f : List ℕ) (i : Import) (j : ℕ) (ms : List Module) (m n : Module) → P m
-      → take_in f i j ms m ≡ Ok n → P n
-  taken_in f i j ms m n h e = by_form f i i.name j ms m n h e
+  -- D holds of the name of each rule of the module that is imported
+  pub taken_in : (f : List ℕ) (i : Import) (j : ℕ) (ms : List Module) (m n : Module)
+      → AllByRecursion (λ r. D r.name) (rules_at (nth ms j)) → P m → take_in f i j ms m ≡ Ok n → P n
+  taken_in f i j ms m n d h e = by_form f i i.name j ms m n d h e
 
 -- ---- each rule stays under its name
 
@@ -155,6 +175,9 @@ rule_more : (m : Module) (r : Rule) → AreUnder m → HasNoDot r.name → first
 rule_more m r h d none = record {
   each = λ k q g. by k q (nth_end m.rules r k q g);
   dotless = λ k q g. dotless_by k q (nth_end m.rules r k q g);
+  names = keys_more r.name (entry_for r (length m.rules)) m.names h.names none;
+  plain = dotless_more r.name (entry_for r (length m.rules)) m.names h.plain d;
+  prefixes = h.prefixes;
 }
   where
     dotless_by : (k : ℕ) (q : Rule) → (nth m.rules k ≡ Some q) ⊎ ((k ≡ length m.rules) × (q ≡ r)) → HasNoDot q.name
@@ -173,16 +196,25 @@ rule_more m r h d none = record {
       ap Own (sym g.0),
     )
 
-pub under_kept : IsKept AreUnder
+pub under_kept : IsKept AreUnder HasNoDot
 under_kept = record {
   rule = rule_more;
-  prefix = λ m k x h. record { each = h.each; dotless = h.dotless };
-  name = λ m k x h. record {
+  prefix = λ m k x h new. record {
+    each = h.each;
+    dotless = h.dotless;
+    names = h.names;
+    plain = h.plain;
+    prefixes = keys_more k x m.prefixes h.prefixes new;
+  };
+  name = λ m k x h d new. record {
     each = λ j r g. let y = h.each j r g in (y.0, first_more r.name m.names ((k, x) ∷ []) y.0 y.1, y.2);
     dotless = h.dotless;
+    names = keys_more k x m.names h.names new;
+    plain = dotless_more k x m.names h.plain d;
+    prefixes = h.prefixes;
   };
 }
 
 -- and so does the package name
-pub label_kept : (l : List ℕ) → IsKept (λ m. m.label ≡ l)
-label_kept l = record { rule = λ m r h d none. h; prefix = λ m k x h. h; name = λ m k x h. h }
+pub label_kept : (l : List ℕ) → IsKept (λ m. m.label ≡ l) (λ k. Unit {0})
+label_kept l = record { rule = λ m r h d none. h; prefix = λ m k x h new. h; name = λ m k x h d new. h }

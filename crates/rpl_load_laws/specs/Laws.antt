@@ -21,6 +21,7 @@ use Rattle.rpl_scope.specs.Faults.{Or}
 use Rattle.rpl_scope.specs.Packages.{Module, nth}
 use Rattle.rpl_package.specs.Goals.{ReadsGoal}
 use Rattle.rpl_package.specs.Loading.{Stock, walk, world}
+use Rattle.rpl_package.specs.Names.{all_listed}
 use Rattle.rpl_package.specs.Owned.{own}
 use Rattle.rpl_package.specs.Patterns.{load_pattern}
 use Rattle.rpl_package.specs.Roots.{Packages, load}
@@ -169,3 +170,7 @@ ModulesAreApart =
 -- so no two rules of its table, the built-in ones among them, have one full name
 abbrev pub TableIsDistinct : Type 0
 TableIsDistinct = OfAllBuilt (λ p. AreDistinct (map (λ r. r.name) (table_of p)))
+
+-- and no name is listed twice among those that a pattern may use
+abbrev pub NoNameTwice : Type 0
+NoNameTwice = OfAllBuilt (λ p. AreDistinct (map (λ l. l.name) (all_listed p)))

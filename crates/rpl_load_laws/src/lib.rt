@@ -8,10 +8,10 @@
 //! `specs/Laws.antt`.
 #![tactic(auto)]
 
-ghost use Rattle.rpl_load_laws.specs.Laws.{LoadedIsBound, MacrosAreEquations, ModulesAreApart, OwnNamesAreRules};
-ghost use Rattle.rpl_load_laws.specs.Laws.{PatternsResolve, RulesHaveStatements, ScopesAreOver, StatementsResolve};
-ghost use Rattle.rpl_load_laws.specs.Laws.{TableIsDistinct, TablesAreInOrder, ToldIsBuilt, TopIsThere, TreesAreMade};
-ghost use Rattle.rpl_load_laws.specs.Laws.{WalksAreWhole};
+ghost use Rattle.rpl_load_laws.specs.Laws.{LoadedIsBound, MacrosAreEquations, ModulesAreApart, NoNameTwice};
+ghost use Rattle.rpl_load_laws.specs.Laws.{OwnNamesAreRules, PatternsResolve, RulesHaveStatements, ScopesAreOver};
+ghost use Rattle.rpl_load_laws.specs.Laws.{StatementsResolve, TableIsDistinct, TablesAreInOrder, ToldIsBuilt};
+ghost use Rattle.rpl_load_laws.specs.Laws.{TopIsThere, TreesAreMade, WalksAreWhole};
 
 /// Where the files are told, each set that roots are loaded to, and that a pattern brings more modules to, is built.
 pub fn told_is_built()
@@ -75,4 +75,9 @@ pub fn nothing_is_missing()
 /// The bound on files that are read one inside the other changes nothing: that on modules is met before it.
 pub fn walks_are_whole()
     ensures { WalksAreWhole }
+{}
+
+/// Of the names that a pattern may use none is listed twice.
+pub fn no_name_twice()
+    ensures { NoNameTwice }
 {}
