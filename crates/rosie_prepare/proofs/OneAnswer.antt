@@ -5,7 +5,7 @@ use Rattle.std.specs.Prelude.{map, Option, Some, None, Result, Ok, Err, encode_u
 use Rattle.std.proofs.lemmas.Bool.{cases_lt}
 use Rattle.std.specs.Option.{option_or}
 use Rattle.rosie_prepare.proofs.Passing.{first_same, goal_same}
-use Rattle.rosie_prepare.specs.Laws.{OnePreparation}
+use Rattle.rosie_prepare.specs.Laws.{OnePreparation, OneTable}
 use Rattle.rosie_prepare.specs.Prepared.{Comes, OrLine, Passes, Ready, TableComes, TableFacts}
 use Rattle.rosie_prepare.specs.Prepared.{blocks, found, goal_in, loaded, ready, table_too_large, table_unsound, too_large, unsound}
 use Rattle.rpl_check.specs.Faults as C
@@ -15,7 +15,8 @@ use Rattle.rpl_lexer.specs.Cutting.{cut_of}
 use Rattle.rpl_lexer.specs.declared.fault.LexFault.{LexFault}
 use Rattle.rpl_lexer.specs.declared.token.Token.{Token}
 use Rattle.rpl_package.specs.Goals.{ReadsCut, ReadsGoal, ReadsText, ReadsTokens, pattern_file, sought}
-use Rattle.rpl_package.specs.Roots.{Packages}
+use Rattle.rpl_package.specs.Loading.{world}
+use Rattle.rpl_package.specs.Roots.{Packages, load}
 use Rattle.rpl_package.specs.Texts.{max_text_bytes}
 use Rattle.rpl_parser.proofs.Answered.{fault_unique, pattern_apart, pattern_unique}
 use Rattle.rpl_scope.specs.Faults.{Or, fault}
@@ -44,7 +45,7 @@ text_one :
 text_one true find s r q h k = h ∙ sym k
 text_one false find s r q h k = cut_one find s (cut_of s) r q h k
 
-reading_one :
+pub reading_one :
     (fixed find : Bool) (s : List ℕ) (r q : Or Expr) → ReadsGoal fixed find s r → ReadsGoal fixed find s q → r ≡ q
 reading_one fixed find s r q h k =
     elim (cases_lt max_text_bytes (length s)) [
@@ -76,7 +77,10 @@ one_table (Err f) r q h k = h ∙ sym k
 one_table (Ok p) r q h k =
     passes_one p (table_too_large p) (table_unsound p) p r q (λ d e. first_same _ e d (blocks (table_of p))) h k
 
--- ---- the law
+-- ---- the laws
+
+pub only_table : OneTable
+only_table tree folders roots r s h k = one_table (load (world tree folders) roots).answer r s h k
 
 pub one_answer : OnePreparation
 one_answer tree w asked paths r s h k =

@@ -56,7 +56,7 @@ text_some : (fixed find : Bool) (s : List ℕ) → (r : Or Expr) × ReadsText fi
 text_some true find s = (Ok (sought find (Text (chars s))), refl)
 text_some false find s = cut_some find s (cut_of s)
 
-reading_some : (fixed find : Bool) (s : List ℕ) → (r : Or Expr) × ReadsGoal fixed find s r
+pub reading_some : (fixed find : Bool) (s : List ℕ) → (r : Or Expr) × ReadsGoal fixed find s r
 reading_some fixed find s =
     elim (cases_lt max_text_bytes (length s)) [
       | inl long ↦ (fault pattern_file 0 FileTooLong, record { long = λ _. refl; text = λ short. absurd (omega arith) })

@@ -23,7 +23,7 @@ mod texts;
 mod unready;
 
 pub use edge::{load_set, prepare, prepare_rules};
-pub use laws::one_preparation;
+pub use laws::{one_preparation, one_reading, one_table};
 pub use load::load_line;
 pub use pattern_request::PatternRequest;
 pub use prepared::{Prepared, PreparedRules};
