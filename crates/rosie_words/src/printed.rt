@@ -1,10 +1,11 @@
 //! What is printed of the words.
 
-ghost use Rattle.std.specs.Prelude.{◌≡◌, IfOk, string_bytes};
-ghost use Rattle.rosie_words.specs.Printed.{usage, fault_line};
+ghost use Rattle.std.specs.Prelude.{◌≡◌, ◌++◌, IfOk, OnOk, encode_utf8_all, string_bytes};
+ghost use Rattle.rosie_words.specs.Printed.{fault_line, message, usage};
 
 use crate::NoMemory;
 use crate::fault::UsageFault;
+use rpl_text::Chars;
 use std::alloc::Global;
 
 const USAGE: &str = "\
@@ -28,9 +29,47 @@ pub fn usage() -> &'static str
     USAGE
 }
 
-/// The line of a fault, with its line feed: `rosie: usage: ` and the fault's text.
+/// The text of a word.
+fn text(word: &Chars) -> &str
+    ensures { result.now ≡ encode_utf8_all word.now }
+{
+    word.as_str()
+}
+
+/// Adds what is wrong, and the word that is.
+fn push_said(line: &mut String, what: &str, word: &Chars) -> Result<(), NoMemory>
+    ensures { OnOk result (string_bytes line.new
+        ≡ string_bytes line.old ++ (what.now ++ encode_utf8_all word.now)) }
+{
+    line.push_str(what)?;
+    line.push_str(text(word))
+}
+
+/// Adds a fault in words.
+fn push_message(line: &mut String, fault: &UsageFault) -> Result<(), NoMemory>
+    ensures { OnOk result (string_bytes line.new ≡ string_bytes line.old ++ message fault.now) }
+{
+    match fault {
+        UsageFault::NoMemory => line.push_str("out of memory"),
+        UsageFault::UnknownOption(word) => push_said(line, "unknown option: ", word),
+        UsageFault::UnexpectedValue(word) => push_said(line, "unexpected value: ", word),
+        UsageFault::MissingValue(word) => push_said(line, "missing value: ", word),
+        UsageFault::BadValue(value) => push_said(line, "bad value: ", value),
+        UsageFault::NoCommand => line.push_str("no command"),
+        UsageFault::UnknownCommand(word) => push_said(line, "unknown command: ", word),
+        UsageFault::NotForCommand(word) => push_said(line, "not for this command: ", word),
+        UsageFault::MissingArgument => line.push_str("missing argument"),
+        UsageFault::TooManyArguments => line.push_str("too many arguments"),
+    }
+}
+
+/// The line of a fault, with its line feed: `rosie: usage: ` and what is wrong.
 pub fn fault_line(alloc: Global, fault: &UsageFault) -> Result<String, NoMemory>
     ensures { IfOk result (λ line. string_bytes line ≡ fault_line fault.now) }
 {
-    format!(in alloc; "rosie: usage: {fault}\n")
+    let mut line = String::new(alloc);
+    line.push_str("rosie: usage: ")?;
+    push_message(&mut line, fault)?;
+    line.push_str("\n")?;
+    Ok(line)
 }
