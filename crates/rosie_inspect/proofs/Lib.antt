@@ -2,3 +2,4 @@ pub mod Rows
 mod Sorting
 pub mod Texts
 pub mod Pieces
+pub mod Following

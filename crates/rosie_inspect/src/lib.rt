@@ -16,7 +16,7 @@ mod program;
 
 pub use class::push_class;
 pub use expansion::expansion_text;
-pub use laws::{one_expansion, one_names_text};
+pub use laws::{lines_follow_names, one_expansion, one_names_text};
 pub use names::names_text;
 pub use program::{print_program, push_program};
 pub use rpl_core::NoMemory;

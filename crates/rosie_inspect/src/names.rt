@@ -57,8 +57,8 @@ fn join(alloc: Global, lines: &[String]) -> Result<String, NoMemory>
     Ok(text)
 }
 
-/// A line for each name that a pattern may use, in the order of their bytes: the name, then ` capture ` and the type of
-/// its nodes, or ` alias -` where it makes none.
+/// A line for each name that a pattern may use, in the order of the lines' bytes: the name, then ` capture ` and the
+/// type of its nodes, or ` alias -` where it makes none.
 pub fn names_text(alloc: Global, set: &PackageSet) -> Result<String, NoMemory>
     ensures { IfOk result (λ text. IsNamesText (all_listed (set_seen set.now)) (string_bytes text)) }
 {
