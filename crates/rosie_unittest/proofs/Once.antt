@@ -19,7 +19,8 @@ use Rattle.rosie_unittest.specs.Suites.{goal_of, loading, read_again, subject_un
 use Rattle.rosie_unittest.specs.Trials.{Bench, Subject, Trial}
 use Rattle.rosie_unittest.proofs.Loads.{again-tells, bench_with}
 
-subject_one : (R : List Core) (t : Option Target) (s u : Subject) → IsSubject R t s → IsSubject R t u → s ≡ u
+-- what the tests of a target are tried with is one thing
+pub subject_one : (R : List Core) (t : Option Target) (s u : Subject) → IsSubject R t s → IsSubject R t u → s ≡ u
 subject_one R None s u h k = h ∙ sym k
 subject_one R (Some t) s u h k =
     h.2 ∙ ap (λ c. subject_unless_long (record { rules = R; goal = goal_of t; code = c })) (code_holds R (goal_of t) h.0 k.0 h.1 k.1)

@@ -15,12 +15,12 @@ use Rattle.rosie_unittest.specs.Trials.{cost_of, counts_piece, piece_of, suite_p
 use Rattle.rosie_unittest.specs.declared.suite.Suite.{Suite}
 use Rattle.rosie_unittest.specs.declared.trial.Trial.{Trial}
 use Rattle.rosie_unittest.specs.declared.verdict.Verdict.{Verdict}
-use Rattle.rosie_unittest.proofs.Written.{Reached, come-last, come-next, counts-go, counts-runs, err-runs, reached-break}
+use Rattle.rosie_unittest.proofs.Written.{Reached, come-last, come-next, counts-go, err-runs, reached-break}
 use Rattle.rosie_unittest.proofs.Written.{reached-front, reached-last, reached-on, reached-stop, told-runs, unmet-last}
 
 -- the piece of a test, that of the counts, all of them, and those from the test with a number on
 abbrev pub test_piece : Suite → Trial → Piece
-test_piece s t = trial_piece (bench_of s) (trial_of (bodies_of s.rules) s.subjects.items t)
+test_piece s t = trial_piece (bench_of s) (trial_of (bodies_of s.rules) t)
 
 abbrev pub last_piece : Suite → Piece
 last_piece s = counts_piece (bench_of s).file (length (trials_of s)) (unmet (bench_of s) (trials_of s))
@@ -36,20 +36,20 @@ pub record Told (r : Result Tally Ended) (W : Telling) (s : Suite) (i : ℕ) (x 
   pub next : pieces_from s i ≡ test_piece s x ∷ pieces_from s (i + 1)
   pub runs : Runs r W (test_piece s x ∷ []) Nowhere a d
 
-pub told-test : (r : Result Tally Ended) (W : Telling) (s : Suite) (i : ℕ) (x : Trial) (xs : List Trial) (file : List ℕ)
-    (v : Verdict) (a d : Texts) → xs ≡ s.trials.items → i < length xs → x ≡ get_or xs i x → file ≡ (bench_of s).file
-    → v ≡ verdict_in (bench_of s) (trial_of (bodies_of s.rules) s.subjects.items x)
-    → d.steps ≡ a.steps + cost_of (bench_of s) x.test (trial_of (bodies_of s.rules) s.subjects.items x).subject
-    → Runs r W (piece_of file x.test v 0 ∷ []) Nowhere a (record d { steps = a.steps }) → Told r W s i x a d
-told-test r W s i x xs file v a d items lt found named verdict cost h =
+pub told-test : (r : Result Tally Ended) (W : Telling) (s : Suite) (i : ℕ) (x : Trial) (xs : List Trial)
+    (v : Verdict) (a d : Texts) → xs ≡ s.trials.items → i < length xs → x ≡ get_or xs i x
+    → v ≡ verdict_in (bench_of s) (trial_of (bodies_of s.rules) x)
+    → d.steps ≡ a.steps + cost_of (bench_of s) x.test (trial_of (bodies_of s.rules) x).subject
+    → Runs r W (piece_of (bench_of s).file x.test v 0 ∷ []) Nowhere a (record d { steps = a.steps }) → Told r W s i x a d
+told-test r W s i x xs v a d items lt found verdict cost h =
     let all = s.trials.items in
     record {
       next =
           come-next (test_piece s) (last_piece s) all i x (subst (λ ys. i < length ys) items lt)
           (subst (λ ys. x ≡ get_or ys i x) items found);
       runs =
-          told-runs r W (bench_of s) (trial_of (bodies_of s.rules) s.subjects.items x) file v a.out d.out a.err d.err a.number d.number
-          a.steps d.steps named verdict cost h;
+          told-runs r W (bench_of s) (trial_of (bodies_of s.rules) x) v a.out d.out a.err d.err a.number d.number a.steps
+          d.steps verdict cost h;
     }
 
 -- the counts are written, or writing them broke off
@@ -57,21 +57,20 @@ pub record Counted (r : Result Tally Ended) (W : Telling) (s : Suite) (i : ℕ) 
   pub next : pieces_from s i ≡ last_piece s ∷ []
   pub runs : Runs r W (last_piece s ∷ []) Nowhere a d
 
-pub told-counts : (r : Result Tally Ended) (W : Telling) (s : Suite) (i : ℕ) (xs : List Trial) (file : List ℕ)
-    (tests failed : ℕ) (a d : Texts) → xs ≡ s.trials.items → length xs ≤ i → file ≡ (bench_of s).file
-    → tests ≡ length (trials_of s)
-    → failed + unmet (bench_of s) (map (trial_of (bodies_of s.rules) s.subjects.items) (drop i s.trials.items))
+pub told-counts : (r : Result Tally Ended) (W : Telling) (s : Suite) (i : ℕ) (xs : List Trial)
+    (failed : ℕ) (a d : Texts) → xs ≡ s.trials.items → length xs ≤ i
+    → failed + unmet (bench_of s) (map (trial_of (bodies_of s.rules)) (drop i s.trials.items))
     ≡ unmet (bench_of s) (trials_of s)
-    → Runs r W (counts_piece file tests failed ∷ []) Nowhere a d → Counted r W s i a d
-told-counts r W s i xs file tests failed a d items done named many counted h =
+    → Runs r W (counts_piece (bench_of s).file (length (trials_of s)) failed ∷ []) Nowhere a d → Counted r W s i a d
+told-counts r W s i xs failed a d items done counted h =
     let b = bench_of s in
     let all = s.trials.items in
     let past = subst (λ ys. length ys ≤ i) items done in
     record {
       next = come-last (test_piece s) (last_piece s) all i past;
       runs =
-          counts-runs r W file b.file tests (length (trials_of s)) failed (unmet b (trials_of s)) a d named many
-          (unmet-last (trial_of (bodies_of s.rules) s.subjects.items) b all i failed (unmet b (trials_of s)) past counted) h;
+          subst (λ n. Runs r W (counts_piece b.file (length (trials_of s)) n ∷ []) Nowhere a d)
+          (unmet-last (trial_of (bodies_of s.rules)) b all i failed (unmet b (trials_of s)) past counted) h;
     }
 
 -- a run that stands before the test with the number i

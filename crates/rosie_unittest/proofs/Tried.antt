@@ -1,8 +1,9 @@
 -- What tests are tried with.
-use Rattle.std.proofs.Common.{ℕ, ◌≡◌, ◌<◌, ◌≤◌, true, false, cond, List, [], ◌∷◌, ◌++◌, length, refl, sym, ◌∙◌, ap, subst, arith}
+use Rattle.std.proofs.Common.{ℕ, ◌≡◌, ◌<◌, ◌≤◌, Bool, true, false, cond, List, [], ◌∷◌, ◌++◌, length, refl, sym, ◌∙◌, ap, subst, arith}
 use Rattle.std.proofs.Common.{append_assoc, append-nil, get_or}
-use Rattle.std.specs.Prelude.{Option, Some, map, nat_lt}
-use Rattle.std.proofs.Math.Logic.{∥∥₁_map, ∥∥₁_map₂}
+use Rattle.std.specs.Prelude.{Option, Some, None, map, nat_lt}
+use Rattle.std.proofs.Math.Logic.{∥∥₁_elim, ∥∥₁_map, ∥∥₁_map₂}
+use Rattle.std.proofs.Props.{props}
 use Rattle.std.proofs.lemmas.List.{get_or-map, length-map}
 use Rattle.std.proofs.lemmas.Grind.{merely}
 use Rattle.std.proofs.lemmas.List.Elements.{All-push}
@@ -10,13 +11,20 @@ use Rattle.rpl_core.specs.Core.{Core}
 use Rattle.rpl_core.specs.Instr.{Instr}
 use Rattle.rpl_core.specs.Programs.{IsCode}
 use Rattle.rpl_core.proofs.Codes.{code_holds}
+use Rattle.rpl_core.proofs.Reaching.{has_code}
+use Rattle.rpl_check.specs.Checked.{IsWhole}
 use Rattle.rpl_codegen.specs.Compiled.{HasLongCode}
+use Rattle.rpl_compile_laws.proofs.Answering.{answer_holds}
+use Rattle.rpl_compile_laws.specs.Laws.{IsCapture}
 use Rattle.rpl_package.specs.declared.targets.Target.{Target}
 use Rattle.rpl_unittest.specs.declared.test.Test.{Test}
 use Rattle.rosie_jobs.specs.Lines.{Job}
 use Rattle.rosie_unittest.specs.Suites.{AreTrials, IsSubject, goal_of, subject_unless_long}
+use Rattle.rosie_unittest.specs.Tried.{subject_for}
 use Rattle.rosie_unittest.specs.Trials.{Subject, TooLong, Runs, Trial}
-use Rattle.rosie_unittest.specs.inside.Ready.{AreReady, IsReady, IsReadyTrial, IsText}
+use Rattle.rosie_unittest.specs.declared.trial.Trial as D
+use Rattle.rosie_unittest.specs.inside.Ready.{AreBound, AreReady, IsBound, IsReady, IsReadyJob, IsReadyTrial, IsText}
+use Rattle.rosie_unittest.proofs.Once.{subject_one}
 
 module _ (R : List Core) where
   job_with : Core → List Instr → Job
@@ -42,6 +50,35 @@ module _ (R : List Core) where
       let test : nat_lt 1048576 (length long.0) ≡ true = grind (arith, more) in
       coded t due long.0 h (subst (λ x. IsCode R x long.0) e long.1)
       ∙ ap (λ b. cond b TooLong (Runs (job_with (goal_of t) long.0))) test
+
+-- what the tests of a target are tried with is one thing
+pub subject-is : (R : List Core) (o : Option Target) → IsSubject R o (subject_for R o)
+subject-is R None = refl
+subject-is R (Some t) = ((has_code R (goal_of t)).0, (has_code R (goal_of t)).1, refl)
+
+pub subject-due : (R : List Core) (o p : Option Target) (due : Subject) → p ≡ o → IsSubject R p due
+    → due ≡ subject_for R o
+subject-due R o p due e h =
+    subject_one R o due (subject_for R o) (subst (λ x. IsSubject R x due) e h) (subject-is R o)
+
+long_or : (b : Bool) (job : Job) → IsReadyJob job → IsReady (cond b TooLong (Runs job))
+long_or true job h = tt
+long_or false job h = h
+
+-- and it is ready, where the goal is whole and a match of it is one tree
+pub ready-for : (R : List Core) (o : Option Target) (t : Target) (g : Core) → o ≡ Some t → g ≡ goal_of t → IsWhole R g
+    → (label : List ℕ) × IsCapture R label g → ∥ IsReady (subject_for R o) ∥₁
+ready-for R o t g e f w root =
+    let whole = subst (IsWhole R) f w in
+    let one = subst (λ x. (label : List ℕ) × IsCapture R label x) f root in
+    let code = has_code R (goal_of t) in
+    let job : Job = record { rules = R; goal = goal_of t; code = code.0 } in
+    subst (λ x. ∥ IsReady (subject_for R x) ∥₁) (sym e)
+    (merely (long_or (nat_lt 1048576 (length code.0)) job (record {
+      meant = λ text chars b. answer_holds whole.stays.0 _ _ _ whole.stays.1 code.1 text chars (whole.shut text) b;
+      label = one.0;
+      root = one.1;
+    })))
 
 -- ---- the tests in turn
 
@@ -88,3 +125,22 @@ nothing-left (x ∷ xs) h = absurd (omega arith)
 pub ready-at : {X : Type 0} (f : X → Trial) (xs : List X) (i : ℕ) (x : X) → i < length xs → x ≡ get_or xs i x → ∥ AreReady (map f xs) ∥₁ → ∥ IsReadyTrial (f x) ∥₁
 ready-at f xs i x lt e h =
     ∥∥₁_map h (λ r. subst IsReadyTrial (get_or-map f xs i x (f x) lt ∙ ap f (sym e)) (r i (f x) (let l = length-map xs f in omega arith)))
+
+-- ---- and its target a rule
+
+pub bound-none : (R : List Core) → ∥ AreBound R [] ∥₁
+bound-none R = merely (λ k d lt. absurd (omega arith))
+
+pub bound-next : (R : List Core) (ts : List D.Trial) (t : D.Trial) → ∥ AreBound R ts ∥₁ → IsBound R t.target
+    → ∥ AreBound R (ts ++ t ∷ []) ∥₁
+bound-next R ts t h b = ∥∥₁_map h (λ r. All-push (λ x. IsBound R x.target) ts t r b)
+
+bound_prop : (R : List Core) (o : Option Target) → IsProp (IsBound R o)
+bound_prop R None = Prim.hlevel props
+bound_prop R (Some t) = Prim.hlevel props
+
+-- one of them
+pub bound-at : (R : List Core) (ts : List D.Trial) (i : ℕ) (t : D.Trial) → i < length ts → t ≡ get_or ts i t
+    → ∥ AreBound R ts ∥₁ → IsBound R t.target
+bound-at R ts i t lt e h =
+    ∥∥₁_elim h (bound_prop R t.target) (λ r. subst (λ x. IsBound R x.target) (sym e) (r i t lt))

@@ -41,24 +41,13 @@ runs-cost (Err (E.Cut why text)) W out err mark cost o o' e e' n n' s s' k h = a
 
 -- what was told of a test is its piece
 pub told-runs :
-    (r : Result Tally Ended) (W : Telling) (b : Bench) (t : Trial) (file : List ℕ) (v : Verdict) (o o' e e' : List ℕ) (n n' s s' : ℕ)
-    → file ≡ b.file → v ≡ verdict_in b t → s' ≡ s + cost_of b t.test t.subject
-    → Runs r W (piece_of file t.test v 0 ∷ []) Nowhere (record { out = o; err = e; number = n; steps = s }) (record { out = o'; err = e'; number = n'; steps = s })
+    (r : Result Tally Ended) (W : Telling) (b : Bench) (t : Trial) (v : Verdict) (o o' e e' : List ℕ) (n n' s s' : ℕ)
+    → v ≡ verdict_in b t → s' ≡ s + cost_of b t.test t.subject
+    → Runs r W (piece_of b.file t.test v 0 ∷ []) Nowhere (record { out = o; err = e; number = n; steps = s }) (record { out = o'; err = e'; number = n'; steps = s })
     → Runs r W (trial_piece b t ∷ []) Nowhere (record { out = o; err = e; number = n; steps = s }) (record { out = o'; err = e'; number = n'; steps = s' })
-told-runs r W b t file v o o' e e' n n' s s' same is k h =
-    let at = subst (λ f. Runs r W (piece_of f t.test v 0 ∷ []) Nowhere (record { out = o; err = e; number = n; steps = s }) (record { out = o'; err = e'; number = n'; steps = s })) same h in
-    let by = subst (λ x. Runs r W (piece_of b.file t.test x 0 ∷ []) Nowhere (record { out = o; err = e; number = n; steps = s }) (record { out = o'; err = e'; number = n'; steps = s })) is at in
+told-runs r W b t v o o' e e' n n' s s' is k h =
+    let by = subst (λ x. Runs r W (piece_of b.file t.test x 0 ∷ []) Nowhere (record { out = o; err = e; number = n; steps = s }) (record { out = o'; err = e'; number = n'; steps = s })) is h in
     runs-cost r W (out_text b.file t.test (verdict_in b t)) (err_text b.file t.test (verdict_in b t)) (mark_of (verdict_in b t)) (cost_of b t.test t.subject) o o' e e' n n' s s' k by
-
--- what was told of the counts is their piece
-pub counts-runs :
-    (r : Result Tally Ended) (W : Telling) (file file' : List ℕ) (tests tests' failed failed' : ℕ) (a d : Texts)
-    → file ≡ file' → tests ≡ tests' → failed ≡ failed' → Runs r W (counts_piece file tests failed ∷ []) Nowhere a d
-    → Runs r W (counts_piece file' tests' failed' ∷ []) Nowhere a d
-counts-runs r W file file' tests tests' failed failed' a d same all unmet h =
-    subst (λ n. Runs r W (counts_piece file' tests' n ∷ []) Nowhere a d) unmet
-    (subst (λ n. Runs r W (counts_piece file' n failed ∷ []) Nowhere a d) all
-    (subst (λ f. Runs r W (counts_piece f tests failed ∷ []) Nowhere a d) same h))
 
 -- ---- from piece to piece
 

@@ -10,7 +10,7 @@ abbrev pub bench_of : Suite → T.Bench
 bench_of s = record { file = encode_utf8_all s.file; prefix = encode_utf8_all s.prefix; budget = s.budget }
 
 abbrev pub trials_of : Suite → List T.Trial
-trials_of s = map (trial_of (bodies_of s.rules) s.subjects.items) s.trials.items
+trials_of s = map (trial_of (bodies_of s.rules)) s.trials.items
 
 abbrev pub suite_of : Suite → S.Suite
 suite_of s = record { bench = bench_of s; trials = trials_of s }

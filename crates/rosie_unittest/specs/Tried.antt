@@ -1,30 +1,23 @@
 -- How contracts see what a test is tried with.
-use Rattle.std.specs.Prelude.{get_or, List, None}
-use Rattle.rpl_check.specs.Goal.{peg_of}
+use Rattle.std.specs.Prelude.{List, Option, Some, None}
 use Rattle.rpl_core.specs.Core.{Core}
-use Rattle.rpl_core.specs.Program.{instructions}
-use Rattle.rpl_core.specs.View.{core_of}
-use Rattle.rosie_jobs.specs.Lines as L
+use Rattle.rpl_core.specs.Instr.{Instr}
+use Rattle.rpl_core.proofs.Reaching.{has_code}
+use Rattle.rpl_package.specs.declared.targets.Target.{Target}
+use Rattle.rosie_unittest.specs.Suites.{goal_of, subject_unless_long}
 use Rattle.rosie_unittest.specs.Trials as T
-use Rattle.rosie_unittest.specs.declared.subject.Compiled.{Compiled}
-use Rattle.rosie_unittest.specs.declared.subject.Entry.{Entry}
-use Rattle.rosie_unittest.specs.declared.subject.Subject.{Subject}
-use Rattle.rosie_unittest.specs.declared.subject.Subject.TheVariants.{Unbound, TooLong, Runs}
 use Rattle.rosie_unittest.specs.declared.trial.Trial.{Trial}
 
--- a goal with its code, over the rules R
-abbrev pub job_of : List Core → Compiled → L.Job
-job_of R c = record { rules = R; goal = core_of (peg_of c.goal); code = instructions c.program }
+-- the code of the goal g over the rules R, of which there is one and no other (HasCodeLaw and CodeLaw of rpl_core)
+abbrev pub code_of : List Core → Core → List Instr
+code_of R g = (has_code R g).0
 
-abbrev pub subject_of : List Core → Subject → T.Subject
-subject_of R Unbound = T.Unbound
-subject_of R TooLong = T.TooLong
-subject_of R (Runs c) = T.Runs (job_of R c)
+-- what the tests of a target are tried with
+abbrev pub subject_for : List Core → Option Target → T.Subject
+subject_for R None = T.Unbound
+subject_for R (Some t) =
+    subject_unless_long (record { rules = R; goal = goal_of t; code = code_of R (goal_of t) })
 
--- no entry of a list
-abbrev pub nothing : Entry
-nothing = record { target = None; subject = Unbound }
-
--- a test is tried with the subject of its entry in the list
-abbrev pub trial_of : List Core → List Entry → Trial → T.Trial
-trial_of R es t = record { test = t.test; subject = subject_of R (get_or es t.subject nothing).subject }
+-- a test is tried with what all tests of its target are tried with
+abbrev pub trial_of : List Core → Trial → T.Trial
+trial_of R t = record { test = t.test; subject = subject_for R t.target }

@@ -18,7 +18,7 @@ ghost use Rattle.rosie_unittest.specs.inside.Steps.{IsBadTest, IsOwn};
 
 use crate::reading::read_again;
 use crate::suite::Suite;
-use crate::trial::{Trials, trials_of};
+use crate::trial::trials_of;
 use rosie_io::Files;
 use rosie_prepare::{PreparedRules, Unready, prepare_rules};
 use rosie_run::{NoMemory, line_fault};
@@ -79,13 +79,12 @@ fn suite_over(
     };
     let prefix = Chars::from_str(alloc, name)?;
     let tests = tests_in(alloc, &file, text)?;
-    let Trials { subjects, trials } = trials_of(alloc, &set, &rules, number, tests)?;
+    let trials = trials_of(alloc, &set, &rules, number, tests)?;
     Ok(Suite {
         file,
         prefix,
         budget,
         rules,
-        subjects,
         trials,
     })
 }

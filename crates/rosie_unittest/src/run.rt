@@ -1,16 +1,15 @@
 // The run of the tests.
-ghost use Rattle.std.specs.Prelude.{◌≡◌, ◌+◌, ◌<◌, length, IfErr, IfOk, OnOk};
+ghost use Rattle.std.specs.Prelude.{◌≡◌, ◌+◌, IfErr, IfOk, OnOk};
 ghost use Rattle.rosie_run.specs.Causes.{WritesCause};
-ghost use Rattle.rosie_run.specs.Outputs.{texts};
+ghost use Rattle.rosie_run.specs.Outputs.{shown, telling};
 ghost use Rattle.rosie_run.specs.Runs.{Runs, IsNoCut};
 ghost use Rattle.rosie_run.specs.Where.{Nowhere};
 ghost use Rattle.rpl_core.specs.Table.{bodies_of};
 ghost use Rattle.rosie_unittest.specs.Trials as T;
-ghost use Rattle.rosie_unittest.specs.inside.Ready.{IsReadyJob, IsReadyTrial, IsText};
+ghost use Rattle.rosie_unittest.specs.inside.Ready.{IsBound, IsReady, IsReadyJob, IsReadyTrial, IsText};
 
-use crate::subject::{Compiled, Subject};
+use crate::subject::{Compiled, Subject, Subjects};
 use crate::suite::Suite;
-use crate::telling::{tell_counts, tell_test};
 use crate::tester::{Tester, judge_none};
 use crate::trial::Trial;
 use crate::verdict::Verdict;
@@ -26,7 +25,8 @@ use std::sync::ledger::Ledger;
 
 impl Suite {
     ghost use Rattle.rosie_unittest.specs.Seen.{bench_of, trials_of};
-    ghost use Rattle.rosie_unittest.specs.Tried.{job_of, trial_of};
+    ghost use Rattle.rosie_unittest.specs.Tried.{subject_for, trial_of};
+    ghost use Rattle.rosie_unittest.specs.inside.Entries.{AreSound, job_of, subject_of};
 
     /// How a test comes out whose goal has its code.
     fn try_goal<L: Ledger>(
@@ -59,29 +59,53 @@ impl Suite {
         }
     }
 
-    /// How a test comes out.
-    fn try_test<L: Ledger>(
+    /// How a test comes out that is tried with this.
+    fn try_subject<L: Ledger>(
         &self,
-        trial: &Trial,
+        test: &Test,
+        subject: &Subject,
         tester: &mut Tester,
         steps: &mut Steps<L>,
     ) -> Result<Verdict, NoMemory>
-        requires placed { trial.now.subject < length self.now.subjects.items }
-        requires ready { ∥ IsReadyTrial (trial_of (bodies_of self.now.rules) self.now.subjects.items trial.now) ∥₁ }
-        ensures verdict { IfOk result (λ verdict. verdict ≡ T.verdict_in (bench_of self.now)
-            (trial_of (bodies_of self.now.rules) self.now.subjects.items trial.now)) }
-        ensures steps { OnOk result (steps.new ≡ steps.old + T.cost_of (bench_of self.now) trial.now.test
-            (trial_of (bodies_of self.now.rules) self.now.subjects.items trial.now).subject) }
+        requires ready { ∥ IsReady (subject_of (bodies_of self.now.rules) subject.now) ∥₁ }
+        requires text { IsText test.now.text }
+        ensures verdict { IfOk result (λ verdict. verdict ≡ T.verdict_of (bench_of self.now) test.now
+            (subject_of (bodies_of self.now.rules) subject.now)) }
+        ensures steps { OnOk result (steps.new ≡ steps.old + T.cost_of (bench_of self.now) test.now
+            (subject_of (bodies_of self.now.rules) subject.now)) }
     {
-        match &self.subjects[trial.subject].subject {
+        match subject {
             Subject::Unbound => Ok(Verdict::Unmet),
             Subject::TooLong => Ok(Verdict::LongCode),
-            Subject::Runs(compiled) => self.try_goal(&trial.test, compiled, tester, steps),
+            Subject::Runs(compiled) => self.try_goal(test, compiled, tester, steps),
         }
     }
 
+    /// How a test comes out, beside what others were tried with.
+    fn try_test<L: Ledger>(
+        &self,
+        alloc: Global,
+        trial: &Trial,
+        subjects: &mut Subjects,
+        tester: &mut Tester,
+        steps: &mut Steps<L>,
+    ) -> Result<Verdict, NoMemory>
+        requires bound { IsBound (bodies_of self.now.rules) trial.now.target }
+        requires ready { ∥ IsReadyTrial (trial_of (bodies_of self.now.rules) trial.now) ∥₁ }
+        requires sound { AreSound (bodies_of self.now.rules) subjects.old.entries.items }
+        ensures sound { OnOk result (AreSound (bodies_of self.now.rules) subjects.new.entries.items) }
+        ensures verdict { IfOk result (λ verdict. verdict ≡ T.verdict_in (bench_of self.now)
+            (trial_of (bodies_of self.now.rules) trial.now)) }
+        ensures steps { OnOk result (steps.new ≡ steps.old + T.cost_of (bench_of self.now) trial.now.test
+            (subject_for (bodies_of self.now.rules) trial.now.target)) }
+    {
+        let place = subjects.place_for(alloc, &self.rules, trial.target)?;
+        self.try_subject(&trial.test, &subjects.entries[place].subject, tester, steps)
+    }
+
     /// Tries the tests in turn, and writes the line of each that isn't met, and the counts at the end. A code that is
-    /// too long ends the run.
+    /// too long ends the run. Each rule is compiled when the first of its tests is tried, and what was compiled is let
+    /// go of where it is longer in all than one code may be.
     pub fn run<O: Sink, E: Sink, L: Ledger>(
         &self,
         alloc: Global,
@@ -89,28 +113,28 @@ impl Suite {
         err: &mut E,
         steps: &mut Steps<L>,
     ) -> Result<Tally, Ended>
-        ensures runs { Runs result (record { out = O.tells; err = E.tells; counts = O.counts })
+        ensures runs { Runs result (telling O.Sink E.Sink)
             (T.suite_pieces (bench_of self.now) (trials_of self.now)) Nowhere
-            (texts O.written O.number E.written out.old err.old steps.old)
-            (texts O.written O.number E.written out.new err.new steps.new) }
+            (shown O.Sink E.Sink out.old err.old steps.old)
+            (shown O.Sink E.Sink out.new err.new steps.new) }
         ensures no_cut { IfErr result IsNoCut }
         ensures sinks { WritesCause result (O.faults out.old) (O.faults out.new) (E.faults err.old)
             (E.faults err.new) }
     {
-        let file = text_of(&self.file);
+        let mut subjects = Subjects::new(alloc, &self.rules)?;
         let mut tester = Tester::new(alloc)?;
         let mut tally = Tally::new();
         let mut unmet = 0;
         'tests: for trial in &self.trials {
-            let verdict = self.try_test(trial, &mut tester, steps)?;
-            let told = tell_test(alloc, file, &trial.test, verdict, out, err)?;
+            let verdict = self.try_test(alloc, trial, &mut subjects, &mut tester, steps)?;
+            let told = self.tell_test(alloc, &trial.test, verdict, out, err)?;
             tally = tally.and(told);
             if tally.stop {
                 return Ok(tally);
             }
             unmet += one_if_unmet(verdict);
         }
-        let told = tell_counts(alloc, file, self.trials.len() as u64, unmet, out, err)?;
+        let told = self.tell_counts(alloc, unmet, out, err)?;
         Ok(tally.and(told))
     }
 }

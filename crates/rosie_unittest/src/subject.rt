@@ -1,12 +1,10 @@
-// What tests are tried with, once for each rule.
-ghost use Rattle.std.specs.Prelude.{◌≡◌, ◌<◌, [], get_or, length, List, Option, IfOk, IfSome, OnOk};
+// What tests are tried with, compiled when it is first asked for.
+ghost use Rattle.std.specs.Prelude.{◌≡◌, [], List, IfOk, IfSome, OnOk};
+ghost use Rattle.rpl_core.specs.Core.{Core};
 ghost use Rattle.rpl_core.specs.Table.{bodies_of};
-ghost use Rattle.rpl_load_laws.specs.Laws.{IsRuleOf};
-ghost use Rattle.rosie_unittest.specs.Tried.{nothing, subject_of};
-ghost use Rattle.rosie_unittest.specs.Suites.{IsSubject};
-ghost use Rattle.rosie_unittest.specs.Trials as T;
-ghost use Rattle.rosie_unittest.specs.inside.Entries.{AreSound, Grows, StandsAt};
-ghost use Rattle.rosie_unittest.specs.inside.Ready.{IsReady};
+ghost use Rattle.rosie_unittest.specs.Tried.{subject_for};
+ghost use Rattle.rosie_unittest.specs.inside.Entries.{AreSound, StandsAt, subject_of};
+ghost use Rattle.rosie_unittest.specs.inside.Ready.{IsBound, IsReady};
 
 use crate::goal::checked_goal;
 use rosie_run::NoMemory;
@@ -15,6 +13,9 @@ use rpl_codegen::{CompileFault, compile};
 use rpl_core::Program;
 use rpl_package::Target;
 use std::alloc::{AllocError, Global};
+
+/// How many instructions are kept in all before they are let go of: those of the longest code.
+const MAX_KEPT: usize = 1_048_576;
 
 /// A goal with its code.
 #[derive(Drop)]
@@ -43,9 +44,8 @@ pub(crate) struct Entry {
 
 /// What the tests of a target are tried with.
 fn subject_of(alloc: Global, rules: &Checked, target: Option<Target>) -> Result<Subject, NoMemory>
-    requires { IfSome target (λ t. ∥ IsRuleOf (bodies_of rules.now) t ∥₁) }
-    ensures subject { IfOk result (λ s. (due : T.Subject) → IsSubject (bodies_of rules.now) target due
-        → due ≡ subject_of (bodies_of rules.now) s) }
+    requires { IsBound (bodies_of rules.now) target }
+    ensures subject { IfOk result (λ s. subject_of (bodies_of rules.now) s ≡ subject_for (bodies_of rules.now) target) }
     ensures ready { IfOk result (λ s. ∥ IsReady (subject_of (bodies_of rules.now) s) ∥₁) }
 {
     let Some(target) = target else {
@@ -61,6 +61,14 @@ fn subject_of(alloc: Global, rules: &Checked, target: Option<Target>) -> Result<
     }
 }
 
+/// The number of instructions of a subject.
+fn length_of(subject: &Subject) -> usize {
+    match subject {
+        Subject::Unbound | Subject::TooLong => 0,
+        Subject::Runs(compiled) => compiled.program.code().len(),
+    }
+}
+
 /// Where the place of a target is noted: that of a rule after the one for no target.
 fn note_of(target: Option<Target>) -> usize {
     match target {
@@ -69,13 +77,16 @@ fn note_of(target: Option<Target>) -> usize {
     }
 }
 
-/// What the tests so far are tried with. A rule is compiled once, however many tests it has, since its code may be far
-/// longer than the test.
+/// What tests were tried with that may be asked for again. A rule's code may be far longer than its tests, so it is
+/// kept for the tests to come; and all are let go of where they are longer than the longest code may be, since a file
+/// has many rules.
 #[derive(Drop)]
 pub(crate) struct Subjects {
     pub(crate) entries: Vec<Entry>,
     /// Where to look for the entry of a target, by its rule. Only the entry itself says whether it is that.
     notes: Vec<usize>,
+    /// The number of instructions of all entries.
+    length: usize,
 }
 
 impl Subjects {
@@ -85,6 +96,7 @@ impl Subjects {
         Ok(Subjects {
             entries: Vec::new(alloc),
             notes: vec![in alloc; 0; rules.rules().len() + 1]?,
+            length: 0,
         })
     }
 
@@ -101,6 +113,16 @@ impl Subjects {
         }
     }
 
+    /// Lets go of all entries, where they are too long.
+    fn make_room(&mut self)
+        ensures { (R : List Core) → AreSound R self.old.entries.items → AreSound R self.new.entries.items }
+    {
+        if self.length > MAX_KEPT {
+            self.entries.clear();
+            self.length = 0;
+        }
+    }
+
     /// The place of the entry of a target, which is made where there is none.
     pub(crate) fn place_for(
         &mut self,
@@ -108,17 +130,18 @@ impl Subjects {
         rules: &Checked,
         target: Option<Target>,
     ) -> Result<usize, NoMemory>
-        requires target { IfSome target (λ t. ∥ IsRuleOf (bodies_of rules.now) t ∥₁) }
+        requires target { IsBound (bodies_of rules.now) target }
         requires sound { AreSound (bodies_of rules.now) self.old.entries.items }
         ensures sound { OnOk result (AreSound (bodies_of rules.now) self.new.entries.items) }
-        ensures grows { OnOk result (Grows self.old.entries.items self.new.entries.items) }
         ensures stands { IfOk result (StandsAt self.new.entries.items target) }
     {
         if let Some(place) = self.place(target) {
             return Ok(place);
         }
+        self.make_room();
         let place = self.entries.len();
         let subject = subject_of(alloc, rules, target)?;
+        self.length = self.length.saturating_add(length_of(&subject));
         self.entries.push(Entry { target, subject })?;
         if let Some(note) = self.notes.get_mut(note_of(target)) {
             *note = place;

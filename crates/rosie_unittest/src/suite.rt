@@ -1,11 +1,9 @@
 // The tests of a file, each with what it is tried with.
-ghost use Rattle.std.specs.Prelude.{◌<◌, length, map};
-ghost use Rattle.std.specs.List.{All};
+ghost use Rattle.std.specs.Prelude.{map};
 ghost use Rattle.rpl_core.specs.Table.{bodies_of};
 ghost use Rattle.rosie_unittest.specs.Tried.{trial_of};
-ghost use Rattle.rosie_unittest.specs.inside.Ready.{AreReady};
+ghost use Rattle.rosie_unittest.specs.inside.Ready.{AreBound, AreReady};
 
-use crate::subject::Entry;
 use crate::trial::Trial;
 use rpl_check::Checked;
 use rpl_text::Chars;
@@ -21,9 +19,8 @@ pub struct Suite {
     pub(crate) budget: Option<u64>,
     /// The rules of all that is loaded.
     pub(crate) rules: Checked,
-    /// What the tests are tried with.
-    pub(crate) subjects: Vec<Entry>,
+    /// The tests in their order. Their goals are compiled when they are tried.
     pub(crate) trials: Vec<Trial>,
-    ghost ready: { ∥ AreReady (map (trial_of (bodies_of rules) subjects.items) trials.items) ∥₁ },
-    ghost placed: { All (λ t. t.subject < length subjects.items) trials.items },
+    ghost ready: { ∥ AreReady (map (trial_of (bodies_of rules)) trials.items) ∥₁ },
+    ghost bound: { ∥ AreBound (bodies_of rules) trials.items ∥₁ },
 }

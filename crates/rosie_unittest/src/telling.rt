@@ -1,15 +1,17 @@
 // What is written of a test.
-ghost use Rattle.std.specs.Prelude.{◌≡◌, ◌+◌, ◌∷◌, [], ℕ, IfErr, IfOk, string_bytes};
+ghost use Rattle.std.specs.Prelude.{◌≡◌, ◌∷◌, [], ℕ, IfErr, IfOk, length, string_bytes};
 ghost use Rattle.rosie_run.specs.Causes.{WritesCause};
-ghost use Rattle.rosie_run.specs.Outputs.{texts};
+ghost use Rattle.rosie_run.specs.Outputs.{shown, telling};
 ghost use Rattle.rosie_run.specs.Report.{is_stop};
 ghost use Rattle.rosie_run.specs.Runs.{Runs, IsNoCut};
 ghost use Rattle.rosie_run.specs.Where.{Nowhere};
 ghost use Rattle.rosie_unittest.specs.Trials as T;
 
+use crate::suite::Suite;
 use crate::verdict::Verdict;
 use rosie_io::Sink;
 use rosie_run::{Ended, Mark, NoMemory, Tally, line_fault, say};
+use rpl_print::text_of;
 use rpl_unittest::{Test, counts_line, failed_line};
 use std::alloc::Global;
 
@@ -46,51 +48,57 @@ fn mark_of(verdict: Verdict) -> Mark
     }
 }
 
-/// Writes what is reported of a test.
-pub(crate) fn tell_test<O: Sink, E: Sink>(
-    alloc: Global,
-    file: &str,
-    test: &Test,
-    verdict: Verdict,
-    out: &mut O,
-    err: &mut E,
-) -> Result<Tally, Ended>
-    ensures runs { (n : ℕ) → Runs result (record { out = O.tells; err = E.tells; counts = O.counts })
-        (T.piece_of file.now test.now verdict 0 ∷ []) Nowhere
-        (texts O.written O.number E.written out.old err.old n)
-        (texts O.written O.number E.written out.new err.new n) }
-    ensures stops { IfOk result (λ tally. tally.stop ≡ is_stop (T.mark_of verdict)) }
-    ensures no_cut { IfErr result IsNoCut }
-    ensures sinks { WritesCause result (O.faults out.old) (O.faults out.new) (E.faults err.old) (E.faults err.new) }
-{
-    let out_text = out_text(alloc, file, test, verdict)?;
-    let err_text = err_text(alloc, file, test, verdict)?;
-    say(
-        out,
-        err,
-        out_text.as_bytes(),
-        err_text.as_bytes(),
-        mark_of(verdict),
-    )
-}
+impl Suite {
+    ghost use Rattle.rosie_unittest.specs.Seen.{bench_of, trials_of};
 
-/// Writes how many tests there are, and how many of them aren't met.
-pub(crate) fn tell_counts<O: Sink, E: Sink>(
-    alloc: Global,
-    file: &str,
-    tests: u64,
-    unmet: u64,
-    out: &mut O,
-    err: &mut E,
-) -> Result<Tally, Ended>
-    ensures runs { (n : ℕ) → Runs result (record { out = O.tells; err = E.tells; counts = O.counts })
-        (T.counts_piece file.now tests unmet ∷ []) Nowhere
-        (texts O.written O.number E.written out.old err.old n)
-        (texts O.written O.number E.written out.new err.new n) }
-    ensures no_cut { IfErr result IsNoCut }
-    ensures sinks { WritesCause result (O.faults out.old) (O.faults out.new) (E.faults err.old) (E.faults err.new) }
-{
-    let text = counts_line(alloc, file, tests, unmet)?;
-    let mark = if unmet == 0 { Mark::Hit } else { Mark::Miss };
-    say(out, err, text.as_bytes(), &[], mark)
+    /// Writes what is reported of a test.
+    pub(crate) fn tell_test<O: Sink, E: Sink>(
+        &self,
+        alloc: Global,
+        test: &Test,
+        verdict: Verdict,
+        out: &mut O,
+        err: &mut E,
+    ) -> Result<Tally, Ended>
+        ensures runs { (n : ℕ) → Runs result (telling O.Sink E.Sink)
+            (T.piece_of (bench_of self.now).file test.now verdict 0 ∷ []) Nowhere
+            (shown O.Sink E.Sink out.old err.old n)
+            (shown O.Sink E.Sink out.new err.new n) }
+        ensures stops { IfOk result (λ tally. tally.stop ≡ is_stop (T.mark_of verdict)) }
+        ensures no_cut { IfErr result IsNoCut }
+        ensures sinks { WritesCause result (O.faults out.old) (O.faults out.new) (E.faults err.old)
+            (E.faults err.new) }
+    {
+        let file = text_of(&self.file);
+        let out_text = out_text(alloc, file, test, verdict)?;
+        let err_text = err_text(alloc, file, test, verdict)?;
+        say(
+            out,
+            err,
+            out_text.as_bytes(),
+            err_text.as_bytes(),
+            mark_of(verdict),
+        )
+    }
+
+    /// Writes how many tests there are, and how many of them aren't met.
+    pub(crate) fn tell_counts<O: Sink, E: Sink>(
+        &self,
+        alloc: Global,
+        unmet: u64,
+        out: &mut O,
+        err: &mut E,
+    ) -> Result<Tally, Ended>
+        ensures runs { (n : ℕ) → Runs result (telling O.Sink E.Sink)
+            (T.counts_piece (bench_of self.now).file (length (trials_of self.now)) unmet ∷ []) Nowhere
+            (shown O.Sink E.Sink out.old err.old n)
+            (shown O.Sink E.Sink out.new err.new n) }
+        ensures no_cut { IfErr result IsNoCut }
+        ensures sinks { WritesCause result (O.faults out.old) (O.faults out.new) (E.faults err.old)
+            (E.faults err.new) }
+    {
+        let text = counts_line(alloc, text_of(&self.file), self.trials.len() as u64, unmet)?;
+        let mark = if unmet == 0 { Mark::Hit } else { Mark::Miss };
+        say(out, err, text.as_bytes(), &[], mark)
+    }
 }

@@ -1,20 +1,20 @@
 // A test, and what it is tried with.
-ghost use Rattle.std.specs.Prelude.{◌≡◌, ◌<◌, ◌≤◌, encode_utf8_all, length, map, List, IfOk};
+ghost use Rattle.std.specs.Prelude.{◌≡◌, ◌≤◌, encode_utf8_all, length, map, List, IfOk};
 ghost use Rattle.std.specs.List.{All};
 ghost use Rattle.rpl_core.specs.Table.{bodies_of};
 ghost use Rattle.rpl_expand.specs.Sets.{table_of};
 ghost use Rattle.rpl_forms.specs.Rows.{rows_of};
 ghost use Rattle.rpl_package.specs.Owned.{own};
 ghost use Rattle.rpl_package.specs.Sets.{set_seen};
-ghost use Rattle.rosie_unittest.specs.Tried.{trial_of};
+ghost use Rattle.rosie_unittest.specs.Tried.{subject_for, trial_of};
 ghost use Rattle.rosie_unittest.specs.Suites.{AreTrials};
 ghost use Rattle.rosie_unittest.specs.Trials as T;
-ghost use Rattle.rosie_unittest.specs.inside.Ready.{AreReady, IsText};
+ghost use Rattle.rosie_unittest.specs.inside.Ready.{AreBound, AreReady, IsBound, IsReady, IsText};
 
-use crate::subject::{Entry, Subjects};
+use crate::goal::checked_goal;
 use rosie_run::NoMemory;
 use rpl_check::Checked;
-use rpl_package::PackageSet;
+use rpl_package::{PackageSet, Target};
 use rpl_unittest::{Test, Tests};
 use std::alloc::Global;
 
@@ -22,15 +22,9 @@ use std::alloc::Global;
 #[derive(Drop)]
 pub(crate) struct Trial {
     pub(crate) test: Test,
-    /// The place of what it is tried with, among what the tests of its file are tried with.
-    pub(crate) subject: usize,
-}
-
-/// Tests, and what they are tried with.
-#[derive(Drop)]
-pub(crate) struct Trials {
-    pub(crate) subjects: Vec<Entry>,
-    pub(crate) trials: Vec<Trial>,
+    /// The rule that it is tried with. There is none where no statement of the file binds its name, or the name is that
+    /// of a hidden rule.
+    pub(crate) target: Option<Target>,
 }
 
 /// The test itself, whose text is one of a file.
@@ -44,6 +38,18 @@ fn with_text(test: Test) -> Test
     test
 }
 
+/// Checks the goal of a target, where there is one. The goal is small and isn't kept: it is made anew for its code.
+fn check_goal(alloc: Global, rules: &Checked, target: Option<Target>) -> Result<(), NoMemory>
+    requires { IsBound (bodies_of rules.now) target }
+    ensures { IfOk result (λ _. ∥ IsReady (subject_for (bodies_of rules.now) target) ∥₁) }
+{
+    let Some(target) = target else {
+        return Ok(());
+    };
+    let _goal = checked_goal(alloc, rules, target)?;
+    Ok(())
+}
+
 /// What each test is tried with, by the names of the module with this number.
 pub(crate) fn trials_of(
     alloc: Global,
@@ -51,27 +57,21 @@ pub(crate) fn trials_of(
     rules: &Checked,
     number: u32,
     tests: Tests,
-) -> Result<Trials, NoMemory>
+) -> Result<Vec<Trial>, NoMemory>
     requires rows { rows_of rules.now ≡ table_of (set_seen set.now) }
     requires short { All (λ t. length (encode_utf8_all t.text) ≤ 1048576) tests }
     ensures trials { IfOk result (λ ts. (due : List T.Trial)
         → AreTrials (bodies_of rules.now) (own (set_seen set.now) number) tests due
-        → due ≡ map (trial_of (bodies_of rules.now) ts.subjects.items) ts.trials.items) }
-    ensures ready { IfOk result (λ ts. ∥ AreReady
-        (map (trial_of (bodies_of rules.now) ts.subjects.items) ts.trials.items) ∥₁) }
-    ensures placed { IfOk result (λ ts. All (λ t. t.subject < length ts.subjects.items) ts.trials.items) }
+        → due ≡ map (trial_of (bodies_of rules.now)) ts.items) }
+    ensures ready { IfOk result (λ ts. ∥ AreReady (map (trial_of (bodies_of rules.now)) ts.items) ∥₁) }
+    ensures bound { IfOk result (λ ts. ∥ AreBound (bodies_of rules.now) ts.items ∥₁) }
 {
-    let mut subjects = Subjects::new(alloc, rules)?;
     let mut trials = Vec::new(alloc);
     for test in tests.into_vec() {
         let test = with_text(test);
         let target = set.own(number, test.name.as_str());
-        let subject = subjects.place_for(alloc, rules, target)?;
-        trials.push(Trial { test, subject })?;
+        check_goal(alloc, rules, target)?;
+        trials.push(Trial { test, target })?;
     }
-    let Subjects { entries, .. } = subjects;
-    Ok(Trials {
-        subjects: entries,
-        trials,
-    })
+    Ok(trials)
 }

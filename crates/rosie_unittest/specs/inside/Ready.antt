@@ -1,18 +1,22 @@
 -- What is known of what tests are tried with, and how a test comes out by its trees.
-use Rattle.std.specs.Prelude.{◌≡◌, ◌≤◌, ℕ, true, nat_lt, if◌then◌else◌, List, length, Option, encode_utf8_all}
+use Rattle.std.specs.Prelude.{◌≡◌, ◌≤◌, ℕ, true, nat_lt, if◌then◌else◌, List, length, Option, IfSome, encode_utf8_all}
 use Rattle.std.specs.List.{All}
 use Rattle.std.specs.Str.{all_scalars}
 use Rattle.rpl_core.specs.Captures.{all_named}
+use Rattle.rpl_core.specs.Core.{Core}
 use Rattle.rpl_core.specs.Forest.{Forest, NoTree, Tree, flat}
 use Rattle.rpl_core.specs.declared.caught.Caught.{Caught}
 use Rattle.rpl_encode.specs.Answer.{answer, max_answer_bytes}
 use Rattle.rpl_encode.specs.declared.style.Style.TheVariants.{Json}
 use Rattle.rpl_compile_laws.specs.Laws.{IsCapture}
+use Rattle.rpl_load_laws.specs.Laws.{IsRuleOf}
+use Rattle.rpl_package.specs.declared.targets.Target.{Target}
 use Rattle.rpl_unittest.specs.Verdicts.{is_met, label_in, part_of}
 use Rattle.rpl_unittest.specs.declared.test.Test.{Test}
 use Rattle.rosie_jobs.specs.Lines.{Job}
 use Rattle.rosie_jobs.specs.Meant.{IsMeant}
 use Rattle.rosie_unittest.specs.Trials.{Subject, Unbound, TooLong, Runs, Trial}
+use Rattle.rosie_unittest.specs.declared.trial.Trial as D
 use Rattle.rosie_unittest.specs.declared.verdict.Verdict.{Verdict}
 use Rattle.rosie_unittest.specs.declared.verdict.Verdict.TheVariants.{Met, Unmet, LongAnswer}
 
@@ -37,6 +41,13 @@ IsReadyTrial t = IsText t.test.text × IsReady t.subject
 
 abbrev pub AreReady : List Trial → Type 0
 AreReady = All IsReadyTrial
+
+-- a target, where there is one, is a rule of the table
+abbrev pub IsBound : List Core → Option Target → Type 0
+IsBound R o = IfSome o (λ t. ∥ IsRuleOf R t ∥₁)
+
+abbrev pub AreBound : List Core → List D.Trial → Type 0
+AreBound R = All (λ t. IsBound R t.target)
 
 -- the captures are those of one tree, under the names of their numbers
 abbrev pub AreOfTree : List (List ℕ) → List Caught → Type 0

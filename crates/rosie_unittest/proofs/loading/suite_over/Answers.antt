@@ -22,14 +22,14 @@ returns-clause-prepares c = λ r h.
     let rules = c.args.ready.rules in
     let m = c.in-Some.number in
     let name = chars c.in-Some-package.name.now in
-    let made = c.in_ok-subjects.field-0 in
-    let trials = map (trial_of (bodies_of rules) made.subjects.items) made.trials.items in
+    let made = c.in_ok-trials.trials in
+    let trials = map (trial_of (bodies_of rules)) made.items in
     let same : bodies (table_of p) ≡ bodies_of rules = sym (ap bodies c.requires.rows) ∙ bodies-rows_of rules in
     let tells =
     again-tells p c.args.file c.args.budget c.args.text.now r m name (sym c.in-Some.ensures.gives)
     (sym c.in-Some-package.ensures) h in
     tests-due p m (bench_with c.args.file c.args.budget name) c.args.text.now r c.in_ok-tests.tests trials c.in_ok-tests.ensures.tests
-    (λ due is. c.in_ok-subjects.ensures.trials due (subst (λ R. AreTrials R (own p m) c.in_ok-tests.tests due) same is)) tells
+    (λ due is. c.in_ok-trials.ensures.trials due (subst (λ R. AreTrials R (own p m) c.in_ok-tests.tests due) same is)) tells
     ∙ ap (λ x. Ok (record { bench = bench_with c.args.file c.args.budget x; trials = trials })) (sym c.in_ok-prefix.ensures)
 
 pub returns-in_err-tests-clause-prepares : goal.returns-in_err-tests-clause-prepares

@@ -1,21 +1,23 @@
-use Rattle.std.proofs.Common.{◌≤◌, subst, sym}
+use Rattle.std.proofs.Common.{◌≤◌, ap, subst, sym, ◌∙◌}
+use Rattle.std.specs.Prelude.{Some}
 use Rattle.std.proofs.lemmas.List.{length-map}
 use Rattle.std.proofs.lemmas.Grind.{merely}
 use Rattle.rpl_compile_laws.proofs.Answering.{answer_holds}
 use Rattle.rpl_core.specs.Numbers.{instr_of}
 use Rattle.rpl_core.specs.Program.{instructions}
 use Rattle.rpl_core.specs.Table.{bodies_of}
-use Rattle.rosie_unittest.specs.Suites.{IsSubject}
-use Rattle.rosie_unittest.proofs.Tried.{runs-due, long-due}
+use Rattle.rosie_unittest.specs.Tried.{subject_for}
+use Rattle.rosie_unittest.proofs.Tried.{runs-due, long-due, subject-is}
 use Rattle.rosie_unittest.proofs.subject.subject_of.Goals as goal
 
 pub returns-in-Ok-clause-subject : goal.returns-in-Ok-clause-subject
-returns-in-Ok-clause-subject c = λ due is.
+returns-in-Ok-clause-subject c =
     let R = bodies_of c.args.rules.now in
     let p = c.in-Ok.program in
+    let t = c.in-Some.target in
     let fits = subst (λ n. n ≤ 1048576) (sym (length-map p.code (instr_of p.sets p.labels))) c.in-Ok.ensures.fits in
-    runs-due R c.in-Some.target _ (instructions c.in-Ok.program) due (subst (λ o. IsSubject R o due) c.in-Some.is is)
-    c.in_ok-goal.ensures.goal c.in-Ok.ensures.code fits
+    sym (ap (subject_for R) c.in-Some.is ∙ runs-due R t _ (instructions p) (subject_for R (Some t)) (subject-is R (Some t))
+    c.in_ok-goal.ensures.goal c.in-Ok.ensures.code fits)
 
 pub returns-in-Ok-clause-ready : goal.returns-in-Ok-clause-ready
 returns-in-Ok-clause-ready c =
@@ -27,7 +29,8 @@ returns-in-Ok-clause-ready c =
     })
 
 pub returns-in-CodeTooLong-clause-subject : goal.returns-in-CodeTooLong-clause-subject
-returns-in-CodeTooLong-clause-subject c = λ due is.
+returns-in-CodeTooLong-clause-subject c =
     let R = bodies_of c.args.rules.now in
-    long-due R c.in-Some.target _ due (subst (λ o. IsSubject R o due) c.in-Some.is is) c.in_ok-goal.ensures.goal
-    (c.in-Err.ensures.too_long c.in-CodeTooLong.is)
+    let t = c.in-Some.target in
+    sym (ap (subject_for R) c.in-Some.is ∙ long-due R t _ (subject_for R (Some t)) (subject-is R (Some t))
+    c.in_ok-goal.ensures.goal (c.in-Err.ensures.too_long c.in-CodeTooLong.is))

@@ -8,9 +8,7 @@ use Rattle.rpl_package.specs.Sets.{set_seen}
 use Rattle.rosie_unittest.specs.Suites.{AreTrials}
 use Rattle.rosie_unittest.specs.Tried.{trial_of}
 use Rattle.rosie_unittest.specs.Trials.{Trial}
-use Rattle.rosie_unittest.specs.inside.Entries.{AreSound}
-use Rattle.rosie_unittest.specs.inside.Ready.{AreReady}
-use Rattle.rosie_unittest.proofs.Entries.{ArePlaced}
+use Rattle.rosie_unittest.specs.inside.Ready.{AreBound, AreReady}
 use Rattle.rosie_unittest.proofs.Tried.{Passed}
 use Rattle.rosie_unittest.proofs.trial.trials_of.Given as goal
 
@@ -19,10 +17,9 @@ abbrev pub invariant-loop-test : goal.invariant-loop-test
 invariant-loop-test l = record {
   passed : (due : List Trial) → AreTrials (bodies_of l.rules) (own (set_seen l.set) l.number) l.fn.tests due
       → Passed (bodies_of l.rules) (own (set_seen l.set) l.number) due
-      (map (trial_of (bodies_of l.rules) l.subjects.entries.items) l.trials.items) (into_iter_items l.test-iterator);
-  ready : ∥ AreReady (map (trial_of (bodies_of l.rules) l.subjects.entries.items) l.trials.items) ∥₁;
-  placed : ArePlaced l.subjects.entries.items l.trials.items;
-  sound : AreSound (bodies_of l.rules) l.subjects.entries.items;
+      (map (trial_of (bodies_of l.rules)) l.trials.items) (into_iter_items l.test-iterator);
+  ready : ∥ AreReady (map (trial_of (bodies_of l.rules)) l.trials.items) ∥₁;
+  bound : ∥ AreBound (bodies_of l.rules) l.trials.items ∥₁;
   short : All (λ t. length (encode_utf8_all t.text) ≤ 1048576) (into_iter_items l.test-iterator);
   left : into_iter_len l.test-iterator ≡ length (into_iter_items l.test-iterator);
 }

@@ -4,7 +4,7 @@ use Rattle.rpl_core.specs.Table.{bodies_of}
 use Rattle.rpl_core.specs.Run.{Failed, Unfinished}
 use Rattle.rosie_jobs.specs.Lines.{budget_or}
 use Rattle.rosie_unittest.specs.Seen.{bench_of}
-use Rattle.rosie_unittest.specs.Tried.{job_of}
+use Rattle.rosie_unittest.specs.inside.Entries.{job_of}
 use Rattle.rosie_unittest.proofs.Judged.{at-on, ran-on, match-tree, match-verdicts, none-verdict, on-ok, over-verdict}
 use Rattle.rosie_unittest.proofs.Judged.{steps-by, text-spelled}
 use Rattle.rosie_unittest.proofs.suite.Suite.try_goal.Goals as goal

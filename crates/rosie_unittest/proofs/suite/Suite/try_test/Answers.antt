@@ -1,20 +1,36 @@
-use Rattle.std.proofs.Common.{ap, subst, sym, ◌∙◌}
-use Rattle.std.proofs.lemmas.List.{get_or_default}
-use Rattle.std.proofs.Math.Logic.{∥∥₁_elim, ∥∥₁_map}
+use Rattle.std.proofs.Common.{◌≡◌, ◌+◌, subst}
+use Rattle.std.specs.Prelude.{IfOk, OnOk}
+use Rattle.std.proofs.Math.Logic.{∥∥₁_elim}
 use Rattle.rpl_core.specs.Table.{bodies_of}
-use Rattle.rosie_unittest.specs.Tried.{nothing, subject_of}
-use Rattle.rosie_unittest.specs.inside.Ready.{IsReady}
-use Rattle.rosie_unittest.proofs.Judged.{text_prop}
+use Rattle.rosie_unittest.specs.Seen.{bench_of}
+use Rattle.rosie_unittest.specs.Trials as T
+use Rattle.rosie_unittest.proofs.Entries.{ready-of, subject-at}
+use Rattle.rosie_unittest.proofs.Judged.{on-ok, text_prop}
 use Rattle.rosie_unittest.proofs.suite.Suite.try_test.Goals as goal
 
-pub try_goal-requires-clause-ready : goal.try_goal-requires-clause-ready
-try_goal-requires-clause-ready g c =
-    let es = c.args.self.now.subjects.items in
-    let i = c.args.trial.now.subject in
-    let x = c.index.result.now in
-    let found = c.index.ensures ∙ get_or_default es i x nothing c.requires.placed in
-    subst (λ s. ∥ IsReady (subject_of (bodies_of c.args.self.now.rules) s) ∥₁)
-    (ap (λ e. e.subject) (sym found) ∙ c.in-Runs.is) (∥∥₁_map c.requires.ready (λ r. r.1))
+pub try_subject-requires-clause-ready : goal.try_subject-requires-clause-ready
+try_subject-requires-clause-ready g c =
+    let made = c.in_ok-place.ensures in
+    ready-of (bodies_of c.args.self.now.rules) _ c.args.trial.now.target c.in_ok-place.place _ _ made.sound made.stands
+    c.index.ensures
 
-pub try_goal-requires-clause-text : goal.try_goal-requires-clause-text
-try_goal-requires-clause-text g c = ∥∥₁_elim c.requires.ready (text_prop c.args.trial.now.test.text) (λ r. r.0)
+pub try_subject-requires-clause-text : goal.try_subject-requires-clause-text
+try_subject-requires-clause-text g c = ∥∥₁_elim c.requires.ready (text_prop c.args.trial.now.test.text) (λ r. r.0)
+
+pub returns-clause-sound : goal.returns-clause-sound
+returns-clause-sound g c = on-ok c.try_subject.result c.in_ok-place.ensures.sound
+
+pub returns-clause-verdict : goal.returns-clause-verdict
+returns-clause-verdict g c =
+    let made = c.in_ok-place.ensures in
+    subst (λ s. IfOk c.try_subject.result (λ v. v ≡ T.verdict_of (bench_of c.args.self.now) c.args.trial.now.test s))
+    (subject-at (bodies_of c.args.self.now.rules) _ c.args.trial.now.target c.in_ok-place.place _ _ made.sound
+    made.stands c.index.ensures) c.try_subject.ensures.verdict
+
+pub returns-clause-steps : goal.returns-clause-steps
+returns-clause-steps g c =
+    let made = c.in_ok-place.ensures in
+    subst (λ s. OnOk c.try_subject.result (c.try_subject.new.steps
+    ≡ c.args.steps.now + T.cost_of (bench_of c.args.self.now) c.args.trial.now.test s))
+    (subject-at (bodies_of c.args.self.now.rules) _ c.args.trial.now.target c.in_ok-place.place _ _ made.sound
+    made.stands c.index.ensures) c.try_subject.ensures.steps
