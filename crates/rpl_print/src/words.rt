@@ -1,11 +1,12 @@
 // Numbers, and texts as they are.
-ghost use Rattle.std.specs.Prelude.{◌≡◌, ◌++◌, OnErr, OnOk, decimal, string_bytes};
+ghost use Rattle.std.specs.Prelude.{◌≡◌, ◌<◌, ◌≤◌, ◌++◌, OnErr, OnOk, decimal, drop, false, string_bytes};
+ghost use Rattle.std.specs.Fmt.{digit_glyph};
 ghost use Rattle.std.specs.Str.{encode_utf8_all};
 ghost use Rattle.rpl_print.specs.Sets.{hexadecimal};
 
 use itoa::Buffer;
 use rpl_text::{Chars, NoMemory};
-use std::fmt::{InlineText, Write};
+use std::str::from_utf8;
 
 /// The bytes of a text.
 pub fn text_of(text: &Chars) -> &str
@@ -36,13 +37,43 @@ pub fn push_hexadecimal(out: &mut String, number: u32) -> Result<(), NoMemory>
     ensures ok { OnOk result (string_bytes out.new ≡ string_bytes out.old ++ hexadecimal number) }
     ensures err { OnErr result (string_bytes out.new ≡ string_bytes out.old) }
 {
-    let mut digits = InlineText::<MAX_DIGITS>::new();
-    match write!(digits, "{number:x}") {
-        Ok(()) => out.push_str(digits.as_str()),
-        // It doesn't happen: all digits of a number have room.
-        Err(_) => Err(NoMemory),
+    let mut room = [0; ROOM];
+    let start = put_digits(&mut room, number);
+    match from_utf8(&room[start..]) {
+        Ok(digits) => out.push_str(digits),
+        Err(_) => unreachable!(),
     }
 }
 
-/// How many hexadecimal digits a number has at most.
-const MAX_DIGITS: usize = 8;
+/// More bytes than a number has digits.
+const ROOM: usize = 64;
+
+/// Puts the hexadecimal digits of a number at the end: the place where they begin.
+fn put_digits(room: &mut [u8; ROOM], number: u32) -> usize
+    ensures place { result ≤ ROOM }
+    ensures digits { drop result room.new ≡ hexadecimal number }
+{
+    let mut start = ROOM;
+    let mut rest = number;
+    while start > 0 {
+        start -= 1;
+        room[start] = digit_of(rest % 16);
+        rest /= 16;
+        if rest == 0 {
+            break;
+        }
+    }
+    start
+}
+
+/// The hexadecimal digit of a number below 16.
+fn digit_of(number: u32) -> u8
+    requires { number < 16 }
+    ensures { result ≡ digit_glyph false number }
+{
+    if number < 10 {
+        b'0' + number as u8
+    } else {
+        b'a' - 10 + number as u8
+    }
+}

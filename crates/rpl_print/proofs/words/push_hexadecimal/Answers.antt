@@ -1,15 +1,12 @@
-use Rattle.std.proofs.Common.{◌≡◌, ℕ, List, Option, ◌++◌, ap, subst, ◌∙◌, rules}
-use Rattle.std.specs.Fmt.{WritesText}
-use Rattle.std.specs.Fmt.InlineText.{AppendsIfIntact}
-use Rattle.rpl_print.specs.Sets.{hexadecimal}
-use Rattle.rpl_print.proofs.Hexadecimal.{inline_written}
+use Rattle.std.proofs.Common.{arith, drop, subst, sym, ◌-◌, ◌∙◌}
+use Rattle.std.proofs.lemmas.List.{length-drop, take_all}
+use Rattle.std.specs.Str.{IsUtf8}
+use Rattle.rpl_print.proofs.Hexadecimal.{digits_text}
 use Rattle.rpl_print.proofs.words.push_hexadecimal.Goals as goal
 
-pub returns-in-Ok-clause-ok : goal.returns-in-Ok-clause-ok
-returns-in-Ok-clause-ok c =
-    let Wrote : Option (List ℕ) → Type 0 = λ o. WritesText AppendsIfIntact c.new-digits.result o c.write.new.self in
-    let digits : c.as_str.result.now ≡ hexadecimal c.args.number =
-    c.as_str.ensures.value
-    ∙ inline_written c.new-digits.result (hexadecimal c.args.number) c.write.new.self (subst Wrote c.in_radix.ensures c.in-Ok.ensures.writes) c.new-digits.ensures.intact
-    ∙ ap (λ x. x ++ hexadecimal c.args.number) c.new-digits.ensures.text in
-    search rules
+pub unreachable-requires : goal.unreachable-requires
+unreachable-requires c =
+    let room = c.put_digits-start.new.room in
+    let start = c.put_digits-start.result in
+    let all = take_all (64 - start) (drop start room) (omega (arith, length-drop start room)) in
+    c.in-Err.ensures.cases.0 (subst IsUtf8 (sym (all ∙ c.put_digits-start.ensures.digits)) (digits_text c.args.number))
