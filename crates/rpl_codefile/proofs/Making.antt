@@ -43,7 +43,7 @@ rising n (r ∷ s) m e le =
     let go = rising (r.1 + 2) s (m - 1) p.1 (omega arith) in
     (omega (arith, go.0), All-cons ShortRange r s (omega arith, omega arith) go.1)
 
-set_fits : (s : List Range) → IsNormal s → FitsSet s
+pub set_fits : (s : List Range) → IsNormal s → FitsSet s
 set_fits s h =
     let r = rising 0 s 0x110001 h.rises (omega arith) in record { long = omega (arith, r.0); ranges = r.1; normal = h }
 
@@ -103,7 +103,7 @@ found t (x ∷ xs) o (inl h) =
 found t (x ∷ xs) o (inr h) =
     ((length t, held (t ++ x ∷ []) xs o (length t) x (last_of t x) h.1), found (t ++ x ∷ []) xs o h.1)
 
-keeps_few : {A : Type 0} (t xs o : List A) → Keeps t xs o → length o ≤ length t + length xs
+pub keeps_few : {A : Type 0} (t xs o : List A) → Keeps t xs o → length o ≤ length t + length xs
 keeps_few t [] o h = omega (arith, ap length h)
 keeps_few t (x ∷ xs) o (inl h) = omega (arith, keeps_few t xs o h.1)
 keeps_few t (x ∷ xs) o (inr h) = omega (arith, keeps_few (t ++ x ∷ []) xs o h.1, length-append t (x ∷ []))
@@ -116,14 +116,14 @@ kept_all P t (x ∷ xs) o a b (inr h) =
 
 -- ---- what a code uses
 
-sets_few : (code : List Instr) → length (sets_in code) ≤ length code
+pub sets_few : (code : List Instr) → length (sets_in code) ≤ length code
 sets_few [] = omega arith
 sets_few (I.Set s ∷ is) = omega (arith, sets_few is)
 sets_few (I.TestSet l s ∷ is) = omega (arith, sets_few is)
 sets_few (I.Span s ∷ is) = omega (arith, sets_few is)
 sets_few (_ ∷ is) = omega (arith, sets_few is)
 
-texts_few : (code : List Instr) → length (labels_in code) ≤ length code
+pub texts_few : (code : List Instr) → length (labels_in code) ≤ length code
 texts_few [] = omega arith
 texts_few (I.Open x ∷ is) = omega (arith, texts_few is)
 texts_few (I.Note x ∷ is) = omega (arith, texts_few is)

@@ -1,11 +1,14 @@
 -- The parts of a file.
-use Rattle.std.proofs.Common.{ℕ, List, []}
+use Rattle.std.proofs.Common.{◌≡◌, ℕ, ◌≤◌, List, [], arith, length}
+use Rattle.std.proofs.lemmas.List.{length-map}
 use Rattle.std.specs.Prelude.{Bool, IsTrue, ◌↔◌, IfOk, Result, Ok, Err}
 use Rattle.regex_class.specs.Ranges.{Range}
+use Rattle.rpl_core.specs.Numbers.{instr_of}
 use Rattle.rpl_core.specs.declared.instr.Instr as R
 use Rattle.rpl_intern.specs.Uses.{labels_in, sets_in}
 use Rattle.rpl_codefile.specs.Spelling.{file_of, says}
 use Rattle.rpl_codefile.specs.inside.Tables.{Apart, AreParts, IsOrdered}
+use Rattle.rpl_codefile.proofs.Making.{keeps_few, sets_few, texts_few}
 use Rattle.rpl_codefile.proofs.Numbered.{sets_come, sets_kept, texts_come, texts_kept}
 use Rattle.rpl_codefile.proofs.Once.{keeps_apart, none_apart}
 
@@ -35,3 +38,12 @@ module _ (code : List R.Instr) (sets : List (List Range)) (texts : List (List �
   pub all_parts : {E : Type 0} (r : Result Bool E) → IsOrdered code sets texts → IfOk r (λ b. IsTrue b ↔ Apart sets × Apart texts) → IfOk r (λ b. IsTrue b ↔ AreParts code sets texts)
   all_parts (Ok b) h k = (λ e. parts_by h (k.0 e), λ p. k.1 (apart_by p))
   all_parts (Err e) h k = tt
+
+  -- there are no more sets and texts than instructions
+  pub parts_few : AreParts code sets texts → (length sets ≤ 1048576) × (length texts ≤ 1048576)
+  parts_few h =
+      let is = says (file_of code sets texts) in
+      let long : length is ≡ length code = length-map code (instr_of sets texts) in (
+        omega (arith, keeps_few [] (sets_in is) sets h.once_sets, sets_few is, long, h.limit),
+        omega (arith, keeps_few [] (labels_in is) texts h.once_texts, texts_few is, long, h.limit),
+      )

@@ -15,6 +15,7 @@ use Rattle.rpl_intern.specs.declared.draft.Draft.{Draft}
 use Rattle.rpl_intern.proofs.Adding.{adds_then, as_list}
 use Rattle.rpl_codefile.specs.Spelling.{spelling, FitsFile, Spells}
 use Rattle.rpl_codefile.specs.Spelling.{file_of}
+use Rattle.rpl_codefile.proofs.Making.{keeps_few, sets_few, texts_few}
 use Rattle.rpl_codefile.proofs.Copies.{target, all_shown, all_range, all_targets}
 
 -- one instruction more of a code
@@ -66,3 +67,15 @@ written p old new c s t bytes no_code no_sets no_texts adds is_c is_s is_t some 
 pub all_written : {E : Type 0} (p : Program) (old new : Draft) (c : List R.Instr) (s : List (List Range)) (t : List (List ℕ)) (r : Result (List ℕ) E) → old.code ≡ [] → old.sets ≡ [] → old.labels ≡ [] → Adds old new (instructions p) → c ≡ new.code → s ≡ new.sets → t ≡ new.labels → 0 < length (code_of p) → length (code_of p) ≤ 1048576 → AreInRange (code_of p) (sets_of p) (labels_of p) → OnOk r (FitsFile (file_of c s t)) → IfOk r (λ v. v ≡ spelling (file_of c s t)) → IfOk r (λ v. Spells (instructions p) v)
 all_written p old new c s t (Ok v) a b d adds e f g some limit range fits bytes = written p old new c s t v a b d adds e f g some limit range fits bytes
 all_written p old new c s t (Err x) a b d adds e f g some limit range fits bytes = tt
+
+-- a draft of a program's code has no more instructions, sets and texts than that
+pub draft_few : (p : Program) (old new : Draft) → old.code ≡ [] → old.sets ≡ [] → old.labels ≡ [] → Adds old new (instructions p) → length (code_of p) ≤ 1048576 → (length new.code ≤ 1048576) × ((length new.sets ≤ 1048576) × (length new.labels ≤ 1048576))
+draft_few p old new no_code no_sets no_texts adds limit =
+    let is = instructions p in
+    let long : length is ≡ length (code_of p) = length-map (code_of p) (instr_of (sets_of p) (labels_of p)) in (
+      omega (arith, adds.long, ap length no_code, long, limit),
+      (
+        omega (arith, keeps_few old.sets (sets_in is) new.sets adds.sets, ap length no_sets, sets_few is, long, limit),
+        omega (arith, keeps_few old.labels (labels_in is) new.labels adds.labels, ap length no_texts, texts_few is, long, limit),
+      ),
+    )

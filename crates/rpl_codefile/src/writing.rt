@@ -10,16 +10,6 @@ use rpl_core::{Instr, Instrs, Labels, NoMemory, Sets};
 use rpl_text::Chars;
 use std::alloc::Global;
 
-/// A count in four bytes.
-fn count(n: usize) -> Result<u32, NoMemory>
-    ensures { IfOk result (λ k. (k ≡ n) × (n < 2 ^ 32)) }
-{
-    if n > u32::MAX as usize {
-        return Err(NoMemory);
-    }
-    Ok(n as u32)
-}
-
 /// Adds a number: four bytes, the highest first.
 fn put_number(out: &mut Bytes, n: u32) -> Result<(), NoMemory>
     ensures short { n < 2 ^ 32 }
@@ -96,13 +86,13 @@ fn put_ranges(out: &mut Bytes, ranges: &[(u32, u32)]) -> Result<(), NoMemory>
     Ok(())
 }
 
-/// Adds a set: the number of its ranges, and each.
+/// Adds a set: the number of its ranges, of which no set has more than there are characters, and each.
 fn put_set(out: &mut Bytes, item: &Set) -> Result<(), NoMemory>
     ensures fits { OnOk result (FitsSet item.now) }
     ensures bytes { OnOk result (out.new ≡ out.old ++ set item.now) }
 {
     let ranges = item.ranges();
-    put_number(out, count(ranges.len())?)?;
+    put_number(out, ranges.len() as u32)?;
     put_ranges(out, ranges)
 }
 
@@ -170,16 +160,19 @@ pub(crate) fn write_parts(
     sets: &Sets,
     texts: &Labels,
 ) -> Result<Bytes, NoMemory>
+    requires code_few { length code.now < 2 ^ 32 }
+    requires sets_few { length sets.now < 2 ^ 32 }
+    requires texts_few { length texts.now < 2 ^ 32 }
     ensures fits { OnOk result (FitsFile (file_of code.now sets.now texts.now)) }
     ensures bytes { IfOk result (λ bytes. bytes ≡ spelling (file_of code.now sets.now texts.now)) }
 {
     let mut out = Bytes::new(alloc);
     put_magic(&mut out)?;
-    put_number(&mut out, count(sets.len())?)?;
+    put_number(&mut out, sets.len() as u32)?;
     put_sets(&mut out, sets.as_slice())?;
-    put_number(&mut out, count(texts.len())?)?;
+    put_number(&mut out, texts.len() as u32)?;
     put_texts(&mut out, texts.as_slice())?;
-    put_number(&mut out, count(code.len())?)?;
+    put_number(&mut out, code.len() as u32)?;
     put_instrs(&mut out, code.as_slice())?;
     Ok(out)
 }

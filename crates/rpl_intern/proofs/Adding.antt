@@ -1,9 +1,9 @@
 -- How instructions are added.
-use Rattle.std.proofs.Common.{◌≡◌, ℕ, zero, suc, ◌<◌, List, [], ◌∷◌, ◌++◌, length, Option, Some, None, refl, sym, ap, ◌∙◌, subst, inl, inr, ⊎_elim, arith, append_assoc, length-append}
-use Rattle.std.proofs.lemmas.List.{map-append}
+use Rattle.std.proofs.Common.{◌≡◌, ℕ, zero, suc, ◌+◌, ◌<◌, ◌≤◌, List, [], ◌∷◌, ◌++◌, length, Option, Some, None, refl, sym, ap, ◌∙◌, subst, inl, inr, ⊎_elim, arith, append_assoc, length-append, take}
+use Rattle.std.proofs.lemmas.List.{length-take, map-append}
 use Rattle.std.proofs.lemmas.Option.{slice_get_within}
 use Rattle.std.specs.List.{Contains}
-use Rattle.std.specs.Prelude.{IfSome, OnOk, Result, Ok, Err, map, option_map, slice_get, slice_index_or}
+use Rattle.std.specs.Prelude.{IfSome, OnErr, OnOk, Result, Ok, Err, map, option_map, slice_get, slice_index_or}
 use Rattle.regex_class.specs.Ranges.{Range}
 use Rattle.rpl_core.specs.Instr.{Instr}
 use Rattle.rpl_core.specs.Instr as I
@@ -172,3 +172,25 @@ as_list p q x y e a = subst (λ l. Adds p q l) e a
 pub on_both : {A E P Q R : Type 0} (r : Result A E) → (P → Q → R) → OnOk r P → OnOk r Q → OnOk r R
 on_both (Ok a) f p q = f p q
 on_both (Err e) f p q = tt
+
+-- what is kept has a number no higher than there were others
+pub number_within : {A : Type 0} (t u : List A) (x : A) (k : ℕ) → Keeps t (x ∷ []) u → slice_get u k ≡ Some x → k ≤ length t
+number_within t u x k (inl h) e = omega (arith, slice_get_within u k x e, ap length h.1)
+number_within t u x k (inr h) e = omega (arith, slice_get_within u k x e, ap length h.1, length-append t (x ∷ []))
+
+keeps_one : {A : Type 0} (t u : List A) (x : A) → Keeps t (x ∷ []) u → length u ≤ length t + 1
+keeps_one t u x (inl h) = omega (arith, ap length h.1)
+keeps_one t u x (inr h) = omega (arith, ap length h.1, length-append t (x ∷ []))
+
+-- with one instruction more, or as many, a table that had no more than there were has no more than there are
+pub still_few : {A B U E : Type 0} (r : Result U E) (t u v : List A) (c d : List B) (x : A) (i : B) (n : ℕ) → n ≡ length t → Keeps t (x ∷ []) u → length t ≤ length c → OnOk r (d ≡ c ++ i ∷ []) → OnOk r (v ≡ u) → OnErr r (d ≡ c) → OnErr r (v ≡ take n u) → length v ≤ length d
+still_few (Ok a) t u v c d x i n is keeps few grown kept _ _ = omega (arith, keeps_one t u x keeps, ap length grown, ap length kept, length-append c (i ∷ []))
+still_few (Err e) t u v c d x i n is keeps few _ _ grown cut = omega (arith, ap length grown, ap length cut, length-take n u)
+
+pub others_few : {B U E : Type 0} (r : Result U E) (c d : List B) (i : B) (n : ℕ) → n ≤ length c → OnOk r (d ≡ c ++ i ∷ []) → OnErr r (d ≡ c) → n ≤ length d
+others_few (Ok a) c d i n few grown _ = omega (arith, ap length grown, length-append c (i ∷ []))
+others_few (Err e) c d i n few _ grown = omega (arith, ap length grown)
+
+pub code_few : {B U E : Type 0} (r : Result U E) (c d : List B) (i : B) (n : ℕ) → length c < n → OnOk r (d ≡ c ++ i ∷ []) → OnErr r (d ≡ c) → length d ≤ n
+code_few (Ok a) c d i n few grown _ = omega (arith, ap length grown, length-append c (i ∷ []))
+code_few (Err e) c d i n few _ grown = omega (arith, ap length grown)

@@ -15,6 +15,8 @@ pub struct Draft {
     pub sets: SetTable,
     pub labels: LabelTable,
     ghost few: { length code ≤ 1048576 },
+    ghost sets_few: { length sets ≤ length code },
+    ghost labels_few: { length labels ≤ length code },
 }
 
 impl Draft {
@@ -60,7 +62,12 @@ impl Draft {
     {
         let count = self.sets.len();
         let number = self.sets.keep(alloc, set)?;
-        self.put_with_set(Instr::Set(number), count)
+        put_with_set(
+            &mut self.code,
+            &mut self.sets,
+            Instr::Set(number as u32),
+            count,
+        )
     }
 
     /// Writes `span`. Where memory runs out, nothing changes.
@@ -71,7 +78,12 @@ impl Draft {
     {
         let count = self.sets.len();
         let number = self.sets.keep(alloc, set)?;
-        self.put_with_set(Instr::Span(number), count)
+        put_with_set(
+            &mut self.code,
+            &mut self.sets,
+            Instr::Span(number as u32),
+            count,
+        )
     }
 
     /// Writes `testset`, which goes to `other` where no character of the set follows. Where memory runs out, nothing
@@ -83,7 +95,12 @@ impl Draft {
     {
         let count = self.sets.len();
         let number = self.sets.keep(alloc, set)?;
-        self.put_with_set(Instr::TestSet(other, number), count)
+        put_with_set(
+            &mut self.code,
+            &mut self.sets,
+            Instr::TestSet(other, number as u32),
+            count,
+        )
     }
 
     /// Writes `open`. Where memory runs out, nothing changes.
@@ -94,7 +111,12 @@ impl Draft {
     {
         let count = self.labels.len();
         let number = self.labels.keep(alloc, label)?;
-        self.put_with_text(Instr::Open(number), count)
+        put_with_text(
+            &mut self.code,
+            &mut self.labels,
+            Instr::Open(number as u32),
+            count,
+        )
     }
 
     /// Writes `note`. Where memory runs out, nothing changes.
@@ -105,39 +127,51 @@ impl Draft {
     {
         let count = self.labels.len();
         let number = self.labels.keep(alloc, text)?;
-        self.put_with_text(Instr::Note(number), count)
+        put_with_text(
+            &mut self.code,
+            &mut self.labels,
+            Instr::Note(number as u32),
+            count,
+        )
     }
+}
 
-    /// Writes an instruction whose set was kept just now, where there were `count` of them. Where memory runs out,
-    /// only these stay.
-    fn put_with_set(&mut self, instr: Instr, count: usize) -> Result<(), NoMemory>
-        requires { length self.old.code < 1048576 }
-        ensures code { OnOk result (self.new.code ≡ self.old.code ++ instr ∷ []) }
-        ensures sets { OnOk result (self.new.sets ≡ self.old.sets) }
-        ensures code_err { OnErr result (self.new.code ≡ self.old.code) }
-        ensures sets_err { OnErr result (self.new.sets ≡ take count self.old.sets) }
-        ensures labels { self.new.labels ≡ self.old.labels }
-    {
-        let pushed = self.code.push(instr);
-        if pushed.is_err() {
-            self.sets.truncate(count);
-        }
-        pushed
+/// Writes an instruction whose set was kept just now, where there were `count` of them. Where memory runs out, only
+/// these stay.
+fn put_with_set(
+    code: &mut Instrs,
+    sets: &mut SetTable,
+    instr: Instr,
+    count: usize,
+) -> Result<(), NoMemory>
+    ensures code { OnOk result (code.new ≡ code.old ++ instr ∷ []) }
+    ensures sets { OnOk result (sets.new ≡ sets.old) }
+    ensures code_err { OnErr result (code.new ≡ code.old) }
+    ensures sets_err { OnErr result (sets.new ≡ take count sets.old) }
+{
+    let pushed = code.push(instr);
+    if pushed.is_err() {
+        sets.truncate(count);
     }
+    pushed
+}
 
-    /// Writes an instruction whose text was kept just now, where there were `count` of them.
-    fn put_with_text(&mut self, instr: Instr, count: usize) -> Result<(), NoMemory>
-        requires { length self.old.code < 1048576 }
-        ensures code { OnOk result (self.new.code ≡ self.old.code ++ instr ∷ []) }
-        ensures labels { OnOk result (self.new.labels ≡ self.old.labels) }
-        ensures code_err { OnErr result (self.new.code ≡ self.old.code) }
-        ensures labels_err { OnErr result (self.new.labels ≡ take count self.old.labels) }
-        ensures sets { self.new.sets ≡ self.old.sets }
-    {
-        let pushed = self.code.push(instr);
-        if pushed.is_err() {
-            self.labels.truncate(count);
-        }
-        pushed
+/// Writes an instruction whose text was kept just now, where there were `count` of them. Where memory runs out, only
+/// these stay.
+fn put_with_text(
+    code: &mut Instrs,
+    labels: &mut LabelTable,
+    instr: Instr,
+    count: usize,
+) -> Result<(), NoMemory>
+    ensures code { OnOk result (code.new ≡ code.old ++ instr ∷ []) }
+    ensures labels { OnOk result (labels.new ≡ labels.old) }
+    ensures code_err { OnErr result (code.new ≡ code.old) }
+    ensures labels_err { OnErr result (labels.new ≡ take count labels.old) }
+{
+    let pushed = code.push(instr);
+    if pushed.is_err() {
+        labels.truncate(count);
     }
+    pushed
 }

@@ -41,17 +41,14 @@ impl SetTable {
     }
 
     /// The number of the set, which is added where it isn't there. Where memory runs out, nothing changes.
-    pub fn keep(&mut self, alloc: Global, set: &Set) -> Result<u32, NoMemory>
+    pub fn keep(&mut self, alloc: Global, set: &Set) -> Result<usize, NoMemory>
         ensures kept { IfOk result (λ k. Keeps self.old (set.now ∷ []) self.new) }
         ensures number { IfOk result (λ k. slice_get self.new k ≡ Some set.now) }
         ensures err { OnErr result (self.new ≡ self.old) }
     {
-        if self.known.len() > u32::MAX as usize {
-            return Err(NoMemory);
-        }
         let ranges = Vec::from_slice(alloc, set.ranges())?;
         let (number, _) = self.known.insert_full(ranges)?;
-        Ok(number as u32)
+        Ok(number)
     }
 
     /// How many there are.
@@ -127,16 +124,13 @@ impl LabelTable {
     }
 
     /// The number of the text, which is added where it isn't there. Where memory runs out, nothing changes.
-    pub fn keep(&mut self, alloc: Global, label: &Chars) -> Result<u32, NoMemory>
+    pub fn keep(&mut self, alloc: Global, label: &Chars) -> Result<usize, NoMemory>
         ensures kept { IfOk result (λ k. Keeps self.old (label.now ∷ []) self.new) }
         ensures number { IfOk result (λ k. slice_get self.new k ≡ Some label.now) }
         ensures err { OnErr result (self.new ≡ self.old) }
     {
-        if self.known.len() > u32::MAX as usize {
-            return Err(NoMemory);
-        }
         let (number, _) = self.known.insert_full(characters(alloc, label.as_str())?)?;
-        Ok(number as u32)
+        Ok(number)
     }
 
     /// How many there are.

@@ -1,14 +1,30 @@
-use Rattle.std.proofs.Common.{◌≡◌, [], ◌∷◌, ◌++◌, sym, ap, subst, ◌∙◌}
+use Rattle.std.proofs.Common.{◌≡◌, [], ◌∷◌, ◌++◌, length, refl, sym, ap, subst, ◌∙◌, arith}
 use Rattle.std.specs.Prelude.{option_map, slice_get}
 use Rattle.rpl_core.specs.Instr as I
 use Rattle.rpl_core.specs.declared.instr.Instr.TheVariants as V
 use Rattle.rpl_intern.specs.Uses.{Keeps}
-use Rattle.rpl_intern.proofs.Adding.{adds_one, on_both}
+use Rattle.rpl_intern.proofs.Adding.{adds_one, code_few, number_within, on_both, others_few, still_few}
 use Rattle.rpl_intern.proofs.draft.Draft.put_open.Goals as goal
+
+pub overflow_cast-number : goal.overflow_cast-number
+overflow_cast-number c =
+    omega (arith, number_within c.args.self.now.labels c.keep.new.self c.args.label.now c.in_ok-number.number c.in_ok-number.ensures.kept c.in_ok-number.ensures.number, c.args.self.now.labels_few, c.requires)
 
 pub returns-clause-adds : goal.returns-clause-adds
 returns-clause-adds c =
-    on_both c.put_with_text.result (λ (code : c.put_with_text.new.self.code ≡ c.args.self.now.code ++ V.Open c.in_ok-number.number ∷ []) (kept : c.put_with_text.new.self.labels ≡ c.keep.new.self).
-    adds_one c.args.self.now c.put_with_text.new.self (V.Open c.in_ok-number.number) (I.Open c.args.label.now) code c.put_with_text.ensures.sets (subst (Keeps c.args.self.now.labels (c.args.label.now ∷ [])) (sym kept) c.in_ok-number.ensures.kept)
+    on_both c.put_with_text.result (λ (code : c.put_with_text.new.code ≡ c.args.self.now.code ++ V.Open c.in_ok-number.number ∷ []) (kept : c.put_with_text.new.labels ≡ c.keep.new.self).
+    adds_one c.args.self.now _ (V.Open c.in_ok-number.number) (I.Open c.args.label.now) code refl (subst (Keeps c.args.self.now.labels (c.args.label.now ∷ [])) (sym kept) c.in_ok-number.ensures.kept)
     (ap (λ l. option_map I.Open (slice_get l c.in_ok-number.number)) kept ∙ ap (option_map I.Open) c.in_ok-number.ensures.number))
     c.put_with_text.ensures.code c.put_with_text.ensures.labels
+
+pub invariant_of-self-2 : goal.invariant_of-self-2
+invariant_of-self-2 c =
+    let d = c.args.self.now in
+    let r = c.put_with_text.result in
+    let e = c.put_with_text.ensures in
+    let code = c.put_with_text.new.code in
+    record {
+      few = code_few r d.code code _ 1048576 c.requires e.code e.code_err;
+      labels_few = still_few r d.labels c.keep.new.self c.put_with_text.new.labels d.code code c.args.label.now _ c.len-count.result c.len-count.ensures c.in_ok-number.ensures.kept d.labels_few e.code e.labels e.code_err e.labels_err;
+      sets_few = others_few r d.code code _ (length d.sets) d.sets_few e.code e.code_err;
+    }

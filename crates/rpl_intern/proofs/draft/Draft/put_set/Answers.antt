@@ -1,14 +1,30 @@
-use Rattle.std.proofs.Common.{◌≡◌, [], ◌∷◌, ◌++◌, sym, ap, subst, ◌∙◌}
+use Rattle.std.proofs.Common.{◌≡◌, [], ◌∷◌, ◌++◌, length, refl, sym, ap, subst, ◌∙◌, arith}
 use Rattle.std.specs.Prelude.{option_map, slice_get}
 use Rattle.rpl_core.specs.Instr as I
 use Rattle.rpl_core.specs.declared.instr.Instr.TheVariants as V
 use Rattle.rpl_intern.specs.Uses.{Keeps}
-use Rattle.rpl_intern.proofs.Adding.{adds_one, on_both}
+use Rattle.rpl_intern.proofs.Adding.{adds_one, code_few, number_within, on_both, others_few, still_few}
 use Rattle.rpl_intern.proofs.draft.Draft.put_set.Goals as goal
+
+pub overflow_cast-number : goal.overflow_cast-number
+overflow_cast-number c =
+    omega (arith, number_within c.args.self.now.sets c.keep.new.self c.args.set.now c.in_ok-number.number c.in_ok-number.ensures.kept c.in_ok-number.ensures.number, c.args.self.now.sets_few, c.requires)
 
 pub returns-clause-adds : goal.returns-clause-adds
 returns-clause-adds c =
-    on_both c.put_with_set.result (λ (code : c.put_with_set.new.self.code ≡ c.args.self.now.code ++ V.Set c.in_ok-number.number ∷ []) (kept : c.put_with_set.new.self.sets ≡ c.keep.new.self).
-    adds_one c.args.self.now c.put_with_set.new.self (V.Set c.in_ok-number.number) (I.Set c.args.set.now) code (subst (Keeps c.args.self.now.sets (c.args.set.now ∷ [])) (sym kept) c.in_ok-number.ensures.kept) c.put_with_set.ensures.labels
+    on_both c.put_with_set.result (λ (code : c.put_with_set.new.code ≡ c.args.self.now.code ++ V.Set c.in_ok-number.number ∷ []) (kept : c.put_with_set.new.sets ≡ c.keep.new.self).
+    adds_one c.args.self.now _ (V.Set c.in_ok-number.number) (I.Set c.args.set.now) code (subst (Keeps c.args.self.now.sets (c.args.set.now ∷ [])) (sym kept) c.in_ok-number.ensures.kept) refl
     (ap (λ l. option_map I.Set (slice_get l c.in_ok-number.number)) kept ∙ ap (option_map I.Set) c.in_ok-number.ensures.number))
     c.put_with_set.ensures.code c.put_with_set.ensures.sets
+
+pub invariant_of-self-2 : goal.invariant_of-self-2
+invariant_of-self-2 c =
+    let d = c.args.self.now in
+    let r = c.put_with_set.result in
+    let e = c.put_with_set.ensures in
+    let code = c.put_with_set.new.code in
+    record {
+      few = code_few r d.code code _ 1048576 c.requires e.code e.code_err;
+      sets_few = still_few r d.sets c.keep.new.self c.put_with_set.new.sets d.code code c.args.set.now _ c.len-count.result c.len-count.ensures c.in_ok-number.ensures.kept d.sets_few e.code e.sets e.code_err e.sets_err;
+      labels_few = others_few r d.code code _ (length d.labels) d.labels_few e.code e.code_err;
+    }
