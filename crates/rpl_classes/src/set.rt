@@ -224,7 +224,8 @@ impl Set {
         listed(alloc, folds_of(alloc, &self.class().ranges)?)
     }
 
-    /// The same set once more. It shares the ranges, so no memory is taken.
+    /// The same set once more. It shares the ranges, so no memory is taken. Out of memory is answered only where there
+    /// would be 2^64 copies at one time, which no memory holds.
     pub fn copy(&self, _alloc: Global) -> Result<Set, NoMemory>
         ensures { IfOk result (λ s. s ≡ self.now) }
     {
