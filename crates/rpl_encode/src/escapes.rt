@@ -1,33 +1,68 @@
 // What stands for the bytes of a line in strings of JSON.
-ghost use Rattle.std.specs.Prelude.{◌≡◌, ◌<◌, ◌≤◌, ◌+◌, ◌++◌, length, drop, slice_range, OnOk};
+ghost use Rattle.std.specs.Prelude.{◌≡◌, ◌<◌, ◌≤◌, ◌+◌, ◌*◌, ◌++◌, length, drop, slice_range, vec_len, OnOk};
 ghost use Rattle.std.specs.Char.{digit_char};
 ghost use Rattle.json.specs.Print.{escape, escape_byte, escape_letter};
 ghost use Rattle.rpl_print.specs.Quoted as Q;
-ghost use Rattle.rpl_encode.specs.inside.Escapes.{AreOf};
+ghost use Rattle.rpl_encode.specs.inside.Escapes.{AreKept, AreOf};
 
 use crate::node_text::{part_of, write_before};
 use rpl_core::NoMemory;
 use rpl_print::is_plain;
+use std::alloc::Global;
 
-/// Whether a line has a byte that needs an escape in a string of JSON, found once for all the parts of it that are
-/// printed. Nothing else is kept: what stands for a part is written as it is printed.
+/// How what stands for a part of a line is found.
+#[derive(Clone, Copy)]
+pub(crate) enum Kind {
+    /// No byte of the line needs an escape, so a part stands for itself.
+    Plain,
+    /// What stands for the whole line is kept, and that for a part is cut out of it.
+    Kept,
+    /// The line is long: a part is escaped as it is printed.
+    Long,
+}
+
+/// The bytes of a line for which what stands for it is kept, at most. Parts of a short line are printed once for each
+/// node over them; for a long one that would take memory of many times its length.
+const KEPT: usize = 4096;
+
+/// What stands for the parts of a line in strings of JSON, made ready once for all the parts of it that are printed.
 #[derive(Drop)]
 pub(crate) struct Escapes {
-    /// No byte of the line needs an escape.
-    is_plain: bool,
+    kind: Kind,
+    /// It ends with what stands for a line that is kept. Its memory, and that of the places, serves the next line too.
+    string: Vec<u8>,
+    /// The place in the string where what stands for each byte of such a line begins, and where that for the last ends.
+    places: Vec<usize>,
 }
 
 impl Escapes {
-    /// Those of the empty line.
-    pub(crate) fn new() -> Escapes {
-        Escapes { is_plain: true }
+    /// Those of the empty line. Takes no memory.
+    pub(crate) fn new(alloc: Global) -> Escapes {
+        Escapes {
+            kind: Kind::Plain,
+            string: Vec::new(alloc),
+            places: Vec::new(alloc),
+        }
     }
 
     /// Becomes those of a line.
-    pub(crate) fn fill(&mut self, line: &str)
-        ensures { AreOf line.now self.new }
+    pub(crate) fn fill(&mut self, line: &str) -> Result<(), NoMemory>
+        ensures { OnOk result (AreOf line.now self.new) }
     {
-        self.is_plain = is_plain(line.as_bytes());
+        let bytes = line.as_bytes();
+        if is_plain(bytes) {
+            self.kind = Kind::Plain;
+            return Ok(());
+        }
+        if bytes.len() > KEPT {
+            self.kind = Kind::Long;
+            return Ok(());
+        }
+        lengthen(&mut self.string, 6 * bytes.len(), 0)?;
+        lengthen(&mut self.places, bytes.len() + 1, 0)?;
+        keep(&mut self.string, &mut self.places, bytes);
+        self.kind = Kind::Kept;
+        Ok(())
     }
 
     /// Adds what stands for the part of their line between two places. It is empty where the end is before the start,
@@ -42,12 +77,57 @@ impl Escapes {
         requires { AreOf line.now self.now }
         ensures { OnOk result (out.new.items ≡ out.old.items ++ escape (slice_range line.now start end)) }
     {
-        let part = part_of(line, start, end);
-        if self.is_plain {
-            return out.extend_from_slice(part);
+        match self.kind {
+            Kind::Plain => out.extend_from_slice(part_of(line, start, end)),
+            Kind::Kept => {
+                let end = end.min(line.len());
+                let start = start.min(end);
+                out.extend_from_slice(cut_out(line, &self.string, &self.places, start, end))
+            }
+            Kind::Long => put_bytes(out, part_of(line, start, end)),
         }
-        put_bytes(out, part)
     }
+}
+
+/// Makes the list so long at least.
+fn lengthen<T: Copy>(list: &mut Vec<T>, count: usize, filler: T) -> Result<(), NoMemory>
+    ensures { OnOk result (count ≤ vec_len list.new) }
+{
+    if list.len() >= count {
+        return Ok(());
+    }
+    list.resize(count, filler)
+}
+
+/// Writes what stands for the line at the end of the string, and where in it what stands for each byte begins.
+fn keep(string: &mut [u8], places: &mut [usize], line: &[u8])
+    requires string { 6 * length line.now ≤ length string.old }
+    requires places { length line.now < length places.old }
+    ensures { AreKept line.now string.new places.new }
+{
+    let mut at = string.len();
+    let mut left = line.len();
+    places[left] = at;
+    while left > 0 {
+        left -= 1;
+        at = write_escaped(line[left], string, at);
+        places[left] = at;
+    }
+}
+
+/// What stands for the part of a line that is kept between two places.
+fn cut_out<'a>(
+    line: &[u8],
+    string: &'a [u8],
+    places: &[usize],
+    start: usize,
+    end: usize,
+) -> &'a [u8]
+    requires kept { AreKept line.now string.now places.now }
+    requires within { (start ≤ end) × (end ≤ length line.now) }
+    ensures { result.now ≡ escape (slice_range line.now start end) }
+{
+    &string[places[start]..places[end]]
 }
 
 /// So many bytes are escaped at a time, and what stands for all of them has room in so many.

@@ -7,8 +7,8 @@ use crate::front::{Front, add_fronts};
 use rpl_core::{NoMemory, Program};
 use std::alloc::Global;
 
-/// What the objects of all nodes of a line share: the fronts of a program's types, and whether the line needs escapes
-/// in a string of JSON.
+/// What the objects of all nodes of a line share: the fronts of a program's types, and what stands for the parts of the
+/// line in strings of JSON.
 #[derive(Drop)]
 pub(crate) struct SharedParts {
     pub(crate) fronts: Vec<Front>,
@@ -29,7 +29,7 @@ impl SharedParts {
     pub(crate) fn new(alloc: Global) -> SharedParts {
         SharedParts {
             fronts: Vec::new(alloc),
-            escapes: Escapes::new(),
+            escapes: Escapes::new(alloc),
         }
     }
 
@@ -38,7 +38,6 @@ impl SharedParts {
         ensures { OnOk result (AreOf line.now self.new.escapes) }
     {
         add_fronts(*self.fronts.allocator(), &mut self.fronts, program)?;
-        self.escapes.fill(line);
-        Ok(())
+        self.escapes.fill(line)
     }
 }
