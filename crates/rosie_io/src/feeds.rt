@@ -1,0 +1,62 @@
+// The first line feed of some bytes.
+ghost use Rattle.std.specs.Prelude.{◌≡◌, ◌+◌, ◌≤◌, length};
+ghost use Rattle.std.specs.Int.{trailing_zeros, w64};
+ghost use Rattle.memchr.specs.Find.{IsFirst, IsFirstByte, Nowhere, Passes, is_byte};
+
+use std::simd::prelude::*;
+
+pub(crate) const LINE_FEED: u8 = b'\n';
+
+/// How many bytes are looked at together.
+const LANES: usize = 32;
+
+/// The number of the lowest bit that is set, or 64 where none is.
+#[inline(always)]
+fn lowest(bits: u64) -> usize
+    ensures { result ≡ trailing_zeros w64 bits }
+{
+    bits.trailing_zeros() as usize
+}
+
+/// The place of the first line feed among the 32 bytes from a place on.
+#[inline(always)]
+fn near_feed(bytes: &[u8], from: usize) -> Option<usize>
+    requires { from + 32 ≤ length bytes.now }
+    ensures { IsFirst (Passes (is_byte 10) bytes.now) from (from + 32) result }
+{
+    let block = u8x32::from_slice(&bytes[from..]);
+    let before = lowest(block.simd_eq(u8x32::splat(LINE_FEED)).to_bitmask());
+    if before < LANES {
+        Some(from + before)
+    } else {
+        None
+    }
+}
+
+/// The place of the first line feed from a place on, before which there is none.
+fn far_feed(bytes: &[u8], from: usize) -> Option<usize>
+    requires { Nowhere (Passes (is_byte 10) bytes.now) 0 from }
+    ensures { IsFirstByte (is_byte 10) bytes.now result }
+{
+    for place in from..bytes.len() {
+        if bytes[place] == LINE_FEED {
+            return Some(place);
+        }
+    }
+    None
+}
+
+/// The place of the first line feed. A search for any byte begins with more bytes at once than most lines have, so it
+/// takes longer.
+pub(crate) fn first_feed(bytes: &[u8]) -> Option<usize>
+    ensures { IsFirstByte (is_byte 10) bytes.now result }
+{
+    let mut at = 0;
+    while bytes.len() - at >= LANES {
+        match near_feed(bytes, at) {
+            Some(place) => return Some(place),
+            None => at += LANES,
+        }
+    }
+    far_feed(bytes, at)
+}
