@@ -134,10 +134,10 @@ ends_of s program o line text fits hit kept steps f p = record {
 
 module _ (s : Settings) (program : List Instr) (o : Outcome) (line : List ℕ) (u : IsUtf8 line) (shown : IsShown (run program (chars line) (budget_of s (chars line))) o) where
   -- a run that matched, whose answer was printed
-  pub hit_ends : (t : List ℕ) (texts : List (List ℕ)) (cs : List Caught) (b n p : ℕ) (code : List Instr) (fits : Bool) (kept : List ℕ) → t ≡ chars line → b ≡ budget_of s (chars line) → code ≡ program → run code t b ≡ Matched n (index t p) (captures_of t texts cs) → CapturesIn t cs → ((f : Forest) → captures_of (chars line) texts cs ≡ flat f → CapturesIn (chars line) cs → Printed fits (answer s.style line (Some (placed (at (chars line)) f))) kept) → Ends s program o line fits true kept n
+  pub hit_ends : (t : List ℕ) (texts : List (List ℕ)) (cs : List Caught) (b n p : ℕ) (code : List Instr) (fits : Bool) (kept : List ℕ) → t ≡ chars line → b ≡ budget_of s (chars line) → code ≡ program → run code t b ≡ Matched n (index t p) (captures_of t texts cs) → CapturesIn t cs → ((f : Forest) → (captures_of (chars line) texts cs ≡ flat f) × CapturesIn (chars line) cs → Printed fits (answer s.style line (Some (placed (at (chars line)) f))) kept) → Ends s program o line fits true kept n
   hit_ends t texts cs b n p code fits kept et eb ec e inside printed =
       let r = ran_at s program o line u shown t texts cs b n p code et eb ec e inside in
-      ends_of s program o line (answer s.style line (Some (placed (at (chars line)) r.0))) fits true kept n r.3 (printed r.0 r.1 r.2)
+      ends_of s program o line (answer s.style line (Some (placed (at (chars line)) r.0))) fits true kept n r.3 (printed r.0 (r.1, r.2))
 
   -- and one that didn't
   pub miss_ends : (t : List ℕ) (b n : ℕ) (code : List Instr) (fits : Bool) (kept : List ℕ) → t ≡ chars line → b ≡ budget_of s (chars line) → code ≡ program → run code t b ≡ Failed n → Printed fits (answer s.style line None) kept → Ends s program o line fits false kept n
@@ -194,8 +194,8 @@ pub ran_steps : (s : Settings) (program : List Instr) (line t : List ℕ) (b : �
 ran_steps s program line t b code a s0 s1 et eb ec e k =
     k ∙ ap (λ x. s0 + x) (ap (λ x. made x a) eb ∙ sym (ap (made (budget_of s (chars line))) (ran_same code program t (chars line) b (budget_of s (chars line)) a ec et eb e)))
 
-pub printed_as : {E : Type 0} (r : Result Bool E) (text kept : List ℕ) {P : Forest → Type 0} {Q : Forest → Type 0} (text_of : Forest → List ℕ) → IfOk r (λ fits. Printed fits text kept) → ((f : Forest) → P f → Q f → text ≡ text_of f) → IfOk r (λ fits. (f : Forest) → P f → Q f → Printed fits (text_of f) kept)
-printed_as (Ok fits) text kept text_of h e = λ f p q. subst (λ x. Printed fits x kept) (e f p q) h
+pub printed_as : {E : Type 0} (r : Result Bool E) (text kept : List ℕ) {P : Forest → Type 0} (text_of : Forest → List ℕ) → IfOk r (λ fits. Printed fits text kept) → ((f : Forest) → P f → text ≡ text_of f) → IfOk r (λ fits. (f : Forest) → P f → Printed fits (text_of f) kept)
+printed_as (Ok fits) text kept text_of h e = λ f p. subst (λ x. Printed fits x kept) (e f p) h
 printed_as (Err x) text kept text_of h e = tt
 
 pub made_ok : {E : Type 0} (r : Result Mark E) (out err : List ℕ) (p q : Piece) → q ≡ p → IfOk r (λ mark. IsMade mark out err p) → IfOk r (λ mark. IsMade mark out err q)

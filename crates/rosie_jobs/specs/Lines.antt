@@ -34,6 +34,10 @@ budget_or None t = 1000000 + 1000 * length t
 abbrev pub budget_of : Settings → List ℕ → ℕ
 budget_of s t = budget_or s.budget t
 
+-- the run of a code on a line of text
+abbrev pub ran : Settings → List Instr → List ℕ → Answer
+ran s code line = run code (chars line) (budget_of s (chars line))
+
 -- the run needs more steps than it may take
 abbrev pub is_over : Answer → Bool
 is_over Unfinished = true
@@ -89,8 +93,7 @@ ran_piece s file n line o a =
 -- what a goal's code matches is what the goal means
 unfoldable pub match_makes : Settings → Job → Makes
 match_makes s job file n line =
-    ran_piece s file n line (outcome job.rules job.goal (chars line))
-    (run job.code (chars line) (budget_of s (chars line)))
+    ran_piece s file n line (outcome job.rules job.goal (chars line)) (ran s job.code line)
 
 -- what a code matches that has no goal is what its captures write out
 abbrev pub ran_outcome : Answer → Outcome
@@ -99,8 +102,7 @@ ran_outcome (Matched n i cs) = At n i (written cs)
 ran_outcome (Failed n) = Fail n
 
 abbrev pub code_outcome : Settings → List Instr → List ℕ → Outcome
-code_outcome s code line = ran_outcome (run code (chars line) (budget_of s (chars line)))
+code_outcome s code line = ran_outcome (ran s code line)
 
 unfoldable pub code_makes : Settings → List Instr → Makes
-code_makes s code file n line =
-    ran_piece s file n line (code_outcome s code line) (run code (chars line) (budget_of s (chars line)))
+code_makes s code file n line = ran_piece s file n line (code_outcome s code line) (ran s code line)

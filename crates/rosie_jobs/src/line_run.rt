@@ -4,15 +4,13 @@ ghost use Rattle.std.specs.Prelude.{◌≡◌, ◌⊎◌, ◌≤◌, ◌^◌, �
 ghost use Rattle.rosie_run.specs.Made.{IsMade};
 ghost use Rattle.rpl_core.specs.Forest as F;
 ghost use Rattle.rpl_core.specs.Meaning.{Outcome};
-ghost use Rattle.rpl_core.specs.Program.{instructions, labels_of};
-ghost use Rattle.rpl_core.specs.Run as R;
+ghost use Rattle.rpl_core.specs.Program.{instructions};
 ghost use Rattle.rpl_encode.specs.Answer.{answer, IgnoresTrees};
 ghost use Rattle.rpl_encode.specs.Print.{placed};
-ghost use Rattle.rpl_machine.specs.Shown.{captures_of, CapturesIn};
 ghost use Rattle.rpl_text.specs.Places.{at};
 ghost use Rattle.rpl_tree.specs.Trees.{BuildsEach};
-ghost use Rattle.rosie_jobs.specs.Lines.{budget_of, budget_or, made, ran_piece};
-ghost use Rattle.rosie_jobs.specs.inside.Printed.{IsShown, Printed};
+ghost use Rattle.rosie_jobs.specs.Lines.{budget_of, budget_or, made, ran, ran_piece};
+ghost use Rattle.rosie_jobs.specs.inside.Printed.{Catches, IsShown, Printed};
 
 use crate::settings::Settings;
 use crate::texts::Texts;
@@ -79,9 +77,7 @@ fn print_match(
     line: &str,
     program: &Program,
 ) -> Result<bool, NoMemory>
-    ensures { IfOk result (λ fits. (f : F.Forest)
-        → captures_of (chars line.now) (labels_of program.now) captures.now ≡ F.flat f
-        → CapturesIn (chars line.now) captures.now
+    ensures { IfOk result (λ fits. (f : F.Forest) → Catches captures.now program.now line.now f
         → Printed fits (answer style line.now (Some (placed (at (chars line.now)) f))) texts.new.answer) }
 {
     make_trees(forest, captures, style)?;
@@ -113,14 +109,11 @@ impl LineRun {
     ) -> Result<Mark, NoMemory>
         requires { length line.now ≤ 2 ^ 30 }
         ensures same { self.new.settings ≡ self.old.settings }
-        ensures made { (o : Outcome)
-            → IsShown
-            (R.run (instructions program.now) (chars line.now) (budget_of self.old.settings (chars line.now))) o
+        ensures made { let a = ran self.old.settings (instructions program.now) line.now in (o : Outcome) → IsShown a o
             → IfOk result (λ mark. IsMade mark self.new.texts.answer (string_bytes self.new.texts.told)
-            (ran_piece self.old.settings file.now number line.now o
-            (R.run (instructions program.now) (chars line.now) (budget_of self.old.settings (chars line.now))))) }
+            (ran_piece self.old.settings file.now number line.now o a)) }
         ensures steps { OnOk result (steps.new ≡ steps.old + made (budget_of self.old.settings (chars line.now))
-            (R.run (instructions program.now) (chars line.now) (budget_of self.old.settings (chars line.now)))) }
+            (ran self.old.settings (instructions program.now) line.now)) }
     {
         let settings = self.settings;
         let budget = budget_or(settings.budget, line);

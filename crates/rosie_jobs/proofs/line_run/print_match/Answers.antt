@@ -9,9 +9,9 @@ use Rattle.rosie_jobs.proofs.OneLine.{trees_same, printed_as}
 use Rattle.rosie_jobs.proofs.line_run.print_match.Goals as goal
 
 pub returns : goal.returns
-returns c = printed_as c.print.result _ _ _ c.print.ensures (λ f e inside.
+returns c = printed_as c.print.result _ _ _ c.print.ensures (λ f caught.
     let t = chars c.args.line.now in
     ⊎_elim
     (λ same. ap line_by_line (same c.args.line.now (trees_in c.args.program.now c.make_trees.new.forest) (placed (at t) f)))
-    (λ built. ap (λ x. answer c.args.style c.args.line.now (Some x)) (built (label_in (labels_of c.args.program.now)) (placed (at t) f) (trees_same t (labels_of c.args.program.now) c.args.captures.now f inside e)).trees)
+    (λ built. ap (λ x. answer c.args.style c.args.line.now (Some x)) (built (label_in (labels_of c.args.program.now)) (placed (at t) f) (trees_same t (labels_of c.args.program.now) c.args.captures.now f caught.1 caught.0)).trees)
     c.in_ok-make_trees.ensures)
