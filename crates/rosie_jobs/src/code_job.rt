@@ -8,6 +8,7 @@ ghost use Rattle.rpl_safe.specs.Safe.{IsSafe};
 ghost use Rattle.rosie_jobs.specs.Written.{written};
 
 use crate::line_run::LineRun;
+use crate::place::Place;
 use crate::settings::Settings;
 use rosie_run::{LineJob, Mark, NoMemory};
 use rpl_core::Program;
@@ -54,9 +55,12 @@ impl LineJob for CodeJob {
         file: &str,
         number: u64,
         line: &str,
+        is_ascii: bool,
         steps: &mut Steps<L>,
     ) -> Result<Mark, NoMemory> {
-        self.line.answer(&self.program, file, number, line, steps)
+        let place = Place { file, number };
+        self.line
+            .answer(&self.program, place, line, is_ascii, steps)
     }
 
     fn out(&self) -> &[u8] {

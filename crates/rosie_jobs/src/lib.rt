@@ -18,6 +18,7 @@ mod laws;
 mod line_run;
 mod loading;
 mod match_job;
+mod place;
 mod settings;
 mod texts;
 mod trace_job;

@@ -1,6 +1,7 @@
 //! The run of a program on a line, and what is printed of it.
 
-ghost use Rattle.std.specs.Prelude.{◌≡◌, ◌⊎◌, ◌≤◌, ◌^◌, ◌+◌, Some, length, chars, string_bytes, IfOk, OnOk};
+ghost use Rattle.std.specs.Prelude.{◌≡◌, ◌⊎◌, ◌≤◌, ◌^◌, ◌+◌, Some, length, chars, string_bytes, IfOk, OnOk, IsTrue};
+ghost use Rattle.std.specs.Str.{IsAscii};
 ghost use Rattle.rosie_run.specs.Made.{IsMade};
 ghost use Rattle.rpl_core.specs.Forest as F;
 ghost use Rattle.rpl_core.specs.Meaning.{Outcome};
@@ -12,6 +13,7 @@ ghost use Rattle.rpl_tree.specs.Trees.{BuildsEach};
 ghost use Rattle.rosie_jobs.specs.Lines.{budget_of, budget_or, made, ran, ran_piece};
 ghost use Rattle.rosie_jobs.specs.inside.Printed.{Catches, IsShown, Printed};
 
+use crate::place::Place;
 use crate::settings::Settings;
 use crate::texts::Texts;
 use rosie_run::{Mark, NoMemory};
@@ -35,26 +37,29 @@ pub(crate) struct LineRun {
     pub(crate) texts: Texts,
 }
 
-/// How many characters a line has. Where all of its bytes are ASCII, which is seen many at a time, each is one.
-fn characters(line: &str) -> u64
-    requires { length line.now ≤ 2 ^ 30 }
+/// How many characters a line has. Where it is known that all of its bytes are ASCII, each is one.
+fn characters(line: &str, is_ascii: bool) -> u64
+    requires fits { length line.now ≤ 2 ^ 30 }
+    requires ascii { IsTrue is_ascii → IsAscii line.now }
     ensures exact { result ≡ length (chars line.now) }
     ensures few { result ≤ length line.now }
 {
-    if line.as_bytes().is_ascii() {
+    if is_ascii {
         return line.len() as u64;
     }
     line.chars().count() as u64
 }
 
-/// The steps that a line may take: those that are given, else a million, and a thousand for each of its characters.
-pub fn budget_or(given: Option<u64>, line: &str) -> u64
-    requires { length line.now ≤ 2 ^ 30 }
+/// The steps that a line may take: those that are given, else a million, and a thousand for each of its characters. It
+/// may be known that all bytes of the line are ASCII.
+pub fn budget_or(given: Option<u64>, line: &str, is_ascii: bool) -> u64
+    requires fits { length line.now ≤ 2 ^ 30 }
+    requires ascii { IsTrue is_ascii → IsAscii line.now }
     ensures { result ≡ budget_or given (chars line.now) }
 {
     match given {
         Some(budget) => budget,
-        None => 1_000_000 + 1_000 * characters(line),
+        None => 1_000_000 + 1_000 * characters(line, is_ascii),
     }
 }
 
@@ -102,21 +107,22 @@ impl LineRun {
     pub(crate) fn answer<L: Ledger>(
         &mut self,
         program: &Program,
-        file: &str,
-        number: u64,
+        place: Place<'_>,
         line: &str,
+        is_ascii: bool,
         steps: &mut Steps<L>,
     ) -> Result<Mark, NoMemory>
-        requires { length line.now ≤ 2 ^ 30 }
+        requires fits { length line.now ≤ 2 ^ 30 }
+        requires ascii { IsTrue is_ascii → IsAscii line.now }
         ensures same { self.new.settings ≡ self.old.settings }
         ensures made { let a = ran self.old.settings (instructions program.now) line.now in (o : Outcome) → IsShown a o
             → IfOk result (λ mark. IsMade mark self.new.texts.answer (string_bytes self.new.texts.told)
-            (ran_piece self.old.settings file.now number line.now o a)) }
+            (ran_piece self.old.settings place.entry.file.now place.entry.number line.now o a)) }
         ensures steps { OnOk result (steps.new ≡ steps.old + made (budget_of self.old.settings (chars line.now))
             (ran self.old.settings (instructions program.now) line.now)) }
     {
         let settings = self.settings;
-        let budget = budget_or(settings.budget, line);
+        let budget = budget_or(settings.budget, line, is_ascii);
         match run(program, Text::new(line), budget, &mut self.scratch, steps) {
             Ok(answer) => match answer {
                 Answer::At { steps, .. } => {
@@ -129,17 +135,15 @@ impl LineRun {
                         line,
                         program,
                     )?;
-                    self.texts
-                        .say(settings, file, number, line, fits, true, steps)
+                    self.texts.say(settings, place, line, fits, true, steps)
                 }
                 Answer::Fail { steps } => {
                     let fits = self.texts.print(settings.style, line, None, program)?;
-                    self.texts
-                        .say(settings, file, number, line, fits, false, steps)
+                    self.texts.say(settings, place, line, fits, false, steps)
                 }
             },
             Err(fault) => match fault {
-                RunFault::Budget => self.texts.fault(file, number, "budget spent"),
+                RunFault::Budget => self.texts.fault(place, "budget spent"),
                 RunFault::NoMemory => Err(AllocError),
             },
         }

@@ -4,6 +4,7 @@ ghost use Rattle.std.specs.Prelude.{◌≡◌, string_bytes, IfOk};
 
 use crate::job::Job;
 use crate::line_run::LineRun;
+use crate::place::Place;
 use crate::settings::Settings;
 use rosie_run::{LineJob, Mark, NoMemory};
 use rpl_machine::Steps;
@@ -47,10 +48,12 @@ impl LineJob for MatchJob {
         file: &str,
         number: u64,
         line: &str,
+        is_ascii: bool,
         steps: &mut Steps<L>,
     ) -> Result<Mark, NoMemory> {
         let program = self.job.program();
-        self.line.answer(program, file, number, line, steps)
+        let place = Place { file, number };
+        self.line.answer(program, place, line, is_ascii, steps)
     }
 
     fn out(&self) -> &[u8] {

@@ -11,6 +11,7 @@ ghost use Rattle.rpl_encode.specs.Labels.{trees_in};
 ghost use Rattle.rosie_jobs.specs.Lines.{told, unanswered, said};
 ghost use Rattle.rosie_jobs.specs.inside.Printed.{Printed};
 
+use crate::place::Place;
 use crate::settings::Settings;
 use rosie_run::{Mark, NoMemory, line_fault};
 use rpl_core::Program;
@@ -66,11 +67,11 @@ impl Texts {
     }
 
     /// Says that a line has no answer, and why.
-    pub(crate) fn fault(&mut self, file: &str, number: u64, text: &str) -> Result<Mark, NoMemory>
+    pub(crate) fn fault(&mut self, place: Place<'_>, text: &str) -> Result<Mark, NoMemory>
         ensures { (cost : ℕ) → IfOk result (λ mark. IsMade mark self.new.answer (string_bytes self.new.told)
-            (unanswered (line_fault file.now number text.now) cost)) }
+            (unanswered (line_fault place.entry.file.now place.entry.number text.now) cost)) }
     {
-        self.told = line_fault(self.alloc, file, number, text)?;
+        self.told = line_fault(self.alloc, place.file, place.number, text)?;
         self.answer = AnswerText::new(self.alloc);
         Ok(Mark::Fault)
     }
@@ -121,18 +122,17 @@ impl Texts {
     pub(crate) fn say(
         &mut self,
         settings: Settings,
-        file: &str,
-        number: u64,
+        place: Place<'_>,
         line: &str,
         fits: bool,
         hit: bool,
         steps: u64,
     ) -> Result<Mark, NoMemory>
         ensures { (cost : ℕ) → IfOk result (λ mark. IsMade mark self.new.answer (string_bytes self.new.told)
-            (said settings file.now number line.now fits self.old.answer hit steps cost)) }
+            (said settings place.entry.file.now place.entry.number line.now fits self.old.answer hit steps cost)) }
     {
         if !fits {
-            return self.fault(file, number, "answer too long");
+            return self.fault(place, "answer too long");
         }
         self.tell(settings, line, hit, steps)?;
         Ok(mark_of(hit))

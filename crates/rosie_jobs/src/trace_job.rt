@@ -80,6 +80,7 @@ impl LineJob for TraceJob {
         file: &str,
         number: u64,
         line: &str,
+        _is_ascii: bool,
         _steps: &mut Steps<L>,
     ) -> Result<Mark, NoMemory> {
         let rules = self.job.rules();

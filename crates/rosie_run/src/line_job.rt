@@ -1,5 +1,6 @@
 // What a command does on each line.
-ghost use Rattle.std.specs.Prelude.{◌≡◌, ◌≤◌, ◌^◌, ◌+◌, ℕ, List, length, IfOk, OnOk};
+ghost use Rattle.std.specs.Prelude.{◌≡◌, ◌≤◌, ◌^◌, ◌+◌, ℕ, List, length, IfOk, OnOk, IsTrue};
+ghost use Rattle.std.specs.Str.{IsAscii};
 ghost use Rattle.rosie_run.specs.Made.{IsMade};
 ghost use Rattle.rosie_run.specs.Report.{Piece};
 
@@ -17,15 +18,18 @@ pub trait LineJob {
 
     ghost err_text: { Self → List ℕ };
 
-    /// Makes the piece of a line.
+    /// Makes the piece of a line. It may be known that all bytes of the line are ASCII; that is never needed, and spares
+    /// a look at each.
     fn answer<L: Ledger>(
         &mut self,
         file: &str,
         number: u64,
         line: &str,
+        is_ascii: bool,
         steps: &mut Steps<L>,
     ) -> Result<Mark, NoMemory>
-        requires { length line.now ≤ 2 ^ 30 }
+        requires fits { length line.now ≤ 2 ^ 30 }
+        requires ascii { IsTrue is_ascii → IsAscii line.now }
         ensures same { makes self.new ≡ makes self.old }
         ensures made { IfOk result (λ mark. IsMade mark (out_text self.new) (err_text self.new)
             (makes self.old file.now number line.now)) }

@@ -84,10 +84,13 @@ fn make_of<J: LineJob, L: Ledger>(
         (J.out_text job.new) (J.err_text job.new) steps.old steps.new }
 {
     match found {
-        Ok(Line::Text) => match job.answer(file, reader.number(), reader.line(), steps) {
-            Ok(mark) => Ok(Some(Made::Answer(mark))),
-            Err(_) => Err(Trouble::NoMemory),
-        },
+        Ok(Line::Text) => {
+            let (line, is_ascii) = (reader.line(), reader.is_ascii());
+            match job.answer(file, reader.number(), line, is_ascii, steps) {
+                Ok(mark) => Ok(Some(Made::Answer(mark))),
+                Err(_) => Err(Trouble::NoMemory),
+            }
+        }
         Ok(Line::End) => Ok(None),
         Err(LineFault::TooLong { line }) => fault_of(alloc, file, line, "line too long"),
         Err(LineFault::NotText { line }) => fault_of(alloc, file, line, "not UTF-8"),

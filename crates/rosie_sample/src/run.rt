@@ -75,7 +75,7 @@ fn run_line<J: LineJob, O: Sink, E: Sink, L: Ledger>(
     ensures no_cut { IfErr result IsNoCut }
     ensures sinks { WritesCause result (O.faults out.old) (O.faults out.new) (E.faults err.old) (E.faults err.new) }
 {
-    match job.answer("-", number, line, steps) {
+    match job.answer("-", number, line, false, steps) {
         Ok(mark) => say(out, err, job.out(), job.err(), mark),
         Err(_) => Err(Ended::NoMemory),
     }

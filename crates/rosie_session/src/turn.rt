@@ -150,7 +150,7 @@ fn try_job<L: Ledger>(
     ensures cost { (ran : Job) → matcher_of job.old ≡ Matches plain ran
         → OnOk result (steps.new ≡ steps.old + (job_piece ran number line.now).cost) }
 {
-    let mark = job.answer(NAME, number, line, steps)?;
+    let mark = job.answer(NAME, number, line, false, steps)?;
     let text = job.out();
     let fault = job.err();
     Ok(Reply {

@@ -46,7 +46,7 @@ impl Suite {
         let text = text_of(&test.text);
         let prefix = text_of(&self.prefix);
         let program = &compiled.program;
-        let budget = budget_or(self.budget, text);
+        let budget = budget_or(self.budget, text, false);
         match run(program, Text::new(text), budget, &mut tester.scratch, steps) {
             Ok(answer) => match answer {
                 Answer::At { .. } => tester.judge_match(test, prefix, program),

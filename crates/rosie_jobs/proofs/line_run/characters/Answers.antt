@@ -1,5 +1,5 @@
-use Rattle.std.proofs.Common.{◌≡◌, length, arith, ap, sym, subst}
-use Rattle.std.specs.Str.{chars, IsAscii}
+use Rattle.std.proofs.Common.{◌≡◌, length, arith, ap, sym}
+use Rattle.std.specs.Str.{chars}
 use Rattle.std.proofs.lemmas.Str.{chars-IsAscii}
 use Rattle.std.proofs.lemmas.Iterator.{YieldsList-from_chars}
 use Rattle.std.proofs.lemmas.Iterator.Consumers.{count_from_yields_List}
@@ -12,4 +12,4 @@ returns-clause-exact c =
 
 pub returns-then-is_ascii-clause-exact : goal.returns-then-is_ascii-clause-exact
 returns-then-is_ascii-clause-exact c =
-    ap length (sym (chars-IsAscii c.args.line.now (subst IsAscii c.as_bytes.ensures.value c.if-is_ascii.ensures.cases)))
+    ap length (sym (chars-IsAscii c.args.line.now (c.requires.ascii c.if-is_ascii.true)))

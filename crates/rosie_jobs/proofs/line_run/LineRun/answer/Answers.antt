@@ -7,7 +7,7 @@ pub returns-in_ok-fits-in-At-clause-made : goal.returns-in_ok-fits-in-At-clause-
 returns-in_ok-fits-in-At-clause-made g c = λ o shown.
     let a = rw c.in-At.is at (c.in-Ok.ensures.answer (labels_of c.args.program.now)) in
     let e = hit_ends c.args.self.now.settings (instructions c.args.program.now) o c.args.line.now c.utf8.line shown _ _ _ _ _ _ _ c.in_ok-fits-in-At.fits _ c.new.ensures c.budget_or-budget.ensures refl a.0 a.2 (rw c.captures-captures.ensures at c.in_ok-fits-in-At.ensures) in
-    made_ok c.say.result _ _ _ _ (said_piece c.args.self.now.settings (instructions c.args.program.now) o c.args.file.now c.args.number c.args.line.now _ _ _ _ e) (c.say.ensures c.in-At.steps)
+    made_ok c.say.result _ _ _ _ (said_piece c.args.self.now.settings (instructions c.args.program.now) o c.args.place.file.now c.args.place.number c.args.line.now _ _ _ _ e) (c.say.ensures c.in-At.steps)
 
 pub returns-in_ok-fits-in-At-clause-steps : goal.returns-in_ok-fits-in-At-clause-steps
 returns-in_ok-fits-in-At-clause-steps g c =
@@ -19,7 +19,7 @@ pub returns-in_ok-fits-in-Fail-clause-made : goal.returns-in_ok-fits-in-Fail-cla
 returns-in_ok-fits-in-Fail-clause-made g c = λ o shown.
     let a = rw c.in-Fail.is at (c.in-Ok.ensures.answer (labels_of c.args.program.now)) in
     let e = miss_ends c.args.self.now.settings (instructions c.args.program.now) o c.args.line.now c.utf8.line shown _ _ _ _ c.in_ok-fits-in-Fail.fits _ c.new.ensures c.budget_or-budget.ensures refl a c.in_ok-fits-in-Fail.ensures in
-    made_ok c.say-in-Fail.result _ _ _ _ (said_piece c.args.self.now.settings (instructions c.args.program.now) o c.args.file.now c.args.number c.args.line.now _ _ _ _ e) (c.say-in-Fail.ensures c.in-Fail.steps)
+    made_ok c.say-in-Fail.result _ _ _ _ (said_piece c.args.self.now.settings (instructions c.args.program.now) o c.args.place.file.now c.args.place.number c.args.line.now _ _ _ _ e) (c.say-in-Fail.ensures c.in-Fail.steps)
 
 pub returns-in_ok-fits-in-Fail-clause-steps : goal.returns-in_ok-fits-in-Fail-clause-steps
 returns-in_ok-fits-in-Fail-clause-steps g c =
@@ -31,7 +31,7 @@ pub returns-in-Budget-clause-made : goal.returns-in-Budget-clause-made
 returns-in-Budget-clause-made g c = λ o shown.
     let a = rw c.in-Budget.is at (c.in-Err.ensures.answer (labels_of c.args.program.now)) in
     let e = ran_over c.args.self.now.settings (instructions c.args.program.now) o c.args.line.now c.utf8.line _ _ _ c.new.ensures c.budget_or-budget.ensures refl a in
-    made_ok c.fault.result _ _ _ _ (over_piece c.args.self.now.settings (instructions c.args.program.now) o c.args.file.now c.args.number c.args.line.now e) (c.fault.ensures _)
+    made_ok c.fault.result _ _ _ _ (over_piece c.args.self.now.settings (instructions c.args.program.now) o c.args.place.file.now c.args.place.number c.args.line.now e) (c.fault.ensures _)
 
 pub returns-in-Budget-clause-steps : goal.returns-in-Budget-clause-steps
 returns-in-Budget-clause-steps g c =
