@@ -1,0 +1,14 @@
+use Rattle.std.proofs.Common.{map}
+use Rattle.std.proofs.Math.Logic.{∥∥₁_map}
+use Rattle.rpl_expand.specs.Sets.{table_of}
+use Rattle.rpl_load_laws.proofs.Loaded.{table_is_distinct}
+use Rattle.rpl_load_laws.proofs.Merely.{distinct_out}
+use Rattle.rpl_package.specs.Sets.{set_seen}
+use Rattle.rosie_device_tests.proofs.calls.program.Goals as goal
+
+-- the names of a set that was loaded are distinct
+pub expand-requires : goal.expand-requires
+expand-requires c =
+    let set = c.load_pattern.new.set in
+    distinct_out (map (λ r. r.name) (table_of (set_seen set)))
+    (∥∥₁_map set.built (λ built. table_is_distinct (set_seen set) built))
