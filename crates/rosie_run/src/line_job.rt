@@ -18,8 +18,8 @@ pub trait LineJob {
 
     ghost err_text: { Self → List ℕ };
 
-    /// Makes the piece of a line. It may be known that all bytes of the line are ASCII; that is never needed, and spares
-    /// a look at each.
+    /// Makes the piece of a line. Where `is_ascii` says that all its bytes are ASCII, none is looked at for that; it
+    /// need not say so.
     fn answer<L: Ledger>(
         &mut self,
         file: &str,
