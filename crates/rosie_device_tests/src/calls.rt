@@ -2,8 +2,8 @@
 // the comments of these calls are lines of this file.
 ghost use Rattle.std.specs.Prelude.{◌≡◌, ◌<◌};
 
-use crate::command::words;
-use rosie_io::{Files, SureFiles, Tree};
+use crate::command::words_of;
+use rosie_io::{Files, NoMemory, SureFiles, Tree};
 use rosie_words::{What, read_words};
 use rpl_check::{check, check_pattern};
 use rpl_codefile::{read_code, write_code};
@@ -19,6 +19,10 @@ use std::alloc::Global;
 use std::marker::Brand;
 use std::sync::ledger::{Blank, Ledger};
 use std::test::Fail;
+
+fn words(alloc: Global) -> Result<Vec<String>, NoMemory> {
+    words_of(alloc, "match --steps -o line --libpath lib p.ab f - g")
+}
 
 #[test]
 fn words_are_a_command(rt: HostRuntime) -> Result<(), Fail> {

@@ -1,18 +1,16 @@
 // One run of the command over files and streams in memory, of which one call fails.
 ghost use Rattle.std.specs.Prelude.{◌≡◌, ◌<◌, ◌≤◌};
 
+use crate::files::tree;
 use rosie_cli::{Status, rosie};
-use rosie_io::{Bytes, Calls, MemoryFiles, MemorySink, MemorySource, NoMemory, Tree, TreeFile};
+use rosie_io::{Bytes, Calls, MemoryFiles, MemorySink, MemorySource, NoMemory};
 use rpl_machine::Steps;
 use std::alloc::Global;
 use std::marker::Brand;
 use std::sync::ledger::{Blank, Ledger};
 
-/// The words of the run: two files, and the standard input between them, with a rule of an imported package.
-const WORDS: &str = "match --steps -o line --libpath lib p.ab f - g";
-
 /// How much each sink has room for, in bytes.
-const ROOM: usize = 200;
+const ROOM: usize = 10_000;
 
 /// What the command calls.
 #[derive(Clone, Copy, PartialEq)]
@@ -21,6 +19,30 @@ pub(crate) enum Device {
     Input,
     Out,
     Err,
+}
+
+/// The call of a device that fails, counted from 1. With 0 none does.
+#[derive(Clone, Copy)]
+pub(crate) struct Fault {
+    pub(crate) device: Device,
+    pub(crate) call: u64,
+}
+
+/// No call fails.
+pub(crate) const NO_FAULT: Fault = Fault {
+    device: Device::Files,
+    call: 0,
+};
+
+/// What the command is run on, beside the files.
+#[derive(Clone, Copy)]
+pub(crate) struct Run<'a> {
+    /// The words, with a space between two.
+    pub(crate) words: &'a str,
+    /// What the standard input has.
+    pub(crate) input: &'a [u8],
+    /// Whether a call moves only a few bytes: 8 of a file, 3 of the input and of `out`, and 20 of `err`.
+    pub(crate) in_pieces: bool,
 }
 
 /// What the command calls in one run.
@@ -40,69 +62,69 @@ pub(crate) struct Outcome {
     pub(crate) err: Vec<u8>,
 }
 
-/// Which call of this device fails where that call of that one does, and no other.
-fn call_of(this: Device, that: Device, call: u64) -> u64 {
-    if this == that { call } else { 0 }
-}
-
-pub(crate) fn words(alloc: Global) -> Result<Vec<String>, NoMemory> {
+pub(crate) fn words_of(alloc: Global, text: &str) -> Result<Vec<String>, NoMemory> {
     let mut words = Vec::new(alloc);
-    for word in WORDS.split(' ') {
+    for word in text.split(' ') {
         words.push(String::from_str(alloc, word)?)?;
     }
     Ok(words)
 }
 
-fn put(alloc: Global, tree: &mut Tree, path: &[u8], bytes: &[u8]) -> Result<(), NoMemory> {
-    let path = Bytes::from_slice(alloc, path)?;
-    let bytes = Bytes::from_slice(alloc, bytes)?;
-    tree.push(TreeFile { path, bytes })
-}
-
-/// The files: one has a line that matches and one that doesn't, one a line that is no text and one that matches, and
-/// the package has the rule.
-fn tree(alloc: Global) -> Result<Tree, NoMemory> {
-    let mut tree = Tree::new(alloc);
-    put(alloc, &mut tree, b"f".as_slice(), b"ab1\nx\n".as_slice())?;
-    put(alloc, &mut tree, b"g".as_slice(), b"\xff\nab4".as_slice())?;
-    put(
-        alloc,
-        &mut tree,
-        b"lib/p.rpl".as_slice(),
-        b"package p ab = \"ab\"".as_slice(),
-    )?;
-    Ok(tree)
-}
-
-fn files(alloc: Global, call: u64) -> Result<MemoryFiles, NoMemory> {
-    let tree = tree(alloc)?;
-    let fails = Calls::from_slice(alloc, &[call])?;
-    Ok(MemoryFiles::new(tree, 8, fails))
-}
-
-/// The standard input has a line that matches, one that is no text, and one that matches.
-fn input(alloc: Global, call: u64) -> Result<MemorySource, NoMemory> {
-    let bytes = Bytes::from_slice(alloc, b"ab2\n\xff\nab3\n".as_slice())?;
-    let fails = Calls::from_slice(alloc, &[call])?;
-    Ok(MemorySource::new(bytes, 3, fails))
-}
-
-fn sink(alloc: Global, most: usize, call: u64) -> Result<MemorySink, NoMemory>
-    requires { 1 ≤ most }
+/// How many bytes a call of this device moves at the most.
+fn most_of(run: &Run<'_>, device: Device) -> usize
+    ensures { 1 ≤ result }
 {
-    let fails = Calls::from_slice(alloc, &[call])?;
+    if !run.in_pieces {
+        return ROOM;
+    }
+    match device {
+        Device::Files => 8,
+        Device::Input | Device::Out => 3,
+        Device::Err => 20,
+    }
+}
+
+/// The calls of this device that fail.
+fn failing(alloc: Global, fault: Fault, device: Device) -> Result<Calls, NoMemory> {
+    let call = if fault.device == device {
+        fault.call
+    } else {
+        0
+    };
+    Calls::from_slice(alloc, &[call])
+}
+
+fn files(alloc: Global, run: &Run<'_>, fault: Fault) -> Result<MemoryFiles, NoMemory> {
+    let most = most_of(run, Device::Files);
+    let fails = failing(alloc, fault, Device::Files)?;
+    Ok(MemoryFiles::new(tree(alloc)?, most, fails))
+}
+
+fn input(alloc: Global, run: &Run<'_>, fault: Fault) -> Result<MemorySource, NoMemory> {
+    let most = most_of(run, Device::Input);
+    let fails = failing(alloc, fault, Device::Input)?;
+    let bytes = Bytes::from_slice(alloc, run.input)?;
+    Ok(MemorySource::new(bytes, most, fails))
+}
+
+fn sink(
+    alloc: Global,
+    run: &Run<'_>,
+    fault: Fault,
+    device: Device,
+) -> Result<MemorySink, NoMemory> {
+    let most = most_of(run, device);
+    let fails = failing(alloc, fault, device)?;
     MemorySink::new(alloc, ROOM, most, fails)
 }
 
 impl Devices {
-    /// The devices where this call of this device fails, counted from 1; with 0 none does. A call moves so many bytes
-    /// at the most: 8 of a file, 3 of the input and of `out`, and 20 of `err`.
-    fn new(alloc: Global, device: Device, call: u64) -> Result<Devices, NoMemory> {
+    fn new(alloc: Global, run: &Run<'_>, fault: Fault) -> Result<Devices, NoMemory> {
         Ok(Devices {
-            files: files(alloc, call_of(Device::Files, device, call))?,
-            input: input(alloc, call_of(Device::Input, device, call))?,
-            out: sink(alloc, 3, call_of(Device::Out, device, call))?,
-            err: sink(alloc, 20, call_of(Device::Err, device, call))?,
+            files: files(alloc, run, fault)?,
+            input: input(alloc, run, fault)?,
+            out: sink(alloc, run, fault, Device::Out)?,
+            err: sink(alloc, run, fault, Device::Err)?,
         })
     }
 
@@ -114,32 +136,33 @@ impl Devices {
     }
 }
 
-/// Runs the command where this call of this device fails.
-pub(crate) fn run_on(alloc: Global, device: Device, call: u64) -> Result<Outcome, NoMemory> {
-    let mut devices = Devices::new(alloc, device, call)?;
-    let status = run_counted::<Brand>(alloc, &mut devices, Blank::new(1))?;
+/// Runs the command where this call fails.
+pub(crate) fn run_on(alloc: Global, run: &Run<'_>, fault: Fault) -> Result<Outcome, NoMemory> {
+    let words = words_of(alloc, run.words)?;
+    let mut devices = Devices::new(alloc, run, fault)?;
+    let status = run_counted::<Brand>(alloc, &words, &mut devices, Blank::new(1));
     devices.outcome(alloc, status)
 }
 
 /// Runs the command with these devices.
 fn run_counted<L: Ledger>(
     alloc: Global,
+    words: &[String],
     devices: &mut Devices,
     blank: Blank,
-) -> Result<Status, NoMemory>
+) -> Status
     requires name { blank.name ≡ L.name }
     requires parts { blank.parts ≡ L.parts }
     requires some { 0 < blank.parts }
 {
-    let words = words(alloc)?;
     let mut steps = Steps::<L>::new(blank);
-    Ok(rosie(
+    rosie(
         alloc,
-        &words,
+        words,
         &mut devices.files,
         &mut devices.input,
         &mut devices.out,
         &mut devices.err,
         &mut steps,
-    ))
+    )
 }

@@ -1,0 +1,394 @@
+// A run of each command, and what comes of it where one call fails.
+//
+// A row tells what is written on `out`, and after the `!` on `err`. A `¶` stands for a line feed, and `…` for all that
+// is written there where no call fails. The first row of a device is for its first call, and so on to its last.
+//
+// A line is answered once its line feed, or the end, was read, and before more is read. A text for `out` is written
+// before one for `err`, and flushed before it. Where a read of an input may wait, what was written since the last one
+// is flushed first, on both; a session does so each time. At the end both are flushed. What a file says is known
+// before anything is written.
+use crate::command::{Device, Run};
+use crate::files::CODE;
+use rosie_cli::Status;
+
+/// A run, and what comes of it.
+#[derive(Clone, Copy)]
+pub(crate) struct Case {
+    pub(crate) run: Run<'static>,
+    /// How it ends, and what is written, where no call fails.
+    pub(crate) status: Status,
+    pub(crate) out: &'static [u8],
+    pub(crate) err: &'static [u8],
+    files: &'static str,
+    input: &'static str,
+    out_calls: &'static str,
+    err_calls: &'static str,
+}
+
+impl Case {
+    /// What is written where a call of this device fails: a row for each call.
+    pub(crate) fn rows(&self, device: Device) -> &'static str {
+        match device {
+            Device::Files => self.files,
+            Device::Input => self.input,
+            Device::Out => self.out_calls,
+            Device::Err => self.err_calls,
+        }
+    }
+}
+
+pub(crate) const CASES: [Case; 12] = [
+    MATCH, GREP, TEST, LIST, EXPAND, TRACE, SAMPLE, REPL, COMPILE, CODE_FILE, CLASS, MISSING,
+];
+
+/// A pattern of an imported package, on two files, and on the standard input between them. Calls move a few bytes.
+const MATCH: Case = Case {
+    run: Run {
+        words: "match --steps -o line --libpath lib p.ab f - g",
+        input: b"ab2\n\xff\nab3\n",
+        in_pieces: true,
+    },
+    status: Status::LineFault,
+    out: b"ab1\nab2\nab3\nab4\n",
+    err: b"steps 7\nsteps 4\nsteps 7\nrosie: -:2: not UTF-8\n\
+        steps 7\nrosie: g:1: not UTF-8\nsteps 7\n",
+    // The package is opened, and has three reads and the end; `f` is opened, and has a read and the end, and so has
+    // `g`.
+    files: "\
+        !rosie: lib/p.rpl: read failed¶
+        !rosie: lib/p.rpl: read failed¶
+        !rosie: lib/p.rpl: read failed¶
+        !rosie: lib/p.rpl: read failed¶
+        !rosie: lib/p.rpl: read failed¶
+        !rosie: f: read failed¶
+        !rosie: f: read failed¶
+        ab1¶!steps 7¶steps 4¶rosie: f: read failed¶
+        ab1¶ab2¶ab3¶!steps 7¶steps 4¶steps 7¶rosie: -:2: not UTF-8¶steps 7¶rosie: g: read failed¶
+        ab1¶ab2¶ab3¶!steps 7¶steps 4¶steps 7¶rosie: -:2: not UTF-8¶steps 7¶rosie: g: read failed¶
+        ab1¶ab2¶ab3¶!steps 7¶steps 4¶steps 7¶rosie: -:2: not UTF-8¶steps 7¶rosie: g:1: not UTF-8¶\
+        rosie: g: read failed¶",
+    // The reads give `ab2`, `¶ÿ¶`, `ab3`, `¶` and the end.
+    input: "\
+        ab1¶!steps 7¶steps 4¶rosie: -: read failed¶
+        ab1¶!steps 7¶steps 4¶rosie: -: read failed¶
+        ab1¶ab2¶!steps 7¶steps 4¶steps 7¶rosie: -:2: not UTF-8¶rosie: -: read failed¶
+        ab1¶ab2¶!steps 7¶steps 4¶steps 7¶rosie: -:2: not UTF-8¶rosie: -: read failed¶
+        ab1¶ab2¶ab3¶!steps 7¶steps 4¶steps 7¶rosie: -:2: not UTF-8¶steps 7¶rosie: -: read failed¶",
+    // Each answer takes two writes, and a flush, since its steps are reported. A line without an answer takes a flush
+    // for that alone. One more comes where no whole line is left that was read, and at the end.
+    out_calls: "\
+        !
+        ab1!
+        ab1¶!
+        ab1¶!steps 7¶
+        ab1¶!steps 7¶steps 4¶
+        ab1¶!steps 7¶steps 4¶
+        ab1¶ab2!steps 7¶steps 4¶
+        ab1¶ab2¶!steps 7¶steps 4¶
+        ab1¶ab2¶!steps 7¶steps 4¶steps 7¶
+        ab1¶ab2¶!steps 7¶steps 4¶steps 7¶rosie: -:2: not UTF-8¶
+        ab1¶ab2¶!steps 7¶steps 4¶steps 7¶rosie: -:2: not UTF-8¶
+        ab1¶ab2¶ab3!steps 7¶steps 4¶steps 7¶rosie: -:2: not UTF-8¶
+        ab1¶ab2¶ab3¶!steps 7¶steps 4¶steps 7¶rosie: -:2: not UTF-8¶
+        ab1¶ab2¶ab3¶!steps 7¶steps 4¶steps 7¶rosie: -:2: not UTF-8¶steps 7¶
+        ab1¶ab2¶ab3¶!steps 7¶steps 4¶steps 7¶rosie: -:2: not UTF-8¶steps 7¶
+        ab1¶ab2¶ab3¶!steps 7¶steps 4¶steps 7¶rosie: -:2: not UTF-8¶steps 7¶rosie: g:1: not UTF-8¶
+        ab1¶ab2¶ab3¶!steps 7¶steps 4¶steps 7¶rosie: -:2: not UTF-8¶steps 7¶rosie: g:1: not UTF-8¶
+        ab1¶ab2¶ab3¶ab4!steps 7¶steps 4¶steps 7¶rosie: -:2: not UTF-8¶steps 7¶rosie: g:1: not UTF-8¶
+        …!steps 7¶steps 4¶steps 7¶rosie: -:2: not UTF-8¶steps 7¶rosie: g:1: not UTF-8¶
+        …!…",
+    // The steps of a line take one write and each fault takes two; a flush comes where no whole line is left that was
+    // read, and at the end.
+    err_calls: "\
+        ab1¶!
+        ab1¶!steps 7¶
+        ab1¶!steps 7¶steps 4¶
+        ab1¶ab2¶!steps 7¶steps 4¶
+        ab1¶ab2¶!steps 7¶steps 4¶steps 7¶
+        ab1¶ab2¶!steps 7¶steps 4¶steps 7¶rosie: -:2: not UTF-
+        ab1¶ab2¶!steps 7¶steps 4¶steps 7¶rosie: -:2: not UTF-8¶
+        ab1¶ab2¶ab3¶!steps 7¶steps 4¶steps 7¶rosie: -:2: not UTF-8¶
+        ab1¶ab2¶ab3¶!steps 7¶steps 4¶steps 7¶rosie: -:2: not UTF-8¶steps 7¶
+        ab1¶ab2¶ab3¶!steps 7¶steps 4¶steps 7¶rosie: -:2: not UTF-8¶steps 7¶
+        ab1¶ab2¶ab3¶!steps 7¶steps 4¶steps 7¶rosie: -:2: not UTF-8¶steps 7¶rosie: g:1: not UTF-
+        ab1¶ab2¶ab3¶!steps 7¶steps 4¶steps 7¶rosie: -:2: not UTF-8¶steps 7¶rosie: g:1: not UTF-8¶
+        …!steps 7¶steps 4¶steps 7¶rosie: -:2: not UTF-8¶steps 7¶rosie: g:1: not UTF-8¶
+        …!…",
+};
+
+/// The rules and the file take three calls each: it is opened, and has a read and the end.
+const GREP: Case = Case {
+    run: Run {
+        words: "grep -a -f r.rpl n f -",
+        input: b"ab2\n\xff\nab3\n",
+        in_pieces: false,
+    },
+    status: Status::LineFault,
+    out: b"ab1\nab2\nab3\n",
+    err: b"x\nrosie: -:2: not UTF-8\n",
+    files: "\
+        !rosie: r.rpl: read failed¶
+        !rosie: r.rpl: read failed¶
+        !rosie: r.rpl: read failed¶
+        !rosie: f: read failed¶
+        !rosie: f: read failed¶
+        ab1¶!x¶rosie: f: read failed¶",
+    input: "\
+        ab1¶!x¶rosie: -: read failed¶
+        …!x¶rosie: -:2: not UTF-8¶rosie: -: read failed¶",
+    out_calls: "\
+        !
+        ab1¶!
+        ab1¶!x¶
+        ab1¶!x¶
+        ab1¶ab2¶!x¶
+        ab1¶ab2¶!…
+        …!…
+        …!…",
+    err_calls: "\
+        ab1¶!
+        ab1¶!x¶
+        ab1¶ab2¶!x¶
+        …!…
+        …!…",
+};
+
+/// The file is read twice, for its rules and for its tests. One test isn't met, and one is over its budget.
+const TEST: Case = Case {
+    run: Run {
+        words: "test --budget 30 t.rpl",
+        input: b"",
+        in_pieces: false,
+    },
+    status: Status::LineFault,
+    out: b"t.rpl:5: p includes q \"ab\"\nt.rpl: 3 tests, 1 failed\n",
+    err: b"rosie: t.rpl:6: budget spent\n",
+    files: "\
+        !rosie: t.rpl: read failed¶
+        !rosie: t.rpl: read failed¶
+        !rosie: t.rpl: read failed¶
+        !rosie: t.rpl: read failed¶
+        !rosie: t.rpl: read failed¶
+        !rosie: t.rpl: read failed¶",
+    input: "",
+    out_calls: "\
+        !
+        t.rpl:5: p includes q \"ab\"¶!
+        t.rpl:5: p includes q \"ab\"¶!…
+        …!…",
+    err_calls: "\
+        t.rpl:5: p includes q \"ab\"¶!
+        …!…",
+};
+
+const LIST: Case = Case {
+    run: Run {
+        words: "list -f r.rpl",
+        input: b"",
+        in_pieces: false,
+    },
+    status: Status::Matched,
+    out: b"d alias -\nn capture n\n",
+    err: b"",
+    files: "\
+        !rosie: r.rpl: read failed¶
+        !rosie: r.rpl: read failed¶
+        !rosie: r.rpl: read failed¶",
+    input: "",
+    out_calls: "\
+        !
+        …!",
+    err_calls: "…!",
+};
+
+const EXPAND: Case = Case {
+    run: Run {
+        words: "expand --code -f x.rpl x",
+        input: b"",
+        in_pieces: false,
+    },
+    status: Status::Matched,
+    out: b"pattern x\n* = (call x)\nx = (capture x (set 61))\n\
+        0 call 2\n1 finish\n2 open x\n3 set 61\n4 close\n5 return\n",
+    err: b"",
+    files: "\
+        !rosie: x.rpl: read failed¶
+        !rosie: x.rpl: read failed¶
+        !rosie: x.rpl: read failed¶",
+    input: "",
+    out_calls: "\
+        !
+        …!",
+    err_calls: "…!",
+};
+
+/// Only the file has a line that is traced.
+const TRACE: Case = Case {
+    run: Run {
+        words: "trace {\"a\"!\"b\"} h -",
+        input: b"\xff\n",
+        in_pieces: false,
+    },
+    status: Status::LineFault,
+    out: b"line 1\n0 capture * 1 2\n1 seq 1 2\n2 set 61 1 2\n2 not 2 2\n3 set 62 2 fail\n",
+    err: b"rosie: -:1: not UTF-8\n",
+    files: "\
+        !rosie: h: read failed¶
+        !rosie: h: read failed¶
+        …!rosie: h: read failed¶",
+    input: "\
+        …!rosie: -: read failed¶
+        …!rosie: -:1: not UTF-8¶rosie: -: read failed¶",
+    out_calls: "\
+        !
+        …!
+        …!
+        …!…
+        …!…",
+    err_calls: "\
+        …!
+        …!
+        …!…
+        …!…",
+};
+
+const SAMPLE: Case = Case {
+    run: Run {
+        words: "sample 1 4",
+        input: b"",
+        in_pieces: false,
+    },
+    status: Status::Matched,
+    out: b"lines 4\nmatched 3\nbytes 466\n",
+    err: b"",
+    files: "",
+    input: "",
+    out_calls: "\
+        !
+        …!",
+    err_calls: "…!",
+};
+
+/// The package is read for the pattern, and again for the line that is tried with it.
+const REPL: Case = Case {
+    run: Run {
+        words: "repl --libpath lib",
+        input: b"? p.ab\n> ab1\n- 1\n",
+        in_pieces: false,
+    },
+    status: Status::LineFault,
+    out: b"ok 0\n{\"type\":\"p.ab\",\"s\":1,\"e\":3,\"data\":\"ab\"}\n",
+    err: b"rosie: (session):3: bad command\n",
+    files: "\
+        !rosie: lib/p.rpl: read failed¶
+        !rosie: lib/p.rpl: read failed¶
+        !rosie: lib/p.rpl: read failed¶
+        ok 0¶!rosie: lib/p.rpl: read failed¶
+        ok 0¶!rosie: lib/p.rpl: read failed¶
+        ok 0¶!rosie: lib/p.rpl: read failed¶",
+    input: "\
+        !rosie: -: read failed¶
+        …!rosie: (session):3: bad command¶rosie: -: read failed¶",
+    out_calls: "\
+        !
+        !
+        ok 0¶!
+        …!
+        …!…
+        …!…",
+    err_calls: "\
+        !
+        …!
+        …!…
+        …!…",
+};
+
+const COMPILE: Case = Case {
+    run: Run {
+        words: "compile -f x.rpl \"a\"",
+        input: b"",
+        in_pieces: false,
+    },
+    status: Status::Matched,
+    out: CODE,
+    err: b"",
+    files: "\
+        !rosie: x.rpl: read failed¶
+        !rosie: x.rpl: read failed¶
+        !rosie: x.rpl: read failed¶",
+    input: "",
+    out_calls: "\
+        !
+        …!",
+    err_calls: "…!",
+};
+
+/// The code has its three calls, and then the input `h`.
+const CODE_FILE: Case = Case {
+    run: Run {
+        words: "match --code-file x.code -o line h -",
+        input: b"\xff\n",
+        in_pieces: false,
+    },
+    status: Status::LineFault,
+    out: b"ac\n",
+    err: b"rosie: -:1: not UTF-8\n",
+    files: "\
+        !rosie: x.code: read failed¶
+        !rosie: x.code: read failed¶
+        !rosie: x.code: read failed¶
+        !rosie: h: read failed¶
+        !rosie: h: read failed¶
+        …!rosie: h: read failed¶",
+    input: "\
+        …!rosie: -: read failed¶
+        …!rosie: -:1: not UTF-8¶rosie: -: read failed¶",
+    out_calls: "\
+        !
+        …!
+        …!
+        …!…
+        …!…",
+    err_calls: "\
+        …!
+        …!
+        …!…
+        …!…",
+};
+
+const CLASS: Case = Case {
+    run: Run {
+        words: "class digit",
+        input: b"",
+        in_pieces: false,
+    },
+    status: Status::Matched,
+    out: b"30-39\n",
+    err: b"",
+    files: "",
+    input: "",
+    out_calls: "\
+        !
+        …!",
+    err_calls: "…!",
+};
+
+/// What is refused says so on `err` alone.
+const MISSING: Case = Case {
+    run: Run {
+        words: "match -f none.rpl x",
+        input: b"",
+        in_pieces: false,
+    },
+    status: Status::Refused,
+    out: b"",
+    err: b"rosie: none.rpl: no such file\n",
+    files: "!rosie: none.rpl: read failed¶",
+    input: "",
+    out_calls: "\
+        !
+        !…",
+    err_calls: "\
+        !
+        !…",
+};
