@@ -1,19 +1,17 @@
 -- No test of a file passes a budget that pays for it.
-use Rattle.std.proofs.Common.{ℕ, zero, suc, ◌≡◌, ◌+◌, ◌*◌, ◌<◌, ◌≤◌, Bool, true, false, cond, List, [], ◌∷◌, ◌++◌}
+use Rattle.std.proofs.Common.{ℕ, ◌≡◌, ◌+◌, ◌*◌, ◌<◌, ◌≤◌, Bool, true, false, cond, List, [], ◌∷◌, ◌++◌}
 use Rattle.std.proofs.Common.{length, refl, sym, ◌∙◌, ap, subst, arith}
 use Rattle.std.specs.Prelude.{Option, Some, None, Ok, Err, codes, map, nat_eq, nat_lt, encode_utf8_all}
 use Rattle.std.specs.List.{All}
 use Rattle.std.specs.Str.{all_scalars, is_utf8}
 use Rattle.std.proofs.lemmas.Bool.{false≢true}
 use Rattle.std.proofs.lemmas.Bool.Decides.{nat_tests}
-use Rattle.std.proofs.lemmas.List.{length-map}
 use Rattle.std.proofs.lemmas.List.Elements.{All-cons, All-head, All-nil, All-tail}
-use Rattle.std.proofs.lemmas.Option.{slice_get_within}
 use Rattle.rosie_io.specs.Opening.{file_of}
 use Rattle.rosie_jobs.specs.Lines.{Job, budget_or, is_over}
 use Rattle.rosie_prepare.specs.Prepared.{OrLine, Passes, TableComes, TableFacts, Tree, bodies, found}
 use Rattle.rosie_prepare.specs.Prepared.{table_too_large, table_unsound}
-use Rattle.rosie_session.proofs.Paying.{goal_whole}
+use Rattle.rosie_session.proofs.Paying.{goal_whole, own_within}
 use Rattle.rosie_unittest.proofs.Texts.{tests_are_of_text}
 use Rattle.rosie_unittest.specs.Limits.{SuitePays, TestPays}
 use Rattle.rosie_unittest.specs.Suites.{AreTrials, Comes, ComesAgain, IsSubject, IsSuite, Suite, Tells, bad, tests}
@@ -27,94 +25,23 @@ use Rattle.rpl_core.specs.Outcome.{outcome, work_of}
 use Rattle.rpl_core.specs.Programs.{IsCode, calls}
 use Rattle.rpl_core.specs.Run.{Answer, Matched, Failed, Unfinished}
 use Rattle.rpl_expand.specs.Faults as F
-use Rattle.rpl_expand.specs.Sets.{statements, table_of}
-use Rattle.rpl_load_laws.proofs.Lists.{nth_found}
-use Rattle.rpl_load_laws.proofs.Rows.{located}
-use Rattle.rpl_load_laws.proofs.Tables.{nth_statement}
+use Rattle.rpl_expand.specs.Sets.{table_of}
 use Rattle.rpl_load_laws.proofs.Loaded.{told_is_built}
 use Rattle.rpl_load_laws.specs.Laws.{by_roots}
-use Rattle.rpl_package.proofs.Numbering.{room_at}
 use Rattle.rpl_package.specs.Built.{IsBuilt}
 use Rattle.rpl_package.specs.Loading.{world}
-use Rattle.rpl_package.specs.Owned.{ok_of, own, own_entry, own_rule}
+use Rattle.rpl_package.specs.Owned.{own}
 use Rattle.rpl_package.specs.Roots.{Packages, load}
-use Rattle.rpl_package.specs.Tables.{rows}
 use Rattle.rpl_package.specs.Texts.{max_text_bytes}
-use Rattle.rpl_package.specs.Targets.{halt_name, rule_in, target_by, then}
 use Rattle.rpl_package.specs.declared.rooted.Root.TheVariants.{File}
 use Rattle.rpl_package.specs.declared.targets.Target.{Target}
 use Rattle.rpl_scope.specs.Faults.{Or}
-use Rattle.rpl_scope.specs.Packages.{Module, Rule, first_of, first_rule, nth}
-use Rattle.rpl_scope.specs.declared.module.Entry.{Entry}
-use Rattle.rpl_scope.specs.declared.module.Referent.{Referent}
-use Rattle.rpl_scope.specs.declared.module.Referent.TheVariants.{Own, Of, BuiltIn}
 use Rattle.rpl_compile_laws.proofs.Answering.{answer_holds}
 use Rattle.rpl_compile_laws.specs.Laws.{Tells as Answers}
 use Rattle.rpl_unittest.specs.declared.test.Test.{Test}
-use Rattle.rpl_expand.specs.Table as E
-use Rattle.rpl_expand.specs.Table.{Statement, body_of, built_in}
-use Rattle.rpl_forms.specs.Inlining.{Inners, inner}
-use Rattle.rpl_forms.specs.Rows.{inners_from}
 
 same_number : (a b : ℕ) → nat_eq a b ≡ true → a ≡ b
 same_number a b e = grind (arith, nat_tests)
-
--- ---- the target of a name is a rule of the table
-
-module _ (ms : List Module) (t : Target) where
-  abbrev IsBelow : Type 0
-  IsBelow = t.rule < 2 + length (rows ms)
-
-  rule_below : (i k : ℕ) (m : Module) → nth ms i ≡ Some m → (o : Option Rule) → nth m.rules k ≡ o
-      → ok_of (target_by (first_rule ms i + k) o) ≡ Some t → IsBelow
-  rule_below i k m at None has e = absurd (cc)
-  rule_below i k m at (Some r) has e =
-      let room = room_at 0 0 ms i k m r at has in
-      let same : first_rule ms i + k ≡ t.rule = cc in
-      omega (arith, room, same)
-
-  referent_below : (i : ℕ) (m : Module) → nth ms i ≡ Some m → (x : Referent) → own_rule ms i x ≡ Some t → IsBelow
-  referent_below i m at (Own k) e =
-      let found : rule_in ms i k ≡ nth m.rules k = ap (λ o. then o (λ (x : Module). nth x.rules k)) at in
-      rule_below i k m at (nth m.rules k) refl (ap (λ o. ok_of (target_by (first_rule ms i + k) o)) (sym found) ∙ e)
-  referent_below i m at (Of j k) e = absurd (cc)
-  referent_below i m at BuiltIn e = absurd (cc)
-
-  hidden_below : (i : ℕ) (m : Module) → nth ms i ≡ Some m → (x : Referent) (b : Bool)
-      → cond b None (own_rule ms i x) ≡ Some t → IsBelow
-  hidden_below i m at x true e = absurd (cc)
-  hidden_below i m at x false e = referent_below i m at x e
-
-  entry_below : (i : ℕ) (m : Module) → nth ms i ≡ Some m → (o : Option Entry) → then o (own_entry ms i) ≡ Some t
-      → IsBelow
-  entry_below i m at None e = absurd (cc)
-  entry_below i m at (Some x) e = hidden_below i m at x.referent x.hidden e
-
-  own_below : (i : ℕ) (name : List ℕ) (o : Option Module) → nth ms i ≡ o
-      → then o (λ (m : Module). then (first_of name m.names) (own_entry ms i)) ≡ Some t → IsBelow
-  own_below i name None at e = absurd (cc)
-  own_below i name (Some m) at e = entry_below i m at (first_of name m.names) e
-
-statements_long : (p : Packages) (n : ℕ) → n ≡ length (rows p.stock.modules) → n ≤ length (statements p)
-statements_long p zero e = omega arith
-statements_long p (suc n) e =
-    let w = nth_found (rows p.stock.modules) n (omega (arith, e)) in
-    let l = located 0 0 p.stock.modules n w.0 w.1 in
-    let k = slice_get_within (statements p) n _ (nth_statement p n w.0 w.1 l) in
-    omega (arith, k)
-
-rows_long : (I : Inners) (ss : List Statement) → length (E.rows I ss) ≡ length ss
-rows_long I [] = refl
-rows_long I (s ∷ ss) = ap suc (rows_long (I ++ inner I s.block (body_of I s) ∷ []) ss)
-
-table_long : (p : Packages) → 2 + length (rows p.stock.modules) ≤ length (bodies (table_of p))
-table_long p =
-    let a : length (bodies (table_of p)) ≡ length (table_of p) = length-map (table_of p) (λ r. r.body) in
-    let b : length (table_of p) ≡ suc (suc (length (E.rows (inners_from [] (built_in (halt_name p))) (statements p)))) =
-    refl in
-    let c = rows_long (inners_from [] (built_in (halt_name p))) (statements p) in
-    let d = statements_long p (length (rows p.stock.modules)) refl in
-    omega (arith, a, b, c, d)
 
 -- ---- what is read again is a text
 
@@ -149,10 +76,9 @@ module _ (p : Packages) (is : IsBuilt p) (d : TableFacts p) (small : table_too_l
   target_whole : (i : ℕ) (name : List ℕ) (t : Target) → own p i name ≡ Some t
       → IsWhole (bodies (table_of p)) (goal_of t)
   target_whole i name t e =
-      let below = own_below p.stock.modules t i name (nth p.stock.modules i) refl e in
-      let long = table_long p in
+      let below = own_within p is d small none i name t e in
       goal_whole p is d small none (goal_of t)
-      (λ r called. let same = goal_calls t t.captures r called in omega (arith, same, below, long))
+      (λ r called. let same = goal_calls t t.captures r called in omega (arith, same, below))
       (goal_clean d.empties d.halting t t.captures)
 
   over_due : (o : Outcome) (b : ℕ) (a : Answer) → is_over a ≡ true → Answers o b a → b < 4 * work_of o + 2

@@ -1,6 +1,6 @@
 -- What a loading leaves, and what a set, or a pattern over it, then comes to.
 use Rattle.std.proofs.Common.{◌≡◌, ◌≢◌, ℕ, List, length, refl, sym, ◌∙◌, ap, subst, ◌<◌}
-use Rattle.std.specs.Prelude.{map, IfErr, IsErrAnd, Some, Result, Ok, Err, encode_utf8_all}
+use Rattle.std.specs.Prelude.{map, IfErr, IfOk, IsErrAnd, Some, Result, Ok, Err, encode_utf8_all}
 use Rattle.std.specs.Prelude.{string_bytes}
 use Rattle.std.specs.List.{Contains}
 use Rattle.std.proofs.lemmas.List.{get_or-map, length-map}
@@ -8,17 +8,21 @@ use Rattle.std.proofs.lemmas.List.Elements.{Contains-append_left}
 use Rattle.rosie_prepare.specs.Lines.{Line, load_line}
 use Rattle.rosie_prepare.specs.Answers.{IsAsked, IsDue}
 use Rattle.rosie_prepare.specs.Prepared.{Comes, IsPrepared, OrLine, Ready, TableComes, Tree, PatternRequest, loaded, set_of}
+use Rattle.rosie_prepare.specs.declared.prepared.Prepared.{Prepared}
 use Rattle.rosie_prepare.specs.declared.unready.Unready.{Unready}
 use Rattle.rosie_prepare.specs.declared.unready.Unready.TheVariants.{NoMemory, Refused, ReadFault}
 use Rattle.rosie_prepare.specs.inside.Steps.{StopsWith, Tells, TellsKind}
 use Rattle.rpl_package.proofs.Outcomes.{then_follows}
 use Rattle.rpl_package.specs.Asking.{Explains, Outcome, and_then, asked_then}
+use Rattle.rpl_load_laws.specs.Laws.{Resolves}
 use Rattle.rpl_package.specs.Roots.{Packages}
+use Rattle.rpl_package.specs.Sets.{set_seen}
 use Rattle.rpl_scope.specs.Faults.{Or, ◌>>=◌}
 use Rattle.rpl_scope.specs.declared.fault.LoadFault.{LoadFault}
 use Rattle.rpl_scope.specs.declared.fault.LoadKind.{LoadKind}
 use Rattle.rpl_scope.specs.declared.fault.LoadKind.TheVariants as K
 use Rattle.rpl_syntax.specs.Expression.{Expr}
+use Rattle.rpl_syntax.specs.View.{expr_of}
 
 -- ---- a fault of loading
 
@@ -119,3 +123,13 @@ pub asked_prepared :
     (tree : Tree) (w : PatternRequest) (asked : List (List ℕ)) (r : OrLine Ready) (h : IsPrepared tree w asked r) (u : Unready)
     → StopsWith u (loaded tree w h.parse) → IsAsked u asked
 asked_prepared tree w asked r h u s = subst (IsAsked u) (sym h.paths) (asked_in u (loaded tree w h.parse) s)
+
+-- ---- names of the pattern
+
+-- what is prepared of a set and a pattern has the names of that pattern
+pub resolves_if :
+    {E : Type 0} (r : Result Prepared E) (e : Expr) (p : Packages) → Resolves e p → IfOk r (λ x. set_seen x.set ≡ p)
+    → IfOk r (λ x. expr_of x.expr ≡ e) → IfOk r (λ x. Resolves (expr_of x.expr) (set_seen x.set))
+resolves_if (Ok x) e p h set expr =
+    subst (λ y. Resolves y (set_seen x.set)) (sym expr) (subst (Resolves e) (sym set) h)
+resolves_if (Err u) e p h set expr = tt

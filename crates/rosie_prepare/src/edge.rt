@@ -12,9 +12,10 @@ ghost use Rattle.rpl_core.specs.View.{core_of};
 ghost use Rattle.rpl_expand.specs.Sets.{table_of};
 ghost use Rattle.rpl_forms.specs.Rows.{rows_of};
 ghost use Rattle.rosie_prepare.specs.inside.Steps.{Leads};
+ghost use Rattle.rpl_load_laws.specs.Laws.{Resolves};
 ghost use Rattle.rpl_package.specs.Goals.{ReadsGoal};
 ghost use Rattle.rpl_package.specs.Loading.{world};
-ghost use Rattle.rpl_package.specs.Patterns.{load_pattern};
+ghost use Rattle.rpl_package.specs.Patterns.{HasNoFault, load_pattern};
 ghost use Rattle.rpl_package.specs.Roots.{Packages, load};
 ghost use Rattle.rpl_package.specs.Sets.{set_seen};
 ghost use Rattle.rpl_scope.specs.Faults.{Or};
@@ -63,6 +64,7 @@ fn load_goal<F: Files>(
         → ReadsGoal request.now.fixed request.now.find request.now.text.now parse
         → Leads (λ e. (expr_of e, set_seen set.new)) result
         (load_pattern (world (F.tree files.old) request.now.folders.now) (set_seen set.old) parse) }
+    ensures right { IfOk result (λ e. HasNoFault (expr_of e) (set_seen set.new)) }
     ensures cause { HasCause result (moment F.rest F.taken F.faults F.failed_opens files.old)
         (moment F.rest F.taken F.faults F.failed_opens files.new) }
     ensures taken { NotFewer (F.taken files.old) (F.taken files.new) }
@@ -127,7 +129,7 @@ pub fn prepare_rules<F: Files>(
 /// What a command with a pattern runs, or the line of the first fault.
 ///
 /// All of loading comes first, then what is too large, then what the check finds; in each pass the rules come before
-/// the pattern. What is ready can be compiled as it is.
+/// the pattern. What is ready can be compiled as it is, and each name of the pattern stands for a rule of its packages.
 pub fn prepare<F: Files>(
     alloc: Global,
     files: &mut F,
@@ -139,6 +141,7 @@ pub fn prepare<F: Files>(
         → IsPrepared (F.tree files.old) (request_seen request.now) asked r → IfErr result (λ u. IsAsked u asked) }
     ensures whole { IfOk result (λ p. IsWhole (bodies_of p.rules) (core_of (peg_of p.goal))) }
     ensures root { IfOk result (λ p. (label : List ℕ) × IsCapture (bodies_of p.rules) label (core_of (peg_of p.goal))) }
+    ensures names { IfOk result (λ p. Resolves (expr_of p.expr) (set_seen p.set)) }
     ensures cause { HasCause result (moment F.rest F.taken F.faults F.failed_opens files.old)
         (moment F.rest F.taken F.faults F.failed_opens files.new) }
     ensures taken { NotFewer (F.taken files.old) (F.taken files.new) }

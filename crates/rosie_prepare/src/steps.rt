@@ -136,6 +136,8 @@ pub(crate) fn pass_goal(alloc: Global, set: PackageSet, expr: Expr) -> Result<Pr
         → Prepares ready_seen result r }
     ensures whole { IfOk result (λ p. IsWhole (bodies_of p.rules) (core_of (peg_of p.goal))) }
     ensures root { IfOk result (λ p. (label : List ℕ) × IsCapture (bodies_of p.rules) label (core_of (peg_of p.goal))) }
+    ensures set { IfOk result (λ p. set_seen p.set ≡ set_seen set) }
+    ensures expr { IfOk result (λ p. expr_of p.expr ≡ expr_of expr) }
     ensures own { IfErr result IsOwn }
 {
     let (rules, goal) = pass_both(alloc, &set, &expr)?;

@@ -30,13 +30,15 @@ use Rattle.rpl_expand.specs.Sets.{captures_of, scope_of, table_of}
 use Rattle.rpl_expand.specs.Table.{IsOver, MakeTrees}
 use Rattle.rpl_forms.specs.Inlining.{Inners}
 use Rattle.rpl_forms.specs.Rows.{Row, inners_from, inners_of, rows_of}
-use Rattle.rpl_load_laws.proofs.Loaded.{scopes_are_over, tables_are_in_order, told_is_built, trees_are_made}
+use Rattle.rpl_load_laws.proofs.Loaded.{own_names_are_rules, scopes_are_over, tables_are_in_order, told_is_built, trees_are_made}
 use Rattle.rpl_load_laws.specs.Laws.{IsLoaded, by_pattern, by_roots}
 use Rattle.rpl_package.specs.Built.{IsBuilt}
 use Rattle.rpl_package.specs.Goals.{ReadsGoal}
 use Rattle.rpl_package.specs.Loading.{world}
+use Rattle.rpl_package.specs.Owned.{own}
 use Rattle.rpl_package.specs.Patterns.{load_pattern}
 use Rattle.rpl_package.specs.Roots.{Packages, load}
+use Rattle.rpl_package.specs.declared.targets.Target.{Target}
 use Rattle.rpl_scope.specs.Faults.{Or, ◌>>=◌}
 use Rattle.rpl_compile_laws.proofs.Answering.{answer_holds}
 use Rattle.rpl_compile_laws.specs.Laws.{IsCapture}
@@ -102,6 +104,11 @@ module _ (p : Packages) (is : IsBuilt p) (d : TableFacts p) (small : table_too_l
       } in
       first_same R d f bs ∙ none))
       g below clean
+
+  -- the target of a name that a module binds itself is a rule of the table
+  pub own_within : (i : ℕ) (name : List ℕ) (t : Target) → own p i name ≡ Some t → t.rule < length (bodies (table_of p))
+  own_within i name t e =
+      subst (λ (R : List Core). t.rule < length R) same_bodies (own_names_are_rules p is rules i name t same e).within
 
   -- a match of a pattern's goal is one tree
   goal_is_root : (e : Expr) → (label : List ℕ) × IsCapture (bodies (table_of p)) label (goal_in p e)

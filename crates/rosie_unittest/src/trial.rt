@@ -55,7 +55,7 @@ pub(crate) fn trials_of(
     alloc: Global,
     set: &PackageSet,
     rules: &Checked,
-    number: u32,
+    number: usize,
     tests: Tests,
 ) -> Result<Vec<Trial>, NoMemory>
     requires rows { rows_of rules.now ≡ table_of (set_seen set.now) }

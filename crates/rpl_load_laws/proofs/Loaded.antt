@@ -24,10 +24,9 @@ pub statements_resolve : StatementsResolve
 statements_resolve p h n e q is c = said_names p (set_of p h).stock.sound n e q is c
 
 pub patterns_resolve : PatternsResolve
-patterns_resolve tree folders e p q h c =
-    let is = T.goal_passes tree folders e p h in
-    let set = set_of p is.built in
-    let stand = stand_by pattern_file e p.stock (nth p.stock.modules p.top) is.passes in
+patterns_resolve p h e none q c =
+    let set = set_of p h in
+    let stand = stand_by pattern_file e p.stock (nth p.stock.modules p.top) none in
     goal_names p set.stock.sound e q set.top stand c
 
 pub tables_are_in_order : TablesAreInOrder

@@ -1,7 +1,7 @@
 -- What is merely known of a set is known: it can be tested.
 use Rattle.std.proofs.Common.{◌≡◌, ◌<◌, ◌⊎◌, inl, inr, ℕ, List, Option, Some, None, refl, sym, ap, ◌∙◌}
-use Rattle.std.specs.Prelude.{Bool, true, false, nat_lt, slice_get}
-use Rattle.std.proofs.Math.Logic.{∥∥₁_elim}
+use Rattle.std.specs.Prelude.{Bool, true, false, nat_lt, slice_get, Result, Ok, Err}
+use Rattle.std.proofs.Math.Logic.{∥∥₁_elim, ∥∥₁_map}
 use Rattle.std.proofs.Props.{props}
 use Rattle.std.proofs.lemmas.Bool.Decides.{Decides-ltb}
 use Rattle.rpl_core.specs.Core.{Core, Cores}
@@ -9,6 +9,12 @@ use Rattle.rpl_core.specs.Core as C
 use Rattle.rpl_core.specs.Order.{AreTogether, IsInOrder, block_at}
 use Rattle.rpl_core.specs.Table.{AreDistinct}
 use Rattle.rpl_compile_laws.specs.Laws.{IsCapture, itself, by_call}
+use Rattle.rpl_package.specs.Roots.{Packages}
+use Rattle.rpl_package.specs.Targets.{resolved}
+use Rattle.rpl_package.specs.declared.targets.NameFault.{NameFault}
+use Rattle.rpl_package.specs.declared.targets.Target.{Target}
+use Rattle.rpl_syntax.specs.Expression.{Expr}
+use Rattle.rpl_load_laws.specs.Laws.{IsFound, Resolves}
 
 -- ---- the order of a table
 
@@ -114,3 +120,12 @@ yes_prop b = Prim.hlevel props
 
 pub root_out : (R : List Core) (g : Core) → ∥ ((l : List ℕ) × IsCapture R l g) ∥₁ → (l : List ℕ) × IsCapture R l g
 root_out R g m = root_of R g (∥∥₁_elim m (yes_prop (is_root R g)) (λ x. told R x.0 g x.1))
+
+-- ---- what a name stands for
+
+found_out : (r : Result Target NameFault) → ∥ IsFound r ∥₁ → IsFound r
+found_out (Ok t) m = (t, refl)
+found_out (Err f) m = absurd (∥∥₁_elim m never (λ x. let e = x.1 in absurd (cc)))
+
+pub resolves_out : (e : Expr) (p : Packages) → ∥ Resolves e p ∥₁ → Resolves e p
+resolves_out e p m q c = found_out (resolved p None q) (∥∥₁_map m (λ r. r q c))

@@ -35,14 +35,9 @@ use Rattle.rpl_package.specs.Built.{IsSaid, IsGoal, InGoal, IsAsked, by_text, by
 use Rattle.rpl_package.specs.Built.{imported, rooted, Makes, Loads, Reaches}
 use Rattle.rpl_package.specs.Built.{IsBuilt, by_name, packages, StaysBuilt, opened, headed}
 use Rattle.rpl_package.specs.Built as T
-use Rattle.rpl_load_laws.specs.Laws.{HasPattern, IsLoaded, by_roots, by_pattern}
+use Rattle.rpl_load_laws.specs.Laws.{IsLoaded, by_roots, by_pattern}
 use Rattle.rpl_load_laws.proofs.Labels.{none_of}
 use Rattle.rpl_load_laws.proofs.Steps.{both, passed, unless_fault, else_fault}
-
--- a set with a pattern, whose names and macros have no fault there
-pub record ComesBuilt (e : Expr) (q : Packages) : Type 0 where
-  pub built : IsBuilt q
-  pub passes : pattern_fault pattern_file e q.stock.modules (nth q.stock.modules q.top) ≡ None
 
 wanted_in : (o : Option Prefix) (p : List ℕ) (at : ℕ) (x : Import) → needed_unless o p at ≡ Some x → p ≡ x.path
 wanted_in None p at x h = cc
@@ -275,17 +270,15 @@ module _ (w : World) (reads : (f bytes : List ℕ) (t : ParsedModule) → w.text
       names_in f i e qs c.0 t g all.1 c.2 rs (here rs b)
 
   entered : (f : List ℕ) (i : ℕ) (e : Expr) (s t : Stock) → IsGoal e → (enter_pattern w f i s e).answer ≡ Ok t
-      → StaysBuilt i s t × (pattern_fault f e t.modules (nth t.modules i) ≡ None)
+      → StaysBuilt i s t
   entered f i e s t g is =
       let c = both (each_in_turn (pattern_name w f i) (B.names e) s).answer (λ u. (checked f e i u).answer) t is in
       let p = passed (pattern_fault f e c.0.modules (nth c.0.modules i)) c.0 t c.2 in
-      let all = recursion_from_All (Contains (B.names e)) (B.names e) (All-contains_itself (B.names e)) in (
-        subst (StaysBuilt i s) p.1 (names_in f i e (B.names e) s c.0 g all c.1),
-        subst (λ x. pattern_fault f e x.modules (nth x.modules i) ≡ None) p.1 p.0,
-      )
+      let all = recursion_from_All (Contains (B.names e)) (B.names e) (All-contains_itself (B.names e)) in
+      subst (StaysBuilt i s) p.1 (names_in f i e (B.names e) s c.0 g all c.1)
 
   goal_loaded : (p q : Packages) (r : Or Expr) (e : Expr) → ((x : Expr) → r ≡ Ok x → IsGoal x) → IsBuilt p
-      → (load_pattern w p r).answer ≡ Ok (e, q) → ComesBuilt e q
+      → (load_pattern w p r).answer ≡ Ok (e, q) → IsBuilt q
   goal_loaded p q r e reads b is =
       let last = λ (t : Expr × Stock). (at_once {A = Expr × Packages}
       (Ok (t.0, record { stock = t.1; top = p.top; roots = p.roots }))).answer in
@@ -297,7 +290,7 @@ module _ (w : World) (reads : (f bytes : List ℕ) (t : ParsedModule) → w.text
       let end : ◌≡◌ {A = Expr × Packages} (d.0, record { stock = g.0; top = p.top; roots = p.roots }) (e, q) =
       (let x = g.2 in let y = c.2 in cc) in
       let came = entered pattern_file p.top d.0 p.stock g.0 (reads d.0 d.1) g.1 in
-      subst (λ x. ComesBuilt x.0 x.1) end (record { built = came.0 p.roots b; passes = came.1 })
+      subst (λ x. IsBuilt x.1) end (came p.roots b)
 
 goal_read : (fixed find : Bool) (bytes : List ℕ) (r : Or Expr) → ReadsGoal fixed find bytes r → (x : Expr) → r ≡ Ok x
     → IsGoal x
@@ -313,12 +306,5 @@ pub told_is_built : (tree : List (List ℕ × List ℕ)) (folders : List (List �
     → IsBuilt p
 told_is_built tree folders p (by_roots roots q h) = loaded (world tree folders) read_so roots q h
 told_is_built tree folders p (by_pattern o q fixed find bytes read e reads l h) =
-    (goal_loaded (world tree folders) read_so o q read e (goal_read fixed find bytes read reads)
-    (told_is_built tree folders o l) h).built
-
--- and a pattern over it has no fault
-pub goal_passes : (tree : List (List ℕ × List ℕ)) (folders : List (List ℕ)) (e : Expr) (p : Packages)
-    → HasPattern tree folders e p → ComesBuilt e p
-goal_passes tree folders e p h =
-    goal_loaded (world tree folders) read_so h.before p h.read e (goal_read h.fixed h.find h.text h.read h.reads)
-    (told_is_built tree folders h.before h.loaded) h.loads
+    goal_loaded (world tree folders) read_so o q read e (goal_read fixed find bytes read reads)
+    (told_is_built tree folders o l) h

@@ -23,7 +23,7 @@ use Rattle.rpl_package.specs.Goals.{ReadsGoal}
 use Rattle.rpl_package.specs.Loading.{Stock, walk, world}
 use Rattle.rpl_package.specs.Names.{all_listed}
 use Rattle.rpl_package.specs.Owned.{own}
-use Rattle.rpl_package.specs.Patterns.{load_pattern}
+use Rattle.rpl_package.specs.Patterns.{HasNoFault, load_pattern}
 use Rattle.rpl_package.specs.Roots.{Packages, load}
 use Rattle.rpl_package.specs.Tables.{rows}
 use Rattle.rpl_package.specs.Targets.{body, resolved}
@@ -43,18 +43,6 @@ pub data IsLoaded (tree : List (List ℕ × List ℕ)) (folders : List (List ℕ
   by_pattern : (p q : Packages) (fixed find : Bool) (text : List ℕ) (read : Or Expr) (e : Expr)
       → ReadsGoal fixed find text read → IsLoaded tree folders p
       → (load_pattern (world tree folders) p read).answer ≡ Ok (e, q) → IsLoaded tree folders q
-
--- the pattern e is loaded over such a set, which is p then
-pub record HasPattern (tree : List (List ℕ × List ℕ)) (folders : List (List ℕ)) (e : Expr)
-    (p : Packages) : Type 0 where
-  pub before : Packages
-  pub loaded : IsLoaded tree folders before
-  pub fixed : Bool
-  pub find : Bool
-  pub text : List ℕ
-  pub read : Or Expr
-  pub reads : ReadsGoal fixed find text read
-  pub loads : (load_pattern (world tree folders) before read).answer ≡ Ok (e, p)
 
 -- all of these are built
 abbrev pub ToldIsBuilt : Type 0
@@ -83,11 +71,13 @@ StatementsResolve =
     OfAllBuilt (λ p. (n : ℕ) (e : Expr) (q : QName) → body p n ≡ Some e → Contains (names e) q
     → IsFound (resolved p (Some n) q))
 
--- and each that the pattern says
+-- each name of the pattern e stands for a rule
+abbrev pub Resolves : Expr → Packages → Type 0
+Resolves e p = (q : QName) → Contains (names e) q → IsFound (resolved p None q)
+
+-- so it is of each pattern with which nothing is wrong
 abbrev pub PatternsResolve : Type 0
-PatternsResolve =
-    (tree : List (List ℕ × List ℕ)) (folders : List (List ℕ)) (e : Expr) (p : Packages) (q : QName)
-    → HasPattern tree folders e p → Contains (names e) q → IsFound (resolved p None q)
+PatternsResolve = OfAllBuilt (λ p. (e : Expr) → HasNoFault e p → Resolves e p)
 
 -- ---- what the expansion asks of its scopes
 

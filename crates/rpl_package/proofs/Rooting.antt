@@ -1,6 +1,6 @@
 -- Steps of the roots.
 use Rattle.std.proofs.Common.{◌≡◌, ℕ, ◌+◌, ◌<◌, ◌≤◌, List, [], ◌∷◌, length, drop, get_or, Some, None, sym, ap}
-use Rattle.std.proofs.Common.{true, false, ap₂, ◌∙◌}
+use Rattle.std.proofs.Common.{true, false, ap₂, ◌∙◌, arith}
 use Rattle.std.specs.Prelude.{if◌then◌else◌, Ok, is_some, nat_lt, encode_utf8_all}
 use Rattle.rosie_io.specs.Opening.{file_of}
 use Rattle.std.proofs.lemmas.List.{drop_all}
@@ -15,6 +15,7 @@ use Rattle.rpl_package.specs.Loading.{World, State, own_text, walk}
 use Rattle.rpl_package.specs.Roots.{top_head, named_root, root_text, with_root, counted, next, asked_root}
 use Rattle.rpl_package.specs.Roots.{file_root, read_root}
 use Rattle.rpl_package.specs.declared.rooted.Root.{Root}
+use Rattle.rpl_package.specs.declared.rooted.Root.TheVariants.{File, Given}
 use Rattle.rpl_package.specs.declared.stock.Head.{Head}
 use Rattle.rpl_package.proofs.Outcomes.{Follows, same, trail, then_follows}
 
@@ -49,3 +50,8 @@ file_led w p s bytes t found read =
     trail (root_text w p t t.name s) (read_root w p bytes s) (and_then (asked_root w p) (file_root w p s))
     (then_follows (at_once (w.text p bytes)) t (λ u. root_text w p u u.name s) read)
     (then_follows (asked_root w p) (Some bytes) (file_root w p s) (ap Ok found))
+
+-- there are no more roots that are given themselves than roots
+pub next_few : (k : ℕ) (r : Root) → next k r ≤ k + 1
+next_few k (File p) = omega arith
+next_few k (Given t) = omega arith

@@ -1,5 +1,5 @@
 -- The pattern, after all roots: it imports the prefixes that the top module hasn't, and then come its names and macros.
-use Rattle.std.specs.Prelude.{ℕ, zero, suc, List, [], ◌∷◌, length, Option, Some, None, Ok}
+use Rattle.std.specs.Prelude.{◌≡◌, ℕ, zero, suc, List, [], ◌∷◌, length, Option, Some, None, Ok}
 use Rattle.rpl_syntax.specs.Expression.{Expr}
 use Rattle.rpl_syntax.specs.declared.module.Import.{Import}
 use Rattle.rpl_syntax.specs.declared.module.ImportAs.TheVariants.{Last}
@@ -60,6 +60,11 @@ pattern_name w f i q s = bring w f i s (needed_at q (nth s.modules i))
 abbrev pub pattern_fault : List ℕ → Expr → List Module → Option Module → Option LoadFault
 pattern_fault f e ms None = None
 pattern_fault f e ms (Some m) = names_fault f ms m (length m.rules) (names e) orelse macros_fault f (uses e)
+
+-- nothing is wrong with the pattern e: each of its names stands for something that is to be seen at the end of the top
+-- module, and each of its macros is used as it may be
+abbrev pub HasNoFault : Expr → Packages → Type 0
+HasNoFault e p = pattern_fault pattern_file e p.stock.modules (nth p.stock.modules p.top) ≡ None
 
 abbrev pub checked : List ℕ → Expr → ℕ → Stock → Outcome Stock
 checked f e i s = at_once (unless (pattern_fault f e s.modules (nth s.modules i)) s)

@@ -7,7 +7,7 @@ ghost use Rattle.rpl_scope.specs.Faults.{Or};
 ghost use Rattle.rpl_package.specs.Answers.{Answers, HasNoPlace, IsCaused, IsFault};
 ghost use Rattle.rpl_package.specs.Goals.{ReadsGoal};
 ghost use Rattle.rpl_package.specs.Loading.{world};
-ghost use Rattle.rpl_package.specs.Patterns.{load_pattern};
+ghost use Rattle.rpl_package.specs.Patterns.{HasNoFault, load_pattern};
 ghost use Rattle.rpl_package.specs.Roots.{load};
 ghost use Rattle.rpl_package.specs.Sets.{set_seen};
 
@@ -98,6 +98,7 @@ pub fn load_pattern<F: Files>(
     ensures gives { F.tells → (r : Or ParsedExpr) → ReadsGoal goal.now.fixed goal.now.find goal.now.text.now r
         → Answers (λ e. (expr_of e, set_seen set.new)) result
         (load_pattern (world (F.tree files.old) path.now) (set_seen set.old) r) }
+    ensures right { IfOk result (λ e. HasNoFault (expr_of e) (set_seen set.new)) }
     ensures kept { OnErr result (set_seen set.new ≡ set_seen set.old) }
     ensures roots { (set_seen set.new).roots ≡ (set_seen set.old).roots }
     ensures cause { IsCaused result (F.faults files.old) (F.faults files.new)

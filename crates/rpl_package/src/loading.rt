@@ -42,7 +42,7 @@ fn finish_set(
     alloc: Global,
     stock: Stock,
     own: Module,
-    roots: Vec<Option<u32>>,
+    roots: Vec<Option<usize>>,
 ) -> Result<PackageSet, Stop>
     requires held { stock.held.items ≡ top_head ∷ [] }
     requires built { Becomes (top_head ∷ []) begun.state (state_seen stock own) }

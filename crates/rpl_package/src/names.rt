@@ -121,12 +121,12 @@ impl PackageSet {
         alloc: Global,
         names: &mut Vec<Listed>,
         prefix: &str,
-        number: u32,
+        number: usize,
     ) -> Result<(), NoMemory>
         ensures { OnOk result (names.new.items ≡ names.old.items ++ flat_map (listed (set_seen self.now))
             (names_of (Some (chars prefix.now)) (nth (set_seen self.now).stock.modules number))) }
     {
-        match self.stock.modules.get(number as usize) {
+        match self.stock.modules.get(number) {
             None => Ok(()),
             Some(from) => self.push_names(alloc, names, Some(prefix), from),
         }
@@ -154,7 +154,7 @@ impl PackageSet {
         ensures order { IfOk result (λ names. IsSorted by_bytes names) }
     {
         let mut names = Vec::new(alloc);
-        if let Some(own) = self.stock.modules.get(self.top as usize) {
+        if let Some(own) = self.stock.modules.get(self.top) {
             self.push_all(alloc, &mut names, own)?;
         }
         names.sort_by(by_bytes)?;

@@ -11,7 +11,7 @@ use crate::targets::Target;
 use rpl_scope::{Entry, Module, Referent};
 
 /// The target of an entry of the module with this number, where a statement of it made it and it isn't hidden.
-fn own_entry(modules: &[Module], table: &Table, number: u32, entry: Entry) -> Option<Target>
+fn own_entry(modules: &[Module], table: &Table, number: usize, entry: Entry) -> Option<Target>
     requires { IsTable table.now (modules_seen modules.now) }
     ensures { result ≡ O.own_entry (modules_seen modules.now) number entry }
 {
@@ -34,7 +34,7 @@ impl PackageSet {
     ghost use Rattle.rpl_package.specs.Views.{text_found};
 
     /// The module into which the root with this number, from 0, was read; None exactly where there is no such root.
-    pub fn root_module(&self, root: usize) -> Option<u32>
+    pub fn root_module(&self, root: usize) -> Option<usize>
         ensures gives { result ≡ O.root_module (set_seen self.now) root }
         ensures within { IfSome result (λ n. n < length (set_seen self.now).stock.modules) }
     {
@@ -46,10 +46,10 @@ impl PackageSet {
     }
 
     /// The package name of a module, the empty text for the top module; None exactly where there is no such module.
-    pub fn package(&self, number: u32) -> Option<&str>
+    pub fn package(&self, number: usize) -> Option<&str>
         ensures { text_found result ≡ O.package_name (set_seen self.now) number }
     {
-        match self.stock.modules.get(number as usize) {
+        match self.stock.modules.get(number) {
             None => None,
             Some(from) => Some(from.label.as_str()),
         }
@@ -57,10 +57,10 @@ impl PackageSet {
 
     /// The target of a name that a statement of this module binds, a `local` one too; None exactly where no statement
     /// of it binds the name, or the name is a hidden rule.
-    pub fn own(&self, number: u32, name: &str) -> Option<Target>
+    pub fn own(&self, number: usize, name: &str) -> Option<Target>
         ensures { result ≡ O.own (set_seen self.now) number (chars name.now) }
     {
-        match self.stock.modules.get(number as usize) {
+        match self.stock.modules.get(number) {
             None => None,
             Some(from) => match from.names.get_text(name) {
                 None => None,

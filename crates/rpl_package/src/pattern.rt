@@ -1,5 +1,5 @@
 // The pattern: its text, the packages that it imports, its names and its macros.
-ghost use Rattle.std.specs.Prelude.{◌≡◌, [], All, IfErr, IfOk, Ok, OnOk, false, map};
+ghost use Rattle.std.specs.Prelude.{◌≡◌, [], All, IfErr, IfOk, None, Ok, OnOk, false, map};
 ghost use Rattle.rpl_syntax.specs.Expression.{Expr as ParsedExpr};
 ghost use Rattle.rpl_syntax.specs.View.{expr_of};
 ghost use Rattle.rpl_scope.specs.Bodies.{names};
@@ -121,12 +121,12 @@ fn needed_import(alloc: Global, own: &Module, name: &QName) -> Result<Option<Imp
 fn needed_at(
     alloc: Global,
     modules: &[Module],
-    top: u32,
+    top: usize,
     name: &QName,
 ) -> Result<Option<Import>, NoMemory>
     ensures { IfOk result (λ i. i ≡ needed_at name.now (nth (modules_seen modules.now) top)) }
 {
-    match modules.get(top as usize) {
+    match modules.get(top) {
         None => Ok(None),
         Some(own) => needed_import(alloc, own, name),
     }
@@ -136,17 +136,17 @@ fn needed_at(
 fn put(
     alloc: Global,
     stock: &mut Stock,
-    top: u32,
+    top: usize,
     file: &Chars,
     import: &Import,
-    number: u32,
+    number: usize,
 ) -> Result<(), Stop>
     ensures gives { Gives (λ _. stock_seen stock.new) result
         (put_by file.now import.now number top (stock_seen stock.old) (nth (stock_seen stock.old).modules top)) }
     ensures held { stock.new.held ≡ stock.old.held }
     ensures kept { (a : L.Stock) → CutsTo top a (stock_seen stock.old) → CutsTo top a (stock_seen stock.new) }
 {
-    match stock.modules.get_mut(top as usize) {
+    match stock.modules.get_mut(top) {
         Some(own) => match add_prefix(alloc, own, file, import.at, &import.path, number) {
             Ok(()) => Ok(()),
             Err(stop) => Err(stop),
@@ -160,7 +160,7 @@ fn enter_name<F: Files>(
     alloc: Global,
     files: &mut F,
     stock: &mut Stock,
-    top: u32,
+    top: usize,
     importer: Importer<'_>,
     name: &QName,
 ) -> Result<(), Stop>
@@ -194,7 +194,7 @@ fn enter_names<F: Files>(
     alloc: Global,
     files: &mut F,
     stock: &mut Stock,
-    top: u32,
+    top: usize,
     importer: Importer<'_>,
     all: &[&QName],
 ) -> Result<(), Stop>
@@ -221,7 +221,7 @@ fn enter_names<F: Files>(
 fn check_pattern(
     alloc: Global,
     stock: &Stock,
-    top: u32,
+    top: usize,
     file: &Chars,
     all: &[&QName],
     e: &Expr,
@@ -230,14 +230,11 @@ fn check_pattern(
     ensures { Checks result (pattern_fault file.now (expr_of e.now) (modules_seen stock.now.modules.items)
         (nth (modules_seen stock.now.modules.items) top)) }
 {
-    let Some(own) = stock.modules.get(top as usize) else {
+    let Some(own) = stock.modules.get(top) else {
         return Ok(());
     };
-    let count = own.rules.len();
-    if count > 4_294_967_295 {
-        return Err(Stop::Memory);
-    }
-    if let Err(stop) = check_names(alloc, file, &stock.modules, own, count as u32, all) {
+    let start = own.rules.len();
+    if let Err(stop) = check_names(alloc, file, &stock.modules, own, start, all) {
         return Err(stop);
     }
     let mut uses = Vec::new(alloc);
@@ -250,7 +247,7 @@ fn enter_expr<F: Files>(
     alloc: Global,
     files: &mut F,
     stock: &mut Stock,
-    top: u32,
+    top: usize,
     importer: Importer<'_>,
     e: &Expr,
 ) -> Result<(), Stop>
@@ -259,6 +256,8 @@ fn enter_expr<F: Files>(
     ensures gives { F.tells → let w = world (F.tree files.old) importer.entry.folders.now in
         Walks (λ _. stock_seen stock.new) result
         (enter_pattern w importer.entry.file.now top (stock_seen stock.old) (expr_of e.now)) }
+    ensures right { OnOk result (pattern_fault importer.entry.file.now (expr_of e.now) (stock_seen stock.new).modules
+        (nth (stock_seen stock.new).modules top) ≡ None) }
     ensures held { OnOk result (stock.new.held.items ≡ []) }
     ensures kept { (a : L.Stock) → CutsTo top a (stock_seen stock.old) → CutsTo top a (stock_seen stock.new) }
     ensures built { OnOk result (StaysBuilt top (stock_seen stock.old) (stock_seen stock.new)) }
@@ -281,13 +280,15 @@ pub fn enter_pattern<F: Files>(
     files: &mut F,
     folders: &[Chars],
     stock: &mut Stock,
-    top: u32,
+    top: usize,
     goal: Goal<'_>,
 ) -> Result<Expr, Stop>
     requires { stock.old.held.items ≡ [] }
     ensures gives { F.tells → (r : Or ParsedExpr) → ReadsGoal goal.entry.fixed goal.entry.find goal.entry.text.now r
         → Walks (λ e. (expr_of e, stock_seen stock.new)) result
         (goal_entered (world (F.tree files.old) folders.now) top (stock_seen stock.old) r) }
+    ensures right { IfOk result (λ e. pattern_fault pattern_file (expr_of e) (stock_seen stock.new).modules
+        (nth (stock_seen stock.new).modules top) ≡ None) }
     ensures held { OnOk result (stock.new.held.items ≡ []) }
     ensures kept { (a : L.Stock) → CutsTo top a (stock_seen stock.old) → CutsTo top a (stock_seen stock.new) }
     ensures built { OnOk result (StaysBuilt top (stock_seen stock.old) (stock_seen stock.new)) }

@@ -13,26 +13,22 @@ use rpl_scope::{Entry, Found, Module, Referent, Rule, find, find_plain};
 use rpl_syntax::{Expr, QName};
 
 /// The k-th rule of the module with this number.
-fn rule_in(modules: &[Module], number: u32, place: u32) -> Option<&Rule>
+fn rule_in(modules: &[Module], number: usize, place: usize) -> Option<&Rule>
     ensures { rule_found result ≡ T.rule_in (modules_seen modules.now) number place }
 {
-    match modules.get(number as usize) {
+    match modules.get(number) {
         None => None,
-        Some(from) => from.rules.get(place as usize),
+        Some(from) => from.rules.get(place),
     }
 }
 
 /// How many rules the module with this number has.
-fn rule_count(modules: &[Module], table: &Table, number: u32) -> u32
-    requires { IsTable table.now (modules_seen modules.now) }
+fn rule_count(modules: &[Module], number: usize) -> usize
     ensures { result ≡ T.size_of (nth (modules_seen modules.now) number) }
 {
-    match modules.get(number as usize) {
+    match modules.get(number) {
         None => 0,
-        Some(own) => {
-            let count = own.rules.len();
-            count as u32
-        }
+        Some(own) => own.rules.len(),
     }
 }
 
@@ -40,18 +36,18 @@ fn rule_count(modules: &[Module], table: &Table, number: u32) -> u32
 pub(crate) fn target_in(
     modules: &[Module],
     table: &Table,
-    number: u32,
-    place: u32,
+    number: usize,
+    place: usize,
 ) -> Result<Target, NameFault>
     requires { IsTable table.now (modules_seen modules.now) }
     ensures { result ≡ T.target_in (modules_seen modules.now) number place }
 {
     match rule_in(modules, number, place) {
         None => Err(NameFault::Unknown),
-        Some(rule) => match table.firsts.get(number as usize) {
+        Some(rule) => match table.firsts.get(number) {
             None => Err(NameFault::Unknown),
             Some(first) => Ok(Target {
-                rule: *first + place,
+                rule: *first + place as u32,
                 captures: !rule.alias,
             }),
         },
@@ -62,7 +58,7 @@ pub(crate) fn target_in(
 fn target_of(
     modules: &[Module],
     table: &Table,
-    number: u32,
+    number: usize,
     found: Found,
 ) -> Result<Target, NameFault>
     requires { IsTable table.now (modules_seen modules.now) }
@@ -89,9 +85,9 @@ fn target_of(
 #[derive(Clone, Copy)]
 struct Site {
     /// The number of its module.
-    owner: u32,
+    owner: usize,
     /// How many rules its module has before it.
-    start: u32,
+    start: usize,
 }
 
 /// Whether a statement of the module binds the name of an entry.
@@ -113,7 +109,7 @@ impl PackageSet {
     ghost use Rattle.rpl_package.specs.Targets as T;
 
     /// The number of the module of the roots and the pattern.
-    pub fn top(&self) -> u32
+    pub fn top(&self) -> usize
         ensures { result ≡ (set_seen self.now).top }
     {
         self.top
@@ -149,7 +145,7 @@ impl PackageSet {
     {
         Site {
             owner: self.top,
-            start: rule_count(&self.stock.modules, &self.table, self.top),
+            start: rule_count(&self.stock.modules, self.top),
         }
     }
 
@@ -169,7 +165,7 @@ impl PackageSet {
     fn resolve_at(&self, site: Site, name: &QName) -> Result<Target, NameFault>
         ensures { result ≡ T.resolved_at (set_seen self.now) name.now (Some (site_seen site)) }
     {
-        match self.stock.modules.get(site.owner as usize) {
+        match self.stock.modules.get(site.owner) {
             None => Err(NameFault::Unknown),
             Some(own) => {
                 let found = find(&self.stock.modules, own, site.start, name);
@@ -207,8 +203,8 @@ impl PackageSet {
     {
         let row = self.row(rule)?;
         let made = self.rule_of(row)?;
-        let own = self.stock.modules.get(row.from as usize)?;
-        let file = own.texts.get(made.text as usize)?;
+        let own = self.stock.modules.get(row.from)?;
+        let file = own.texts.get(made.text)?;
         Some((file.as_str(), made.at))
     }
 
@@ -216,7 +212,7 @@ impl PackageSet {
     fn mark_at(&self, site: Site) -> Result<Target, NameFault>
         ensures { result ≡ T.resolved_at (set_seen self.now) T.boundary_mark (Some (site_seen site)) }
     {
-        match self.stock.modules.get(site.owner as usize) {
+        match self.stock.modules.get(site.owner) {
             None => Err(NameFault::Unknown),
             Some(own) => {
                 let found = find_plain(own, site.start, "~");
@@ -254,7 +250,7 @@ impl PackageSet {
     fn binds_halt(&self) -> bool
         ensures { result ≡ T.binds_halt (set_seen self.now) }
     {
-        match self.stock.modules.get(self.top as usize) {
+        match self.stock.modules.get(self.top) {
             None => false,
             Some(own) => binds(own.names.get_text("halt")),
         }

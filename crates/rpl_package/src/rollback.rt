@@ -1,5 +1,5 @@
 // The pattern that is looked for, over a set.
-ghost use Rattle.std.specs.Prelude.{◌≡◌, [], OnErr};
+ghost use Rattle.std.specs.Prelude.{◌≡◌, [], IfOk, OnErr};
 ghost use Rattle.rpl_syntax.specs.Expression.{Expr as ParsedExpr};
 ghost use Rattle.rpl_syntax.specs.View.{expr_of};
 ghost use Rattle.rpl_scope.specs.Faults.{Or};
@@ -10,7 +10,7 @@ ghost use Rattle.rpl_package.specs.Kept.{with_shortened};
 ghost use Rattle.rpl_scope.specs.Packages.{nth};
 ghost use Rattle.rpl_scope.specs.Seen.{modules_seen};
 ghost use Rattle.rpl_package.specs.Loading.{world};
-ghost use Rattle.rpl_package.specs.Patterns.{load_pattern};
+ghost use Rattle.rpl_package.specs.Patterns.{HasNoFault, load_pattern};
 ghost use Rattle.rpl_package.specs.Sets.{set_seen};
 ghost use Rattle.rpl_package.specs.Stocks.{stock_seen};
 ghost use Rattle.rpl_package.specs.inside.Leaving.{LeavesFiles};
@@ -35,17 +35,17 @@ struct Marks {
 }
 
 /// How many prefixes the top module has.
-fn prefix_count(modules: &[Module], top: u32) -> usize
+fn prefix_count(modules: &[Module], top: usize) -> usize
     ensures { result ≡ prefixes_of (nth (modules_seen modules.now) top) }
 {
-    match modules.get(top as usize) {
+    match modules.get(top) {
         Some(own) => own.prefixes.len(),
         None => 0,
     }
 }
 
 /// How much a set of modules holds.
-fn marks_of(stock: &Stock, top: u32) -> Marks
+fn marks_of(stock: &Stock, top: usize) -> Marks
     ensures { result ≡ marks_of (stock_seen stock.now) top }
 {
     Marks {
@@ -57,17 +57,17 @@ fn marks_of(stock: &Stock, top: u32) -> Marks
 }
 
 /// Keeps the first of the prefixes of the top module alone, as many as that.
-fn shorten(modules: &mut Vec<Module>, top: u32, count: usize)
+fn shorten(modules: &mut Vec<Module>, top: usize, count: usize)
     ensures { modules_seen modules.new.items ≡ with_shortened top count (modules_seen modules.old.items) }
 {
-    match modules.get_mut(top as usize) {
+    match modules.get_mut(top) {
         Some(own) => own.prefixes.truncate(count),
         None => {}
     }
 }
 
 /// Lets go of all that it holds besides.
-fn cut_back(stock: &mut Stock, top: u32, marks: Marks)
+fn cut_back(stock: &mut Stock, top: usize, marks: Marks)
     ensures stock { stock_seen stock.new ≡ cut_back top marks (stock_seen stock.old) }
     ensures held { stock.new.held.items ≡ [] }
 {
@@ -89,6 +89,7 @@ pub fn enter_goal<F: Files>(
     ensures gives { F.tells → (r : Or ParsedExpr) → ReadsGoal goal.entry.fixed goal.entry.find goal.entry.text.now r
         → Walks (λ e. (expr_of e, set_seen set.new)) result
         (load_pattern (world (F.tree files.old) folders.now) (set_seen set.old) r) }
+    ensures right { IfOk result (λ e. HasNoFault (expr_of e) (set_seen set.new)) }
     ensures kept { OnErr result (set_seen set.new ≡ set_seen set.old) }
     ensures roots { (set_seen set.new).roots ≡ (set_seen set.old).roots }
     ensures files { LeavesFiles F.Source result files.old files.new }

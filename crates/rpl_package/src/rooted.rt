@@ -1,5 +1,5 @@
 // The roots of a command, one after the other.
-ghost use Rattle.std.specs.Prelude.{◌≡◌, ◌<◌, [], ◌∷◌, OnOk, IfOk, IfSome, Some, None, encode_utf8_all, length};
+ghost use Rattle.std.specs.Prelude.{◌≡◌, ◌<◌, ◌^◌, [], ◌∷◌, OnOk, IfOk, IfSome, Some, None, encode_utf8_all, length};
 ghost use Rattle.rpl_syntax.specs.Modules.{said};
 ghost use Rattle.rpl_package.specs.Asking.{Walks, and_then};
 ghost use Rattle.rpl_package.specs.Built.{Becomes, IsSaid};
@@ -48,7 +48,7 @@ fn enter_named<F: Files>(
     file: &Chars,
     name: &QName,
     text: &ParsedModule,
-) -> Result<Option<u32>, Stop>
+) -> Result<Option<usize>, Stop>
     requires name { text.now.package ≡ Some name.now }
     requires held { state.old.stock.held.items ≡ top_head ∷ [] }
     requires said { IsSaid (said text.now) }
@@ -103,7 +103,7 @@ pub fn enter_root<F: Files>(
     state: &mut State,
     file: &Chars,
     text: &ParsedModule,
-) -> Result<Option<u32>, Stop>
+) -> Result<Option<usize>, Stop>
     requires held { state.old.stock.held.items ≡ top_head ∷ [] }
     requires said { IsSaid (said text.now) }
     ensures gives { F.tells → Walks (λ n. (n, state_seen state.new.stock state.new.own)) result
@@ -162,7 +162,7 @@ pub fn enter_given<F: Files>(
     state: &mut State,
     file: &Chars,
     text: &Chars,
-) -> Result<Option<u32>, Stop>
+) -> Result<Option<usize>, Stop>
     requires held { state.old.stock.held.items ≡ top_head ∷ [] }
     ensures gives { F.tells → Walks (λ n. (n, state_seen state.new.stock state.new.own)) result
         (read_root (world (F.tree files.old) folders.now) file.now (encode_utf8_all text.now)
@@ -188,7 +188,7 @@ pub fn enter_file<F: Files>(
     folders: &[Chars],
     state: &mut State,
     path: &Chars,
-) -> Result<Option<u32>, Stop>
+) -> Result<Option<usize>, Stop>
     requires held { state.old.stock.held.items ≡ top_head ∷ [] }
     ensures gives { F.tells → Walks (λ n. (n, state_seen state.new.stock state.new.own)) result
         (and_then (asked_root (world (F.tree files.old) folders.now) path.now)
@@ -215,8 +215,8 @@ pub fn enter_file<F: Files>(
 }
 
 /// How many roots are given themselves, up to this one.
-fn next(given: u32, root: &Root) -> u32
-    requires { given < 4294967295 }
+fn next(given: usize, root: &Root) -> usize
+    requires { given < 2 ^ 63 }
     ensures { result ≡ next given root.now }
 {
     match root {
@@ -226,7 +226,7 @@ fn next(given: u32, root: &Root) -> u32
 }
 
 /// The name of the text of a root that is given itself.
-fn given_name(alloc: Global, given: u32) -> Result<Chars, NoMemory>
+fn given_name(alloc: Global, given: usize) -> Result<Chars, NoMemory>
     ensures { IfOk result (λ name. name ≡ given_name given) }
 {
     let text = format!(in alloc; "(rpl {given})")?;
@@ -239,9 +239,9 @@ fn enter_one<F: Files>(
     files: &mut F,
     folders: &[Chars],
     state: &mut State,
-    given: u32,
+    given: usize,
     root: &Root,
-) -> Result<Option<u32>, Stop>
+) -> Result<Option<usize>, Stop>
     requires held { state.old.stock.held.items ≡ top_head ∷ [] }
     ensures gives { F.tells → Walks (λ n. (n, state_seen state.new.stock state.new.own)) result
         (root_by (world (F.tree files.old) folders.now) given root.now (state_seen state.old.stock state.old.own)) }
@@ -267,7 +267,7 @@ pub fn enter_roots<F: Files>(
     folders: &[Chars],
     state: &mut State,
     roots: &[Root],
-) -> Result<Vec<Option<u32>>, Stop>
+) -> Result<Vec<Option<usize>>, Stop>
     requires held { state.old.stock.held.items ≡ top_head ∷ [] }
     ensures gives { F.tells → Walks
         (λ into. record { roots = into.items; state = state_seen state.new.stock state.new.own }) result
@@ -283,9 +283,6 @@ pub fn enter_roots<F: Files>(
     let mut given = 0;
     let mut into = Vec::new(alloc);
     for root in roots {
-        if given >= 4_294_967_295 {
-            return Err(Stop::Memory);
-        }
         given = next(given, root);
         let number = match enter_one(alloc, files, folders, state, given, root) {
             Ok(number) => number,

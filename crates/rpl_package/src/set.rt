@@ -13,9 +13,9 @@ use crate::table::Table;
 pub struct PackageSet {
     pub(crate) stock: Stock,
     /// The number of the module of the roots and the pattern.
-    pub(crate) top: u32,
+    pub(crate) top: usize,
     /// The number of the module of each root, where it isn't the top module.
-    pub(crate) roots: Vec<Option<u32>>,
+    pub(crate) roots: Vec<Option<usize>>,
     pub(crate) table: Table,
     ghost idle: { stock.held.items ≡ [] },
     ghost inside: { top < length stock.modules.items },

@@ -23,9 +23,9 @@ pub struct Head {
 pub struct Stock {
     pub modules: Vec<Module>,
     /// The number of the module with each path.
-    pub paths: Named<u32>,
+    pub paths: Named<usize>,
     /// The number of the module with each package name.
-    pub labels: Named<u32>,
+    pub labels: Named<usize>,
     pub held: Vec<Head>,
 }
 
@@ -86,9 +86,9 @@ pub fn is_taken(stock: &Stock, label: &Chars) -> bool
 /// The number of the module with this path, where it has one.
 fn note_path(
     alloc: Global,
-    paths: &mut Named<u32>,
+    paths: &mut Named<usize>,
     path: &Option<Chars>,
-    number: u32,
+    number: usize,
 ) -> Result<(), NoMemory>
     ensures ok { OnOk result (paths.new ≡ with_path path.now number paths.old) }
     ensures err { OnErr result (paths.new ≡ paths.old) }
@@ -109,25 +109,21 @@ fn push_module(modules: &mut Vec<Module>, from: Module) -> Result<(), NoMemory>
 }
 
 /// The number of the next module, noted under its path and its package name.
-fn note(alloc: Global, stock: &mut Stock, from: &Module) -> Result<u32, NoMemory>
+fn note(alloc: Global, stock: &mut Stock, from: &Module) -> Result<usize, NoMemory>
     ensures noted { OnOk result (stock_seen stock.new ≡ noted (stock_seen stock.old) (module_seen from.now)) }
     ensures number { IfOk result (λ n. n ≡ length (stock_seen stock.old).modules) }
     ensures kept { Keeps (stock_seen stock.old) (stock_seen stock.new) }
     ensures modules { stock.new.modules ≡ stock.old.modules }
     ensures held { stock.new.held ≡ stock.old.held }
 {
-    let count = stock.modules.len();
-    if count > 4_294_967_295 {
-        return Err(NoMemory);
-    }
-    let number = count as u32;
+    let number = stock.modules.len();
     note_path(alloc, &mut stock.paths, &from.path, number)?;
     stock.labels.add(alloc, &from.label, number)?;
     Ok(number)
 }
 
 /// One module more, whose loading is finished: its number.
-pub fn finish(alloc: Global, stock: &mut Stock, from: Module) -> Result<u32, Stop>
+pub fn finish(alloc: Global, stock: &mut Stock, from: Module) -> Result<usize, Stop>
     ensures stock { OnOk result (stock_seen stock.new ≡ finished (stock_seen stock.old) (module_seen from)) }
     ensures number { IfOk result (λ n. n ≡ length (stock_seen stock.old).modules) }
     ensures held { OnOk result (stock.new.held ≡ stock.old.held) }

@@ -9,15 +9,19 @@ use rpl_scope::{Module, NoMemory, Rule, Stop};
 use rpl_text::Chars;
 use std::alloc::Global;
 
+/// The most rules that statements may make: with the two built-in ones, all the numbers that a call can have. More are
+/// answered as out of memory, of which each has taken some.
+const MAX_ROWS: usize = 4_294_967_293;
+
 /// A rule of the table that a statement made.
 #[derive(Debug, Drop)]
 pub struct Row {
     /// Its full name.
     pub name: Chars,
     /// The number of its module.
-    pub from: u32,
+    pub from: usize,
     /// Its place among the rules of that module.
-    pub place: u32,
+    pub place: usize,
     /// The number of its block, where it stands in one.
     pub block: Option<u32>,
 }
@@ -54,9 +58,10 @@ fn in_block(rule: &Rule) -> bool
 }
 
 /// How many blocks have begun up to the rule at this place of its module.
-fn begun_at(blocks: u32, place: u32, rule: &Rule) -> u32
+fn begun_at(blocks: u32, place: usize, rule: &Rule) -> u32
     requires { blocks < 4294967295 }
-    ensures { result ≡ begun_at blocks place (rule_seen rule.now) }
+    ensures exact { result ≡ begun_at blocks place (rule_seen rule.now) }
+    ensures more { result ≤ blocks + 1 }
 {
     if in_block(rule) && rule.start == place {
         blocks + 1
@@ -69,8 +74,8 @@ fn begun_at(blocks: u32, place: u32, rule: &Rule) -> u32
 fn row_of(
     alloc: Global,
     label: &Chars,
-    from: u32,
-    place: u32,
+    from: usize,
+    place: usize,
     blocks: u32,
     rule: &Rule,
 ) -> Result<Row, NoMemory>
@@ -95,21 +100,23 @@ fn push_rules(
     alloc: Global,
     rows: &mut Vec<Row>,
     label: &Chars,
-    from: u32,
+    from: usize,
     blocks: u32,
     rules: &[Rule],
 ) -> Result<u32, Stop>
     requires few { 2 + length rows.old.items ≤ 4294967295 }
+    requires begun { blocks ≤ length rows.old.items }
     ensures rows { OnOk result (rows.new.items ≡ rows.old.items ++ rows_of label.now from 0 blocks
         (rules_seen rules.now)) }
     ensures few { OnOk result (2 + length rows.new.items ≤ 4294967295) }
+    ensures begun { IfOk result (λ n. n ≤ length rows.new.items) }
     ensures blocks { IfOk result (λ n. n ≡ begun_in blocks 0 (rules_seen rules.now)) }
     ensures memory { IfErr result (λ s. s ≡ OutOfMemory) }
 {
     let mut begun = blocks;
     let mut place = 0;
     for rule in rules {
-        if rows.len() >= 4_294_967_293 || begun == u32::MAX || place == u32::MAX {
+        if rows.len() >= MAX_ROWS {
             return Err(Stop::Memory);
         }
         begun = begun_at(begun, place, rule);
@@ -130,9 +137,6 @@ pub fn table_of(alloc: Global, modules: &[Module]) -> Result<Table, Stop>
     let mut blocks = 0;
     let mut from = 0;
     for module in modules {
-        if from == u32::MAX {
-            return Err(Stop::Memory);
-        }
         let first = rows.len() + 2;
         firsts.push(first as u32)?;
         blocks = match push_rules(alloc, &mut rows, &module.label, from, blocks, &module.rules) {

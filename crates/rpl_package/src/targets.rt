@@ -27,7 +27,7 @@ pub struct RuleHead<'a> {
     /// Its full name, which is the type of its nodes.
     pub name: &'a str,
     /// The number of its module.
-    pub module: u32,
+    pub module: usize,
     /// The number of its block, where it stands in one.
     pub block: Option<u32>,
     /// It makes a node.

@@ -32,18 +32,15 @@ pub struct Importer<'a> {
 }
 
 /// One text more of a module.
-fn push_text(alloc: Global, own: &mut Module, file: &Chars) -> Result<u32, Stop>
+fn push_text(alloc: Global, own: &mut Module, file: &Chars) -> Result<usize, Stop>
     ensures text { OnOk result (module_seen own.new ≡ with_text (module_seen own.old) file.now) }
     ensures number { IfOk result (λ n. n ≡ length (module_seen own.old).texts) }
     ensures memory { IfErr result (λ s. s ≡ OutOfMemory) }
 {
-    let count = own.texts.len();
-    if count > 4_294_967_295 {
-        return Err(Stop::Memory);
-    }
+    let number = own.texts.len();
     let text = file.copy(alloc)?;
     own.texts.push(text)?;
-    Ok(count as u32)
+    Ok(number)
 }
 
 /// The number of the module that an import names, which is loaded now.
@@ -56,7 +53,7 @@ pub fn load_import<F: Files>(
     importer: Importer<'_>,
     import: &Import,
     depth: usize,
-) -> Result<u32, Stop>
+) -> Result<usize, Stop>
     requires asked { IsAsked import.now }
     ensures gives { F.tells → let w = world (F.tree files.old) importer.entry.folders.now in
         Walks (λ n. (n, stock_seen stock.new)) result

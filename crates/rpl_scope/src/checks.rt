@@ -37,7 +37,7 @@ fn check_name(
     file: &Chars,
     modules: &[Module],
     own: &Module,
-    start: u32,
+    start: usize,
     name: &QName,
 ) -> Result<(), Stop>
     ensures { Checks result (named_fault file.now (modules_seen modules.now) (module_seen own.now) start name.now) }
@@ -65,7 +65,7 @@ pub fn check_names(
     file: &Chars,
     modules: &[Module],
     own: &Module,
-    start: u32,
+    start: usize,
     names: &[&QName],
 ) -> Result<(), Stop>
     ensures { Checks result (names_fault file.now (modules_seen modules.now) (module_seen own.now) start

@@ -21,15 +21,10 @@ fn push_rule(rules: &mut Vec<Rule>, rule: Rule) -> Result<(), NoMemory>
 }
 
 /// How many rules the module has by now: just those after them see what is added next.
-pub(crate) fn rules_so_far(own: &Module) -> Result<u32, Stop>
-    ensures ok { IfOk result (λ since. since ≡ length (module_seen own.now).rules) }
-    ensures err { IfErr result (λ s. s ≡ OutOfMemory) }
+pub(crate) fn rules_so_far(own: &Module) -> usize
+    ensures { result ≡ length (module_seen own.now).rules }
 {
-    let count = own.rules.len();
-    if count > 4_294_967_295 {
-        return Err(Stop::Memory);
-    }
-    Ok(count as u32)
+    own.rules.len()
 }
 
 /// The fault of a rule whose name the module has already.
@@ -48,7 +43,7 @@ pub fn enter(alloc: Global, own: &mut Module, file: &Chars, rule: Rule) -> Resul
     if own.names.get(&rule.name).is_some() {
         return Err(duplicate(alloc, file, rule));
     }
-    let number = rules_so_far(own)?;
+    let number = rules_so_far(own);
     let entry = Entry {
         since: rule.since,
         local: rule.local,

@@ -31,14 +31,19 @@ pub fn last_part(alloc: Global, path: &Chars) -> Result<Chars, NoMemory>
 }
 
 /// One prefix more, for the module with this number.
-pub fn put_prefix(alloc: Global, own: &mut Module, prefix: &Chars, number: u32) -> Result<(), Stop>
+pub fn put_prefix(
+    alloc: Global,
+    own: &mut Module,
+    prefix: &Chars,
+    number: usize,
+) -> Result<(), Stop>
     requires { first_of prefix.now own.old.prefixes ≡ None }
     ensures ok { OnOk result (module_seen own.new
         ≡ with_prefix (module_seen own.old) prefix.now
         (record { since = length (module_seen own.old).rules; number = number })) }
     ensures err { IfErr result (λ s. s ≡ OutOfMemory) }
 {
-    let since = rules_so_far(own)?;
+    let since = rules_so_far(own);
     own.prefixes.put(alloc, prefix, Prefix { since, number })?;
     Ok(())
 }
@@ -51,7 +56,7 @@ pub fn add_prefix(
     file: &Chars,
     at: usize,
     prefix: &Chars,
-    number: u32,
+    number: usize,
 ) -> Result<(), Stop>
     ensures gives { Gives (λ _. module_seen own.new) result
         (add_prefix file.now at prefix.now number (module_seen own.old)) }
@@ -68,7 +73,7 @@ pub fn add_prefix(
             Err(fault_at(alloc, file, at, kind))
         }
         None => {
-            let since = rules_so_far(own)?;
+            let since = rules_so_far(own);
             own.prefixes.put(alloc, prefix, Prefix { since, number })?;
             Ok(())
         }
@@ -76,7 +81,7 @@ pub fn add_prefix(
 }
 
 /// Whether it is this rule of that module.
-fn is_same(referent: Referent, number: u32, rule: u32) -> bool
+fn is_same(referent: Referent, number: usize, rule: usize) -> bool
     ensures { result ≡ is_same referent number rule }
 {
     match referent {
@@ -95,8 +100,8 @@ fn add_name(
     own: &mut Module,
     file: &Chars,
     at: usize,
-    number: u32,
-    place: u32,
+    number: usize,
+    place: usize,
     rule: &Rule,
 ) -> Result<(), Stop>
     ensures { Gives (λ _. module_seen own.new) result
@@ -117,7 +122,7 @@ fn add_name(
         }
         None => {
             let entry = Entry {
-                since: rules_so_far(own)?,
+                since: rules_so_far(own),
                 local: false,
                 hidden: false,
                 referent: Referent::Of {
@@ -137,7 +142,7 @@ fn add_names(
     own: &mut Module,
     file: &Chars,
     at: usize,
-    number: u32,
+    number: usize,
     rules: &[Rule],
 ) -> Result<(), Stop>
     ensures { Gives (λ _. module_seen own.new) result
@@ -145,9 +150,6 @@ fn add_names(
 {
     let mut place = 0;
     for rule in rules {
-        if place == u32::MAX {
-            return Err(Stop::Memory);
-        }
         if let Err(stop) = add_name(alloc, own, file, at, number, place, rule) {
             return Err(stop);
         }
@@ -163,7 +165,7 @@ pub fn take_in(
     own: &mut Module,
     file: &Chars,
     import: &Import,
-    number: u32,
+    number: usize,
 ) -> Result<(), Stop>
     ensures { Gives (λ _. module_seen own.new) result
         (take_in file.now import.now number (modules_seen modules.now) (module_seen own.old)) }
@@ -174,7 +176,7 @@ pub fn take_in(
             add_prefix(alloc, own, file, import.at, &prefix, number)
         }
         ImportAs::Named(prefix) => add_prefix(alloc, own, file, import.at, prefix, number),
-        ImportAs::Plain => match modules.get(number as usize) {
+        ImportAs::Plain => match modules.get(number) {
             Some(from) => add_names(alloc, own, file, import.at, number, &from.rules),
             None => Ok(()),
         },

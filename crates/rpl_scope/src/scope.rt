@@ -28,7 +28,7 @@ fn built_in(name: &str) -> Found
 }
 
 /// A name without a prefix, at a start.
-fn plain(start: u32, name: &str, entry: Option<Entry>) -> Found
+fn plain(start: usize, name: &str, entry: Option<Entry>) -> Found
     ensures { result ≡ plain (chars name.now) start entry }
 {
     match entry {
@@ -46,14 +46,14 @@ fn plain(start: u32, name: &str, entry: Option<Entry>) -> Found
 }
 
 /// What a name without a prefix stands for in a module, in a statement with this start.
-pub fn find_plain(own: &Module, start: u32, name: &str) -> Found
+pub fn find_plain(own: &Module, start: usize, name: &str) -> Found
     ensures { result ≡ plain (chars name.now) start (first_of (chars name.now) (module_seen own.now).names) }
 {
     plain(start, name, own.names.get_text(name))
 }
 
 /// A name to those who import the module with this number.
-fn shared(from: &Module, number: u32, name: &Chars) -> Found
+fn shared(from: &Module, number: usize, name: &Chars) -> Found
     ensures { result ≡ P.shared number (P.first_of name.now (module_seen from.now).names) }
 {
     match from.names.get(name) {
@@ -74,7 +74,7 @@ fn shared(from: &Module, number: u32, name: &Chars) -> Found
 }
 
 /// A name after a prefix, at a start.
-fn prefixed(modules: &[Module], start: u32, name: &Chars, prefix: Option<Prefix>) -> Found
+fn prefixed(modules: &[Module], start: usize, name: &Chars, prefix: Option<Prefix>) -> Found
     ensures { result ≡ prefixed (modules_seen modules.now) start name.now prefix }
 {
     match prefix {
@@ -83,7 +83,7 @@ fn prefixed(modules: &[Module], start: u32, name: &Chars, prefix: Option<Prefix>
             if start < p.since {
                 return Found::Unknown;
             }
-            match modules.get(p.number as usize) {
+            match modules.get(p.number) {
                 None => Found::Unknown,
                 Some(from) => shared(from, p.number, name),
             }
@@ -92,7 +92,7 @@ fn prefixed(modules: &[Module], start: u32, name: &Chars, prefix: Option<Prefix>
 }
 
 /// What a name stands for in a module, in a statement with this start.
-pub fn find(modules: &[Module], own: &Module, start: u32, name: &QName) -> Found
+pub fn find(modules: &[Module], own: &Module, start: usize, name: &QName) -> Found
     ensures { result ≡ bound (modules_seen modules.now) (module_seen own.now) start name.now }
 {
     match &name.prefix {

@@ -1,5 +1,5 @@
 // The statements of one text, in order.
-ghost use Rattle.std.specs.Prelude.{◌≡◌, ◌≤◌, ◌<◌, ◌+◌, ◌++◌, length, map, OnOk, IfOk, true, false};
+ghost use Rattle.std.specs.Prelude.{◌≡◌, ◌≤◌, ◌<◌, ◌^◌, ◌+◌, ◌++◌, length, map, OnOk, IfOk, true, false};
 ghost use Rattle.rpl_syntax.specs.Modules as S;
 ghost use Rattle.rpl_scope.specs.Bodies.{names_fault, macros_fault};
 ghost use Rattle.rpl_scope.specs.Faults.{Gives, Checks, ◌orelse◌};
@@ -10,7 +10,7 @@ ghost use Rattle.rpl_scope.specs.Statements.{bindings_of, bodies_fault, statemen
 use crate::NoMemory;
 use crate::bodies::{Use, push_names, push_uses};
 use crate::checks::{check_macros, check_names};
-use crate::enter::enter;
+use crate::enter::{enter, rules_so_far};
 use crate::fault::Stop;
 use crate::module::{Module, Rule};
 use rpl_syntax::{Binding, Item, QName};
@@ -21,9 +21,9 @@ use std::alloc::Global;
 fn rule_of(
     alloc: Global,
     binding: &Binding,
-    text: u32,
-    start: u32,
-    since: u32,
+    text: usize,
+    start: usize,
+    since: usize,
     hidden: bool,
 ) -> Result<Rule, NoMemory>
     ensures { IfOk result (λ r. rule_seen r ≡ rule_of text start since hidden (S.rule_of binding.now)) }
@@ -46,8 +46,8 @@ fn enter_half(
     alloc: Global,
     own: &mut Module,
     file: &Chars,
-    text: u32,
-    start: u32,
+    text: usize,
+    start: usize,
     hidden: bool,
     bindings: &[Binding],
 ) -> Result<(), Stop>
@@ -91,7 +91,7 @@ fn check_bodies(
     file: &Chars,
     modules: &[Module],
     own: &Module,
-    start: u32,
+    start: usize,
     hidden: &[Binding],
     visible: &[Binding],
 ) -> Result<(), Stop>
@@ -110,16 +110,16 @@ fn check_bodies(
     check_macros(alloc, file, &uses)
 }
 
-/// A binding, or the two halves of a block, where the module has fewer rules than a number may say.
+/// A binding, or the two halves of a block, which starts where the module has so many rules.
 fn enter_rules(
     alloc: Global,
     own: &mut Module,
     file: &Chars,
-    text: u32,
-    start: u32,
+    text: usize,
+    start: usize,
     item: &Item,
 ) -> Result<(), Stop>
-    requires { start < 4294967295 }
+    requires { start < 2 ^ 63 }
     ensures { Gives (λ _. module_seen own.new) result
         (enter_all file.now (rules_of text start (S.entry_of item.now)) (module_seen own.old)) }
 {
@@ -143,7 +143,7 @@ fn check_item(
     file: &Chars,
     modules: &[Module],
     own: &Module,
-    start: u32,
+    start: usize,
     item: &Item,
 ) -> Result<(), Stop>
     ensures { Checks result (bodies_fault file.now (modules_seen modules.now) start (bindings_of (S.entry_of item.now))
@@ -167,17 +167,13 @@ fn enter_item(
     modules: &[Module],
     own: &mut Module,
     file: &Chars,
-    text: u32,
+    text: usize,
     item: &Item,
 ) -> Result<(), Stop>
     ensures { Gives (λ _. module_seen own.new) result
         (statement file.now text (modules_seen modules.now) (S.entry_of item.now) (module_seen own.old)) }
 {
-    let count = own.rules.len();
-    if count >= 4_294_967_295 {
-        return Err(Stop::Memory);
-    }
-    let start = count as u32;
+    let start = rules_so_far(own);
     if let Err(stop) = enter_rules(alloc, own, file, text, start, item) {
         return Err(stop);
     }
@@ -193,7 +189,7 @@ pub fn enter_items(
     modules: &[Module],
     own: &mut Module,
     file: &Chars,
-    text: u32,
+    text: usize,
     items: &[Item],
 ) -> Result<(), Stop>
     ensures { Gives (λ _. module_seen own.new) result

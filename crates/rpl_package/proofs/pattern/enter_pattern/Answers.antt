@@ -1,4 +1,4 @@
-use Rattle.std.proofs.Common.{rules, ap, sym, ◌∙◌}
+use Rattle.std.proofs.Common.{rules, ◌≡◌, None, ap, sym, subst, ◌∙◌}
 use Rattle.std.specs.Prelude.{Ok, codes}
 use Rattle.std.proofs.lemmas.Str.{chars-IsAscii}
 use Rattle.rpl_syntax.specs.View.{expr_of}
@@ -6,7 +6,8 @@ use Rattle.rpl_scope.specs.Faults.{◌>>=◌}
 use Rattle.rpl_package.specs.Asking.{at_once, and_then}
 use Rattle.rpl_package.specs.Goals.{pattern_file}
 use Rattle.rpl_package.specs.Loading.{world}
-use Rattle.rpl_package.specs.Patterns.{enter_pattern}
+use Rattle.rpl_package.specs.Patterns.{enter_pattern, pattern_fault}
+use Rattle.rpl_scope.specs.Packages.{nth}
 use Rattle.rpl_package.specs.Stocks.{stock_seen}
 use Rattle.rpl_package.proofs.Leaving.{unread}
 use Rattle.rpl_package.proofs.Outcomes.{same, may_lead, may_then, then_follows}
@@ -29,6 +30,12 @@ returns-in-Err-enter_expr-clause-gives g c = λ tells r h.
     may_lead s _ _ (then_follows (at_once r) x (λ e. and_then (enter_pattern W pattern_file i S e) (λ t. at_once (Ok (e, t)))) (c.in-Ok.ensures.gives r h))
     (may_then s (enter_pattern W pattern_file i S x) (λ t. at_once (Ok (x, t)))
     (may_lead s _ _ (same _ _ (ap (λ f. enter_pattern W f i S x) file)) (c.in-Err-enter_expr.ensures.gives tells)))
+
+pub returns-clause-right : goal.returns-clause-right
+returns-clause-right g c =
+    let file = c.in_ok-file.ensures ∙ chars-IsAscii (codes "(pattern)") (search rules) in
+    let S = stock_seen c.enter_expr.new.stock in
+    subst (λ f. pattern_fault f (expr_of c.in-Ok.e) S.modules (nth S.modules c.args.top) ≡ None) file c.in_default.ensures.right
 
 pub returns-clause-gives : goal.returns-clause-gives
 returns-clause-gives g c = λ tells r h.

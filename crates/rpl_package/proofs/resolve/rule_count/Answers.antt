@@ -2,21 +2,8 @@ use Rattle.std.proofs.Common.{arith, length, ap, sym}
 use Rattle.std.proofs.lemmas.List.{length-map}
 use Rattle.rpl_scope.specs.Seen.{modules_seen, rule_seen}
 use Rattle.rpl_package.specs.Targets as T
-use Rattle.rpl_package.proofs.Numbering.{nth_seen, seen_past, few_in}
+use Rattle.rpl_package.proofs.Numbering.{nth_seen, seen_past}
 use Rattle.rpl_package.proofs.resolve.rule_count.Goals as goal
-
-pub overflow_cast-result : goal.overflow_cast-result
-overflow_cast-result c =
-    let ms = c.args.modules.now in
-    let own = c.in-Some.own.now in
-    let there = nth_seen ms c.args.number own c.in-Some.ensures.lookup.3.0 c.in-Some.ensures.lookup.1 in
-    let few = few_in 0 0 (modules_seen ms) c.args.number _ there in
-    let all = c.requires.few in
-    let same = ap length c.requires.rows in
-    let count = c.len-count.ensures in
-    let kept = own.rules.ok.0 in
-    let seen = length-map own.rules.items rule_seen in
-    omega (arith, few, all, same, count, kept, seen)
 
 pub returns-in-None : goal.returns-in-None
 returns-in-None c = sym (ap T.size_of (seen_past c.args.modules.now c.args.number c.in-None.ensures.lookup.3))
@@ -26,7 +13,7 @@ returns-in-Some c =
     let ms = c.args.modules.now in
     let own = c.in-Some.own.now in
     let there = ap T.size_of (nth_seen ms c.args.number own c.in-Some.ensures.lookup.3.0 c.in-Some.ensures.lookup.1) in
-    let count = c.len-count.ensures in
+    let count = c.len.ensures in
     let kept = own.rules.ok.0 in
     let seen = length-map own.rules.items rule_seen in
     omega (arith, there, count, kept, seen)

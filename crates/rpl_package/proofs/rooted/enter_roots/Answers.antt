@@ -9,7 +9,7 @@ use Rattle.rpl_package.specs.Roots.{Roots, top_head, counted, next, root_by, roo
 use Rattle.rpl_package.specs.Stocks.{state_seen}
 use Rattle.rpl_package.proofs.Leaving.{after, still}
 use Rattle.rpl_package.proofs.Outcomes.{same, trail, may_lead, may_then, turn_on, turn_stop}
-use Rattle.rpl_package.proofs.Rooting.{counted_front}
+use Rattle.rpl_package.proofs.Rooting.{counted_front, next_few}
 use Rattle.rpl_package.proofs.Within.{grows_seen, within_none, within_push}
 use Rattle.rpl_package.proofs.rooted.enter_roots.Goals as goal
 
@@ -45,6 +45,7 @@ loop-root-preserved g c =
       files = after g.F.Source _ _ _ _ _ _ inv.files c.in-Ok.ensures.files;
       held = c.in-Ok.ensures.held ∙ inv.held;
       built = on (top_head ∷ []) _ s0 s1 inv.built c.in-Ok.ensures.built;
+      few = omega (arith, inv.few, next_few k r, c.next-given.ensures);
       many = omega (arith, inv.many, pushed);
       within = within_push c.loop-root.into.items _ c.in-Ok.number _ _ c.in_ok-push.ensures.items (grows_seen (top_head ∷ []) c.loop-root.state.stock c.enter_one.new.state.stock s0 s1 c.in-Ok.ensures.built refl refl) inv.within c.in-Ok.ensures.within;
       left = λ tells.
@@ -63,6 +64,7 @@ loop-root-init g c =
       files = still g.F.Source (tt {0}) c.args.files.now;
       held = refl;
       built = stays _ _;
+      few = omega arith;
       many = ap length c.new-into.ensures.items;
       within = within_none _ _ c.new-into.ensures.items;
       left = λ tells. same _ _ (ap (λ xs. each_in_turn (root_entry W) (counted 0 c.args.roots.now) (record { roots = xs; state = s0 })) c.new-into.ensures.items);

@@ -1,4 +1,4 @@
-use Rattle.std.proofs.Common.{◌≡◌, drop, length, [], ◌∷◌}
+use Rattle.std.proofs.Common.{◌≡◌, ◌≤◌, drop, length, [], ◌∷◌}
 use Rattle.std.specs.Prelude.{Ok}
 use Rattle.rpl_package.specs.Asking.{each_in_turn}
 use Rattle.rpl_package.specs.Loading.{world}
@@ -14,6 +14,7 @@ invariant-loop-root g l =
     record {
       files : LeavesFiles g.F.Source (Ok (tt {0})) l.fn.files l.files;
       held : l.state.stock.held.items ≡ l.fn.state.stock.held.items;
+      few : l.given ≤ l.root-index;
       many : length l.into.items ≡ l.root-index;
       within : AreWithin l.into.items (length l.state.stock.modules.items);
       built : Becomes (top_head ∷ []) (state_seen l.fn.state.stock l.fn.state.own) (state_seen l.state.stock l.state.own);

@@ -18,6 +18,8 @@ loop-module-preserved c =
     let count = ap length here ∙ length-append c.loop-module.rows.items (rows_of m.label i 0 b rs) in
     let few = length-rows_of m.label i 0 b rs in
     record {
+      from = ap (λ k. k + 1) c.loop-module.invariant.from;
+      begun = c.in-Ok.ensures.begun;
       few = c.in-Ok.ensures.few;
       rows = subst (λ k. c.push_rules.new.rows.items ++ rows_from (i + 1) k (modules_seen (lib.ListN.drop (n + 1) ms)) ≡ rows_from 0 0 (modules_seen ms)) (sym begun)
           (module_step i b c.loop-module.rows.items c.push_rules.new.rows.items _ ms n m c.loop-module-test.true c.module-item.is here c.loop-module.invariant.rows);
