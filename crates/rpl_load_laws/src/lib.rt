@@ -31,8 +31,8 @@ pub fn loaded_is_bound()
     ensures { LoadedIsBound }
 {}
 
-/// Each name that a statement of a set says stands for a rule there, and so does each of a pattern with which nothing is
-/// wrong.
+/// Each name that a statement of a set says stands for a rule there, and so does each of a pattern with which nothing
+/// is wrong.
 pub fn names_resolve()
     ensures statements { StatementsResolve }
     ensures patterns { PatternsResolve }
