@@ -7,6 +7,17 @@ use Rattle.rpl_package.specs.Targets.{target_by}
 use Rattle.rpl_package.proofs.Numbering.{nth_within, found_in, length-firsts, first_is, room_at}
 use Rattle.rpl_package.proofs.resolve.target_in.Goals as goal
 
+pub overflow_cast-result : goal.overflow_cast-result
+overflow_cast-result c =
+    let ms = modules_seen c.args.modules.now in
+    let i = c.args.number in
+    let k = c.args.place in
+    let there = found_in ms i k _ (sym c.in-Some.ensures) in
+    let room : first_rule ms i + k < 2 + length (rows ms) = room_at 0 0 ms i k there.0 _ there.1 there.2 in
+    let few = c.requires.few in
+    let same = ap length c.requires.rows in
+    omega (arith, room, few, same)
+
 pub overflow_add-result : goal.overflow_add-result
 overflow_add-result c =
     let ms = modules_seen c.args.modules.now in
