@@ -1,10 +1,9 @@
 -- From a run and its end to what is said of a call.
 use Rattle.std.proofs.Common.{ℕ, ◌≡◌, List, [], refl, arith}
 use Rattle.std.specs.Prelude.{Result, Ok, Err, IfErr}
-use Rattle.rosie_run.specs.Causes.{SourcesCause, WritesCause}
+use Rattle.rosie_run.specs.Runs.{SourcesCause, WritesCause, GoesOn, IsNoCut, Runs}
 use Rattle.rosie_run.specs.Closing.{Closes, ClosesCause}
 use Rattle.rosie_run.specs.Outputs.{Failures, Texts}
-use Rattle.rosie_run.specs.Runs.{GoesOn, IsNoCut, Runs}
 use Rattle.rosie_run.specs.Sources.{Moment, NoFewer, Still}
 use Rattle.rosie_run.specs.declared.ended.Ended.{Ended}
 use Rattle.rosie_run.specs.declared.ended.Ended.TheVariants as E

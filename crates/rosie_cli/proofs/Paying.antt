@@ -2,7 +2,7 @@
 use Rattle.std.proofs.Common.{ℕ, ◌≡◌, Bool, true, false, cond, List, length, ◌++◌, sym, subst, ⊎_elim}
 use Rattle.std.specs.Prelude.{Option, Some, None, Ok, Err, nat_lt, encode_utf8_all}
 use Rattle.regex_class.specs.Ranges.{Range}
-use Rattle.rosie_jobs.specs.Limits as J
+use Rattle.rosie_jobs.specs.Budgets as J
 use Rattle.rosie_jobs.specs.Lines.{Job}
 use Rattle.rosie_jobs.specs.Loaded as L
 use Rattle.rosie_jobs.specs.declared.settings.Settings.{Settings}

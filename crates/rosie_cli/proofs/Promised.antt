@@ -13,7 +13,8 @@ use Rattle.rosie_run.specs.declared.lines.Reading.{Reading}
 use Rattle.rosie_run.proofs.Onward.{lines_none}
 use Rattle.rosie_run.proofs.Pieces.{has-nil, has-append, has-up, up-all}
 use Rattle.rosie_jobs.specs.Lines.{reading}
-use Rattle.rosie_jobs.specs.Limits.{Pays, IsAllowed}
+use Rattle.rosie_jobs.specs.Limits.{IsAllowed}
+use Rattle.rosie_jobs.specs.Budgets.{Pays}
 use Rattle.rosie_jobs.specs.Makers.{Maker, makes_of}
 use Rattle.rosie_jobs.proofs.Allowed.{IsGood, good_made, short_line, text_line}
 use Rattle.rosie_unittest.proofs.Paid.{suite-clean}
@@ -23,7 +24,8 @@ use Rattle.rosie_sample.specs.Lines.{sample}
 use Rattle.rosie_sample.specs.Runs.{Sampled}
 use Rattle.rosie_sample.proofs.Counting.{has-muted}
 use Rattle.rosie_session.proofs.Sessions.{never_stops}
-use Rattle.rosie_cli.specs.Promises.{IsPromised, SoundFile, IsSound}
+use Rattle.rosie_cli.specs.Promises.{IsPromised}
+use Rattle.rosie_cli.specs.Sound.{SoundFile, IsSound}
 use Rattle.rosie_cli.specs.Report.{report}
 
 -- no piece ends the run, and none has no answer

@@ -13,7 +13,7 @@ use Rattle.rosie_prepare.specs.Prepared.{OrLine, Passes, TableComes, TableFacts,
 use Rattle.rosie_prepare.specs.Prepared.{table_too_large, table_unsound}
 use Rattle.rosie_session.proofs.Paying.{goal_whole, own_within}
 use Rattle.rosie_unittest.proofs.Texts.{tests_are_of_text}
-use Rattle.rosie_unittest.specs.Limits.{SuitePays, TestPays}
+use Rattle.rosie_unittest.specs.Budgets.{SuitePays, TestPays}
 use Rattle.rosie_unittest.specs.Suites.{AreTrials, Comes, ComesAgain, IsSubject, IsSuite, Suite, Tells, bad, tests}
 use Rattle.rosie_unittest.specs.Suites.{goal_of, loading, read_again}
 use Rattle.rosie_unittest.specs.Trials.{Bench, Subject, Trial, TooLong, Runs, ran}

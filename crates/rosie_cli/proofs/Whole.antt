@@ -9,11 +9,10 @@ use Rattle.rosie_run.specs.Causes.{ReadsCause, OutputCause}
 use Rattle.rosie_run.specs.Headline.{CameToEnd, AreShort, Headline, IsComplete}
 use Rattle.rosie_run.specs.Inputs.{AreTold, inputs_pieces, is_standard, reads_standard}
 use Rattle.rosie_run.specs.Outputs.{Telling, Texts}
-use Rattle.rosie_run.specs.Report.{Piece, has, is_stop, is_fault, stop_piece}
+use Rattle.rosie_run.specs.Report.{Piece, has, is_stop, is_fault, stop_piece, flags_status}
 use Rattle.rosie_run.specs.Runs.{Breaks, Runs, IsCutOf, GoesOn}
 use Rattle.rosie_run.specs.Sources.{Moment, RoseIn, Span}
 use Rattle.rosie_run.specs.Where.{Nowhere, not_opened, opened, InInputs, in_file, in_standard, in_loading, in_inputs}
-use Rattle.rosie_run.specs.Statuses.{flags_status}
 use Rattle.rosie_run.specs.Closing.{Closes, stop_status}
 use Rattle.rosie_run.specs.declared.lines.Reading.{Reading}
 use Rattle.rosie_run.specs.declared.ended.Ended.{Ended}
@@ -33,11 +32,11 @@ use Rattle.rosie_jobs.specs.Makers.{Maker, makes_of}
 use Rattle.rosie_unittest.specs.Trials.{Bench, Trial, suite_pieces}
 use Rattle.rosie_cli.specs.Planned.{IsPlanned, IsPlannedAs}
 use Rattle.rosie_cli.specs.Plans.{Plan, Says, Writes, Tries, Reads, Planned, refusal, Samples, Replays}
+use Rattle.rosie_cli.specs.Plans.{pieces, inputs_of, LeavesInput, ReadsInput, among, stood}
 use Rattle.rosie_words.specs.declared.command.Command.{Command}
 use Rattle.rosie_session.specs.Loading.{Loading}
 use Rattle.rosie_session.specs.Replay.{replay}
 use Rattle.rosie_session.specs.Where.{InSession, in_lines, in_load}
-use Rattle.rosie_cli.specs.Plans.{pieces, inputs_of, LeavesInput, ReadsInput, among, stood}
 use Rattle.rosie_cli.specs.Report.{IsAnswer, KnowsFiles, KnowsInputs}
 use Rattle.rosie_cli.specs.Words.{Asked, Refuse, Do, IsRefused}
 use Rattle.rosie_cli.specs.inside.Planning.{IsSaid}

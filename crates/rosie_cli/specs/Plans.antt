@@ -48,12 +48,9 @@ pieces (Replays w) tree input = replay w input
 
 -- the names of the inputs; the standard input is among them
 abbrev pub inputs_of : Plan → List (List ℕ)
-inputs_of (Says ps) = []
-inputs_of (Writes bytes) = []
-inputs_of (Tries b trials) = []
 inputs_of (Reads m whole names) = names
-inputs_of (Samples r) = []
 inputs_of (Replays w) = codes "-" ∷ []
+inputs_of _ = []
 
 abbrev pub ReadsInput : Plan → Type 0
 ReadsInput plan = reads_standard (inputs_of plan) ≡ true
@@ -65,15 +62,12 @@ LeavesInput plan = reads_standard (inputs_of plan) ≡ false
 -- where reading may end the run of a plan: among its inputs, or in a file that a line of a session asks for. `input` is
 -- the standard input
 abbrev pub among : Plan → List (List ℕ × List ℕ) → (input files : Span) → ReadStop → List ℕ → ℕ → Type 0
-among (Says ps) tree input files = Nowhere
-among (Writes bytes) tree input files = Nowhere
-among (Tries b trials) tree input files = Nowhere
 among (Reads m whole names) tree input files =
     InInputs names (λ front. length (inputs_pieces (makes_of m) (reading whole) tree input.before.rest front))
     tree whole input.before input.after files.before files.after
-among (Samples r) tree input files = Nowhere
 among (Replays w) tree input files =
     InSession w input.before.rest input.before input.after files.before files.after
+among _ tree input files = Nowhere
 
 -- and on the way to it, where one of the paths is read
 abbrev pub stood : Planned → List (List ℕ × List ℕ) → (input files : Span) → ReadStop → List ℕ → ℕ → Type 0

@@ -2,7 +2,7 @@
 use Rattle.std.specs.Prelude.{ℕ, List, ◌≡◌, ◌⊎◌}
 use Rattle.rosie_run.specs.Inputs.{AreTold}
 use Rattle.rosie_run.specs.Report.{Piece, up_to_stop, status_of}
-use Rattle.rosie_cli.specs.Plans.{Plan, Says, Writes, Tries, Reads, pieces, Samples, Replays}
+use Rattle.rosie_cli.specs.Plans.{Plan, Reads, pieces, Replays}
 use Rattle.rosie_run.specs.declared.status.Status.{Status}
 use Rattle.rosie_run.specs.declared.status.Status.TheVariants.{NoMemory}
 use Rattle.rosie_cli.specs.Words.{Asked, Refuse, Do}
@@ -18,12 +18,9 @@ IsAnswer answer ps = (answer ≡ status_of ps) ⊎ (answer ≡ NoMemory)
 -- what is read for a plan is told: the standard input and the files, each where it is among the inputs; for a session
 -- both, since its lines load files
 abbrev pub KnowsInputs : Plan → Type 0 → Type 0 → Type 0
-KnowsInputs (Says ps) files input = Unit {0}
-KnowsInputs (Writes bytes) files input = Unit {0}
-KnowsInputs (Tries b trials) files input = Unit {0}
 KnowsInputs (Reads m whole names) files input = AreTold names files input
-KnowsInputs (Samples r) files input = Unit {0}
 KnowsInputs (Replays w) files input = files × input
+KnowsInputs _ files input = Unit {0}
 
 abbrev pub KnowsFiles : Asked → Type 0 → Type 0
 KnowsFiles (Refuse text) files = Unit {0}

@@ -13,7 +13,7 @@ use Rattle.rosie_run.specs.Report.{Piece}
 use Rattle.rosie_run.specs.Sources.{Span, span_of}
 use Rattle.rosie_run.specs.declared.status.Status.{Status}
 use Rattle.rosie_cli.specs.Plans.{Planned, ReadsInput, inputs_of, stood}
-use Rattle.rosie_cli.specs.Promises.{IsSound}
+use Rattle.rosie_cli.specs.Sound.{IsSound}
 use Rattle.rosie_cli.specs.Report.{IsAnswer, KnowsInputs, report}
 
 -- A call: what it comes to, and whether that is known; what its files and its streams tell, and where they stand before

@@ -3,10 +3,10 @@
 
 ghost use Rattle.std.specs.Prelude.{◌≡◌, ◌≢◌, ◌∷◌, [], ℕ, string_bytes, IfErr};
 ghost use Rattle.rosie_jobs.specs.Lines.{reading};
-ghost use Rattle.rosie_run.specs.Causes.{SourcesCause, WritesCause, IsFlushed};
+ghost use Rattle.rosie_run.specs.Causes.{IsFlushed};
+ghost use Rattle.rosie_run.specs.Runs.{SourcesCause, WritesCause, Runs, GoesOn, IsNoCut};
 ghost use Rattle.rosie_run.specs.Outputs.{shown, telling};
 ghost use Rattle.rosie_run.specs.Report.{stop_piece};
-ghost use Rattle.rosie_run.specs.Runs.{Runs, GoesOn, IsNoCut};
 ghost use Rattle.rosie_run.specs.Sources.{moment_of, span_of};
 ghost use Rattle.rosie_run.specs.Where.{Nowhere};
 ghost use Rattle.rosie_words.specs.Reading.{words_of};

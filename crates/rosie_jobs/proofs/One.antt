@@ -5,7 +5,8 @@ use Rattle.rpl_codefile.specs.Spelling.{Spells}
 use Rattle.rpl_codefile.proofs.Decides.{one_reading_holds}
 use Rattle.rpl_core.specs.Instr.{Instr}
 use Rattle.rpl_safe.specs.Safe.{IsSafe}
-use Rattle.rosie_jobs.specs.Loaded.{IsRead, OneLoading, OrLine}
+use Rattle.rosie_jobs.specs.Loaded.{IsRead, OrLine}
+use Rattle.rosie_jobs.specs.Laws.{OneLoading}
 
 -- bytes that spell a safe code spell neither nothing nor an unsafe one
 only_safe : (bytes : List ℕ) (code : List Instr) (line : List ℕ) (path : List ℕ) → Spells code bytes × IsSafe code → IsRead path bytes (Err line) → ⊥

@@ -4,7 +4,8 @@ use Rattle.std.specs.Prelude.{Result, Ok, Err, codes, string_bytes}
 use Rattle.rpl_codefile.specs.Spelling.{SpellsNone}
 use Rattle.rpl_core.specs.Program.{instructions}
 use Rattle.rpl_core.specs.declared.program.Program.{Program}
-use Rattle.rosie_jobs.specs.Loaded.{IsLoaded, Loads, max_code_bytes}
+use Rattle.rosie_jobs.specs.Loaded.{IsLoaded, max_code_bytes}
+use Rattle.rosie_jobs.specs.Answers.{Loads}
 use Rattle.rosie_jobs.specs.declared.unloaded.Unloaded.{Unloaded}
 use Rattle.rosie_jobs.specs.declared.unloaded.Unloaded.TheVariants.{NoMemory, ReadFault, Refused}
 use Rattle.rosie_jobs.specs.inside.Telling.{Reads, Refuses}

@@ -2,7 +2,8 @@
 use Rattle.std.proofs.Common.{◌≡◌, List, [], ◌∷◌, ◌++◌, refl, sym, ap, ◌∙◌, append_assoc}
 use Rattle.std.proofs.lemmas.List.{append-nil}
 use Rattle.rpl_core.specs.Forest.{Caught, Begin, Finish, Mark, Forest, NoTree, Tree, Noted, flat, joined}
-use Rattle.rosie_jobs.specs.Written.{Behind, before, begun, behind, written, WrittenLaw}
+use Rattle.rosie_jobs.specs.Written.{Behind, before, begun, behind, written}
+use Rattle.rosie_jobs.specs.Laws.{WrittenLaw}
 
 joined_none : (f : Forest) → joined f NoTree ≡ f
 joined_none NoTree = refl

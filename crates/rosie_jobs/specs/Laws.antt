@@ -1,14 +1,18 @@
 -- What holds of all jobs.
-use Rattle.std.specs.Prelude.{◌≡◌, ℕ, true, List, chars}
+use Rattle.std.specs.Prelude.{◌≡◌, ℕ, true, List, chars, Option}
 use Rattle.std.specs.Str.{is_utf8}
 use Rattle.rpl_core.specs.Outcome.{outcome}
 use Rattle.rpl_trace.specs.Evaluations.{Evaluations, NoneLeft, One, Ending, Unsaid, trace}
 use Rattle.rpl_trace.specs.Traces.{ending_place, place_behind}
-use Rattle.rosie_jobs.specs.Limits.{IsTraceable, IsWithin, PaysFor}
+use Rattle.rosie_jobs.specs.Limits.{IsTraceable, IsWithin}
+use Rattle.rosie_jobs.specs.Budgets.{PaysFor}
 use Rattle.rosie_jobs.specs.Lines.{Job, code_makes, match_makes}
 use Rattle.rosie_jobs.specs.Meant.{IsMeant}
 use Rattle.rosie_jobs.specs.Traces.{trace_makes}
 use Rattle.rosie_jobs.specs.declared.settings.Settings.{Settings}
+use Rattle.rosie_jobs.specs.Loaded.{OrLine, IsLoaded}
+use Rattle.rpl_core.specs.Forest.{Forest, flat}
+use Rattle.rosie_jobs.specs.Written.{written}
 
 -- how the first evaluation ends: it is that of the goal
 abbrev pub first_ending : Evaluations → Ending
@@ -34,3 +38,12 @@ abbrev pub RunsAsItsGoal : Type 0
 RunsAsItsGoal =
     (s : Settings) (job : Job) → IsMeant job → (file : List ℕ) (n : ℕ) (line : List ℕ) → is_utf8 line ≡ true
     → match_makes s job file n line ≡ code_makes s job.code file n line
+
+-- a file comes to one of them
+abbrev pub OneLoading : Type 0
+OneLoading =
+    (path : List ℕ) (file : Option (List ℕ)) (r s : OrLine) → IsLoaded path file r → IsLoaded path file s → r ≡ s
+
+-- the capture list of some trees writes them out
+abbrev pub WrittenLaw : Type 0
+WrittenLaw = (f : Forest) → written (flat f) ≡ f

@@ -2,9 +2,11 @@ pub mod Lines
 pub mod Meant
 pub mod Traces
 pub mod Makers
+pub mod Budgets
 pub mod Limits
 pub mod Jobs
 pub mod Laws
+pub mod Answers
 pub mod Loaded
 pub mod Written
 pub mod inside

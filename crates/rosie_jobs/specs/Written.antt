@@ -1,6 +1,6 @@
 -- The trees that a capture list writes out, read from its end.
-use Rattle.std.specs.Prelude.{◌≡◌, ℕ, List, [], ◌∷◌}
-use Rattle.rpl_core.specs.Forest.{Caught, Begin, Finish, Mark, Forest, NoTree, Tree, Noted, flat}
+use Rattle.std.specs.Prelude.{ℕ, List, [], ◌∷◌}
+use Rattle.rpl_core.specs.Forest.{Caught, Begin, Finish, Mark, Forest, NoTree, Tree, Noted}
 
 -- the trees from here on, in the tree that is open here or in none; and of each tree that is open, the innermost first,
 -- where it ends, and the trees after it
@@ -25,7 +25,3 @@ behind (c ∷ cs) = before c (behind cs)
 
 abbrev pub written : List Caught → Forest
 written cs = (behind cs).here
-
--- the capture list of some trees writes them out
-abbrev pub WrittenLaw : Type 0
-WrittenLaw = (f : Forest) → written (flat f) ≡ f

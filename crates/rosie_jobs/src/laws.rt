@@ -1,8 +1,6 @@
 //! What holds of all jobs.
 
-ghost use Rattle.rosie_jobs.specs.Laws.{RunsAsItsGoal, TracesAgree};
-ghost use Rattle.rosie_jobs.specs.Loaded.{OneLoading};
-ghost use Rattle.rosie_jobs.specs.Written.{WrittenLaw};
+ghost use Rattle.rosie_jobs.specs.Laws.{RunsAsItsGoal, TracesAgree, OneLoading, WrittenLaw};
 
 /// A trace and a match agree on each line that the limits of both allow.
 pub fn trace_agrees()

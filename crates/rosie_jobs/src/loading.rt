@@ -1,6 +1,7 @@
 // From a code file to its program.
 ghost use Rattle.std.specs.Prelude.{◌≡◌, ◌≢◌, ◌<◌, ◌≤◌, ◌-◌, ◌^◌, ℕ, Some, false, codes, length, IfOk};
-ghost use Rattle.rosie_jobs.specs.Loaded.{IsRead, HasCause, Loads};
+ghost use Rattle.rosie_jobs.specs.Loaded.{IsRead};
+ghost use Rattle.rosie_jobs.specs.Answers.{HasCause, Loads};
 ghost use Rattle.rosie_jobs.specs.inside.Telling.{IsToldOfFile, Reads, Refuses};
 ghost use Rattle.rosie_io.specs.Opening.{file_of};
 ghost use Rattle.rosie_run.specs.Sources.{moment};

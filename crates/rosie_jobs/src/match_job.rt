@@ -20,7 +20,7 @@ pub struct MatchJob {
 
 impl MatchJob {
     ghost use Rattle.rosie_jobs.specs.Jobs.{job_of, matcher_of};
-    ghost use Rattle.rosie_jobs.specs.Limits.{Pays};
+    ghost use Rattle.rosie_jobs.specs.Budgets.{Pays};
     ghost use Rattle.rosie_jobs.specs.Makers.{Matches};
 
     /// The job of these settings.

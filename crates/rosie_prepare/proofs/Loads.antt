@@ -6,8 +6,8 @@ use Rattle.std.specs.List.{Contains}
 use Rattle.std.proofs.lemmas.List.{get_or-map, length-map}
 use Rattle.std.proofs.lemmas.List.Elements.{Contains-append_left}
 use Rattle.rosie_prepare.specs.Lines.{Line, load_line}
-use Rattle.rosie_prepare.specs.Answers.{IsAsked, IsDue}
-use Rattle.rosie_prepare.specs.Prepared.{Comes, IsPrepared, OrLine, Ready, TableComes, Tree, PatternRequest, loaded, set_of}
+use Rattle.rosie_prepare.specs.Answers.{IsAsked, IsDue, set_of}
+use Rattle.rosie_prepare.specs.Prepared.{Comes, IsPrepared, OrLine, Ready, TableComes, Tree, PatternRequest, loaded}
 use Rattle.rosie_prepare.specs.declared.prepared.Prepared.{Prepared}
 use Rattle.rosie_prepare.specs.declared.unready.Unready.{Unready}
 use Rattle.rosie_prepare.specs.declared.unready.Unready.TheVariants.{NoMemory, Refused, ReadFault}

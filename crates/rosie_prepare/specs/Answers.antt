@@ -5,6 +5,9 @@ use Rattle.rosie_prepare.specs.Prepared.{OrLine}
 use Rattle.rosie_prepare.specs.declared.unready.Unready.{Unready}
 use Rattle.rosie_prepare.specs.declared.unready.Unready.TheVariants.{NoMemory, Refused, ReadFault}
 use Rattle.rosie_run.specs.Sources.{Moment, NoFewer, RoseIn, Still}
+use Rattle.rosie_prepare.specs.Lines.{load_line}
+use Rattle.rpl_package.specs.Roots.{Packages}
+use Rattle.rpl_scope.specs.Faults.{Or}
 
 -- a refusal has the line that is due; out of memory and a failed read say nothing of it
 abbrev pub IsDue : {A : Type 0} → Unready → OrLine A → Type 0
@@ -32,3 +35,7 @@ Counts (ReadFault path) f0 f1 = NoFewer f0 f1 × RoseIn f0 f1
 abbrev pub HasCause : {X : Type 0} → Result X Unready → Moment → Moment → Type 0
 HasCause (Ok x) f0 f1 = Still f0 f1
 HasCause (Err u) f0 f1 = Counts u f0 f1
+
+abbrev pub set_of : Or Packages → OrLine Packages
+set_of (Ok p) = Ok p
+set_of (Err f) = Err (load_line f)

@@ -82,10 +82,6 @@ table_too_large p = E.table_fault 0 (table_of p)
 abbrev pub table_unsound : (p : Packages) → TableFacts p → Option C.Fault
 table_unsound p d = first_fault d (blocks (table_of p))
 
-abbrev pub set_of : Or Packages → OrLine Packages
-set_of (Ok p) = Ok p
-set_of (Err f) = Err (load_line f)
-
 abbrev pub TableComes : Or Packages → OrLine Packages → Type 0
 TableComes (Err f) r = r ≡ Err (load_line f)
 TableComes (Ok p) r = Passes p (table_too_large p) (table_unsound p) p r

@@ -1,8 +1,8 @@
 // From roots and a pattern to what can be run.
 ghost use Rattle.std.specs.Prelude.{◌≡◌, ℕ, List, IfErr, IfOk, encode_utf8_all, false, length, map};
 ghost use Rattle.rosie_io.specs.Loading.{NotFewer};
-ghost use Rattle.rosie_prepare.specs.Answers.{HasCause, IsAsked, Prepares};
-ghost use Rattle.rosie_prepare.specs.Prepared.{IsPrepared, OrLine, Ready, TableComes, set_of};
+ghost use Rattle.rosie_prepare.specs.Answers.{HasCause, IsAsked, Prepares, set_of};
+ghost use Rattle.rosie_prepare.specs.Prepared.{IsPrepared, OrLine, Ready, TableComes};
 ghost use Rattle.rosie_prepare.specs.Views.{ready_seen, request_seen};
 ghost use Rattle.rosie_run.specs.Sources.{moment};
 ghost use Rattle.rpl_check.specs.Checked.{IsWhole};

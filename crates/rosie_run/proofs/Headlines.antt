@@ -4,13 +4,13 @@ use Rattle.std.specs.Prelude.{Result, Ok, Err, string_bytes}
 use Rattle.std.proofs.lemmas.Bool.{false≢true}
 use Rattle.rosie_io.specs.Counts.{Rose}
 use Rattle.std.proofs.Math.Seq.{take-append_seam, take-append-add, take-length}
-use Rattle.rosie_run.specs.Causes.{OutputCause, ReadsCause, SourcesCause, WritesCause}
+use Rattle.rosie_run.specs.Causes.{OutputCause, ReadsCause}
+use Rattle.rosie_run.specs.Runs.{SourcesCause, WritesCause, CutShort, Runs}
 use Rattle.rosie_run.specs.Headline.{IsBehind, Reported, Left, in_the_run, at_the_end, Headline, IsComplete}
 use Rattle.rosie_run.specs.Outputs.{Telling, Texts, Wrote, IsFront, Fronts}
-use Rattle.rosie_run.specs.Report.{Piece, outs, errs, tally_of, up_to_stop, has, is_hit, is_stop, is_fault}
-use Rattle.rosie_run.specs.Runs.{CutShort, Runs}
+use Rattle.rosie_run.specs.Report.{Piece, outs, errs, up_to_stop, has, is_hit, is_stop, is_fault, flags_status}
+use Rattle.rosie_run.specs.Tallies.{tally_of}
 use Rattle.rosie_run.specs.Sources.{Still, NoFewer, RoseIn, Moment}
-use Rattle.rosie_run.specs.Statuses.{flags_status}
 use Rattle.rosie_run.specs.Closing.{stop_status, Stays, Closes, ClosesCause}
 use Rattle.rosie_run.specs.declared.ended.Ended.{Ended}
 use Rattle.rosie_run.specs.declared.ended.Ended.TheVariants as E

@@ -3,14 +3,17 @@ use Rattle.std.proofs.Common.{ℕ, zero, suc, ◌≡◌, ◌+◌, ◌-◌, ◌^�
 use Rattle.std.proofs.lemmas.Bool.{false≢true}
 use Rattle.std.proofs.lemmas.List.{append-nil, drop_more, drop_all}
 use Rattle.rosie_io.specs.Counts.{Rose}
-use Rattle.rosie_run.specs.Inputs.{is_standard, one_pieces, left_after, left_all, inputs_pieces, reads_file, reads_standard, names_of}
+use Rattle.rosie_run.specs.Inputs.{is_standard, one_pieces, left_after, inputs_pieces, reads_file, reads_standard}
+use Rattle.rosie_run.specs.Inputs.{names_of}
+use Rattle.rosie_run.specs.inside.Reaching.{left_all, Reached}
 use Rattle.rosie_run.specs.Lines.{Makes}
-use Rattle.rosie_run.specs.Outputs.{Telling, Texts, Wrote, Stands}
-use Rattle.rosie_run.specs.Report.{Piece, has, is_stop, up_to_stop, tally_of, added}
-use Rattle.rosie_run.specs.Runs.{Breaks}
+use Rattle.rosie_run.specs.Outputs.{Telling, Texts, Wrote}
+use Rattle.rosie_run.specs.Runs.{Stands, Breaks}
+use Rattle.rosie_run.specs.Report.{Piece, has, is_stop, up_to_stop}
+use Rattle.rosie_run.specs.Tallies.{tally_of, added}
 use Rattle.rosie_run.specs.Sources.{Moment, Ends}
-use Rattle.rosie_run.specs.Where.{InFile, not_opened, opened, InSource, InOne, of_standard, of_file, InInputs, in_file, in_standard}
-use Rattle.rosie_run.specs.inside.Reaching.{Reached}
+use Rattle.rosie_run.specs.Where.{InFile, not_opened, opened, InSource, InInputs, in_file, in_standard}
+use Rattle.rosie_run.specs.inside.Where.{InOne, of_standard, of_file}
 use Rattle.rosie_run.specs.declared.ended.Ended.{Ended}
 use Rattle.rosie_run.specs.declared.ended.Ended.TheVariants as E
 use Rattle.rosie_run.specs.declared.ended.ReadStop.{ReadStop}

@@ -9,8 +9,10 @@ use Rattle.rosie_io.specs.Reader.{Reader}
 use Rattle.rosie_io.proofs.Cut.{cut-nil, feeds-append}
 use Rattle.rosie_io.proofs.Steps.{behind-more}
 use Rattle.rosie_run.specs.Lines.{Makes, line_piece, pieces_from, input_pieces, passed}
-use Rattle.rosie_run.specs.Outputs.{Telling, Texts, Wrote, Fronts, Stands}
-use Rattle.rosie_run.specs.Report.{Piece, is_stop, has, up_to_stop, tally_of, counted, added}
+use Rattle.rosie_run.specs.Outputs.{Telling, Texts, Wrote, Fronts}
+use Rattle.rosie_run.specs.Runs.{Stands}
+use Rattle.rosie_run.specs.Report.{Piece, is_stop, has, up_to_stop}
+use Rattle.rosie_run.specs.Tallies.{tally_of, counted, added}
 use Rattle.rosie_run.specs.inside.Causes.{SinksEnd, SourceEnds, SpentEnds}
 use Rattle.rosie_run.specs.inside.Passing.{Passed, BreaksLine, StopsAt, BreaksInput, Cuts}
 use Rattle.rosie_run.specs.declared.lines.Reading.{Reading}

@@ -3,8 +3,10 @@ use Rattle.std.proofs.Common.{ℕ, ◌≡◌, ◌+◌, ◌-◌, ◌^◌, ◌≤�
 use Rattle.std.proofs.lemmas.Bool.{false≢true}
 use Rattle.std.proofs.lemmas.List.{append-nil, take-append-le}
 use Rattle.std.proofs.Math.Seq.{take-append-add, take-length}
-use Rattle.rosie_run.specs.Outputs.{Telling, Texts, Wrote, IsFront, Fronts, Stands}
-use Rattle.rosie_run.specs.Report.{Piece, outs, errs, costs, has, is_stop, is_fault, is_hit, up_to_stop, tally_of, counted, added}
+use Rattle.rosie_run.specs.Outputs.{Telling, Texts, Wrote, IsFront, Fronts}
+use Rattle.rosie_run.specs.Runs.{Stands}
+use Rattle.rosie_run.specs.Report.{Piece, outs, errs, costs, has, is_stop, is_fault, is_hit, up_to_stop}
+use Rattle.rosie_run.specs.Tallies.{tally_of, counted, added}
 use Rattle.rosie_run.specs.declared.mark.Mark.{Mark}
 use Rattle.rosie_run.specs.declared.tally.Tally.{Tally}
 

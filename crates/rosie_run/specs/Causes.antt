@@ -1,46 +1,9 @@
 -- What an answer says of the counts of faults.
-use Rattle.rosie_run.specs.declared.ended.Ended.TheVariants as E
 use Rattle.rosie_io.specs.Counts.{Rose}
 use Rattle.rosie_run.specs.Sources.{Moment, NoFewer, RoseIn, Still, TookMany}
-use Rattle.rosie_run.specs.declared.ended.Ended.{Ended}
-use Rattle.rosie_run.specs.declared.ended.ReadStop.TheVariants as Y
 use Rattle.rosie_run.specs.declared.status.Status.{Status}
 use Rattle.rosie_run.specs.declared.status.Status.TheVariants.{NoMemory, ReadFault, Spent, WriteFault}
-use Rattle.rosie_run.specs.declared.tally.Tally.{Tally}
-use Rattle.std.specs.Prelude.{◌≡◌, ◌≤◌, ◌⊎◌, Err, Ok, Result, ℕ}
-
--- of the files
-abbrev pub FilesEnd : Ended → Moment → Moment → Type 0
-FilesEnd E.NoMemory f0 f1 = NoFewer f0 f1
-FilesEnd E.WriteFault f0 f1 = Still f0 f1
-FilesEnd (E.Cut Y.ReadFault text) f0 f1 = NoFewer f0 f1 × RoseIn f0 f1
-FilesEnd (E.Cut Y.Spent text) f0 f1 = Still f0 f1 × TookMany f0.taken f1.taken
-
-abbrev pub FilesCause : Result Tally Ended → Moment → Moment → Type 0
-FilesCause (Ok _) f0 f1 = Still f0 f1
-FilesCause (Err e) f0 f1 = FilesEnd e f0 f1
-
--- of the standard input and the files
-abbrev pub SourcesEnd : Ended → Moment → Moment → Moment → Moment → Type 0
-SourcesEnd E.NoMemory i0 i1 f0 f1 = NoFewer i0 i1 × NoFewer f0 f1
-SourcesEnd E.WriteFault i0 i1 f0 f1 = Still i0 i1 × Still f0 f1
-SourcesEnd (E.Cut Y.ReadFault text) i0 i1 f0 f1 = NoFewer i0 i1 × NoFewer f0 f1 × (RoseIn i0 i1 ⊎ RoseIn f0 f1)
-SourcesEnd (E.Cut Y.Spent text) i0 i1 f0 f1 =
-    Still i0 i1 × Still f0 f1 × (TookMany i0.taken i1.taken ⊎ TookMany f0.taken f1.taken)
-
-abbrev pub SourcesCause : Result Tally Ended → Moment → Moment → Moment → Moment → Type 0
-SourcesCause (Ok _) i0 i1 f0 f1 = Still i0 i1 × Still f0 f1
-SourcesCause (Err e) i0 i1 f0 f1 = SourcesEnd e i0 i1 f0 f1
-
--- of the two sinks
-abbrev pub WritesEnd : Ended → ℕ → ℕ → ℕ → ℕ → Type 0
-WritesEnd E.NoMemory out0 out1 err0 err1 = (out1 ≡ out0) × (err1 ≡ err0)
-WritesEnd E.WriteFault out0 out1 err0 err1 = (out0 ≤ out1) × (err0 ≤ err1) × (Rose out0 out1 ⊎ Rose err0 err1)
-WritesEnd (E.Cut why text) out0 out1 err0 err1 = (out1 ≡ out0) × (err1 ≡ err0)
-
-abbrev pub WritesCause : Result Tally Ended → ℕ → ℕ → ℕ → ℕ → Type 0
-WritesCause (Ok _) out0 out1 err0 err1 = (out1 ≡ out0) × (err1 ≡ err0)
-WritesCause (Err e) out0 out1 err0 err1 = WritesEnd e out0 out1 err0 err1
+use Rattle.std.specs.Prelude.{◌≡◌, ◌≤◌, ◌⊎◌, ℕ}
 
 -- of the two sinks: one of the counts rose
 abbrev pub WriteRose : ℕ → ℕ → ℕ → ℕ → Type 0

@@ -3,13 +3,13 @@ use Rattle.rosie_run.specs.declared.ended.Ended.TheVariants as E
 use Rattle.rosie_run.specs.declared.ended.ReadStop.TheVariants as Y
 use Rattle.rosie_run.specs.Causes.{OutputCause}
 use Rattle.rosie_run.specs.Outputs.{IsFront, Telling, Texts}
-use Rattle.rosie_run.specs.Statuses.{flags_status}
+use Rattle.rosie_run.specs.Report.{flags_status}
 use Rattle.rosie_run.specs.declared.ended.Ended.{Ended}
 use Rattle.rosie_run.specs.declared.ended.ReadStop.{ReadStop}
 use Rattle.rosie_run.specs.declared.status.Status.TheVariants.{ReadFault, WriteFault, NoMemory, Spent}
 use Rattle.rosie_run.specs.declared.status.Status.{Status}
 use Rattle.rosie_run.specs.declared.tally.Tally.{Tally}
-use Rattle.std.specs.Prelude.{◌++◌, ◌≡◌, ◌⊎◌, Err, Ok, Result, string_bytes, ℕ}
+use Rattle.std.specs.Prelude.{◌++◌, ◌≡◌, ◌⊎◌, Err, Ok, Result, string_bytes, ℕ, List}
 
 -- what the end of a run adds
 abbrev pub stop_status : ReadStop → Status
@@ -36,3 +36,7 @@ ClosesCause (Ok tally) s out0 out1 err0 err1 = OutputCause s out0 out1 err0 err1
 ClosesCause (Err E.NoMemory) s out0 out1 err0 err1 = (out1 ≡ out0) × (err1 ≡ err0)
 ClosesCause (Err E.WriteFault) s out0 out1 err0 err1 = (out1 ≡ out0) × (err1 ≡ err0)
 ClosesCause (Err (E.Cut why text)) s out0 out1 err0 err1 = OutputCause s out0 out1 err0 err1
+
+-- nothing came to `err` before all that stands on `out` was flushed: so many bytes of so many
+abbrev pub OutFirst : List ℕ → List ℕ → ℕ → ℕ → Type 0
+OutFirst err_old err_new flushed number = (err_new ≡ err_old) ⊎ (flushed ≡ number)

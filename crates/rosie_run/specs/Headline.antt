@@ -3,10 +3,9 @@ use Rattle.rosie_run.specs.declared.ended.ReadStop.TheVariants as Y
 use Rattle.rosie_io.specs.Counts.{Rose}
 use Rattle.rosie_io.specs.Opening.{file_of}
 use Rattle.rosie_run.specs.Inputs.{reads_standard}
-use Rattle.rosie_run.specs.Lines.{input_fault}
+use Rattle.rosie_run.specs.Lines.{input_fault, stop_text}
 use Rattle.rosie_run.specs.Outputs.{Failures, Fronts, IsFront, Telling, Texts, Wrote}
 use Rattle.rosie_run.specs.Report.{Piece, errs, has, is_hit, is_stop, outs, status_of}
-use Rattle.rosie_run.specs.Runs.{stop_text}
 use Rattle.rosie_run.specs.Sources.{RoseIn, Span}
 use Rattle.rosie_run.specs.declared.ended.ReadStop.{ReadStop}
 use Rattle.rosie_run.specs.declared.status.Status.TheVariants.{Matched, NoMatch, Refused, LineFault, ReadFault}

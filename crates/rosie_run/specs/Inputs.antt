@@ -49,8 +49,3 @@ pub record AreTold (names : List (List ℕ)) (files input : Type 0) : Type 0 whe
 -- the texts of some names
 abbrev pub names_of : {Z : Type 0} → (Z → List ℕ) → List Z → List (List ℕ)
 names_of f xs = map f xs
-
--- what is left of the standard input after some inputs
-unfoldable pub left_all : List (List ℕ) → List ℕ → List ℕ
-left_all [] left = left
-left_all (name ∷ more) left = left_all more (left_after name left)

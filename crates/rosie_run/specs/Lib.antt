@@ -1,4 +1,5 @@
 pub mod Statuses
+pub mod Tallies
 pub mod Report
 pub mod Lines
 pub mod Inputs

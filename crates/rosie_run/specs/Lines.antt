@@ -5,6 +5,8 @@ use Rattle.rosie_run.specs.declared.lines.Reading.{Reading}
 use Rattle.std.specs.Fmt.{decimal}
 use Rattle.std.specs.Prelude.{if◌then◌else◌, ◌++◌, ◌+◌, ◌∷◌, Bool, List, [], codes, false, length, nat_lt, true, ℕ}
 use Rattle.std.specs.Str.{is_utf8}
+use Rattle.rosie_run.specs.declared.ended.ReadStop.{ReadStop}
+use Rattle.rosie_run.specs.declared.ended.ReadStop.TheVariants.{ReadFault, Spent}
 
 -- what is wrong with an input, and with a line of it
 unfoldable pub input_fault : List ℕ → List ℕ → List ℕ
@@ -37,3 +39,7 @@ input_pieces makes r file bytes = pieces_from makes r.most file 0 (lines r.whole
 abbrev pub passed : Bool → List ℕ → ℕ
 passed true got = 0
 passed false got = feeds got
+
+abbrev pub stop_text : ReadStop → List ℕ
+stop_text ReadFault = codes "read failed"
+stop_text Spent = codes "reads spent"

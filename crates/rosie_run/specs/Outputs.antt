@@ -1,9 +1,8 @@
 -- What stands on the outputs, and what pieces add to it.
 use Rattle.rosie_io.specs.Counts.{capped}
 use Rattle.rosie_io.specs.declared.outside.Sink.{Ghosts}
-use Rattle.rosie_run.specs.Report.{Piece, costs, errs, has, is_stop, outs, tally_of}
-use Rattle.rosie_run.specs.declared.tally.Tally.{Tally}
-use Rattle.std.specs.Prelude.{◌++◌, ◌+◌, ◌≡◌, ◌≤◌, ◌⊎◌, List, false, length, take, ℕ}
+use Rattle.rosie_run.specs.Report.{Piece, costs, errs, outs}
+use Rattle.std.specs.Prelude.{◌++◌, ◌+◌, ◌≡◌, ◌≤◌, List, length, take, ℕ}
 
 -- what the outputs tell
 pub record Telling : Type 1 where
@@ -50,15 +49,3 @@ IsFront old new text = (k : ℕ) × (k ≤ length text) × (new ≡ old ++ take 
 pub record Fronts (T : Telling) (ps : List Piece) (a b : Texts) : Type 0 where
   pub out : T.out → IsFront a.out b.out (outs ps)
   pub err : T.err → IsFront a.err b.err (errs ps)
-
--- Where a run stands: of all its pieces it has gone past `done`, none of which ends it, and `todo` are still to come.
--- Just the pieces that it has gone past were added. Each clause on what a run leaves is read off this.
-pub record Stands (T : Telling) (all done todo : List Piece) (a b : Texts) (tally : Tally) : Type 0 where
-  pub split : all ≡ done ++ todo
-  pub goes_on : has is_stop done ≡ false
-  pub wrote : Wrote T done a b
-  pub comes_to : tally ≡ tally_of done
-
--- nothing came to `err` before all that stands on `out` was flushed: so many bytes of so many
-abbrev pub OutFirst : List ℕ → List ℕ → ℕ → ℕ → Type 0
-OutFirst err_old err_new flushed number = (err_new ≡ err_old) ⊎ (flushed ≡ number)

@@ -1,11 +1,10 @@
 -- The report of a run: its pieces, what they write, and the status that they end with.
-use Rattle.rosie_run.specs.Statuses.{flags_status}
 use Rattle.rosie_run.specs.declared.mark.Mark.{Mark}
-use Rattle.rosie_run.specs.declared.mark.Mark.TheVariants.{Fault, Hit, Miss, Stop}
+use Rattle.rosie_run.specs.declared.mark.Mark.TheVariants.{Fault, Hit, Stop}
 use Rattle.rosie_run.specs.declared.status.Status.{Status}
-use Rattle.rosie_run.specs.declared.tally.Tally.{Tally}
+use Rattle.rosie_run.specs.declared.status.Status.TheVariants.{LineFault, Matched, NoMatch, Refused}
 use Rattle.std.specs.List.{list_any}
-use Rattle.std.specs.Prelude.{if◌then◌else◌, ◌++◌, ◌+◌, ◌||◌, ◌∷◌, Bool, List, [], false, true, ℕ}
+use Rattle.std.specs.Prelude.{if◌then◌else◌, ◌++◌, ◌+◌, ◌∷◌, Bool, List, [], false, true, ℕ}
 
 -- a part of a run: what is written on `out` and on `err`, how it counts, and the machine's steps for it
 pub record Piece : Type 0 where
@@ -28,21 +27,15 @@ costs (p ∷ ps) = p.cost + costs ps
 
 abbrev pub is_hit : Mark → Bool
 is_hit Hit = true
-is_hit Miss = false
-is_hit Fault = false
-is_hit Stop = false
+is_hit _ = false
 
 abbrev pub is_fault : Mark → Bool
-is_fault Hit = false
-is_fault Miss = false
 is_fault Fault = true
-is_fault Stop = false
+is_fault _ = false
 
 abbrev pub is_stop : Mark → Bool
-is_stop Hit = false
-is_stop Miss = false
-is_stop Fault = false
 is_stop Stop = true
+is_stop _ = false
 
 -- some piece has such a mark
 unfoldable pub has : (Mark → Bool) → List Piece → Bool
@@ -53,17 +46,15 @@ unfoldable pub up_to_stop : List Piece → List Piece
 up_to_stop [] = []
 up_to_stop (p ∷ ps) = p ∷ (if is_stop p.mark then [] else up_to_stop ps)
 
--- what some pieces come to, and one more, and others more
-abbrev pub tally_of : List Piece → Tally
-tally_of ps = record { stop = has is_stop ps; fault = has is_fault ps; hit = has is_hit ps }
+-- the status of a run that came to its end: whether it was refused, whether some piece has no answer, and whether some
+-- piece is a hit
+abbrev pub flags_status : Bool → Bool → Bool → Status
+flags_status true fault hit = Refused
+flags_status false true hit = LineFault
+flags_status false false true = Matched
+flags_status false false false = NoMatch
 
-abbrev pub counted : Tally → Mark → Tally
-counted t m = record { stop = t.stop || is_stop m; fault = t.fault || is_fault m; hit = t.hit || is_hit m }
-
-abbrev pub added : Tally → Tally → Tally
-added t u = record { stop = t.stop || u.stop; fault = t.fault || u.fault; hit = t.hit || u.hit }
-
--- the status of a run
+-- and of these pieces
 abbrev pub status_of : List Piece → Status
 status_of ps = flags_status (has is_stop ps) (has is_fault ps) (has is_hit ps)
 

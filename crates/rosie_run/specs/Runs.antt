@@ -1,17 +1,16 @@
 -- What the run of a command leaves: it comes to the end of its report, or it breaks off.
 use Rattle.rosie_run.specs.declared.ended.Ended.TheVariants as E
-use Rattle.rosie_run.specs.Lines.{input_fault}
+use Rattle.rosie_run.specs.Lines.{input_fault, stop_text}
 use Rattle.rosie_run.specs.Outputs.{Fronts, Telling, Texts, Wrote}
-use Rattle.rosie_run.specs.Report.{Piece, has, is_stop, tally_of, up_to_stop}
+use Rattle.rosie_run.specs.Report.{Piece, has, is_stop, up_to_stop}
+use Rattle.rosie_run.specs.Tallies.{tally_of}
 use Rattle.rosie_run.specs.declared.ended.Ended.{Ended}
 use Rattle.rosie_run.specs.declared.ended.ReadStop.{ReadStop}
-use Rattle.rosie_run.specs.declared.ended.ReadStop.TheVariants.{ReadFault, Spent}
 use Rattle.rosie_run.specs.declared.tally.Tally.{Tally}
-use Rattle.std.specs.Prelude.{◌++◌, ◌≡◌, Err, List, Ok, Result, codes, false, length, string_bytes, ℕ}
-
-abbrev pub stop_text : ReadStop → List ℕ
-stop_text ReadFault = codes "read failed"
-stop_text Spent = codes "reads spent"
+use Rattle.std.specs.Prelude.{◌++◌, ◌≡◌, Err, List, Ok, Result, false, length, string_bytes, ℕ, ◌≤◌, ◌⊎◌, ◌+◌}
+use Rattle.rosie_io.specs.Counts.{Rose}
+use Rattle.rosie_run.specs.Sources.{Moment, NoFewer, RoseIn, Still, TookMany}
+use Rattle.rosie_run.specs.declared.ended.ReadStop.TheVariants as Y
 
 -- Reading ended a run: it had gone past the pieces `done`, none of which ends it, and just these are written. `text` is
 -- the line that says so, and `Where` tells, of the reason, the name in that line and their number, where reading stood.
@@ -53,3 +52,44 @@ abbrev pub IsNoCut : Ended → Type 0
 IsNoCut E.NoMemory = Unit {0}
 IsNoCut E.WriteFault = Unit {0}
 IsNoCut (E.Cut why text) = ⊥
+
+-- of the files
+abbrev pub FilesEnd : Ended → Moment → Moment → Type 0
+FilesEnd E.NoMemory f0 f1 = NoFewer f0 f1
+FilesEnd E.WriteFault f0 f1 = Still f0 f1
+FilesEnd (E.Cut Y.ReadFault text) f0 f1 = NoFewer f0 f1 × RoseIn f0 f1
+FilesEnd (E.Cut Y.Spent text) f0 f1 = Still f0 f1 × TookMany f0.taken f1.taken
+
+abbrev pub FilesCause : Result Tally Ended → Moment → Moment → Type 0
+FilesCause (Ok _) f0 f1 = Still f0 f1
+FilesCause (Err e) f0 f1 = FilesEnd e f0 f1
+
+-- of the standard input and the files
+abbrev pub SourcesEnd : Ended → Moment → Moment → Moment → Moment → Type 0
+SourcesEnd E.NoMemory i0 i1 f0 f1 = NoFewer i0 i1 × NoFewer f0 f1
+SourcesEnd E.WriteFault i0 i1 f0 f1 = Still i0 i1 × Still f0 f1
+SourcesEnd (E.Cut Y.ReadFault text) i0 i1 f0 f1 = NoFewer i0 i1 × NoFewer f0 f1 × (RoseIn i0 i1 ⊎ RoseIn f0 f1)
+SourcesEnd (E.Cut Y.Spent text) i0 i1 f0 f1 =
+    Still i0 i1 × Still f0 f1 × (TookMany i0.taken i1.taken ⊎ TookMany f0.taken f1.taken)
+
+abbrev pub SourcesCause : Result Tally Ended → Moment → Moment → Moment → Moment → Type 0
+SourcesCause (Ok _) i0 i1 f0 f1 = Still i0 i1 × Still f0 f1
+SourcesCause (Err e) i0 i1 f0 f1 = SourcesEnd e i0 i1 f0 f1
+
+-- of the two sinks
+abbrev pub WritesEnd : Ended → ℕ → ℕ → ℕ → ℕ → Type 0
+WritesEnd E.NoMemory out0 out1 err0 err1 = (out1 ≡ out0) × (err1 ≡ err0)
+WritesEnd E.WriteFault out0 out1 err0 err1 = (out0 ≤ out1) × (err0 ≤ err1) × (Rose out0 out1 ⊎ Rose err0 err1)
+WritesEnd (E.Cut why text) out0 out1 err0 err1 = (out1 ≡ out0) × (err1 ≡ err0)
+
+abbrev pub WritesCause : Result Tally Ended → ℕ → ℕ → ℕ → ℕ → Type 0
+WritesCause (Ok _) out0 out1 err0 err1 = (out1 ≡ out0) × (err1 ≡ err0)
+WritesCause (Err e) out0 out1 err0 err1 = WritesEnd e out0 out1 err0 err1
+
+-- Where a run stands: of all its pieces it has gone past `done`, none of which ends it, and `todo` are still to come.
+-- Just the pieces that it has gone past were added. Each clause on what a run leaves is read off this.
+pub record Stands (T : Telling) (all done todo : List Piece) (a b : Texts) (tally : Tally) : Type 0 where
+  pub split : all ≡ done ++ todo
+  pub goes_on : has is_stop done ≡ false
+  pub wrote : Wrote T done a b
+  pub comes_to : tally ≡ tally_of done

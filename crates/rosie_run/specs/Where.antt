@@ -33,17 +33,6 @@ pub record InSource (whole : Bool) (m0 m1 : Moment) (why : ReadStop) (k : ℕ) :
 abbrev pub InNamed : List ℕ → Bool → Moment → Moment → ReadStop → List ℕ → ℕ → Type 0
 InNamed name whole m0 m1 why file k = (file ≡ name) × InSource whole m0 m1 why k
 
-abbrev pub InFileNamed : List ℕ → List (List ℕ × List ℕ) → Bool → Moment → Moment → ReadStop → List ℕ → ℕ → Type 0
-InFileNamed name tree whole f0 f1 why file k = (file ≡ name) × InFile tree whole f0 f1 why file k
-
--- and in one input: the standard input, which was not read before, or a file
-pub data InOne (name : List ℕ) (read : Bool) (tree : List (List ℕ × List ℕ)) (whole : Bool) (i0 i1 f0 f1 : Moment)
-    (why : ReadStop) (file : List ℕ) (k : ℕ) : Type 0 where
-  of_standard : is_standard name ≡ true → read ≡ false → InNamed name whole i0 i1 why file k
-      → InOne name read tree whole i0 i1 f0 f1 why file k
-  of_file : is_standard name ≡ false → InFileNamed name tree whole f0 f1 why file k
-      → InOne name read tree whole i0 i1 f0 f1 why file k
-
 -- where reading stood among the inputs with these names: after the pieces of those before it. `before` is their number.
 -- The standard input is read where its name comes first
 pub data InInputs (names : List (List ℕ)) (before : List (List ℕ) → ℕ) (tree : List (List ℕ × List ℕ))

@@ -4,14 +4,14 @@ ghost use Rattle.std.specs.Prelude.{encode_utf8_all, IfOk};
 ghost use Rattle.std.specs.Str.{bytes_eq};
 ghost use Rattle.rosie_io.specs.Answering.{Keeps};
 ghost use Rattle.rosie_io.specs.Opening.{file_of};
-ghost use Rattle.rosie_run.specs.Causes.{FilesCause, SourcesCause, WritesCause};
+ghost use Rattle.rosie_run.specs.Runs.{FilesCause, SourcesCause, WritesCause, Runs, GoesOn};
 ghost use Rattle.rosie_run.specs.Inputs.{is_standard, file_pieces, one_pieces, left_after, inputs_pieces};
 ghost use Rattle.rosie_run.specs.Inputs.{AreTold, reads_standard, names_of};
 ghost use Rattle.rosie_run.specs.Lines.{input_pieces};
 ghost use Rattle.rosie_run.specs.Outputs.{shown, telling};
-ghost use Rattle.rosie_run.specs.Runs.{Runs, GoesOn};
 ghost use Rattle.rosie_run.specs.Sources.{moment_of};
-ghost use Rattle.rosie_run.specs.Where.{InNamed, InFileNamed, InOne, InInputs};
+ghost use Rattle.rosie_run.specs.Where.{InNamed, InInputs};
+ghost use Rattle.rosie_run.specs.inside.Where.{InFileNamed, InOne};
 ghost use Rattle.rosie_run.specs.inside.Causes.{IsEndedBy};
 
 use crate::line_job::LineJob;

@@ -1,9 +1,8 @@
 // A piece that no input is read for.
 ghost use Rattle.std.specs.Prelude.{ℕ, ◌≡◌, [], ◌∷◌, string_bytes, IfErr, IfOk};
-ghost use Rattle.rosie_run.specs.Causes.{WritesCause};
+ghost use Rattle.rosie_run.specs.Runs.{WritesCause, Runs, IsCutOf, IsNoCut};
 ghost use Rattle.rosie_run.specs.Outputs.{shown, telling};
 ghost use Rattle.rosie_run.specs.Report.{is_stop};
-ghost use Rattle.rosie_run.specs.Runs.{Runs, IsCutOf, IsNoCut};
 ghost use Rattle.rosie_run.specs.Where.{Nowhere};
 
 use crate::write::{input_fault, write_both};

@@ -1,7 +1,7 @@
 // What the pieces of a run come to.
 ghost use Rattle.std.specs.Prelude.{◌≡◌, []};
-ghost use Rattle.rosie_run.specs.Report.{tally_of, counted, added};
-ghost use Rattle.rosie_run.specs.Statuses.{flags_status};
+ghost use Rattle.rosie_run.specs.Tallies.{tally_of, counted, added};
+ghost use Rattle.rosie_run.specs.Report.{flags_status};
 
 use crate::{Mark, Status};
 

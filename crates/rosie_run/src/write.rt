@@ -3,7 +3,7 @@ ghost use Rattle.std.specs.Prelude.{◌≡◌, ◌+◌, IfOk, OnOk, false, lengt
 ghost use Rattle.rosie_io.specs.Counts.{capped};
 ghost use Rattle.rosie_io.specs.Appending.{Appends, HasCause};
 ghost use Rattle.rosie_run.specs.Lines.{line_fault, input_fault};
-ghost use Rattle.rosie_run.specs.Outputs.{OutFirst};
+ghost use Rattle.rosie_run.specs.Closing.{OutFirst};
 ghost use Rattle.rosie_run.specs.inside.Causes.{BothCause};
 
 use crate::NoMemory;

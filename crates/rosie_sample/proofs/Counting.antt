@@ -5,9 +5,10 @@ use Rattle.std.specs.Prelude.{map}
 use Rattle.std.proofs.lemmas.List.{append-nil}
 use Rattle.rosie_io.specs.Counts.{capped}
 use Rattle.rosie_run.specs.Lines.{Makes}
-use Rattle.rosie_run.specs.Outputs.{Telling, Texts, Wrote, IsFront, Fronts, Stands}
-use Rattle.rosie_run.specs.Report.{Piece, outs, errs, costs, has, is_stop, is_fault, is_hit, up_to_stop, tally_of, added}
-use Rattle.rosie_run.specs.Runs.{Breaks}
+use Rattle.rosie_run.specs.Outputs.{Telling, Texts, Wrote, IsFront, Fronts}
+use Rattle.rosie_run.specs.Runs.{Stands, Breaks}
+use Rattle.rosie_run.specs.Report.{Piece, outs, errs, costs, has, is_stop, is_fault, is_hit, up_to_stop}
+use Rattle.rosie_run.specs.Tallies.{tally_of, added}
 use Rattle.rosie_run.specs.Where.{Nowhere}
 use Rattle.rosie_run.specs.declared.ended.Ended.{Ended}
 use Rattle.rosie_run.specs.declared.ended.Ended.TheVariants as E

@@ -4,7 +4,8 @@ use Rattle.std.specs.Prelude.{Result, Ok, Err}
 use Rattle.rosie_io.specs.Counts.{capped}
 use Rattle.rosie_run.specs.Made.{IsMade}
 use Rattle.rosie_run.specs.Outputs.{Telling, Texts, Wrote, IsFront, Fronts}
-use Rattle.rosie_run.specs.Report.{Piece, outs, errs, has, is_stop, is_fault, is_hit, up_to_stop, tally_of}
+use Rattle.rosie_run.specs.Report.{Piece, outs, errs, has, is_stop, is_fault, is_hit, up_to_stop}
+use Rattle.rosie_run.specs.Tallies.{tally_of}
 use Rattle.rosie_run.specs.Runs.{Runs}
 use Rattle.rosie_run.specs.Where.{Nowhere}
 use Rattle.rosie_run.specs.declared.ended.Ended.{Ended}

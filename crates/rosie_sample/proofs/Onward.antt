@@ -5,9 +5,10 @@ use Rattle.std.specs.Prelude.{codes, nat_lt}
 use Rattle.std.specs.Str.{is_utf8}
 use Rattle.std.proofs.lemmas.List.{append-nil}
 use Rattle.rosie_run.specs.Lines.{Makes, line_fault, line_piece, pieces_from}
-use Rattle.rosie_run.specs.Outputs.{Telling, Texts, Wrote, Fronts, Stands}
-use Rattle.rosie_run.specs.Report.{Piece, is_stop, is_hit, up_to_stop, tally_of, added, fault_piece}
-use Rattle.rosie_run.specs.Runs.{Breaks}
+use Rattle.rosie_run.specs.Outputs.{Telling, Texts, Wrote, Fronts}
+use Rattle.rosie_run.specs.Runs.{Stands, Breaks}
+use Rattle.rosie_run.specs.Report.{Piece, is_stop, is_hit, up_to_stop, fault_piece}
+use Rattle.rosie_run.specs.Tallies.{tally_of, added}
 use Rattle.rosie_run.specs.Where.{Nowhere}
 use Rattle.rosie_run.specs.declared.ended.Ended.{Ended}
 use Rattle.rosie_run.specs.declared.ended.Ended.TheVariants as E

@@ -2,10 +2,9 @@
 ghost use Rattle.std.specs.Prelude.{◌≡◌, ◌<◌, ◌≤◌, ◌^◌, ◌∷◌, [], length, codes, IfErr, IfOk};
 ghost use Rattle.rosie_jobs.specs.Jobs.{matcher_of};
 ghost use Rattle.rosie_jobs.specs.Makers.{makes_of};
-ghost use Rattle.rosie_run.specs.Causes.{WritesCause};
+ghost use Rattle.rosie_run.specs.Runs.{WritesCause, Runs, IsNoCut};
 ghost use Rattle.rosie_run.specs.Outputs.{texts};
-ghost use Rattle.rosie_run.specs.Report.{tally_of};
-ghost use Rattle.rosie_run.specs.Runs.{Runs, IsNoCut};
+ghost use Rattle.rosie_run.specs.Tallies.{tally_of};
 ghost use Rattle.rosie_run.specs.Where.{Nowhere};
 ghost use Rattle.rosie_sample.specs.Counting.{hits, line_pieces, sample_pieces};
 ghost use Rattle.rosie_sample.specs.inside.Passing.{tallied, with_line};
@@ -114,7 +113,7 @@ fn run_lines<O: Sink, E: Sink, L: Ledger>(
 }
 
 impl SampleRun {
-    ghost use Rattle.rosie_sample.specs.Runs.{sampled_of};
+    ghost use Rattle.rosie_sample.specs.Views.{sampled_of};
 
     /// The run of a job on so many lines of the sample of a seed.
     pub fn new(alloc: Global, job: MatchJob, seed: u32, lines: u32) -> SampleRun

@@ -6,10 +6,10 @@ use Rattle.std.proofs.lemmas.List.{length-map}
 use Rattle.std.proofs.lemmas.Bool.{false≢true}
 use Rattle.std.proofs.lemmas.Option.{slice_get-get_or}
 use Rattle.std.proofs.Math.Seq.{get_or-append_seam}
-use Rattle.rosie_run.specs.Causes.{SourcesEnd, WritesEnd}
+use Rattle.rosie_run.specs.Runs.{SourcesEnd, WritesEnd, Breaks, IsCutOf}
 use Rattle.rosie_run.specs.Outputs.{Fronts, Telling, Texts, Wrote}
-use Rattle.rosie_run.specs.Report.{has, is_stop, tally_of, up_to_stop}
-use Rattle.rosie_run.specs.Runs.{Breaks, IsCutOf}
+use Rattle.rosie_run.specs.Report.{has, is_stop, up_to_stop}
+use Rattle.rosie_run.specs.Tallies.{tally_of}
 use Rattle.rosie_run.specs.Sources.{Moment, NoFewer, RoseIn, Still}
 use Rattle.rosie_run.specs.declared.ended.Ended.{Ended}
 use Rattle.rosie_run.specs.declared.ended.Ended.TheVariants as E

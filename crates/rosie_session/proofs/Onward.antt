@@ -12,7 +12,7 @@ use Rattle.rosie_io.proofs.Cut.{feeds-append}
 use Rattle.rosie_io.proofs.Steps.{behind-more}
 use Rattle.rosie_repl.specs.Session.{Session, begun}
 use Rattle.rosie_run.specs.Outputs.{Fronts, Telling, Texts, Wrote}
-use Rattle.rosie_run.specs.Report.{added, counted, tally_of}
+use Rattle.rosie_run.specs.Tallies.{added, counted, tally_of}
 use Rattle.rosie_run.specs.declared.mark.Mark.{Mark}
 use Rattle.rosie_run.specs.declared.tally.Tally.{Tally}
 use Rattle.rosie_run.specs.declared.trouble.Trouble.TheVariants as T

@@ -5,7 +5,7 @@ use Rattle.std.proofs.lemmas.Grind.{merely}
 use Rattle.std.proofs.lemmas.List.{length-map}
 use Rattle.rosie_prepare.specs.Lines.{compile_line}
 use Rattle.rosie_jobs.proofs.Allowed.{job-due}
-use Rattle.rosie_jobs.specs.Limits.{PaysFor}
+use Rattle.rosie_jobs.specs.Budgets.{PaysFor}
 use Rattle.rosie_jobs.specs.Lines.{Job}
 use Rattle.rosie_jobs.specs.declared.settings.Settings.{Settings}
 use Rattle.rosie_prepare.proofs.Passing.{blocks-rows_of, bodies-rows_of, first_same}

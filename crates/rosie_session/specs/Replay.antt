@@ -12,7 +12,7 @@ use Rattle.rosie_repl.specs.Session.{Session, begun, changed, undone}
 use Rattle.rosie_run.specs.Lines.{line_fault}
 use Rattle.rosie_run.specs.Report.{Piece, fault_piece}
 use Rattle.rosie_run.specs.declared.mark.Mark.{Mark}
-use Rattle.rosie_run.specs.declared.mark.Mark.TheVariants.{Hit, Miss, Fault, Stop}
+use Rattle.rosie_run.specs.declared.mark.Mark.TheVariants.{Miss}
 use Rattle.rpl_encode.specs.declared.style.Style.TheVariants.{Json}
 use Rattle.rosie_session.specs.Loading.{Load, Loading}
 
@@ -75,9 +75,7 @@ plain = record { style = Json; whole = false; all = false; steps = false; budget
 -- that it doesn't match is reported
 abbrev pub or_no : Mark → Piece → Piece
 or_no Miss p = record { out = codes "no\n"; err = p.err; mark = p.mark; cost = p.cost }
-or_no Hit p = p
-or_no Fault p = p
-or_no Stop p = p
+or_no _ p = p
 
 abbrev pub job_piece : Job → ℕ → List ℕ → Piece
 job_piece job n line =

@@ -17,7 +17,8 @@ use Rattle.rpl_compile_laws.specs.Laws.{Tells}
 use Rattle.rpl_unittest.specs.Verdicts.{is_met, part_of}
 use Rattle.rpl_unittest.specs.declared.test.Test.{Test}
 use Rattle.rosie_jobs.specs.Lines.{Job, budget_or, is_over}
-use Rattle.rosie_unittest.specs.Limits.{TestPays, SuitePays, IsWithin, IsAllowed, AreAllowed}
+use Rattle.rosie_unittest.specs.Limits.{IsWithin, IsAllowed, AreAllowed}
+use Rattle.rosie_unittest.specs.Budgets.{TestPays, SuitePays}
 use Rattle.rosie_unittest.specs.Trials.{Bench, Subject, Unbound, TooLong, Runs, Trial, by_outcome, ran, verdict_of}
 use Rattle.rosie_unittest.specs.Trials.{counts_piece, hit_if_none, mark_of, suite_pieces, trial_piece, unmet}
 use Rattle.rosie_unittest.specs.Seen.{bench_of, trials_of}

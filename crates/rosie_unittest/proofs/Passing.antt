@@ -2,7 +2,8 @@
 use Rattle.std.proofs.Common.{◌≡◌, ◌+◌, ◌<◌, ◌≤◌, ℕ, true, false, List, [], ◌∷◌, ◌++◌, get_or, drop, length, subst}
 use Rattle.std.specs.Prelude.{Result, Ok, Err, IsErrAnd, map}
 use Rattle.rosie_run.specs.Outputs.{Telling, Texts, Wrote}
-use Rattle.rosie_run.specs.Report.{Piece, added, tally_of, up_to_stop}
+use Rattle.rosie_run.specs.Report.{Piece, up_to_stop}
+use Rattle.rosie_run.specs.Tallies.{added, tally_of}
 use Rattle.rosie_run.specs.Runs.{Runs}
 use Rattle.rosie_run.specs.Where.{Nowhere}
 use Rattle.rosie_run.specs.declared.ended.Ended.{Ended}

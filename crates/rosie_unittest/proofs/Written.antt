@@ -3,9 +3,10 @@ use Rattle.std.proofs.Common.{ℕ, zero, suc, ◌≡◌, ◌+◌, ◌-◌, ◌^�
 use Rattle.std.proofs.Common.{get_or, drop}
 use Rattle.std.specs.Prelude.{Result, Ok, Err, IsErrAnd, map}
 use Rattle.std.proofs.lemmas.List.{drop_all, drop_more}
-use Rattle.rosie_run.specs.Outputs.{Fronts, Stands, Telling, Texts, Wrote}
-use Rattle.rosie_run.specs.Report.{Piece, added, costs, has, is_stop, outs, errs, tally_of, up_to_stop}
-use Rattle.rosie_run.specs.Runs.{Breaks, Runs}
+use Rattle.rosie_run.specs.Outputs.{Fronts, Telling, Texts, Wrote}
+use Rattle.rosie_run.specs.Runs.{Stands, Breaks, Runs}
+use Rattle.rosie_run.specs.Report.{Piece, costs, has, is_stop, outs, errs, up_to_stop}
+use Rattle.rosie_run.specs.Tallies.{added, tally_of}
 use Rattle.rosie_run.specs.Where.{Nowhere}
 use Rattle.rosie_run.specs.declared.ended.Ended.{Ended}
 use Rattle.rosie_run.specs.declared.ended.Ended.TheVariants as E

@@ -1,5 +1,6 @@
 pub mod Trials
 pub mod Suites
+pub mod Budgets
 pub mod Limits
 pub mod Tried
 pub mod Seen

@@ -1,23 +1,13 @@
--- What is promised of the tests of a file: when one may pass its budget, and which tests every limit allows.
-use Rattle.std.specs.Prelude.{◌≡◌, ◌+◌, ◌*◌, ◌<◌, ◌≤◌, true, List, length}
+-- Which tests every limit allows.
+use Rattle.std.specs.Prelude.{◌+◌, ◌*◌, ◌≤◌, List, length}
 use Rattle.std.specs.List.{All}
 use Rattle.rpl_core.specs.Outcome.{outcome, work_of}
 use Rattle.rpl_encode.specs.Answer.{max_answer_bytes}
 use Rattle.rpl_encode.specs.Print.{print}
 use Rattle.rpl_encode.specs.declared.style.Style.TheVariants.{Json}
 use Rattle.rpl_unittest.specs.declared.test.Test.{Test}
-use Rattle.rosie_jobs.specs.Lines.{Job, budget_or, is_over}
-use Rattle.rosie_unittest.specs.Trials.{Bench, Subject, Unbound, TooLong, Runs, Trial, ran}
-
--- a test passes its budget only where four times the work of its meaning and two is over it
-abbrev pub TestPays : Bench → Test → Subject → Type 0
-TestPays b t Unbound = Unit {0}
-TestPays b t TooLong = Unit {0}
-TestPays b t (Runs job) =
-    is_over (ran b t job) ≡ true → budget_or b.budget t.text < 4 * work_of (outcome job.rules job.goal t.text) + 2
-
-abbrev pub SuitePays : Bench → List Trial → Type 0
-SuitePays b = All (λ t. TestPays b t.test t.subject)
+use Rattle.rosie_jobs.specs.Lines.{Job, budget_or}
+use Rattle.rosie_unittest.specs.Trials.{Bench, Subject, Unbound, TooLong, Runs, Trial}
 
 -- a goal and a text that every limit allows
 pub record IsWithin (b : Bench) (t : Test) (job : Job) : Type 0 where

@@ -67,19 +67,15 @@ cost_of b t (Runs job) = made (budget_or b.budget t.text) (ran b t job)
 
 -- a test that isn't met has its line on `out`
 abbrev pub out_text : (file : List ℕ) → Test → Verdict → List ℕ
-out_text file t Met = []
 out_text file t Unmet = failed_line file t
-out_text file t Spent = []
-out_text file t LongAnswer = []
-out_text file t LongCode = []
+out_text file t _ = []
 
 -- and one without a verdict is reported on `err`, with its line in the file
 abbrev pub err_text : (file : List ℕ) → Test → Verdict → List ℕ
-err_text file t Met = []
-err_text file t Unmet = []
 err_text file t Spent = line_fault file t.line (codes "budget spent")
 err_text file t LongAnswer = line_fault file t.line (codes "answer too long")
 err_text file t LongCode = line_fault file t.line (codes "code too long")
+err_text file t _ = []
 
 -- a code that is too long ends the run
 abbrev pub mark_of : Verdict → Mark
@@ -100,11 +96,8 @@ trial_piece b t = piece_of b.file t.test (verdict_in b t) (cost_of b t.test t.su
 
 -- how many tests aren't met
 abbrev pub one_if_unmet : Verdict → ℕ
-one_if_unmet Met = 0
 one_if_unmet Unmet = 1
-one_if_unmet Spent = 0
-one_if_unmet LongAnswer = 0
-one_if_unmet LongCode = 0
+one_if_unmet _ = 0
 
 abbrev pub unmet : Bench → List Trial → ℕ
 unmet b [] = 0

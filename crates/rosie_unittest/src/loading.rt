@@ -11,7 +11,7 @@ ghost use Rattle.rpl_forms.specs.Rows.{rows_of};
 ghost use Rattle.rpl_package.specs.Sets.{set_seen};
 ghost use Rattle.rpl_package.specs.declared.rooted.Root.TheVariants.{File};
 ghost use Rattle.rpl_unittest.specs.Comments.{HasTests};
-ghost use Rattle.rosie_unittest.specs.Limits.{SuitePays};
+ghost use Rattle.rosie_unittest.specs.Budgets.{SuitePays};
 ghost use Rattle.rosie_unittest.specs.Seen.{bench_of, suite_of, trials_of};
 ghost use Rattle.rosie_unittest.specs.Suites as S;
 ghost use Rattle.rosie_unittest.specs.inside.Steps.{IsBadTest, IsOwn};

@@ -1,8 +1,7 @@
 // The run of the tests.
 ghost use Rattle.std.specs.Prelude.{◌≡◌, ◌+◌, IfErr, IfOk, OnOk};
-ghost use Rattle.rosie_run.specs.Causes.{WritesCause};
 ghost use Rattle.rosie_run.specs.Outputs.{shown, telling};
-ghost use Rattle.rosie_run.specs.Runs.{Runs, IsNoCut};
+ghost use Rattle.rosie_run.specs.Runs.{WritesCause, Runs, IsNoCut};
 ghost use Rattle.rosie_run.specs.Where.{Nowhere};
 ghost use Rattle.rpl_core.specs.Table.{bodies_of};
 ghost use Rattle.rosie_unittest.specs.Trials as T;

@@ -1,9 +1,8 @@
 // What is written of a test.
 ghost use Rattle.std.specs.Prelude.{◌≡◌, ◌∷◌, [], ℕ, IfErr, IfOk, length, string_bytes};
-ghost use Rattle.rosie_run.specs.Causes.{WritesCause};
 ghost use Rattle.rosie_run.specs.Outputs.{shown, telling};
+ghost use Rattle.rosie_run.specs.Runs.{WritesCause, Runs, IsNoCut};
 ghost use Rattle.rosie_run.specs.Report.{is_stop};
-ghost use Rattle.rosie_run.specs.Runs.{Runs, IsNoCut};
 ghost use Rattle.rosie_run.specs.Where.{Nowhere};
 ghost use Rattle.rosie_unittest.specs.Trials as T;
 

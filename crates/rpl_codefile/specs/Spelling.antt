@@ -82,25 +82,18 @@ spelling f = magic ++ body f
 -- the numbers of an instruction are four bytes
 abbrev pub Short : R.Instr → Type 0
 Short (V.Set n) = n < 2 ^ 32
-Short V.Start = Unit {0}
-Short V.End = Unit {0}
 Short (V.Choice n) = n < 2 ^ 32
 Short (V.Commit n) = n < 2 ^ 32
-Short V.FailTwice = Unit {0}
 Short (V.BackCommit n) = n < 2 ^ 32
-Short V.Fail = Unit {0}
 Short (V.Back n) = n < 2 ^ 32
 Short (V.Meet n) = n < 2 ^ 32
 Short (V.Call n) = n < 2 ^ 32
-Short V.Return = Unit {0}
 Short (V.Open n) = n < 2 ^ 32
-Short V.Close = Unit {0}
 Short (V.Note n) = n < 2 ^ 32
-Short V.Finish = Unit {0}
 Short (V.PartialCommit n) = n < 2 ^ 32
 Short (V.Span n) = n < 2 ^ 32
 Short (V.TestSet l k) = (l < 2 ^ 32) × (k < 2 ^ 32)
-Short V.Halt = Unit {0}
+Short _ = Unit {0}
 
 abbrev pub ShortRange : Range → Type 0
 ShortRange r = (r.0 < 2 ^ 32) × (r.1 < 2 ^ 32)

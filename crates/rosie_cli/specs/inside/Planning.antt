@@ -12,7 +12,7 @@ use Rattle.rosie_prepare.specs.declared.unready.Unready.{Unready}
 use Rattle.rosie_prepare.specs.declared.unready.Unready.TheVariants as U
 use Rattle.rosie_run.specs.Inputs.{names_of}
 use Rattle.rosie_run.specs.Sources.{moment_of}
-use Rattle.rosie_sample.specs.Runs.{sampled_of}
+use Rattle.rosie_sample.specs.Views.{sampled_of}
 use Rattle.rosie_unittest.specs.Seen.{bench_of, trials_of}
 use Rattle.rpl_check.specs.Checked.{IsWhole}
 use Rattle.rpl_check.specs.Goal.{peg_of}

@@ -11,8 +11,10 @@ use Rattle.rosie_io.specs.declared.reader.Line.{Line}
 use Rattle.rosie_io.specs.declared.reader.LineFault.{LineFault}
 use Rattle.rosie_run.specs.Lines.{Makes, input_pieces, line_fault, line_piece, passed, pieces_from}
 use Rattle.rosie_run.specs.Made.{IsMade}
-use Rattle.rosie_run.specs.Outputs.{Fronts, Stands, Telling, Texts, Wrote}
-use Rattle.rosie_run.specs.Report.{Piece, has, is_stop, tally_of, up_to_stop}
+use Rattle.rosie_run.specs.Outputs.{Fronts, Telling, Texts, Wrote}
+use Rattle.rosie_run.specs.Runs.{Stands}
+use Rattle.rosie_run.specs.Report.{Piece, has, is_stop, up_to_stop}
+use Rattle.rosie_run.specs.Tallies.{tally_of}
 use Rattle.rosie_run.specs.declared.lines.Made.{Made}
 use Rattle.rosie_run.specs.declared.lines.Reading.{Reading}
 use Rattle.rosie_run.specs.declared.mark.Mark.{Mark}

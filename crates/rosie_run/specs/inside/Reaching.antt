@@ -1,10 +1,16 @@
 -- How far a run over several inputs has come.
-use Rattle.rosie_run.specs.Inputs.{inputs_pieces, left_all, reads_standard}
+use Rattle.rosie_run.specs.Inputs.{inputs_pieces, reads_standard, left_after}
 use Rattle.rosie_run.specs.Lines.{Makes}
-use Rattle.rosie_run.specs.Outputs.{Stands, Telling, Texts}
+use Rattle.rosie_run.specs.Outputs.{Telling, Texts}
+use Rattle.rosie_run.specs.Runs.{Stands}
 use Rattle.rosie_run.specs.declared.lines.Reading.{Reading}
 use Rattle.rosie_run.specs.declared.tally.Tally.{Tally}
-use Rattle.std.specs.Prelude.{◌++◌, ◌≡◌, Bool, List, ℕ}
+use Rattle.std.specs.Prelude.{◌++◌, ◌≡◌, Bool, List, ℕ, ◌∷◌, []}
+
+-- what is left of the standard input after some inputs
+unfoldable pub left_all : List (List ℕ) → List ℕ → List ℕ
+left_all [] left = left
+left_all (name ∷ more) left = left_all more (left_after name left)
 
 -- the inputs of `front` were passed, those of `back` are still to come, and so much is left of the standard input
 pub record Reached (W : Telling) (makes : Makes) (r : Reading) (tree : List (List ℕ × List ℕ)) (input left : List ℕ)

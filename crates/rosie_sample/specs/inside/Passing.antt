@@ -1,8 +1,10 @@
 -- How far a run over a sample has come.
 use Rattle.std.specs.Prelude.{◌≡◌, ◌+◌, ◌-◌, ℕ, cond, List, Result, Ok, Err, codes, length}
 use Rattle.rosie_run.specs.Lines.{Makes, pieces_from}
-use Rattle.rosie_run.specs.Outputs.{Stands, Telling, Texts}
-use Rattle.rosie_run.specs.Report.{Piece, added}
+use Rattle.rosie_run.specs.Outputs.{Telling, Texts}
+use Rattle.rosie_run.specs.Runs.{Stands}
+use Rattle.rosie_run.specs.Report.{Piece}
+use Rattle.rosie_run.specs.Tallies.{added}
 use Rattle.rosie_run.specs.declared.ended.Ended.{Ended}
 use Rattle.rosie_run.specs.declared.tally.Tally.{Tally}
 use Rattle.rosie_sample.specs.Counting.{hits, line_pieces}

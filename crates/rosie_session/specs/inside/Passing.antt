@@ -8,7 +8,7 @@ use Rattle.rosie_io.specs.Lines.{feeds, lines}
 use Rattle.rosie_io.specs.Reader.{Reader}
 use Rattle.rosie_repl.specs.Session.{Session}
 use Rattle.rosie_run.specs.Outputs.{Fronts, Telling, Texts, Wrote}
-use Rattle.rosie_run.specs.Report.{tally_of}
+use Rattle.rosie_run.specs.Tallies.{tally_of}
 use Rattle.rosie_run.specs.Runs.{IsCutOf}
 use Rattle.rosie_run.specs.declared.ended.Ended.{Ended}
 use Rattle.rosie_run.specs.declared.ended.Ended.TheVariants as E

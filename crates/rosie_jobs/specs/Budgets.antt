@@ -1,0 +1,19 @@
+-- What is promised of each line: when it may pass its budget.
+use Rattle.std.specs.Prelude.{ℕ, ◌≡◌, ◌+◌, ◌*◌, ◌<◌, true, List, chars}
+use Rattle.std.specs.Str.{is_utf8}
+use Rattle.rpl_core.specs.Outcome.{outcome, work_of}
+use Rattle.rpl_core.specs.Run.{run}
+use Rattle.rosie_jobs.specs.Lines.{Job, budget_of, is_over}
+use Rattle.rosie_jobs.specs.Makers.{Maker, Matches, Traces, Runs}
+use Rattle.rosie_jobs.specs.declared.settings.Settings.{Settings}
+
+-- a line passes its budget only where four times the work of its meaning and two is over it
+abbrev pub PaysFor : Settings → Job → Type 0
+PaysFor s job =
+    (line : List ℕ) → is_utf8 line ≡ true → is_over (run job.code (chars line) (budget_of s (chars line))) ≡ true
+    → budget_of s (chars line) < 4 * work_of (outcome job.rules job.goal (chars line)) + 2
+
+abbrev pub Pays : Maker → Type 0
+Pays (Matches s job) = PaysFor s job
+Pays (Traces limit names job) = Unit {0}
+Pays (Runs s code) = Unit {0}
