@@ -1,12 +1,15 @@
 -- The words come to something over each tree of files.
-use Rattle.std.proofs.Common.{ℕ, Bool, true, false, List, [], ◌++◌, refl}
-use Rattle.std.specs.Prelude.{◌≡◌, Ok, Err, Option, Some, None, codes, is_some, map, encode_utf8_all}
+use Rattle.std.proofs.Common.{ℕ, Bool, true, false, List, [], ◌∷◌, ◌++◌, refl}
+use Rattle.std.specs.Prelude.{◌≡◌, Ok, Err, Option, Some, None, codes, map, encode_utf8_all}
 use Rattle.std.specs.Cmp.Lexicographic.{slice_cmp}
 use Rattle.std.specs.List.{concat}
 use Rattle.std.specs.Ordering.{is_lt, nat_cmp}
 use Rattle.std.proofs.lemmas.Cmp.{nat_list_cmp_total}
 use Rattle.std.proofs.lemmas.List.Sorted.{ranks_by}
+use Rattle.rosie_io.specs.Opening.{file_of}
+use Rattle.rosie_jobs.proofs.SomeLoading.{some_loading}
 use Rattle.rosie_jobs.specs.Lines.{Job}
+use Rattle.rosie_jobs.specs.declared.settings.Settings.{Settings}
 use Rattle.rosie_prepare.specs.Prepared.{Tree, PatternRequest, Ready, OrLine, bodies}
 use Rattle.rosie_prepare.proofs.SomeAnswer.{some_answer, some_table}
 use Rattle.rosie_inspect.specs.Expansions as E
@@ -24,11 +27,12 @@ use Rattle.rpl_package.specs.declared.names.Listed.{Listed}
 use Rattle.rpl_package.specs.declared.rooted.Root.{Root}
 use Rattle.rpl_forms.specs.Rows.{Row}
 use Rattle.rosie_cli.specs.Classes.{class_plan}
+use Rattle.rosie_cli.specs.CodeFiles.{IsCodeLines, code_plan}
 use Rattle.rosie_cli.specs.Expanding.{Expands, IsExpanded, with_code}
-use Rattle.rosie_cli.specs.Laws.{SomePlan, asks_code}
+use Rattle.rosie_cli.specs.Laws.{SomePlan, writes_code}
 use Rattle.rosie_cli.specs.Listing.{IsListed, Lists}
 use Rattle.rosie_cli.specs.Options.{settings_of}
-use Rattle.rosie_cli.specs.Planned.{job_with, matching, sample_request, sampling, tracing, request, plan_unless_long}
+use Rattle.rosie_cli.specs.Planned.{input_names, job_with, matching, sample_request, sampling, tracing, request, plan_unless_long}
 use Rattle.rosie_cli.specs.Planned.{IsMatch, IsPlannedAs, IsRun, IsRunning}
 use Rattle.rosie_cli.specs.Plans.{Plan, Planned, refusal, whole_answer}
 use Rattle.rosie_cli.specs.Testing.{IsTesting, tried}
@@ -96,14 +100,23 @@ tested_some folders file budget tree =
     let s = some_suite some_code tree folders file budget in
     (record { asked = s.0; plan = tried s.1 }, record { suite = s.1; comes = s.2; tries = refl })
 
-match_some : (c : Command) (file : Option (List ℕ)) (pattern : List ℕ) (inputs : List (List ℕ)) (tree : Tree)
-    → is_some file ≡ false → (p : Planned) × IsMatch c file pattern inputs tree p
-match_some c None pattern inputs tree e = running_some (matching (settings_of c) inputs) (request c pattern false) tree
-match_some c (Some path) pattern inputs tree e = absurd (cc)
+code_some : (s : Settings) (path : List ℕ) (names : List (List ℕ)) (tree : Tree)
+    → (p : Planned) × IsCodeLines s path names tree p
+code_some s path names tree =
+    let r = some_loading path (file_of path tree) in (
+      record { asked = path ∷ []; plan = code_plan s names r.0 },
+      record { loaded = r.0; loads = r.1; asks = refl; runs = refl },
+    )
 
-what_some : (c : Command) (what : What) (tree : Tree) → asks_code c what ≡ false
+match_some : (c : Command) (file : Option (List ℕ)) (pattern : List ℕ) (inputs : List (List ℕ)) (tree : Tree)
+    → (p : Planned) × IsMatch c file pattern inputs tree p
+match_some c None pattern inputs tree = running_some (matching (settings_of c) inputs) (request c pattern false) tree
+match_some c (Some path) pattern inputs tree =
+    code_some (settings_of c) (encode_utf8_all path) (input_names inputs) tree
+
+what_some : (c : Command) (what : What) (tree : Tree) → writes_code what ≡ false
     → (p : Planned) × IsPlannedAs c what tree p
-what_some c (W.Match pattern inputs) tree e = match_some c c.code_file pattern inputs tree e
+what_some c (W.Match pattern inputs) tree e = match_some c c.code_file pattern inputs tree
 what_some c (W.Compile pattern) tree e = absurd (cc)
 what_some c (W.Grep pattern inputs) tree e = running_some (matching (settings_of c) inputs) (request c pattern true) tree
 what_some c (W.Test file) tree e = tested_some c.folders file c.budget tree

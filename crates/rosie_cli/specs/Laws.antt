@@ -1,11 +1,10 @@
 -- What holds of all words, and of `compile` and `match` together.
-use Rattle.std.specs.Prelude.{◌≡◌, ◌≤◌, ℕ, Bool, true, false, List, Ok, Some, length, is_some}
+use Rattle.std.specs.Prelude.{◌≡◌, ◌≤◌, ℕ, Bool, true, false, List, Ok, Some, length}
 use Rattle.rosie_jobs.specs.Loaded.{max_code_bytes}
 use Rattle.rosie_io.specs.Opening.{file_of}
 use Rattle.rosie_jobs.specs.Makers.{Runs}
 use Rattle.rosie_jobs.specs.declared.settings.Settings.{Settings}
 use Rattle.rosie_prepare.specs.Prepared.{IsPrepared, Ready, Tree, PatternRequest, bodies}
-use Rattle.rosie_words.specs.declared.command.Command.{Command}
 use Rattle.rosie_words.specs.declared.command.What.{What}
 use Rattle.rosie_words.specs.declared.command.What.TheVariants as W
 use Rattle.rpl_core.specs.Instr.{Instr}
@@ -22,19 +21,18 @@ use Rattle.rosie_cli.specs.Words.{Asked, Refuse, Do}
 abbrev pub OnePlan : Type 0
 OnePlan = (a : Asked) (tree : Tree) (p q : Planned) → IsPlanned a tree p → IsPlanned a tree q → p ≡ q
 
--- a code file is written or read
-abbrev pub asks_code : Command → What → Bool
-asks_code c (W.Match pattern inputs) = is_some c.code_file
-asks_code c (W.Compile pattern) = true
-asks_code c what = false
+-- a code file is written
+abbrev pub writes_code : What → Bool
+writes_code (W.Compile pattern) = true
+writes_code _ = false
 
-abbrev pub is_of_code : Asked → Bool
-is_of_code (Refuse text) = false
-is_of_code (Do c) = asks_code c c.what
+abbrev pub writes_file : Asked → Bool
+writes_file (Refuse text) = false
+writes_file (Do c) = writes_code c.what
 
 -- and all others come to one
 abbrev pub SomePlan : Type 0
-SomePlan = (a : Asked) (tree : Tree) → is_of_code a ≡ false → (p : Planned) × IsPlanned a tree p
+SomePlan = (a : Asked) (tree : Tree) → writes_file a ≡ false → (p : Planned) × IsPlanned a tree p
 
 -- no line and no test of what they come to is said to pass a budget that pays for it, and a code that is written as a
 -- file is safe

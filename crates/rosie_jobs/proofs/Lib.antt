@@ -7,3 +7,4 @@ mod Agreeing
 pub mod One
 pub mod Written
 pub mod Told
+pub mod SomeLoading

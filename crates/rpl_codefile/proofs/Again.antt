@@ -95,22 +95,22 @@ text_again x rest h =
     ∙ ap (λ y. Some (y, rest)) (chars-encodes x h.0)
 
 -- what is read after each part
-abbrev c5 : List (List Range) → List (List ℕ) → List R.Instr × List ℕ → Option File
+abbrev pub c5 : List (List Range) → List (List ℕ) → List R.Instr × List ℕ → Option File
 c5 s t code = Some (record { code = code.0; sets = s; texts = t })
 
-abbrev c4 : List (List Range) → List (List ℕ) → ℕ × List ℕ → Option File
+abbrev pub c4 : List (List Range) → List (List ℕ) → ℕ × List ℕ → Option File
 c4 s t c = items_at instr_at c.0 c.1 >>= c5 s t
 
-abbrev c3 : List (List Range) → List (List ℕ) × List ℕ → Option File
+abbrev pub c3 : List (List Range) → List (List ℕ) × List ℕ → Option File
 c3 s texts = number_at w32 texts.1 >>= c4 s texts.0
 
-abbrev c2 : List (List Range) → ℕ × List ℕ → Option File
+abbrev pub c2 : List (List Range) → ℕ × List ℕ → Option File
 c2 s t = items_at text_at t.0 t.1 >>= c3 s
 
-abbrev c1 : List (List Range) × List ℕ → Option File
+abbrev pub c1 : List (List Range) × List ℕ → Option File
 c1 sets = number_at w32 sets.1 >>= c2 sets.0
 
-abbrev c0 : ℕ × List ℕ → Option File
+abbrev pub c0 : ℕ × List ℕ → Option File
 c0 s = items_at set_at s.0 s.1 >>= c1
 
 pub file_again : (f : File) → FitsFile f → file_at (body f) ≡ Some f

@@ -11,3 +11,5 @@ pub mod Knowing
 pub mod Parts
 pub mod Making
 pub mod Fitting
+pub mod Shapes
+pub mod Deciding
