@@ -2,8 +2,8 @@
 
 ghost use Rattle.rosie_cli.specs.Laws.{HaveOneReport, OnePlan, PromiseLaw, RunsWhatIsCompiled, SafeLaw, SomePlan};
 
-/// Over each tree of files the words come to one plan alone; and they do come to one, unless they are of `compile`, where
-/// only a run shows it.
+/// Over each tree of files the words come to one plan alone; and they do come to one, unless they are of `compile`,
+/// where only a run shows it.
 pub fn one_plan()
     ensures only { OnePlan }
     ensures some { SomePlan }
