@@ -37,8 +37,8 @@ use Rattle.rosie_words.specs.declared.command.Command.{Command}
 use Rattle.rosie_session.specs.Loading.{Loading}
 use Rattle.rosie_session.specs.Replay.{replay}
 use Rattle.rosie_session.specs.Where.{InSession, in_lines, in_load}
-use Rattle.rosie_cli.specs.Report.{IsAnswer, KnowsFiles, KnowsInputs}
-use Rattle.rosie_cli.specs.Words.{Asked, Refuse, Do, IsRefused}
+use Rattle.rosie_cli.specs.Report.{IsAnswer, KnowsFiles, KnowsFor, KnowsInputs}
+use Rattle.rosie_cli.specs.Words.{Asked, Refuse, Do, IsIdle, IsRefused, is_idle}
 use Rattle.rosie_cli.specs.inside.Planning.{IsSaid}
 
 -- a run that a piece ended doesn't go on
@@ -244,8 +244,11 @@ pub do-planned : (a : Asked) (c : Command) (tree : List (List ℕ × List ℕ)) 
     → IsPlanned a tree p → IsPlannedAs c c.what tree p
 do-planned a c tree p e is = subst (λ (x : Asked). IsPlanned x tree p) (sym e) is
 
-pub do-knows : (a : Asked) (c : Command) (files : Type 0) → Do c ≡ a → KnowsFiles a files → files
+pub do-knows : (a : Asked) (c : Command) (files : Type 0) → Do c ≡ a → KnowsFiles a files → KnowsFor c.what files
 do-knows a c files e knows = subst (λ (x : Asked). KnowsFiles x files) (sym e) knows
+
+pub do-idle : (a : Asked) (c : Command) → Do c ≡ a → IsIdle a → is_idle c.what ≡ true
+do-idle a c e idle = subst IsIdle (sym e) idle
 
 pub do-goes-on : (a : Asked) (c : Command) → Do c ≡ a → IsRefused a → ⊥
 do-goes-on a c e refused = subst IsRefused (sym e) refused

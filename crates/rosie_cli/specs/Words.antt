@@ -1,9 +1,11 @@
 -- What the words ask for.
-use Rattle.std.specs.Prelude.{List, ◌++◌, Result, Ok, Err, ℕ}
+use Rattle.std.specs.Prelude.{◌≡◌, Bool, true, false, List, ◌++◌, Result, Ok, Err, ℕ}
 use Rattle.rosie_words.specs.Printed.{fault_line, usage}
 use Rattle.rosie_words.specs.Reading as R
 use Rattle.rosie_words.specs.Table.{Word}
 use Rattle.rosie_words.specs.declared.command.Command.{Command}
+use Rattle.rosie_words.specs.declared.command.What.{What}
+use Rattle.rosie_words.specs.declared.command.What.TheVariants as W
 use Rattle.rosie_words.specs.declared.fault.UsageFault.{UsageFault}
 
 -- they are refused with a text, or are a command
@@ -22,3 +24,16 @@ asked ws = read (R.reading ws)
 abbrev pub IsRefused : Asked → Type 0
 IsRefused (Refuse text) = Unit {0}
 IsRefused (Do c) = ⊥
+
+-- a command that runs no line, no test and no sample
+abbrev pub is_idle : What → Bool
+is_idle (W.Class name) = true
+is_idle W.List = true
+is_idle (W.Expand pattern) = true
+is_idle (W.Compile pattern) = true
+is_idle _ = false
+
+-- the words ask for none of these
+abbrev pub IsIdle : Asked → Type 0
+IsIdle (Refuse text) = Unit {0}
+IsIdle (Do c) = is_idle c.what ≡ true

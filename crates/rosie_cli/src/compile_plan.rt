@@ -5,7 +5,7 @@ ghost use Rattle.rosie_prepare.specs.Views.{ready_seen, request_seen};
 ghost use Rattle.rosie_prepare.specs.inside.Steps.{IsOwn};
 ghost use Rattle.rosie_cli.specs.Compiling.{Compiles, IsCompiled};
 ghost use Rattle.rosie_cli.specs.Plans.{Planned};
-ghost use Rattle.rosie_cli.specs.inside.Planning.{IsReady, Leaves, Makes, Plans};
+ghost use Rattle.rosie_cli.specs.inside.Planning.{IsReady, Leaves, Makes, Plans, PlansIdle};
 
 use crate::plan::{Plan, uncompiled};
 use rosie_io::Files;
@@ -19,6 +19,7 @@ fn plan_file(alloc: Global, ready: &Prepared) -> Result<Plan, Unready>
     requires { IsReady ready.now }
     ensures makes { Makes result (Compiles (Ok (ready_seen ready.now))) }
     ensures own { IfErr result IsOwn }
+    ensures idle { PlansIdle result }
 {
     match compile(alloc, &ready.rules, &ready.goal) {
         Ok(program) => Ok(Plan::Write(write_code(alloc, &program)?)),
@@ -34,6 +35,7 @@ pub(crate) fn plan_compiled<F: Files>(
 ) -> Result<Plan, Unready>
     ensures plans { F.tells → (p : Planned) → IsCompiled (request_seen request.now) (F.tree files.old) p
         → Plans result p }
+    ensures idle { PlansIdle result }
     ensures leaves { Leaves F.Source result files.old files.new }
 {
     let ready = prepare(alloc, files, request)?;

@@ -5,7 +5,7 @@ ghost use Rattle.rosie_prepare.specs.Views.{ready_seen, request_seen};
 ghost use Rattle.rosie_prepare.specs.inside.Steps.{IsOwn};
 ghost use Rattle.rosie_cli.specs.Expanding.{IsExpanded, Expands};
 ghost use Rattle.rosie_cli.specs.Plans.{Planned};
-ghost use Rattle.rosie_cli.specs.inside.Planning.{IsReady, Leaves, Makes, Plans};
+ghost use Rattle.rosie_cli.specs.inside.Planning.{IsReady, Leaves, Makes, Plans, PlansIdle};
 
 use crate::plan::{Plan, uncompiled};
 use rosie_inspect::{expansion_text, push_program};
@@ -19,6 +19,7 @@ fn plan_text(alloc: Global, ready: &Prepared, wants_code: bool) -> Result<Plan, 
     requires { IsReady ready.now }
     ensures makes { Makes result (Expands wants_code (Ok (ready_seen ready.now))) }
     ensures own { IfErr result IsOwn }
+    ensures idle { PlansIdle result }
 {
     let mut text = expansion_text(alloc, &ready.expr, &ready.rules, &ready.goal)?;
     if !wants_code {
@@ -42,6 +43,7 @@ pub(crate) fn plan_expansion<F: Files>(
 ) -> Result<Plan, Unready>
     ensures plans { F.tells → (p : Planned) → IsExpanded (request_seen request.now) wants_code (F.tree files.old) p
         → Plans result p }
+    ensures idle { PlansIdle result }
     ensures leaves { Leaves F.Source result files.old files.new }
 {
     let ready = prepare(alloc, files, request)?;

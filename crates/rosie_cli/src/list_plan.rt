@@ -2,7 +2,7 @@
 
 ghost use Rattle.rosie_cli.specs.Listing.{IsListed};
 ghost use Rattle.rosie_cli.specs.Plans.{Planned};
-ghost use Rattle.rosie_cli.specs.inside.Planning.{Leaves, Plans};
+ghost use Rattle.rosie_cli.specs.inside.Planning.{Leaves, Plans, PlansIdle};
 
 use crate::plan::Plan;
 use rosie_inspect::names_text;
@@ -19,6 +19,7 @@ pub(crate) fn plan_list<F: Files>(
     files: &mut F,
 ) -> Result<Plan, Unready>
     ensures plans { F.tells → (p : Planned) → IsListed roots.now folders.now (F.tree files.old) p → Plans result p }
+    ensures idle { PlansIdle result }
     ensures leaves { Leaves F.Source result files.old files.new }
 {
     let ready = prepare_rules(alloc, files, folders, roots)?;

@@ -1,11 +1,13 @@
 //! From a command to its plan.
 
-ghost use Rattle.std.specs.Prelude.{◌≡◌, ◌≢◌, encode_utf8_all};
+ghost use Rattle.std.specs.Prelude.{◌≡◌, ◌≢◌, encode_utf8_all, true};
 ghost use Rattle.rosie_prepare.specs.Views.{request_seen};
 ghost use Rattle.rosie_words.specs.declared.command.What.TheVariants as W;
 ghost use Rattle.rosie_cli.specs.Planned.{IsPlannedAs};
 ghost use Rattle.rosie_cli.specs.Plans.{Planned};
-ghost use Rattle.rosie_cli.specs.inside.Planning.{Leaves, Plans};
+ghost use Rattle.rosie_cli.specs.Report.{KnowsFor};
+ghost use Rattle.rosie_cli.specs.Words.{is_idle};
+ghost use Rattle.rosie_cli.specs.inside.Planning.{Leaves, Plans, PlansIdle};
 
 use crate::class_plan::plan_class;
 use crate::code_plan::plan_code;
@@ -61,7 +63,9 @@ pub(crate) fn plan_command<F: Files>(
     files: &mut F,
 ) -> Result<Plan, Unready>
     requires { command.what ≢ W.Repl }
-    ensures plans { F.tells → (p : Planned) → IsPlannedAs command command.what (F.tree files.old) p → Plans result p }
+    ensures plans { KnowsFor command.what F.tells → (p : Planned)
+        → IsPlannedAs command command.what (F.tree files.old) p → Plans result p }
+    ensures idle { is_idle command.what ≡ true → PlansIdle result }
     ensures leaves { Leaves F.Source result files.old files.new }
 {
     let settings = settings_of(&command);

@@ -1,7 +1,7 @@
 //! The top call: the words are read, their command is planned, the plan runs, and the run is ended. A session runs
 //! without a plan.
 
-ghost use Rattle.std.specs.Prelude.{◌≡◌, ◌≢◌, ◌∷◌, [], ℕ, string_bytes, IfErr};
+ghost use Rattle.std.specs.Prelude.{◌≡◌, ◌≢◌, ◌∷◌, [], ℕ, true, string_bytes, IfErr};
 ghost use Rattle.rosie_jobs.specs.Lines.{reading};
 ghost use Rattle.rosie_run.specs.Causes.{IsFlushed};
 ghost use Rattle.rosie_run.specs.Runs.{SourcesCause, WritesCause, Runs, GoesOn, IsNoCut};
@@ -14,10 +14,10 @@ ghost use Rattle.rosie_words.specs.declared.command.What.TheVariants as W;
 ghost use Rattle.rosie_cli.specs.Planned.{IsPlanned, IsPlannedAs};
 ghost use Rattle.rosie_cli.specs.Plans.{Planned, pieces, LeavesInput, ReadsInput, among, stood};
 ghost use Rattle.rosie_cli.specs.Replaying.{IsReplayed};
-ghost use Rattle.rosie_cli.specs.Report.{KnowsFiles, KnowsInputs};
+ghost use Rattle.rosie_cli.specs.Report.{KnowsFiles, KnowsFor, KnowsInputs};
 ghost use Rattle.rosie_cli.specs.Rosie.{Answers, call};
-ghost use Rattle.rosie_cli.specs.Words.{asked, IsRefused};
-ghost use Rattle.rosie_cli.specs.inside.Planning.{plan_of, IsSaid};
+ghost use Rattle.rosie_cli.specs.Words.{asked, IsRefused, IsIdle, is_idle};
+ghost use Rattle.rosie_cli.specs.inside.Planning.{plan_of, IsSaid, IsIdlePlan};
 
 use crate::asked::{Asked, ask};
 use crate::plan::Plan;
@@ -83,6 +83,7 @@ fn run_plan<F: Files, I: Source, O: Sink, E: Sink, L: Ledger>(
     ensures sinks { WritesCause result (O.faults out.old) (O.faults out.new) (E.faults err.old) (E.faults err.new) }
     ensures untouched { IsSaid (plan_of plan.old) → (files.new ≡ files.old) × (input.new ≡ input.old) }
     ensures unread { LeavesInput (plan_of plan.old) → input.new ≡ input.old }
+    ensures idle { IsIdlePlan (plan_of plan.old) → steps.new ≡ steps.old }
 {
     match plan {
         Plan::Answer(text) => say(out, err, text.as_bytes(), &[], Mark::Hit),
@@ -118,8 +119,8 @@ fn run_planned<F: Files, I: Source, O: Sink, E: Sink, L: Ledger>(
     steps: &mut Steps<L>,
 ) -> Result<Tally, Ended>
     requires { command.what ≢ W.Repl }
-    ensures runs { F.tells → (p : Planned) → IsPlannedAs command command.what (F.tree files.old) p
-        → KnowsInputs p.plan F.tells I.tells
+    ensures runs { KnowsFor command.what F.tells → (p : Planned)
+        → IsPlannedAs command command.what (F.tree files.old) p → KnowsInputs p.plan F.tells I.tells
         → Runs result (telling O.Sink E.Sink)
         (pieces p.plan (F.tree files.old) (I.rest input.old))
         (stood p (F.tree files.old)
@@ -127,10 +128,12 @@ fn run_planned<F: Files, I: Source, O: Sink, E: Sink, L: Ledger>(
         (span_of F.Source files.old files.new))
         (shown O.Sink E.Sink out.old err.old steps.old)
         (shown O.Sink E.Sink out.new err.new steps.new) }
-    ensures rest { F.tells → (p : Planned) → IsPlannedAs command command.what (F.tree files.old) p
-        → KnowsInputs p.plan F.tells I.tells → GoesOn result (ReadsInput p.plan → I.rest input.new ≡ []) }
-    ensures unread { F.tells → (p : Planned) → IsPlannedAs command command.what (F.tree files.old) p
-        → LeavesInput p.plan → input.new ≡ input.old }
+    ensures rest { KnowsFor command.what F.tells → (p : Planned)
+        → IsPlannedAs command command.what (F.tree files.old) p → KnowsInputs p.plan F.tells I.tells
+        → GoesOn result (ReadsInput p.plan → I.rest input.new ≡ []) }
+    ensures unread { KnowsFor command.what F.tells → (p : Planned)
+        → IsPlannedAs command command.what (F.tree files.old) p → LeavesInput p.plan → input.new ≡ input.old }
+    ensures idle { is_idle command.what ≡ true → steps.new ≡ steps.old }
     ensures cause { SourcesCause result (moment_of I.Source input.old)
         (moment_of I.Source input.new)
         (moment_of F.Source files.old)
@@ -159,7 +162,7 @@ pub fn session<F: Files, I: Source, O: Sink, E: Sink, L: Ledger>(
     steps: &mut Steps<L>,
 ) -> Status
     ensures answers { Answers (call F.Source I.Source O.Sink E.Sink
-        (IsReplayed folders.now (F.tree files.old)) F.tells files.old files.new
+        (IsReplayed folders.now (F.tree files.old)) (KnowsFor W.Repl F.tells) files.old files.new
         input.old input.new out.old out.new err.old err.new steps.old steps.new result) }
     ensures out_flushed { O.counts → IsFlushed result (O.number out.new) (O.flushed out.new) }
     ensures err_flushed { E.counts → IsFlushed result (E.number err.new) (E.flushed err.new) }
@@ -179,10 +182,11 @@ fn run_command<F: Files, I: Source, O: Sink, E: Sink, L: Ledger>(
     steps: &mut Steps<L>,
 ) -> Status
     ensures answers { Answers (call F.Source I.Source O.Sink E.Sink
-        (IsPlannedAs command command.what (F.tree files.old)) F.tells files.old files.new
+        (IsPlannedAs command command.what (F.tree files.old)) (KnowsFor command.what F.tells) files.old files.new
         input.old input.new out.old out.new err.old err.new steps.old steps.new result) }
-    ensures unread { F.tells → (p : Planned) → IsPlannedAs command command.what (F.tree files.old) p
-        → LeavesInput p.plan → input.new ≡ input.old }
+    ensures unread { KnowsFor command.what F.tells → (p : Planned)
+        → IsPlannedAs command command.what (F.tree files.old) p → LeavesInput p.plan → input.new ≡ input.old }
+    ensures idle { is_idle command.what ≡ true → steps.new ≡ steps.old }
     ensures out_flushed { O.counts → IsFlushed result (O.number out.new) (O.flushed out.new) }
     ensures err_flushed { E.counts → IsFlushed result (E.number err.new) (E.flushed err.new) }
 {
@@ -228,6 +232,9 @@ pub fn rosie<F: Files, I: Source, O: Sink, E: Sink, L: Ledger>(
     ensures unread { (p : Planned) → KnowsFiles (asked (words_of words.now)) F.tells
         → IsPlanned (asked (words_of words.now)) (F.tree files.old) p → LeavesInput p.plan → input.new ≡ input.old }
     ensures untouched { IsRefused (asked (words_of words.now)) → (files.new ≡ files.old) × (input.new ≡ input.old) }
+
+    // Where no line, no test and no sample is run, the machine makes no step, whatever the files hold.
+    ensures idle { IsIdle (asked (words_of words.now)) → steps.new ≡ steps.old }
 
     // All is flushed, unless a write failed or memory ran out.
     ensures out_flushed { O.counts → IsFlushed result (O.number out.new) (O.flushed out.new) }

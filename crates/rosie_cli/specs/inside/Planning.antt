@@ -75,6 +75,17 @@ pub record Leaves {F : Type 0} (S : Ghosts F) (result : Result Plan Unready) (ol
   pub taken : NotFewer (S.taken old) (S.taken new)
   pub tree : S.tree new ≡ S.tree old
 
+-- a text or bytes are written, and nothing else is done
+abbrev pub IsIdlePlan : P.Plan → Type 0
+IsIdlePlan (P.Says ps) = Unit {0}
+IsIdlePlan (P.Writes bytes) = Unit {0}
+IsIdlePlan _ = ⊥
+
+-- and so it is where a plan is made
+abbrev pub PlansIdle : Result Plan Unready → Type 0
+PlansIdle (Ok plan) = IsIdlePlan (plan_of plan)
+PlansIdle (Err u) = Unit {0}
+
 -- no input is read
 abbrev pub IsSaid : P.Plan → Type 0
 IsSaid (P.Says ps) = Unit {0}

@@ -5,7 +5,7 @@ use Rattle.rosie_cli.proofs.top.run_command.Goals as goal
 
 pub returns-in-Repl-clause-answers : goal.returns-in-Repl-clause-answers
 returns-in-Repl-clause-answers g c =
-    answers-by _ _ _ (λ t. t) (λ p is. rw c.in-Repl.is at is) c.session.ensures.answers
+    answers-by _ _ _ (λ t. tt) (λ p is. rw c.in-Repl.is at is) c.session.ensures.answers
 
 pub returns-in-Repl-clause-unread : goal.returns-in-Repl-clause-unread
 returns-in-Repl-clause-unread g c = λ t p is n.
