@@ -22,7 +22,8 @@ use Rattle.rpl_text.specs.Places.{at, index}
 use Rattle.rpl_tree.specs.Trees.{BuildsEach}
 use Rattle.rpl_tree.specs.declared.node.Node.{Node}
 use Rattle.rpl_unittest.specs.Laws.{BuiltAsOneTree}
-use Rattle.rpl_unittest.specs.Verdicts.{AreOneTree, is_met, part_of}
+use Rattle.rpl_unittest.specs.Verdicts.{is_met, part_of}
+use Rattle.rpl_unittest.specs.Seen.{AreOneTree}
 use Rattle.rpl_unittest.specs.declared.test.Test.{Test}
 use Rattle.rosie_jobs.specs.Lines.{Job, budget_or, is_over, made}
 use Rattle.rosie_jobs.proofs.OneLine.{trees_same}

@@ -6,7 +6,7 @@ ghost use Rattle.rpl_core.specs.Program.{labels_of};
 ghost use Rattle.rpl_encode.specs.Answer.{answer, max_answer_bytes};
 ghost use Rattle.rpl_encode.specs.Labels.{trees_in};
 ghost use Rattle.rpl_encode.specs.declared.style.Style.TheVariants.{Json};
-ghost use Rattle.rpl_unittest.specs.Verdicts.{label_in};
+ghost use Rattle.rpl_unittest.specs.Seen.{label_in};
 ghost use Rattle.rosie_unittest.specs.inside.Ready.{AreOfTree, by_found};
 
 use crate::verdict::Verdict;

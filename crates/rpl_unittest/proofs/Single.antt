@@ -8,7 +8,7 @@ use Rattle.std.specs.Prelude.{All}
 use Rattle.rpl_tree.specs.Trees.{IsLeaf, Write, nothing, a_tree, a_note, node_as, trees_of, forest_of}
 use Rattle.rpl_tree.specs.declared.node.Node.{Node}
 use Rattle.rpl_unittest.specs.Laws.{BuiltAsOneTree}
-use Rattle.rpl_unittest.specs.Verdicts.{AreOneTree}
+use Rattle.rpl_unittest.specs.Seen.{AreOneTree}
 
 -- no trees are those of no nodes alone
 no_nodes : (most : ℕ) (name : ℕ → List ℕ) (ns : List Node) → length ns ≤ most → trees_of most name ns ≡ NoTree → ns ≡ []

@@ -2,18 +2,18 @@
 use Rattle.std.proofs.Common.{◌≡◌, ℕ, zero, suc, ◌+◌, ◌-◌, ◌<◌, ◌≤◌, Bool, true, false, List, [], ◌∷◌, ◌++◌, length}
 use Rattle.std.proofs.Common.{take, drop, get_or, Option, Some, None, refl, sym, ap, ◌∙◌, arith}
 use Rattle.std.specs.Prelude.{◌||◌, not, codes}
+use Rattle.std.specs.Prelude.{slice_get}
+use Rattle.std.specs.Prelude.{All, IsSome}
 use Rattle.std.specs.List.{list_any}
 use Rattle.std.specs.Str.{encode_utf8_all, bytes_eq}
 use Rattle.std.proofs.lemmas.List.{length-take, length-drop, take_all}
 use Rattle.std.proofs.lemmas.Slice.Eq.{bytes_eq-Decides}
-use Rattle.std.specs.Prelude.{slice_get}
 use Rattle.rpl_core.specs.Forest.{Forest}
-use Rattle.std.specs.Prelude.{All, IsSome}
 use Rattle.std.proofs.lemmas.List.Elements.{All-head, All-take, All-drop}
 use Rattle.rpl_tree.specs.Trees.{IsLeaf, node_as, trees_of, forest_of}
 use Rattle.rpl_tree.specs.declared.node.Node.{Node}
-use Rattle.rpl_unittest.specs.Verdicts.{label_in}
-use Rattle.rpl_unittest.specs.Verdicts.{has_type, below_root, AreOneTree}
+use Rattle.rpl_unittest.specs.Seen.{label_in, AreOneTree}
+use Rattle.rpl_unittest.specs.Verdicts.{has_type, below_root}
 use Rattle.rpl_unittest.specs.inside.Nodes.{type_by, type_at, passes}
 
 or_assoc : (a b c : Bool) → ((a || b) || c) ≡ (a || (b || c))

@@ -5,7 +5,7 @@ use Rattle.rpl_core.specs.declared.caught.Caught.{Caught}
 use Rattle.rpl_tree.specs.Trees.{Builds}
 use Rattle.rpl_tree.specs.declared.node.Node.{Node}
 use Rattle.rpl_unittest.specs.Comments.{HasTests, HasBad}
-use Rattle.rpl_unittest.specs.Verdicts.{AreOneTree}
+use Rattle.rpl_unittest.specs.Seen.{AreOneTree}
 use Rattle.rpl_unittest.specs.declared.test.Test.{Test}
 
 -- a text has its tests, or a first bad line, and never both

@@ -1,4 +1,5 @@
 pub mod Comments
+pub mod Seen
 pub mod Verdicts
 pub mod Lines
 pub mod Faults

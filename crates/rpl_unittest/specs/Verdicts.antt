@@ -1,13 +1,9 @@
 -- Whether what was found on a text is what a unit test says. Texts, names and the places of trees count bytes here.
-use Rattle.std.specs.Prelude.{◌≡◌, ℕ, ◌==◌, Bool, false, not, ◌&&◌, ◌||◌, nat_eq, List, [], ◌∷◌, ◌++◌, length, All}
-use Rattle.std.specs.Prelude.{Option, Some, None, codes, slice_index_or}
+use Rattle.std.specs.Prelude.{ℕ, ◌==◌, Bool, false, not, ◌&&◌, ◌||◌, nat_eq, List, [], ◌∷◌, ◌++◌, length, Option, Some}
+use Rattle.std.specs.Prelude.{None, codes}
 use Rattle.std.specs.List.{list_any}
 use Rattle.std.specs.Str.{encode_utf8_all, bytes_eq}
 use Rattle.rpl_core.specs.Forest.{Forest, NoTree, Tree, Noted}
-use Rattle.rpl_core.specs.Program.{labels_of}
-use Rattle.rpl_core.specs.declared.program.Program.{Program}
-use Rattle.rpl_tree.specs.Trees.{IsLeaf, forest_of}
-use Rattle.rpl_tree.specs.declared.node.Node.{Node}
 use Rattle.rpl_unittest.specs.declared.test.Verb.{Verb}
 use Rattle.rpl_unittest.specs.declared.test.Verb.TheVariants.{Accepts, Rejects, Includes, Excludes}
 
@@ -27,9 +23,8 @@ has_type p (Noted text place behind) = p (codes "message") || has_type p behind
 
 -- the trees inside the first one, which is the root, and where that ends
 abbrev pub below_root : Forest → Forest
-below_root NoTree = NoTree
 below_root (Tree label start end below behind) = below
-below_root (Noted text place behind) = NoTree
+below_root _ = NoTree
 
 abbrev pub end_of_root : Forest → ℕ
 end_of_root NoTree = 0
@@ -57,19 +52,7 @@ is_met Rejects prefix part text found = not (is_whole text found)
 is_met Includes prefix part text found = includes prefix part found
 is_met Excludes prefix part text found = excludes prefix part found
 
--- the trees of nodes, with the texts of a program
-abbrev pub label_in : List (List ℕ) → ℕ → List ℕ
-label_in labels number = slice_index_or labels number []
-
-abbrev pub trees_in : Program → List Node → Forest
-trees_in program = forest_of (label_in (labels_of program))
-
 -- the bytes of a part, where there is one
 abbrev pub part_of : Option (List ℕ) → List ℕ
 part_of None = []
 part_of (Some part) = encode_utf8_all part
-
--- the nodes are those of one tree: the first is its root, and all others are below it
-abbrev pub AreOneTree : List Node → Type 0
-AreOneTree [] = ⊥
-AreOneTree (n ∷ ns) = (n.note ≡ None) × (n.below ≡ length ns) × All IsLeaf (n ∷ ns)

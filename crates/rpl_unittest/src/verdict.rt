@@ -5,8 +5,8 @@ ghost use Rattle.std.specs.Option.{option_copied};
 ghost use Rattle.std.specs.List.{list_any};
 ghost use Rattle.std.specs.Str.{encode_utf8_all, bytes_eq};
 ghost use Rattle.rpl_core.specs.Program.{labels_of};
-ghost use Rattle.rpl_unittest.specs.Verdicts.{label_in, trees_in};
-ghost use Rattle.rpl_unittest.specs.Verdicts.{is_plain, is_type, is_whole, is_met, part_of, AreOneTree};
+ghost use Rattle.rpl_unittest.specs.Seen.{label_in, trees_in, AreOneTree};
+ghost use Rattle.rpl_unittest.specs.Verdicts.{is_plain, is_type, is_whole, is_met, part_of};
 ghost use Rattle.rpl_unittest.specs.inside.Nodes.{has_part, passes, type_at};
 
 use crate::test::{Test, Verb};

@@ -3,7 +3,8 @@ use Rattle.std.specs.Prelude.{ℕ, Bool, false, List, Option, Some, None, codes}
 use Rattle.std.specs.Str.{encode_utf8_all}
 use Rattle.rpl_core.specs.Program.{labels_of}
 use Rattle.rpl_core.specs.declared.program.Program.{Program}
-use Rattle.rpl_unittest.specs.Verdicts.{label_in, is_type}
+use Rattle.rpl_unittest.specs.Verdicts.{is_type}
+use Rattle.rpl_unittest.specs.Seen.{label_in}
 use Rattle.rpl_tree.specs.declared.node.Node.{Node}
 
 -- the type of a node, in bytes

@@ -1,7 +1,8 @@
 use Rattle.std.proofs.Common.{sym, ap, ◌∙◌, Some}
 use Rattle.std.specs.Prelude.{not}
 use Rattle.rpl_core.specs.Program.{labels_of}
-use Rattle.rpl_unittest.specs.Verdicts.{is_type, is_met, trees_in}
+use Rattle.rpl_unittest.specs.Verdicts.{is_type, is_met}
+use Rattle.rpl_unittest.specs.Seen.{trees_in}
 use Rattle.rpl_unittest.proofs.Types.{any_below}
 use Rattle.rpl_unittest.proofs.verdict.judge_match.Goals as goal
 
