@@ -8,7 +8,7 @@ use Rattle.rosie_words.specs.declared.command.What.{What}
 use Rattle.rosie_words.specs.declared.command.What.TheVariants as W
 use Rattle.rpl_classes.specs.Classes.{set_named}
 use Rattle.rpl_core.specs.Instr.{Instr}
-use Rattle.rpl_forms.specs.Rows.{Row}
+use Rattle.rpl_forms.specs.Table.{Row}
 use Rattle.rpl_core.specs.Programs.{IsCode}
 use Rattle.rpl_package.specs.declared.rooted.Root.TheVariants.{Given}
 use Rattle.rosie_jobs.specs.Lines.{Job}

@@ -4,7 +4,7 @@ use Rattle.std.specs.Str.{encode_utf8_all}
 use Rattle.rpl_core.specs.Core.{Core}
 use Rattle.rpl_core.specs.Programs.{Reaches}
 use Rattle.rpl_expand.specs.Printed.{printed}
-use Rattle.rpl_forms.specs.Rows.{Row}
+use Rattle.rpl_forms.specs.Table.{Row}
 use Rattle.rpl_syntax.specs.Expression.{Expr}
 use Rattle.rpl_syntax.specs.Printed as P
 

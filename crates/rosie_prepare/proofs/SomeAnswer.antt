@@ -20,7 +20,7 @@ use Rattle.rpl_core.specs.Programs.{calls}
 use Rattle.rpl_expand.proofs.Ordering.{table_blocks_are, table_only}
 use Rattle.rpl_expand.specs.Faults as E
 use Rattle.rpl_expand.specs.Sets.{statements, table_of}
-use Rattle.rpl_expand.specs.Table.{AreBound}
+use Rattle.rpl_expand.specs.Bound.{AreBound}
 use Rattle.rpl_forms.specs.Rows.{Row}
 use Rattle.rpl_lexer.specs.Cutting.{cut_of}
 use Rattle.rpl_lexer.specs.declared.fault.LexFault.{LexFault}

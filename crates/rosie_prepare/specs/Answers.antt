@@ -7,7 +7,7 @@ use Rattle.rosie_prepare.specs.declared.unready.Unready.TheVariants.{NoMemory, R
 use Rattle.rosie_run.specs.Sources.{Moment, NoFewer, RoseIn, Still}
 use Rattle.rosie_prepare.specs.Lines.{load_line}
 use Rattle.rpl_package.specs.Roots.{Packages}
-use Rattle.rpl_scope.specs.Faults.{Or}
+use Rattle.rpl_scope.specs.Results.{Or}
 
 -- a refusal has the line that is due; out of memory and a failed read say nothing of it
 abbrev pub IsDue : {A : Type 0} → Unready → OrLine A → Type 0

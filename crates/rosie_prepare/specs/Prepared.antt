@@ -9,14 +9,14 @@ use Rattle.rpl_check.specs.Faults as C
 use Rattle.rpl_core.specs.Core.{Core}
 use Rattle.rpl_expand.specs.Faults as E
 use Rattle.rpl_expand.specs.Sets.{goal_of, table_of}
-use Rattle.rpl_forms.specs.Rows.{Row, inners_from}
-use Rattle.rpl_package.specs.Asking.{Outcome, and_then}
+use Rattle.rpl_forms.specs.Table.{Row, inners_from}
+use Rattle.rpl_package.specs.Steps.{Outcome, and_then}
 use Rattle.rpl_package.specs.Goals.{ReadsGoal}
 use Rattle.rpl_package.specs.Loading.{world}
 use Rattle.rpl_package.specs.Patterns.{load_pattern}
 use Rattle.rpl_package.specs.Roots.{Packages, load}
 use Rattle.rpl_package.specs.declared.rooted.Root.{Root}
-use Rattle.rpl_scope.specs.Faults.{Or}
+use Rattle.rpl_scope.specs.Results.{Or}
 use Rattle.rpl_syntax.specs.Expression.{Expr}
 
 -- ---- what is asked for, and what comes of it

@@ -3,7 +3,7 @@ ghost use Rattle.std.specs.Prelude.{◌≡◌, ◌++◌, ◌∷◌, IfOk, OnOk, 
 ghost use Rattle.std.specs.Option.{option_map};
 ghost use Rattle.rosie_prepare.specs.Lines as L;
 ghost use Rattle.rpl_check.specs.Answers as C;
-ghost use Rattle.rpl_expand.specs.Faults as E;
+ghost use Rattle.rpl_expand.specs.Answers as E;
 ghost use Rattle.rpl_package.specs.Sets.{set_seen};
 
 use crate::NoMemory;

@@ -27,7 +27,7 @@ use Rattle.rpl_core.specs.declared.rules.Rule.{Rule}
 use Rattle.rpl_expand.proofs.Rooting.{goal_only, goal_root}
 use Rattle.rpl_expand.specs.Faults as E
 use Rattle.rpl_expand.specs.Sets.{captures_of, scope_of, table_of}
-use Rattle.rpl_expand.specs.Table.{IsOver, MakeTrees}
+use Rattle.rpl_expand.specs.Bound.{IsOver, MakeTrees}
 use Rattle.rpl_forms.specs.Inlining.{Inners}
 use Rattle.rpl_forms.specs.Rows.{Row, inners_from, inners_of, rows_of}
 use Rattle.rpl_load_laws.proofs.Loaded.{own_names_are_rules, scopes_are_over, tables_are_in_order, told_is_built, trees_are_made}

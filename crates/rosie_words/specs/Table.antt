@@ -39,10 +39,7 @@ pub data Form : Type 0 where
 -- there is a value
 abbrev pub has_value : Form → Bool
 has_value Nothing = false
-has_value Anything = true
-has_value Folders = true
-has_value OneStyle = true
-has_value (Number least most) = true
+has_value _ = true
 
 -- an option: its spellings, its value, and the commands that take it
 pub record Row : Type 0 where

@@ -15,8 +15,8 @@ use Rattle.rpl_forms.specs.Rows.{Row, rows_of, inners_from}
 use Rattle.rpl_forms.proofs.Standing.{get_before, get_last}
 use Rattle.rpl_macro.specs.declared.casing.Casing.TheVariants.{Plain}
 use Rattle.rpl_expand.specs.Expansion.{core}
-use Rattle.rpl_expand.specs.Table.{Statement, IsBound, AreBound, boundary, body_of, built_in, captured, row_of, rows}
-use Rattle.rpl_expand.specs.Table.{scope_at, table, table_blocks}
+use Rattle.rpl_expand.specs.Table.{Statement, boundary, body_of, built_in, captured, row_of, rows, scope_at, table}
+use Rattle.rpl_expand.specs.Bound.{IsBound, AreBound, table_blocks}
 use Rattle.rpl_expand.proofs.Calls.{Only, OnlyInners, Allows, only_core, only_inlined}
 
 -- what a rule with the number n may call

@@ -19,7 +19,8 @@ use Rattle.rpl_syntax.specs.Expression.{Expr}
 use Rattle.rpl_syntax.specs.Expression as X
 use Rattle.rpl_syntax.specs.declared.name.QName.{QName}
 use Rattle.rpl_expand.specs.Expansion.{Scope, core}
-use Rattle.rpl_expand.specs.Table.{IsOver, MakeTrees, captured, goal, has_root}
+use Rattle.rpl_expand.specs.Table.{captured, goal, has_root}
+use Rattle.rpl_expand.specs.Bound.{IsOver, MakeTrees}
 use Rattle.rpl_expand.proofs.Calls.{Only, OnlyInners, Allows, only_core, only_inlined}
 
 stands : (P : ℕ → Type 0) (I : Inners) (b : Option ℕ) (p q : Core) → OnlyInners P I → Only P p → inner I b p ≡ Some q

@@ -7,7 +7,8 @@ use Rattle.std.proofs.lemmas.Option.{slice_get_within}
 use Rattle.std.specs.Option.{option_or}
 use Rattle.rpl_core.specs.Table.{AreDistinct, IsNew, names_of}
 use Rattle.rpl_core.specs.declared.rules.Rule.{Rule}
-use Rattle.rpl_expand.specs.Faults.{Fault, size_fault, table_fault, IsDue}
+use Rattle.rpl_expand.specs.Faults.{Fault, size_fault, table_fault}
+use Rattle.rpl_expand.specs.Answers.{IsDue}
 use Rattle.rpl_forms.specs.Inlining.{inner}
 use Rattle.rpl_forms.specs.Rows.{Row, row_at, rows_of, inners_of}
 use Rattle.rpl_expand.specs.Table.{Statement, row_of, rows}

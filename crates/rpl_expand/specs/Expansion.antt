@@ -7,10 +7,10 @@ use Rattle.rpl_syntax.specs.Expression as X
 use Rattle.rpl_syntax.specs.declared.expr.Sign.{Sign}
 use Rattle.rpl_syntax.specs.declared.expr.Sign.TheVariants as S
 use Rattle.rpl_syntax.specs.declared.name.QName.{QName}
-use Rattle.rpl_macro.specs.Casings.{set_in}
+use Rattle.rpl_macro.specs.Sets.{set_in}
 use Rattle.rpl_macro.specs.declared.casing.Casing.{Casing}
 use Rattle.rpl_macro.specs.Kinds.{kind_of}
-use Rattle.rpl_macro.specs.Macros.{text_of}
+use Rattle.rpl_macro.specs.Uses.{text_of}
 use Rattle.rpl_forms.specs.Inlining.{Inners, inlined}
 use Rattle.rpl_forms.specs.Forms.{behind, pair, seq_of, text_core, signed, any, spaced_by, repeated, mark_name}
 use Rattle.rpl_forms.specs.Forms.{macro_core, casing_under}

@@ -1,6 +1,8 @@
 pub mod Expansion
+pub mod Bound
 pub mod Table
 pub mod Sets
+pub mod Answers
 pub mod Faults
 pub mod Printed
 pub mod Laws

@@ -3,7 +3,7 @@ use Rattle.std.specs.Prelude.{ℕ, zero, suc, ◌+◌, Bool, false, List, [], �
 use Rattle.std.specs.Prelude.{Err}
 use Rattle.rpl_core.specs.Core.{Core}
 use Rattle.rpl_forms.specs.Inlining.{Inners}
-use Rattle.rpl_forms.specs.Rows.{Row}
+use Rattle.rpl_forms.specs.Table.{Row}
 use Rattle.rpl_package.specs.Roots.{Packages}
 use Rattle.rpl_package.specs.Tables as P
 use Rattle.rpl_package.specs.Targets.{Head, body, boundary, halt_name, head, resolved, then}

@@ -1,17 +1,14 @@
 -- The rule table, and the core of a pattern.
-use Rattle.std.specs.Prelude.{◌≡◌, ◌⊎◌, ℕ, ◌+◌, ◌<◌, ◌≤◌, Bool, true, false, List, [], ◌∷◌, ◌++◌, length, map, Option}
-use Rattle.std.specs.Prelude.{Some, None, slice_get, codes, not}
+use Rattle.std.specs.Prelude.{ℕ, ◌+◌, Bool, true, false, List, [], ◌∷◌, ◌++◌, Option, None, codes, not}
 use Rattle.rpl_core.specs.Core.{Core, Set, Choice, Many, Not, And, Behind, Capture, Start, End, Halt}
 use Rattle.rpl_core.specs.Core.{NoMore, Then}
-use Rattle.rpl_core.specs.Order.{AreTogether, block_at}
-use Rattle.rpl_core.specs.Programs.{calls}
 use Rattle.rpl_syntax.specs.Expression.{Expr}
 use Rattle.rpl_syntax.specs.Expression as X
 use Rattle.rpl_syntax.specs.declared.name.QName.{QName}
 use Rattle.rpl_macro.specs.declared.casing.Casing.TheVariants.{Plain}
-use Rattle.rpl_forms.specs.Forms.{pair, halt_rule}
+use Rattle.rpl_forms.specs.Forms.{pair}
 use Rattle.rpl_forms.specs.Inlining.{Inners, inner}
-use Rattle.rpl_forms.specs.Rows.{Row, inners_from}
+use Rattle.rpl_forms.specs.Table.{Row, inners_from}
 use Rattle.rpl_expand.specs.Expansion.{Scope, core}
 
 -- a statement that makes a rule: its full name, its block, whether it makes a tree, and what holds where it stands
@@ -81,32 +78,3 @@ has_root captures _ = false
 -- the core of a pattern, under its root capture unless it is the name of a rule that makes a tree
 abbrev pub goal : (captures : QName → Bool) → Scope → Expr → Core
 goal captures s e = captured (not (has_root captures e)) (codes "*") (core Plain s e)
-
--- what a statement with the number n in the table is bound to: each name that is asked for there stands for an earlier
--- rule, or for one of its block, and the boundary in force is an earlier rule
-pub record IsBound (blocks : List (Option ℕ)) (n : ℕ) (s : Statement) : Type 0 where
-  pub names : (q : QName) → (s.rule q < n) ⊎ AreTogether blocks n (s.rule q)
-  pub boundary : s.boundary < n
-
--- the block of each rule of a table
-abbrev pub table_blocks : List Statement → List (Option ℕ)
-table_blocks ss = None ∷ None ∷ map (λ s. s.block) ss
-
--- all of some statements are bound so, and the rules of a block stand side by side
-pub record AreBound (ss : List Statement) : Type 0 where
-  pub bound : (k : ℕ) (s : Statement) → slice_get ss k ≡ Some s → IsBound (table_blocks ss) (2 + k) s
-  pub side_by_side :
-      (r s q b : ℕ) → r ≤ s → s ≤ q → block_at (slice_get (table_blocks ss) r) ≡ Some b
-      → block_at (slice_get (table_blocks ss) q) ≡ Some b → block_at (slice_get (table_blocks ss) s) ≡ Some b
-
--- what the names of a scope stand for, its boundary and `halt` are rules of a table, and so is all that its rules call
-pub record IsOver (R : List Core) (s : Scope) : Type 0 where
-  pub names : (q : QName) → s.rule q < length R
-  pub boundary : s.boundary < length R
-  pub halt : halt_rule < length R
-  pub rules : (r t : ℕ) (p : Core) → slice_get R r ≡ Some p → calls p t ≡ true → t < length R
-
--- each name that is said to make a tree is bound to a rule whose body is one
-abbrev pub MakeTrees : List Core → (QName → Bool) → Scope → Type 0
-MakeTrees R captures s =
-    (q : QName) → captures q ≡ true → (label : List ℕ) × (p : Core) × (slice_get R (s.rule q) ≡ Some (Capture label p))

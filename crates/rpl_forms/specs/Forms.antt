@@ -5,7 +5,7 @@ use Rattle.regex_class.specs.Ranges.{Range}
 use Rattle.rpl_classes.specs.Algebra.{others}
 use Rattle.rpl_core.specs.Core.{Core, Set, Seq, Choice, Many, Not, Behind, Call, Capture, Note, Cores, NoMore, Then}
 use Rattle.rpl_core.specs.Lengths.{has_call, has_repetition, greatest, least}
-use Rattle.rpl_macro.specs.Casings.{set_in, single, under_ci, under_uci}
+use Rattle.rpl_macro.specs.Sets.{set_in, single, under_ci, under_uci}
 use Rattle.rpl_macro.specs.declared.casing.Casing.{Casing}
 use Rattle.rpl_macro.specs.declared.kind.Macro.{Macro}
 use Rattle.rpl_macro.specs.declared.kind.Macro.TheVariants.{Find, FindAll, KeepTo, Ci, Uci, Message, Error}
@@ -132,11 +132,6 @@ macro_core (Some Error) t p = pair (Note t) (Call halt_rule)
 
 -- the casing under a macro
 abbrev pub casing_under : Option Macro → Casing → Casing
-casing_under None c = c
-casing_under (Some Find) c = c
-casing_under (Some FindAll) c = c
-casing_under (Some KeepTo) c = c
 casing_under (Some Ci) c = under_ci c
 casing_under (Some Uci) c = under_uci c
-casing_under (Some Message) c = c
-casing_under (Some Error) c = c
+casing_under _ c = c

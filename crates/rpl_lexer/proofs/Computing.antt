@@ -5,7 +5,8 @@ use Rattle.std.proofs.lemmas.Bool.{cases_Bool}
 use Rattle.std.proofs.lemmas.Bool.Decides.{nat_tests}
 use Rattle.rpl_lexer.specs.declared.fault.LexKind.TheVariants.{TooManyTokens}
 use Rattle.rpl_lexer.specs.Cut.{start, End, Done, Fails, Chain, IsFault, IsCut, FailsAt}
-use Rattle.rpl_lexer.specs.Cutting.{put_first, cut_by, cut_from, cut_of, CutComputes, FaultComputes, CutFound, FaultFound, CutOrFault}
+use Rattle.rpl_lexer.specs.Cutting.{put_first, cut_by, cut_from, cut_of}
+use Rattle.rpl_lexer.specs.Laws.{CutComputes, FaultComputes, CutFound, FaultFound, CutOrFault}
 use Rattle.rpl_lexer.specs.Fronts.{stands}
 use Rattle.rpl_lexer.specs.Gaps.{goes_on, gap_by, gap}
 use Rattle.rpl_lexer.specs.declared.fault.LexFault.{LexFault}

@@ -1,8 +1,7 @@
 -- The cut of a text as a function, for definitions that go on from the tokens of a text. The law `cut_computes` says
 -- that it gives just the tokens of `IsCut`, and else just the first fault.
-use Rattle.std.specs.Prelude.{◌≡◌, ◌⊎◌, ℕ, zero, suc, ◌+◌, nat_eq, if◌then◌else◌, List, [], ◌∷◌, length, drop, Result}
-use Rattle.std.specs.Prelude.{Ok, Err}
-use Rattle.rpl_lexer.specs.Cut.{start, IsCut, FailsAt}
+use Rattle.std.specs.Prelude.{ℕ, zero, suc, ◌+◌, nat_eq, if◌then◌else◌, List, [], ◌∷◌, length, drop, Result, Ok, Err}
+use Rattle.rpl_lexer.specs.Cut.{start}
 use Rattle.rpl_lexer.specs.Fronts.{stands}
 use Rattle.rpl_lexer.specs.declared.fault.LexFault.{LexFault}
 use Rattle.rpl_lexer.specs.declared.fault.LexKind.TheVariants.{TooManyTokens}
@@ -31,20 +30,3 @@ cut_from (suc d) s p n =
 -- the tokens of a text, or its first fault
 abbrev pub cut_of : List ℕ → Result (List Token) LexFault
 cut_of s = cut_from (suc (length s)) s 0 0
-
-abbrev pub CutComputes : Type 0
-CutComputes = (s : List ℕ) (ts : List Token) → IsCut s ts → cut_of s ≡ Ok ts
-
-abbrev pub FaultComputes : Type 0
-FaultComputes = (s : List ℕ) (f : LexFault) → FailsAt s f.at f.kind → cut_of s ≡ Err f
-
--- what it gives holds of the text, so that each text has a cut or a first fault
-abbrev pub CutFound : Type 0
-CutFound = (s : List ℕ) (ts : List Token) → cut_of s ≡ Ok ts → IsCut s ts
-
-abbrev pub FaultFound : Type 0
-FaultFound = (s : List ℕ) (f : LexFault) → cut_of s ≡ Err f → FailsAt s f.at f.kind
-
--- each text has a cut, or a first fault
-abbrev pub CutOrFault : Type 0
-CutOrFault = (s : List ℕ) → ((ts : List Token) × IsCut s ts) ⊎ ((f : LexFault) × FailsAt s f.at f.kind)

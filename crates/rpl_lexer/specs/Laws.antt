@@ -1,6 +1,6 @@
 -- What holds of tokens and cuts, whatever the text.
-use Rattle.std.specs.Prelude.{◌≡◌, ◌≢◌, ℕ, ◌+◌, List, ◌∷◌, ◌++◌, Some, length, slice_get, slice_index, IsUtf8}
-use Rattle.std.specs.Prelude.{◌↔◌, IsCharBoundary}
+use Rattle.std.specs.Prelude.{◌≡◌, ◌≢◌, ℕ, ◌+◌, List, ◌∷◌, ◌++◌, Some, length, slice_get, slice_index, IsUtf8, ◌↔◌}
+use Rattle.std.specs.Prelude.{IsCharBoundary, ◌⊎◌, Ok, Err}
 use Rattle.rpl_lexer.specs.declared.token.Token.{Token}
 use Rattle.rpl_lexer.specs.declared.token.TokenKind.{TokenKind}
 use Rattle.rpl_lexer.specs.declared.token.TokenKind.TheVariants as K
@@ -10,12 +10,14 @@ use Rattle.rpl_lexer.specs.declared.front.Stand.TheVariants.{Found, Fault}
 use Rattle.rpl_lexer.specs.Keywords.{keyword_named}
 use Rattle.rpl_lexer.specs.Signs.{punct}
 use Rattle.rpl_lexer.specs.Fronts.{stands}
-use Rattle.rpl_lexer.specs.Cut.{End, Chain, IsCut, IsToken}
+use Rattle.rpl_lexer.specs.Cut.{End, Chain, IsCut, IsToken, FailsAt}
 use Rattle.rpl_lexer.specs.Forms.{Fits, Form, Longest}
 use Rattle.rpl_lexer.specs.Payloads.{span, bounds_of, keyword_of, punct_of}
 use Rattle.rpl_lexer.specs.Written.{Writes, ReadsBack, InBracket, WritesBounds, BoundsBack, IsText, IsBracket}
 use Rattle.rpl_lexer.specs.Written.{IsBounds, InText, SaysBounds, WideBounds, SaysBetween}
 use Rattle.rpl_lexer.specs.declared.bounds.Bounds.{Bounds}
+use Rattle.rpl_lexer.specs.declared.fault.LexFault.{LexFault}
+use Rattle.rpl_lexer.specs.Cutting.{cut_of}
 
 -- a text has one cut: its tokens, or those before its first fault and that fault
 abbrev pub OneCut : Type 0
@@ -102,3 +104,20 @@ BracketForm = (w : List ℕ) → Form K.Bracket w ↔ IsBracket w
 
 abbrev pub BoundsForm : Type 0
 BoundsForm = (w : List ℕ) → Form K.Bounds w ↔ IsBounds w
+
+abbrev pub CutComputes : Type 0
+CutComputes = (s : List ℕ) (ts : List Token) → IsCut s ts → cut_of s ≡ Ok ts
+
+abbrev pub FaultComputes : Type 0
+FaultComputes = (s : List ℕ) (f : LexFault) → FailsAt s f.at f.kind → cut_of s ≡ Err f
+
+-- what it gives holds of the text, so that each text has a cut or a first fault
+abbrev pub CutFound : Type 0
+CutFound = (s : List ℕ) (ts : List Token) → cut_of s ≡ Ok ts → IsCut s ts
+
+abbrev pub FaultFound : Type 0
+FaultFound = (s : List ℕ) (f : LexFault) → cut_of s ≡ Err f → FailsAt s f.at f.kind
+
+-- each text has a cut, or a first fault
+abbrev pub CutOrFault : Type 0
+CutOrFault = (s : List ℕ) → ((ts : List Token) × IsCut s ts) ⊎ ((f : LexFault) × FailsAt s f.at f.kind)

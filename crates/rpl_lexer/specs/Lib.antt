@@ -7,6 +7,7 @@ pub mod Nesting
 pub mod Braces
 pub mod Fronts
 pub mod Cut
+pub mod Said
 pub mod Payloads
 pub mod Forms
 pub mod Written

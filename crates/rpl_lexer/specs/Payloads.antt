@@ -3,8 +3,6 @@ use Rattle.std.specs.Prelude.{ℕ, zero, suc, ◌+◌, nat_eq, List, [], ◌∷�
 use Rattle.std.specs.Prelude.{drop, slice_range, slice_index, chars}
 use Rattle.rpl_text.specs.Escapes.{escape}
 use Rattle.rpl_lexer.specs.declared.token.Token.{Token}
-use Rattle.rpl_lexer.specs.declared.token.TokenKind.{TokenKind}
-use Rattle.rpl_lexer.specs.declared.token.TokenKind.TheVariants as K
 use Rattle.rpl_lexer.specs.declared.keyword.Keyword.{Keyword as Word}
 use Rattle.rpl_lexer.specs.declared.keyword.Keyword.TheVariants as W
 use Rattle.rpl_lexer.specs.declared.punct.Punct.{Punct}
@@ -64,26 +62,3 @@ number_of s t = value 0 (span s t)
 
 abbrev pub bounds_of : List ℕ → Token → Numbers
 bounds_of s t = bounds_in (inner s t)
-
-pub data Payload : Type 0 where
-  Name : (name : List ℕ) → Payload
-  Qualified : (prefix name : List ℕ) → Payload
-  Keyword : (word : Word) → Payload
-  Text : (text : List ℕ) → Payload
-  Bracket : (text : List ℕ) → Payload
-  Bounds : (bounds : Numbers) → Payload
-  Number : (number : ℕ) → Payload
-  Sign : (sign : Punct) → Payload
-
-abbrev pub payload_by : TokenKind → List ℕ → Token → Payload
-payload_by K.Name s t = Name (chars (span s t))
-payload_by K.Qualified s t = Qualified (chars (prefix_of s t)) (chars (name_of s t))
-payload_by K.Keyword s t = Keyword (keyword_of s t)
-payload_by K.Text s t = Text (text_of s t)
-payload_by K.Bracket s t = Bracket (chars (span s t))
-payload_by K.Bounds s t = Bounds (bounds_of s t)
-payload_by K.Number s t = Number (number_of s t)
-payload_by K.Sign s t = Sign (punct_of s t)
-
-abbrev pub payload : List ℕ → Token → Payload
-payload s t = payload_by t.kind s t

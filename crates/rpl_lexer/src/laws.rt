@@ -1,9 +1,9 @@
 // What holds of the definitions alone.
-ghost use Rattle.rpl_lexer.specs.Cutting.{CutOrFault, CutComputes, FaultComputes, CutFound, FaultFound};
-ghost use Rattle.rpl_lexer.specs.Laws.{OneCut, TokensStand, BetweenCharacters, LongestForm, NoForm};
-ghost use Rattle.rpl_lexer.specs.Laws.{KeywordsTold, SignsTold, WrittenReadsBack, BracketStands, BoundsReadBack};
-ghost use Rattle.rpl_lexer.specs.Laws.{BoundsAreWritten, BracketsAreWritten, TextsAreWritten, BoundsSay};
-ghost use Rattle.rpl_lexer.specs.Laws.{TextStands, BoundsStand, WideBoundsFail, TextForm, BracketForm, BoundsForm};
+ghost use Rattle.rpl_lexer.specs.Laws.{CutOrFault, CutComputes, FaultComputes, CutFound, FaultFound, OneCut};
+ghost use Rattle.rpl_lexer.specs.Laws.{TokensStand, BetweenCharacters, LongestForm, NoForm, KeywordsTold, SignsTold};
+ghost use Rattle.rpl_lexer.specs.Laws.{WrittenReadsBack, BracketStands, BoundsReadBack, BoundsAreWritten};
+ghost use Rattle.rpl_lexer.specs.Laws.{BracketsAreWritten, TextsAreWritten, BoundsSay, TextStands, BoundsStand};
+ghost use Rattle.rpl_lexer.specs.Laws.{WideBoundsFail, TextForm, BracketForm, BoundsForm};
 
 /// Each text has one cut: its tokens, or those before its first fault, and that fault. One of the two there always is.
 pub fn one_cut()

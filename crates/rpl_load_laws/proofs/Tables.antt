@@ -4,7 +4,8 @@ use Rattle.std.proofs.Common.{◌-◌, Option, Some, None, refl, sym, ap, ap₂,
 use Rattle.std.specs.Prelude.{Result, Ok, Err, slice_get, option_map}
 use Rattle.std.proofs.lemmas.Option.{slice_get_within, slice_get-map}
 use Rattle.rpl_core.specs.Order.{AreTogether, block_at}
-use Rattle.rpl_expand.specs.Table.{Statement, IsBound, AreBound, table_blocks}
+use Rattle.rpl_expand.specs.Table.{Statement}
+use Rattle.rpl_expand.specs.Bound.{IsBound, AreBound, table_blocks}
 use Rattle.rpl_syntax.specs.declared.name.QName.{QName}
 use Rattle.rpl_scope.specs.Packages.{Rule, nth, bound, first_rule}
 use Rattle.rpl_package.proofs.Numbering.{nth_within}

@@ -9,7 +9,8 @@ use Rattle.std.proofs.lemmas.Str.{chars-IsAscii}
 use Rattle.rpl_lexer.specs.Bytes.{is_letter, is_word, begins, run}
 use Rattle.rpl_lexer.specs.Forms.{Form, IsName, IsPair, each, is_name}
 use Rattle.rpl_lexer.specs.Fronts.{first_name}
-use Rattle.rpl_lexer.specs.Payloads.{payload_by, span}
+use Rattle.rpl_lexer.specs.Payloads.{span}
+use Rattle.rpl_lexer.specs.Said.{payload_by}
 use Rattle.rpl_lexer.specs.declared.token.Token.{Token as Lexeme}
 use Rattle.rpl_lexer.specs.declared.token.TokenKind.{TokenKind}
 use Rattle.rpl_lexer.specs.declared.token.TokenKind.TheVariants as K

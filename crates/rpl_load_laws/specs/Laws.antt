@@ -10,7 +10,8 @@ use Rattle.rpl_forms.specs.Inlining.{Inners}
 use Rattle.rpl_forms.specs.Rows.{rows_of, inners_of}
 use Rattle.rpl_expand.specs.Expansion.{core}
 use Rattle.rpl_expand.specs.Sets.{captures_of, scope_of, statement_at, statements, table_of}
-use Rattle.rpl_expand.specs.Table.{AreBound, IsOver, MakeTrees, Statement}
+use Rattle.rpl_expand.specs.Table.{Statement}
+use Rattle.rpl_expand.specs.Bound.{AreBound, IsOver, MakeTrees}
 use Rattle.rpl_macro.specs.Kinds.{kind_of}
 use Rattle.rpl_macro.specs.Macros.{applied_if}
 use Rattle.rpl_macro.specs.declared.casing.Casing.{Casing}

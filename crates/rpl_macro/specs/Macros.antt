@@ -1,15 +1,14 @@
 -- What each macro makes of its argument, and which uses are right.
-use Rattle.std.specs.Prelude.{ℕ, Bool, true, false, ◌&&◌, not, List, [], Option, Some, None, if◌then◌else◌, codes}
-use Rattle.rpl_syntax.specs.Expression.{Expr, Text, Any, Name, Raw, Prefix, Repeat, Marked, Note, Cons, one}
+use Rattle.std.specs.Prelude.{ℕ, List, [], Option, Some, None, codes}
+use Rattle.rpl_syntax.specs.Expression.{Expr, Any, Name, Raw, Prefix, Repeat, Marked, Note, Cons, one}
 use Rattle.rpl_syntax.specs.declared.expr.Mark.TheVariants.{Hit, Skip}
 use Rattle.rpl_syntax.specs.declared.expr.Sign.TheVariants.{Not}
 use Rattle.rpl_syntax.specs.declared.name.QName.{QName}
 use Rattle.rpl_macro.specs.Casings.{recased}
-use Rattle.rpl_macro.specs.Kinds.{Macro, takes_text}
+use Rattle.rpl_macro.specs.Kinds.{Macro}
 use Rattle.rpl_macro.specs.declared.casing.Casing.TheVariants.{Ascii, Folded}
-use Rattle.rpl_macro.specs.declared.fault.MacroFault.{MacroFault}
-use Rattle.rpl_macro.specs.declared.fault.MacroFault.TheVariants.{UnknownMacro, BadArguments}
 use Rattle.rpl_macro.specs.declared.kind.Macro.TheVariants.{Find, FindAll, KeepTo, Ci, Uci, Message, Error}
+pub use Rattle.rpl_macro.specs.Uses.{text_of, is_text, use_fault}
 
 -- any characters where p doesn't match
 abbrev pub passed : Expr → Expr
@@ -22,11 +21,6 @@ found p = Raw (Cons (passed p) (one (Marked Hit p)))
 -- the same, with what stands before it
 abbrev pub kept : Expr → Expr
 kept p = Raw (Cons (Marked Skip (passed p)) (one (Marked Hit p)))
-
--- the characters of a text
-abbrev pub text_of : Expr → List ℕ
-text_of (Text t) = t
-text_of _ = []
 
 -- `halt` with an empty prefix, which no text spells: the built-in rule, whatever is bound
 abbrev pub halt : QName
@@ -50,12 +44,3 @@ applied Error p = failed (text_of p)
 abbrev pub applied_if : Option Macro → Expr → Expr
 applied_if None p = p
 applied_if (Some k) p = applied k p
-
-abbrev pub is_text : Expr → Bool
-is_text (Text t) = true
-is_text _ = false
-
--- what is wrong with a use, if anything is
-abbrev pub use_fault : Option Macro → Expr → Option MacroFault
-use_fault None p = Some UnknownMacro
-use_fault (Some k) p = if takes_text k && not (is_text p) then Some BadArguments else None

@@ -8,7 +8,7 @@ use Rattle.rpl_parser.specs.Patterns.{IsPattern, IsPatternFault}
 use Rattle.rpl_parser.specs.declared.fault.ParseFault.{ParseFault}
 use Rattle.rpl_syntax.specs.Expression.{Expr, Text, Macro}
 use Rattle.rpl_syntax.specs.declared.name.QName.{QName}
-use Rattle.rpl_scope.specs.Faults.{Or, fault}
+use Rattle.rpl_scope.specs.Results.{Or, fault}
 use Rattle.rpl_scope.specs.declared.fault.LoadKind.TheVariants.{FileTooLong, Lex, Parse}
 use Rattle.rpl_package.specs.Texts.{max_text_bytes}
 

@@ -1,4 +1,5 @@
 pub mod Answers
+pub mod Steps
 pub mod Asking
 pub mod Built
 pub mod Goals
@@ -12,6 +13,7 @@ pub mod Reading
 pub mod Roots
 pub mod Sets
 pub mod Stocks
+pub mod Firsts
 pub mod Tables
 pub mod Targets
 pub mod Texts

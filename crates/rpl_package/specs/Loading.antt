@@ -3,11 +3,11 @@ use Rattle.std.specs.Prelude.{ℕ, zero, suc, ◌+◌, Bool, false, ◌||◌, na
 use Rattle.std.specs.Prelude.{length, Option, Some, None, Ok, codes, encode_utf8_all, is_some}
 use Rattle.std.specs.Str.{bytes_eq}
 use Rattle.rosie_io.specs.Opening.{file_of}
-use Rattle.rpl_syntax.specs.Modules.{ParsedModule}
+use Rattle.rpl_syntax.specs.Parsed.{ParsedModule}
 use Rattle.rpl_syntax.specs.declared.module.Import.{Import}
 use Rattle.rpl_syntax.specs.declared.name.QName.{QName}
-use Rattle.rpl_scope.specs.Faults.{Or, fault, ◌>>=◌}
-use Rattle.rpl_package.specs.Asking.{Outcome, at_once, and_then, each_in_turn}
+use Rattle.rpl_scope.specs.Results.{Or, fault, ◌>>=◌}
+use Rattle.rpl_package.specs.Steps.{Outcome, at_once, and_then, each_in_turn}
 use Rattle.rpl_scope.specs.Imports.{last_part, take_in}
 use Rattle.rpl_scope.specs.Packages.{Module, first_of, added}
 use Rattle.rpl_scope.specs.Statements.{statements}

@@ -5,12 +5,12 @@ use Rattle.rpl_syntax.specs.declared.module.Import.{Import}
 use Rattle.rpl_syntax.specs.declared.module.ImportAs.TheVariants.{Last}
 use Rattle.rpl_syntax.specs.declared.name.QName.{QName}
 use Rattle.rpl_scope.specs.Bodies.{names, uses, names_fault, macros_fault}
-use Rattle.rpl_scope.specs.Faults.{Or, ◌>>=◌, ◌orelse◌, unless}
+use Rattle.rpl_scope.specs.Results.{Or, ◌>>=◌, ◌orelse◌, unless}
 use Rattle.rpl_scope.specs.Imports.{add_prefix}
 use Rattle.rpl_scope.specs.Packages.{Module, first_of, nth}
 use Rattle.rpl_scope.specs.declared.fault.LoadFault.{LoadFault}
 use Rattle.rpl_scope.specs.declared.module.Prefix.{Prefix}
-use Rattle.rpl_package.specs.Asking.{Outcome, at_once, and_then, each_in_turn}
+use Rattle.rpl_package.specs.Steps.{Outcome, at_once, and_then, each_in_turn}
 use Rattle.rpl_package.specs.Loading.{World, Stock, load_import, walk}
 use Rattle.rpl_package.specs.Goals.{pattern_file}
 use Rattle.rpl_package.specs.Roots.{Packages}

@@ -4,13 +4,13 @@ use Rattle.std.specs.Prelude.{codes, encode_utf8_all, is_some}
 use Rattle.std.specs.List.{Contains}
 use Rattle.std.specs.Fmt.{decimal}
 use Rattle.rosie_io.specs.Opening.{file_of}
-use Rattle.rpl_syntax.specs.Modules.{ParsedModule}
+use Rattle.rpl_syntax.specs.Parsed.{ParsedModule}
 use Rattle.rpl_syntax.specs.declared.name.QName.{QName}
-use Rattle.rpl_scope.specs.Faults.{fault}
+use Rattle.rpl_scope.specs.Results.{fault}
 use Rattle.rpl_scope.specs.Imports.{with_prefix}
 use Rattle.rpl_scope.specs.Packages.{Module, first_of}
 use Rattle.rpl_scope.specs.declared.fault.LoadKind.TheVariants.{TooManyPackages, Duplicate, RootMissing}
-use Rattle.rpl_package.specs.Asking.{Outcome, at_once, and_then, each_in_turn}
+use Rattle.rpl_package.specs.Steps.{Outcome, at_once, and_then, each_in_turn}
 use Rattle.rpl_package.specs.Loading.{World, Stock, State, checks, own_text, walk, finished, empty_module}
 use Rattle.rpl_package.specs.declared.rooted.Root.{Root}
 use Rattle.rpl_package.specs.declared.rooted.Root.TheVariants.{File, Given}

@@ -1,7 +1,8 @@
 -- How contracts see the modules that are loaded.
 use Rattle.std.specs.Prelude.{◌≡◌, ◌≤◌, ◌+◌, List, length}
 use Rattle.rpl_package.specs.Loading as L
-use Rattle.rpl_package.specs.Tables.{rows, firsts}
+use Rattle.rpl_package.specs.Tables.{rows}
+use Rattle.rpl_package.specs.Firsts.{firsts}
 use Rattle.rpl_package.specs.declared.stock.Stock.{Stock}
 use Rattle.rpl_package.specs.declared.table.Table.{Table}
 use Rattle.rpl_scope.specs.Packages as P

@@ -1,6 +1,5 @@
 -- The rule table: the boundary and the built-in `halt`, and then the rules of the modules in order.
-use Rattle.std.specs.Prelude.{ℕ, ◌+◌, ◌-◌, Bool, ◌&&◌, nat_eq, if◌then◌else◌, List, [], ◌∷◌, ◌++◌}
-use Rattle.std.specs.Prelude.{length, Some, None, codes}
+use Rattle.std.specs.Prelude.{ℕ, ◌+◌, ◌-◌, Bool, ◌&&◌, nat_eq, if◌then◌else◌, List, [], ◌∷◌, ◌++◌, Some, None, codes}
 use Rattle.std.specs.Str.{bytes_eq}
 use Rattle.rpl_scope.specs.Packages.{Rule, Module}
 use Rattle.rpl_package.specs.declared.table.Row.{Row}
@@ -60,11 +59,3 @@ rows_from i b (m ∷ ms) = rows_of m.label i 0 b m.rules ++ rows_from (i + 1) (b
 -- the rows of all rules that statements made; the first has the number 2
 abbrev pub rows : List Module → List Row
 rows ms = rows_from 0 0 ms
-
--- the numbers of the first rules of some modules, where the first of these has the number n
-abbrev pub firsts_from : ℕ → List Module → List ℕ
-firsts_from n [] = []
-firsts_from n (m ∷ ms) = n ∷ firsts_from (n + length m.rules) ms
-
-abbrev pub firsts : List Module → List ℕ
-firsts ms = firsts_from 2 ms

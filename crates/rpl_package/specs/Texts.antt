@@ -6,8 +6,8 @@ use Rattle.rpl_lexer.specs.declared.token.Token.{Token}
 use Rattle.rpl_lexer.specs.declared.fault.LexFault.{LexFault}
 use Rattle.rpl_parser.specs.Walks.{module_of}
 use Rattle.rpl_parser.specs.declared.fault.ParseFault.{ParseFault}
-use Rattle.rpl_syntax.specs.Modules.{ParsedModule}
-use Rattle.rpl_scope.specs.Faults.{Or, fault}
+use Rattle.rpl_syntax.specs.Parsed.{ParsedModule}
+use Rattle.rpl_scope.specs.Results.{Or, fault}
 use Rattle.rpl_scope.specs.declared.fault.LoadKind.TheVariants.{FileTooLong, NotText, Lex, Parse}
 
 abbrev pub of_parse : {A : Type 0} → List ℕ → Result A ParseFault → Or A

@@ -10,7 +10,8 @@ use Rattle.rpl_syntax.specs.declared.module.Import.{Import}
 use Rattle.rpl_syntax.specs.declared.token.Token.{Token}
 use Rattle.rpl_syntax.specs.declared.token.Token.TheVariants as T
 use Rattle.rpl_parser.specs.Spelling.{Binds}
-use Rattle.rpl_parser.specs.Lines.{path_of, is_path_end, entry_of, entries_of, comma, all_of, with_others, line_of}
+use Rattle.rpl_parser.specs.Lines.{path_of, entry_of, entries_of, all_of, with_others, line_of}
+use Rattle.rpl_parser.specs.inside.Lines.{is_path_end, comma}
 
 abbrev put : List Import → List Import → Option (List Import)
 put front es = Some (front ++ es)

@@ -10,11 +10,15 @@ use Rattle.rpl_syntax.proofs.Sound.{bind_some, some_is}
 use Rattle.rpl_parser.specs.Levels.{ground_level, too_deep}
 use Rattle.rpl_parser.specs.Lines.{line_of}
 use Rattle.rpl_parser.specs.ModuleFaults.{first_of, others_of, PiecesAre, HasPlace, PieceFault, StatementFault, VersionFault, IsModuleFault}
-use Rattle.rpl_parser.specs.Order.{Placed, placed, outline_lines, outline_said, Outline, is_known, IsKnown, AllLocalOutside, Spelt, Stands, AreLines, ReadsModule, IsModule}
+use Rattle.rpl_parser.specs.Order.{Placed, placed, outline_lines, outline_said, Outline, IsKnown, AllLocalOutside}
+use Rattle.rpl_parser.specs.Order.{Spelt, Stands, AreLines, ReadsModule, IsModule}
+use Rattle.rpl_parser.specs.Statements.{is_known}
 use Rattle.rpl_parser.specs.Spelling.{Line, spell_statement}
 use Rattle.rpl_parser.specs.Tokens.{tokens_of, first_place, first_bad}
 use Rattle.rpl_parser.specs.Pieces.{piece_len, closes_later}
-use Rattle.rpl_parser.specs.Walks.{Walk, begun, place, by_bad, by_place, by_line, by_level, step, by_version, finish, go_on, walk, module_of, Answers}
+use Rattle.rpl_parser.specs.Walks.{Walk, begun, place, by_bad, by_place, by_line, by_level, step, by_version, finish}
+use Rattle.rpl_parser.specs.Walks.{go_on, walk, module_of}
+use Rattle.rpl_parser.specs.Answers.{Answers}
 use Rattle.rpl_parser.specs.declared.fault.ParseFault.{ParseFault}
 use Rattle.rpl_parser.specs.declared.fault.ParseKind.{ParseKind}
 use Rattle.rpl_parser.specs.declared.fault.ParseKind.TheVariants.{NoMemory, TooDeep, Syntax, BadBounds, Class, Version}

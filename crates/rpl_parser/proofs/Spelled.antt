@@ -14,7 +14,9 @@ use Rattle.rpl_syntax.specs.declared.token.Token.TheVariants as T
 use Rattle.rpl_parser.specs.Spelling as S
 use Rattle.rpl_parser.specs.Spelling.{Line, Path, As, Entries, Spells, spell_path, spell_as, spell_entries, spell_if, path_text, path_place, import_as, entry, entries, whole_expr}
 use Rattle.rpl_parser.proofs.Entries.{path_end}
-use Rattle.rpl_parser.specs.Lines.{path_of, is_path_end, as_of, entry_from, entry_of, all_of, with_others, entries_of, binds, alias_of, line_of}
+use Rattle.rpl_parser.specs.Lines.{path_of, as_of, entry_from, entry_of, all_of, with_others, entries_of, binds}
+use Rattle.rpl_parser.specs.Lines.{alias_of, line_of}
+use Rattle.rpl_parser.specs.inside.Lines.{is_path_end}
 
 -- ---- what is read is spelled so
 

@@ -2,15 +2,16 @@
 use Rattle.std.proofs.Common.{◌≡◌, ℕ, ◌≤◌, List, [], ◌∷◌, Option, Some, None, refl, sym, ap, subst, ◌∙◌, arith}
 use Rattle.std.specs.Prelude.{Bool, true, false, not, ◌||◌, nat_lt, Result, Ok, Err, if◌then◌else◌, chars, encode_utf8_all, IsUtf8}
 use Rattle.std.specs.Option.{unwrap_or}
-use Rattle.std.proofs.lemmas.Bool.Decides.{nat_tests}
 use Rattle.std.specs.Option.{option_or}
+use Rattle.std.proofs.lemmas.Bool.Decides.{nat_tests}
 use Rattle.regex_class.specs.Ranges.{Range}
 use Rattle.rpl_classes.specs.Brackets.{bracket_of}
 use Rattle.rpl_classes.specs.declared.fault.SetFault.{SetFault}
 use Rattle.rpl_lexer.specs.Braces.{parts_by, part, number_in, bounds_in}
 use Rattle.rpl_text.specs.Numbers.{value, narrow}
 use Rattle.rpl_lexer.specs.Cut.{Done, IsCut}
-use Rattle.rpl_lexer.specs.Payloads.{span, bounds_of, inner, payload_by}
+use Rattle.rpl_lexer.specs.Payloads.{span, bounds_of, inner}
+use Rattle.rpl_lexer.specs.Said.{payload_by}
 use Rattle.rpl_lexer.specs.declared.token.Token.{Token}
 use Rattle.rpl_lexer.specs.declared.token.TokenKind.{TokenKind}
 use Rattle.rpl_lexer.specs.declared.token.TokenKind.TheVariants as K
@@ -21,7 +22,8 @@ use Rattle.rpl_syntax.specs.Expression.{Expr}
 use Rattle.rpl_syntax.specs.Grammar.{Reads}
 use Rattle.rpl_syntax.specs.Printed.{printed}
 use Rattle.rpl_syntax.specs.Braces.{again, plain}
-use Rattle.rpl_syntax.specs.Texts.{Allowed, least_of, Says, Say, IsReadAs, HasFewTokens}
+use Rattle.rpl_syntax.specs.Texts.{Allowed, Says, Say, IsReadAs, HasFewTokens}
+use Rattle.rpl_syntax.specs.Bounds.{least_of}
 use Rattle.rpl_syntax.proofs.Back.{printed_reads_back}
 use Rattle.rpl_syntax.proofs.Held.{read_held}
 use Rattle.rpl_parser.specs.Levels.{ground_level, too_deep}

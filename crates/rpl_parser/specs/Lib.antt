@@ -1,9 +1,11 @@
 pub mod Levels
 pub mod Tokens
 pub mod Patterns
+pub mod Statements
 pub mod Spelling
 pub mod Lines
 pub mod Pieces
+pub mod Answers
 pub mod Walks
 pub mod Order
 pub mod ModuleFaults

@@ -9,7 +9,7 @@ use Rattle.rpl_syntax.specs.declared.module.ImportAs.{ImportAs}
 use Rattle.rpl_syntax.specs.declared.module.ImportAs.TheVariants as A
 use Rattle.rpl_syntax.specs.declared.token.Token.{Token}
 use Rattle.rpl_syntax.specs.declared.token.Token.TheVariants as T
-use Rattle.rpl_parser.specs.Spelling.{Line, Version, Package, Imports, Binds, Opens, Splits, Closes}
+use Rattle.rpl_parser.specs.Statements.{Line, Version, Package, Imports, Binds, Opens, Splits, Closes}
 
 -- ---- entries of an import
 
@@ -17,11 +17,6 @@ use Rattle.rpl_parser.specs.Spelling.{Line, Version, Package, Imports, Binds, Op
 abbrev pub path_of : List ℕ → List Token → List ℕ × List Token
 path_of path (T.Sign P.Slash ∷ T.Name n at ∷ r) = path_of (path ++ 47 ∷ n) r
 path_of path r = (path, r)
-
--- no name follows
-abbrev pub is_path_end : List Token → Bool
-is_path_end (T.Sign P.Slash ∷ T.Name n at ∷ r) = false
-is_path_end r = true
 
 abbrev pub as_of : List Token → Option (ImportAs × List Token)
 as_of (T.Keyword W.As ∷ T.Name n at ∷ r) = Some (A.Named n, r)
@@ -35,10 +30,6 @@ entry_from at p = as_of p.1 >>= λ a. Some (record { path = p.0; at = at; name =
 abbrev pub entry_of : List Token → Option (Import × List Token)
 entry_of (T.Name n at ∷ r) = entry_from at (path_of n r)
 entry_of r = None
-
-abbrev pub comma : List Token → Bool
-comma (T.Sign P.Comma ∷ r) = true
-comma r = false
 
 -- entries after which nothing stands
 abbrev pub all_of : List Import → List Token → Option (List Import)

@@ -4,7 +4,8 @@ use Rattle.std.specs.Prelude.{◌≡◌, ◌⊎◌, ℕ, true, false, List, [], 
 use Rattle.rpl_lexer.specs.declared.token.Token.{Token as Lexeme}
 use Rattle.rpl_syntax.specs.declared.token.Token.{Token}
 use Rattle.rpl_parser.specs.Levels.{ground_level, too_deep}
-use Rattle.rpl_parser.specs.Order.{Placed, placed, Outline, outline_lines, AllLocalOutside, is_known, Stands, AreLines}
+use Rattle.rpl_parser.specs.Order.{Placed, placed, Outline, outline_lines, AllLocalOutside, Stands, AreLines}
+use Rattle.rpl_parser.specs.Statements.{is_known}
 use Rattle.rpl_parser.specs.Spelling as L
 use Rattle.rpl_parser.specs.Spelling.{Line, Spells}
 use Rattle.rpl_parser.specs.Tokens.{tokens_of, first_place, first_bad}

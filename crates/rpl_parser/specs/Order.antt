@@ -4,10 +4,10 @@
 --   Part   := Binding | "grammar" Binding* "end" | "grammar" Binding* "in" Binding* "end"
 --
 -- No binding of a block is local. In a block those before its `in` are hidden; without an `in` all are visible.
-use Rattle.std.specs.Prelude.{◌≡◌, ℕ, Bool, true, false, ◌&&◌, nat_eq, nat_le, List, [], ◌∷◌, ◌++◌, Option, Some, None}
+use Rattle.std.specs.Prelude.{◌≡◌, ℕ, true, false, List, [], ◌∷◌, ◌++◌, Option, Some, None}
 use Rattle.rpl_lexer.specs.declared.token.Token.{Token as Lexeme}
 use Rattle.rpl_syntax.specs.Grammar.{unprefixed}
-use Rattle.rpl_syntax.specs.Modules.{Rule, Entry, One, Block, ParsedModule}
+use Rattle.rpl_syntax.specs.Parsed.{Rule, Entry, One, Block, ParsedModule}
 use Rattle.rpl_syntax.specs.declared.module.Import.{Import}
 use Rattle.rpl_syntax.specs.declared.name.QName.{QName}
 use Rattle.rpl_parser.specs.Levels.{ground_level, too_deep}
@@ -15,6 +15,7 @@ use Rattle.rpl_parser.specs.Spelling as L
 use Rattle.rpl_parser.specs.Spelling.{Line, Spells}
 use Rattle.rpl_parser.specs.Tokens.{tokens_of, first_place, first_bad}
 use Rattle.rpl_parser.specs.declared.walk.Numbered.{Numbered}
+use Rattle.rpl_parser.specs.Statements.{is_known}
 
 -- a statement, and the place of its first token
 pub record Placed : Type 0 where
@@ -116,10 +117,6 @@ LocalOutside (Halves o hs i vs c) = NoneLocal hs × NoneLocal vs
 abbrev pub AllLocalOutside : List Part → Type 0
 AllLocalOutside [] = Unit {0}
 AllLocalOutside (p ∷ ps) = LocalOutside p × AllLocalOutside ps
-
--- 1.0 to 1.4
-abbrev pub is_known : Numbered → Bool
-is_known v = nat_eq v.major 1 && nat_le v.minor 4
 
 abbrev pub IsKnown : Option Numbered → Type 0
 IsKnown None = Unit {0}

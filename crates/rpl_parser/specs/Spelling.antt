@@ -16,16 +16,7 @@ use Rattle.rpl_syntax.specs.declared.module.ImportAs.{ImportAs}
 use Rattle.rpl_syntax.specs.declared.module.ImportAs.TheVariants as A
 use Rattle.rpl_syntax.specs.declared.token.Token.{Token}
 use Rattle.rpl_syntax.specs.declared.token.Token.TheVariants as T
-
--- what a statement says
-pub data Line : Type 0 where
-  Version : (major minor : ℕ) → Line
-  Package : (name : List ℕ) → Line
-  Imports : (entries : List Import) → Line
-  Binds : (local alias : Bool) (name : List ℕ) (body : Expr) → Line
-  Opens : Line
-  Splits : Line
-  Closes : Line
+pub use Rattle.rpl_parser.specs.Statements.{Line, Version, Package, Imports, Binds, Opens, Splits, Closes}
 
 -- ---- the trees
 

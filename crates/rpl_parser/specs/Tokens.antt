@@ -14,7 +14,7 @@ use Rattle.rpl_lexer.specs.declared.bounds.Bounds.{Bounds}
 use Rattle.rpl_lexer.specs.declared.token.Token.{Token}
 use Rattle.rpl_lexer.specs.declared.token.TokenKind.{TokenKind}
 use Rattle.rpl_lexer.specs.declared.token.TokenKind.TheVariants as K
-use Rattle.rpl_syntax.specs.Texts.{least_of, most_of}
+use Rattle.rpl_syntax.specs.Bounds.{least_of, most_of}
 use Rattle.rpl_syntax.specs.declared.token.Token.{Token as Seen}
 use Rattle.rpl_syntax.specs.declared.token.Token.TheVariants as T
 use Rattle.rpl_parser.specs.declared.fault.ParseFault.{ParseFault}

@@ -1,24 +1,23 @@
 -- Reading a module statement by statement: which may stand where, and the first fault. The law `one_module` says that
 -- this gives just the modules of `Order`, and the first faults of `ModuleFaults`.
-use Rattle.std.specs.Prelude.{◌≡◌, ◌≢◌, ℕ, zero, suc, Bool, true, false, List, [], ◌∷◌, ◌++◌, length, take, drop}
-use Rattle.std.specs.Prelude.{Option, Some, None, Result, Ok, Err, if◌then◌else◌}
+use Rattle.std.specs.Prelude.{ℕ, zero, suc, Bool, true, false, List, [], ◌∷◌, ◌++◌, length, take, drop, Option, Some}
+use Rattle.std.specs.Prelude.{None, Result, Ok, Err, if◌then◌else◌}
 use Rattle.rpl_lexer.specs.declared.token.Token.{Token as Lexeme}
 use Rattle.rpl_syntax.specs.Grammar.{unprefixed}
-use Rattle.rpl_syntax.specs.Modules.{Rule, Entry, One, Block, ParsedModule}
+use Rattle.rpl_syntax.specs.Parsed.{Rule, Entry, One, Block, ParsedModule}
 use Rattle.rpl_syntax.specs.declared.module.Import.{Import}
 use Rattle.rpl_syntax.specs.declared.name.QName.{QName}
 use Rattle.rpl_parser.specs.Levels.{ground_level, too_deep}
 use Rattle.rpl_parser.specs.Lines.{line_of}
-use Rattle.rpl_parser.specs.Order.{is_known}
+use Rattle.rpl_parser.specs.Statements.{is_known, Line}
 use Rattle.rpl_parser.specs.Pieces.{piece_len, closes_later}
-use Rattle.rpl_parser.specs.Spelling as L
-use Rattle.rpl_parser.specs.Spelling.{Line}
+use Rattle.rpl_parser.specs.Statements as L
 use Rattle.rpl_parser.specs.Tokens.{tokens_of, first_place, first_bad}
 use Rattle.rpl_parser.specs.declared.walk.Numbered.{Numbered}
 use Rattle.rpl_parser.specs.declared.walk.Stage.{Stage}
 use Rattle.rpl_parser.specs.declared.walk.Stage.TheVariants.{Begun, Versioned, Packaged, Ruled, InBlock, BehindIn}
 use Rattle.rpl_parser.specs.declared.fault.ParseFault.{ParseFault}
-use Rattle.rpl_parser.specs.declared.fault.ParseKind.TheVariants.{NoMemory, TooDeep, Syntax, Version}
+use Rattle.rpl_parser.specs.declared.fault.ParseKind.TheVariants.{TooDeep, Syntax, Version}
 
 -- ---- the order of statements
 
@@ -141,8 +140,3 @@ walk (suc n) s w (t ∷ ts) =
 -- the module that a text with these tokens spells, or its first fault
 abbrev pub module_of : List ℕ → List Lexeme → Result ParsedModule ParseFault
 module_of s ts = walk (suc (length ts)) s begun ts
-
--- what was returned, seen by view, is the answer, unless memory ran out
-abbrev pub Answers : {X Y : Type 0} → (X → Y) → Result X ParseFault → Result Y ParseFault → Type 0
-Answers view (Ok x) answer = answer ≡ Ok (view x)
-Answers view (Err f) answer = (f.kind ≢ NoMemory → answer ≡ Err f) × (f.kind ≡ NoMemory → f.at ≡ 0)

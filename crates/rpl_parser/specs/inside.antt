@@ -7,3 +7,4 @@ pub mod Roles
 pub mod Stacks
 pub mod Statements
 pub mod Walked
+pub mod Lines

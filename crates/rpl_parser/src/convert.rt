@@ -4,9 +4,9 @@ ghost use Rattle.rpl_classes.specs.Brackets.{bracket_of};
 ghost use Rattle.rpl_lexer.specs.Cut.{IsToken};
 ghost use Rattle.rpl_lexer.specs.declared.token.TokenKind.TheVariants.{Name as NameKind, Qualified as QualifiedKind};
 ghost use Rattle.rpl_parser.specs.Tokens.{AllStand, capped, capped_most, top_of, bounds_token, bounds_fault};
-ghost use Rattle.rpl_syntax.specs.Texts.{least_of, most_of};
 ghost use Rattle.rpl_parser.specs.Tokens.{class_token, class_fault, place_in, place_behind, token_by, tokens_of};
 ghost use Rattle.rpl_parser.specs.Tokens.{fault_by, first_bad};
+ghost use Rattle.rpl_syntax.specs.Bounds.{least_of, most_of};
 
 use crate::fault::{ParseFault, ParseKind};
 use rpl_classes::{Set, SetFault, read_bracket};

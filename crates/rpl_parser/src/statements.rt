@@ -11,7 +11,8 @@ ghost use Rattle.rpl_parser.specs.inside.Read.{piece_of};
 ghost use Rattle.rpl_parser.specs.inside.Statements.{line_seen};
 ghost use Rattle.rpl_parser.specs.inside.Walked.{walk_of};
 ghost use Rattle.rpl_parser.specs.Walks as W;
-ghost use Rattle.rpl_parser.specs.Walks.{by_place, by_line, step, module_of, Answers};
+ghost use Rattle.rpl_parser.specs.Walks.{by_place, by_line, step, module_of};
+ghost use Rattle.rpl_parser.specs.Answers.{Answers};
 ghost use Rattle.rpl_parser.specs.declared.fault.ParseKind.TheVariants.{NoMemory as OutOfMemory};
 ghost use Rattle.rpl_syntax.specs.Modules.{said};
 

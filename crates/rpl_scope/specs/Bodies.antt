@@ -1,12 +1,12 @@
 -- The names and macros of an expression, from left to right, and their first faults.
 use Rattle.std.specs.Prelude.{ℕ, List, [], ◌∷◌, ◌++◌, Option, Some, None}
 use Rattle.rpl_macro.specs.Kinds.{kind_of}
-use Rattle.rpl_macro.specs.Macros.{use_fault}
+use Rattle.rpl_macro.specs.Uses.{use_fault}
 use Rattle.rpl_macro.specs.declared.fault.MacroFault.{MacroFault}
 use Rattle.rpl_syntax.specs.Expression as M
 use Rattle.rpl_syntax.specs.Expression.{Expr, Exprs, Nil, Cons}
 use Rattle.rpl_syntax.specs.declared.name.QName.{QName}
-use Rattle.rpl_scope.specs.Faults.{fault_at, first_fault}
+use Rattle.rpl_scope.specs.Results.{fault_at, first_fault}
 use Rattle.rpl_scope.specs.Packages.{Module, bound}
 use Rattle.rpl_scope.specs.declared.fault.LoadFault.{LoadFault}
 use Rattle.rpl_scope.specs.declared.fault.LoadKind.TheVariants.{UnknownName, HiddenName, Macro}

@@ -4,7 +4,7 @@ use Rattle.std.specs.Prelude.{Option, Some, None, Ok}
 use Rattle.rpl_syntax.specs.declared.module.Import.{Import}
 use Rattle.rpl_syntax.specs.declared.module.ImportAs.{ImportAs}
 use Rattle.rpl_syntax.specs.declared.module.ImportAs.TheVariants.{Last, Named, Plain}
-use Rattle.rpl_scope.specs.Faults.{Or, fault, in_turn}
+use Rattle.rpl_scope.specs.Results.{Or, fault, in_turn}
 use Rattle.rpl_scope.specs.Packages.{Rule, Module, first_of, nth}
 use Rattle.rpl_scope.specs.declared.fault.LoadKind.TheVariants.{Duplicate}
 use Rattle.rpl_scope.specs.declared.module.Entry.{Entry}

@@ -1,4 +1,5 @@
 pub mod Bodies
+pub mod Results
 pub mod Faults
 pub mod Imports
 pub mod Packages

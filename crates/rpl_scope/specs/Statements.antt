@@ -1,9 +1,9 @@
 -- The statements of one text, in order, and their first fault.
 use Rattle.std.specs.Prelude.{ℕ, Ok, ◌+◌, Bool, true, false, List, [], ◌∷◌, ◌++◌, length, Option, Some, None}
-use Rattle.rpl_syntax.specs.Modules as S
+use Rattle.rpl_syntax.specs.Parsed as S
 use Rattle.rpl_syntax.specs.declared.name.QName.{QName}
 use Rattle.rpl_scope.specs.Bodies.{Use, names, uses, names_fault, macros_fault}
-use Rattle.rpl_scope.specs.Faults.{Or, fault, in_turn, ◌>>=◌, ◌orelse◌, unless}
+use Rattle.rpl_scope.specs.Results.{Or, fault, in_turn, ◌>>=◌, ◌orelse◌, unless}
 use Rattle.rpl_scope.specs.Packages.{Rule, Module, first_of}
 use Rattle.rpl_scope.specs.declared.fault.LoadFault.{LoadFault}
 use Rattle.rpl_scope.specs.declared.fault.LoadKind.TheVariants.{Duplicate}

@@ -15,11 +15,13 @@ use Rattle.rpl_lexer.specs.Braces.{bounds_in}
 use Rattle.rpl_lexer.specs.Gaps.{gap}
 use Rattle.rpl_lexer.specs.Fronts.{first_name}
 use Rattle.rpl_lexer.specs.Cut.{Done, Chain, IsToken, start}
-use Rattle.rpl_lexer.specs.Payloads.{Payload, payload, span, inner, decoded}
-use Rattle.rpl_lexer.specs.Payloads as P
+use Rattle.rpl_lexer.specs.Payloads.{span, inner, decoded}
+use Rattle.rpl_lexer.specs.Said.{Payload, payload}
+use Rattle.rpl_lexer.specs.Said as P
 use Rattle.rpl_syntax.specs.declared.token.Token.{Token}
 use Rattle.rpl_syntax.specs.declared.token.Token.TheVariants as T
-use Rattle.rpl_syntax.specs.Texts.{least_of, most_of, Says, Say}
+use Rattle.rpl_syntax.specs.Texts.{Says, Say}
+use Rattle.rpl_syntax.specs.Bounds.{least_of, most_of}
 use Rattle.rpl_syntax.proofs.Placing.{Alike, All_alike}
 
 -- what a token of these bytes says

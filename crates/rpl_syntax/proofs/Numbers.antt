@@ -15,7 +15,7 @@ use Rattle.rpl_text.specs.Numbers.{value, narrow}
 use Rattle.rpl_lexer.specs.Braces.{bounds_in}
 use Rattle.rpl_lexer.specs.Cut.{IsToken}
 use Rattle.rpl_lexer.specs.Forms.{each}
-use Rattle.rpl_lexer.specs.Payloads as P
+use Rattle.rpl_lexer.specs.Said as P
 use Rattle.rpl_lexer.proofs.Spans.{drop_zero}
 use Rattle.rpl_lexer.specs.Written.{Spells}
 use Rattle.rpl_lexer.proofs.Bounded.{plain_stands, plain_read, comma_stands, both_read, open_read}

@@ -16,8 +16,9 @@ use Rattle.rpl_lexer.specs.Bytes.{is_word, run}
 use Rattle.rpl_lexer.specs.Cut.{Done, Chain, IsToken}
 use Rattle.rpl_lexer.specs.Forms.{Form, IsName, IsPair}
 use Rattle.rpl_lexer.specs.Fronts.{first_name}
-use Rattle.rpl_lexer.specs.Payloads.{Payload, payload, span, inner, unescaped, decoded}
-use Rattle.rpl_lexer.specs.Payloads as P
+use Rattle.rpl_lexer.specs.Payloads.{span, inner, unescaped, decoded}
+use Rattle.rpl_lexer.specs.Said.{Payload, payload}
+use Rattle.rpl_lexer.specs.Said as P
 use Rattle.rpl_lexer.proofs.Cuts.{one_cut}
 use Rattle.rpl_lexer.proofs.Decoding.{decoded-cons, decoded-nil, decoded-skip}
 use Rattle.rpl_lexer.proofs.Edges.{token_cuttable}

@@ -7,6 +7,8 @@ pub mod Braces
 pub mod Readable
 pub mod Printed
 pub mod Writing
+pub mod Bounds
 pub mod Texts
+pub mod Parsed
 pub mod Modules
 pub mod inside

@@ -2,17 +2,15 @@
 -- Which expressions can be written: those that hold nothing but what a text can say. And when what is printed of one is
 -- read as that expression. How deep anything is nested isn't asked.
 use Rattle.std.specs.Prelude.{◌≡◌, ◌≤◌, ℕ, Bool, true, false, List, [], ◌∷◌, length, Option, Some, None, Ok}
-use Rattle.std.specs.Prelude.{if◌then◌else◌, encode_utf8_all}
-use Rattle.std.specs.Option.{unwrap_or}
+use Rattle.std.specs.Prelude.{encode_utf8_all}
 use Rattle.std.specs.Str.{all_scalars}
 use Rattle.regex_class.specs.Ranges.{Range}
 use Rattle.rpl_classes.specs.Sets.{IsNormal}
 use Rattle.rpl_classes.specs.Brackets.{bracket_of}
 use Rattle.rpl_lexer.specs.Cut.{IsCut}
 use Rattle.rpl_lexer.specs.Forms.{IsName}
-use Rattle.rpl_lexer.specs.Payloads.{Payload, payload}
-use Rattle.rpl_lexer.specs.Payloads as P
-use Rattle.rpl_lexer.specs.declared.bounds.Bounds.{Bounds as Numbers}
+use Rattle.rpl_lexer.specs.Said.{Payload, payload}
+use Rattle.rpl_lexer.specs.Said as P
 use Rattle.rpl_lexer.specs.declared.token.Token.{Token as Lexeme}
 use Rattle.rpl_syntax.specs.declared.token.Token.{Token}
 use Rattle.rpl_syntax.specs.declared.token.Token.TheVariants as T
@@ -22,6 +20,7 @@ use Rattle.rpl_syntax.specs.Grammar.{Reads, spell_exp}
 use Rattle.rpl_syntax.specs.Printed.{printed}
 use Rattle.rpl_syntax.specs.Braces.{again, bare, plain}
 use Rattle.rpl_syntax.specs.Trees.{exp_tree}
+use Rattle.rpl_syntax.specs.Bounds.{least_of, most_of}
 
 -- ---- what a token says, where it isn't at fault
 
@@ -29,13 +28,6 @@ use Rattle.rpl_syntax.specs.Trees.{exp_tree}
 abbrev pub Allowed : (least : ℕ) (most : Option ℕ) → Type 0
 Allowed l None = l ≤ 255
 Allowed l (Some m) = (l ≤ m) × (m ≤ 255)
-
--- `{n}` is n and n, `{n,m}` n and m, `{n,}` n and none; a first number that isn't there is 0
-abbrev pub least_of : Numbers → ℕ
-least_of b = unwrap_or b.least 0
-
-abbrev pub most_of : Numbers → Option ℕ
-most_of b = if b.comma then b.most else Some (least_of b)
 
 -- a token that begins at the place says t
 abbrev pub Says : (at : ℕ) → Payload → Token → Type 0

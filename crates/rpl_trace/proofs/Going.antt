@@ -7,7 +7,9 @@ use Rattle.rpl_core.specs.Core.{Core, Cores, NoMore}
 use Rattle.rpl_core.specs.View.{core_of, cores}
 use Rattle.rpl_core.specs.declared.peg.Peg.{Peg}
 use Rattle.rpl_text.specs.Places.{index, IsPlace}
-use Rattle.rpl_trace.specs.Evaluations.{Evaluations, NoneLeft, One, Ending, Fails, EndsAt, HaltsAt, Kind, Choice, Length, kind_of, count}
+use Rattle.rpl_trace.specs.Evaluations.{Evaluations, NoneLeft, One, Ending, Fails, EndsAt, HaltsAt, Kind, Choice}
+use Rattle.rpl_trace.specs.Evaluations.{Length, count}
+use Rattle.rpl_trace.specs.inside.Kinds.{kind_of}
 use Rattle.rpl_trace.specs.inside.Levels.{AreAlike, is_alone}
 use Rattle.rpl_trace.specs.inside.Seen.{kind_seen, end_seen, EndStands}
 use Rattle.rpl_trace.specs.inside.Standing.{Standing, Inside, standing}

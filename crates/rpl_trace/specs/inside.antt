@@ -5,3 +5,4 @@ pub mod Standing
 pub mod Tasks
 pub mod Steps
 pub mod Lines
+pub mod Kinds

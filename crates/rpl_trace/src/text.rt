@@ -5,7 +5,7 @@ ghost use Rattle.rpl_core.specs.Listed.{rules_of};
 ghost use Rattle.rpl_core.specs.Table.{names_of};
 ghost use Rattle.rpl_core.specs.View.{core_of};
 ghost use Rattle.rpl_text.specs.Places.{index, IsPlace};
-ghost use Rattle.rpl_trace.specs.Evaluations as S;
+ghost use Rattle.rpl_trace.specs.inside.Kinds.{kind_of};
 ghost use Rattle.rpl_trace.specs.Printed as P;
 ghost use Rattle.rpl_trace.specs.inside.Seen.{kind_seen, end_seen, EndStands};
 ghost use Rattle.rpl_trace.specs.inside.Lines.{LineStands, LinesStand, row_seen, row_text, rows_text};
@@ -52,7 +52,7 @@ fn push_name(out: &mut String, rules: &Rules, rule: u32) -> Result<(), NoMemory>
 /// Adds what a pattern is.
 fn push_peg(out: &mut String, rules: &Rules, peg: &Peg) -> Result<(), NoMemory>
     ensures { OnOk result (string_bytes out.new
-        ≡ string_bytes out.old ++ P.kind_text (names_of (rules_of rules.now)) (S.kind_of (core_of peg.now))) }
+        ≡ string_bytes out.old ++ P.kind_text (names_of (rules_of rules.now)) (kind_of (core_of peg.now))) }
 {
     match peg {
         Peg::Set(set) => {

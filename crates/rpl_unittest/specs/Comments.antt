@@ -56,15 +56,8 @@ pub data Word : Type 0 where
   Other : Word
 
 abbrev pub of_keyword : Keyword → Word
-of_keyword W.Rpl = Other
-of_keyword W.Package = Other
-of_keyword W.Import = Other
-of_keyword W.As = Other
-of_keyword W.Alias = Other
 of_keyword W.Local = Local
-of_keyword W.Grammar = Other
-of_keyword W.In = Other
-of_keyword W.End = Other
+of_keyword _ = Other
 
 abbrev pub of_sign : Punct → Word
 of_sign P.Comma = Comma

@@ -3,7 +3,7 @@ use Rattle.std.specs.Prelude.{string_bytes}
 use Rattle.std.specs.Option.{option_map}
 use Rattle.rosie_prepare.proofs.Told.{line_due}
 use Rattle.rosie_prepare.specs.Lines.{expand_line}
-use Rattle.rpl_expand.specs.Faults.{fault_named}
+use Rattle.rpl_expand.specs.Answers.{fault_named}
 use Rattle.rpl_package.specs.Sets.{set_seen}
 use Rattle.rosie_prepare.proofs.rules.expand_line.Goals as goal
 

@@ -10,7 +10,8 @@ use Rattle.rpl_package.specs.Sets.{set_seen}
 use Rattle.rpl_package.specs.Tables as P
 use Rattle.rpl_package.specs.Targets.{binds_halt, halt_name}
 use Rattle.rpl_expand.specs.Expansion.{core}
-use Rattle.rpl_expand.specs.Faults.{Answers, fault_named, size_fault, table_fault}
+use Rattle.rpl_expand.specs.Faults.{size_fault, table_fault}
+use Rattle.rpl_expand.specs.Answers.{Answers, fault_named}
 use Rattle.rpl_expand.specs.Sets.{statement_at, statements, table_of}
 use Rattle.rpl_expand.specs.Table.{body_of, built_in, row_of, rows, scope_at}
 use Rattle.rpl_expand.specs.inside.Statements.{statement_found, statement_seen}

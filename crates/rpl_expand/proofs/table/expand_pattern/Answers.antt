@@ -11,7 +11,8 @@ use Rattle.rpl_package.specs.Sets.{set_seen}
 use Rattle.rpl_expand.specs.Expansion.{core}
 use Rattle.rpl_forms.specs.Counting.{KnowsInners, seen}
 use Rattle.rpl_forms.specs.Rows.{inners_of}
-use Rattle.rpl_expand.specs.Faults.{Answers, IsDue, fault_named, size_fault}
+use Rattle.rpl_expand.specs.Faults.{size_fault}
+use Rattle.rpl_expand.specs.Answers.{Answers, IsDue, fault_named}
 use Rattle.rpl_expand.specs.Sets.{captures_of, scope_of}
 use Rattle.rpl_expand.specs.Table.{captured}
 use Rattle.rpl_expand.specs.inside.Scopes.{scope_seen}

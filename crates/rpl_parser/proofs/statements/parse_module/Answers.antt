@@ -1,7 +1,8 @@
 use Rattle.std.proofs.Common.{subst, sym}
 use Rattle.rpl_lexer.proofs.Cuts.{tokens_stand}
 use Rattle.rpl_parser.specs.Tokens.{AllStand}
-use Rattle.rpl_parser.specs.Walks.{module_of, Answers}
+use Rattle.rpl_parser.specs.Walks.{module_of}
+use Rattle.rpl_parser.specs.Answers.{Answers}
 use Rattle.rpl_parser.proofs.Modules.{answers_ok, answers_err}
 use Rattle.rpl_syntax.specs.Modules.{said}
 use Rattle.rpl_parser.proofs.statements.parse_module.Goals as goal

@@ -2,7 +2,8 @@ use Rattle.std.proofs.Common.{sym, subst}
 use Rattle.std.proofs.lemmas.Result.{err_from_is_err_and}
 use Rattle.rpl_parser.specs.Pieces.{closes_later}
 use Rattle.rpl_parser.specs.Tokens.{tokens_of}
-use Rattle.rpl_parser.specs.Walks.{Answers, by_place, place}
+use Rattle.rpl_parser.specs.Walks.{by_place, place}
+use Rattle.rpl_parser.specs.Answers.{Answers}
 use Rattle.rpl_parser.specs.inside.Statements.{line_seen}
 use Rattle.rpl_parser.specs.inside.Walked.{walk_of}
 use Rattle.rpl_parser.proofs.Walking.{step_placed, step_refused}

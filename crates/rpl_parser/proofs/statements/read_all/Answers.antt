@@ -5,7 +5,8 @@ use Rattle.std.proofs.lemmas.Result.{err_from_is_err_and}
 use Rattle.rpl_syntax.specs.Modules.{said}
 use Rattle.rpl_parser.specs.Tokens.{AllStand}
 use Rattle.rpl_parser.specs.inside.Walked.{walk_of}
-use Rattle.rpl_parser.specs.Walks.{walk, module_of, Answers}
+use Rattle.rpl_parser.specs.Walks.{walk, module_of}
+use Rattle.rpl_parser.specs.Answers.{Answers}
 use Rattle.rpl_parser.proofs.Walking.{stands_drop, stands_take, none_left, split_of, left_on, left_stop}
 use Rattle.rpl_parser.proofs.statements.read_all.Goals as goal
 
