@@ -4,7 +4,7 @@ ghost use Rattle.rpl_core.specs.Core as C;
 ghost use Rattle.rpl_core.specs.Core.{Core, Cores};
 ghost use Rattle.rpl_macro.specs.Kinds.{kind_of};
 ghost use Rattle.rpl_macro.specs.declared.casing.Casing.{Casing};
-ghost use Rattle.rpl_forms.specs.Counting.{Adds, Counts, CountsAll, KnowsInners, seen, seen_all};
+ghost use Rattle.rpl_forms.specs.inside.Counting.{Adds, Counts, CountsAll, KnowsInners, seen, seen_all};
 ghost use Rattle.rpl_expand.specs.inside.Items.{alone, between};
 ghost use Rattle.rpl_expand.specs.Expansion.{core, cores, spaced};
 ghost use Rattle.rpl_expand.specs.Expansion as E;

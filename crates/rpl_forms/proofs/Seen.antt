@@ -5,7 +5,7 @@ use Rattle.rpl_core.specs.Core.{Core, Set, Seq, Choice, Many, Not, And, Behind, 
 use Rattle.rpl_core.specs.Lengths.{has_call, has_repetition}
 use Rattle.rpl_macro.specs.declared.casing.Casing.{Casing}
 use Rattle.rpl_macro.specs.Casings.{set_in, single}
-use Rattle.rpl_forms.specs.Counting.{Counts, seen, seen_all}
+use Rattle.rpl_forms.specs.inside.Counting.{Counts, seen, seen_all}
 use Rattle.rpl_forms.specs.Forms.{pair, or_nothing, copies, seq_of, sets, text_core, spaced_by, behind, endless, repeat}
 use Rattle.rpl_forms.specs.Forms.{cooked_turns, cooked_repeat, repeated}
 use Rattle.rpl_forms.specs.Inlining.{Inners, inlined, inlined_all}

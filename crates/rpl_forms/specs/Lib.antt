@@ -1,6 +1,6 @@
 pub mod Sizes
 pub mod Inlining
 pub mod Forms
-pub mod Counting
 pub mod Table
+pub mod inside
 pub mod Rows

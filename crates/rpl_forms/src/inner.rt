@@ -4,8 +4,8 @@ ghost use Rattle.std.specs.Prelude.{◌≡◌, ◌<◌, ◌+◌, IfOk, IfSome, O
 ghost use Rattle.rpl_core.specs.Core as C;
 ghost use Rattle.rpl_core.specs.Listed.{rules_of};
 ghost use Rattle.rpl_core.specs.View.{core_of, cores, listed};
-ghost use Rattle.rpl_forms.specs.Counting.{Adds, Counts, CountsAll, IsFirst, KnowsInners, KnowsNext, known_of, seen};
-ghost use Rattle.rpl_forms.specs.Counting.{seen_all};
+ghost use Rattle.rpl_forms.specs.inside.Counting.{Adds, Counts, CountsAll, IsFirst, KnowsInners, KnowsNext, known_of};
+ghost use Rattle.rpl_forms.specs.inside.Counting.{seen, seen_all};
 ghost use Rattle.rpl_forms.specs.Inlining.{Inners, called, inlined, inlined_all, inner};
 ghost use Rattle.rpl_forms.specs.Rows.{inners_of};
 
