@@ -224,15 +224,18 @@ impl Set {
         listed(alloc, folds_of(alloc, &self.class().ranges)?)
     }
 
-    /// The same set once more. It shares the ranges, so no memory is taken. Out of memory is answered only where there
-    /// would be 2^64 copies at one time, which no memory holds.
-    pub fn copy(&self, _alloc: Global) -> Result<Set, NoMemory>
+    /// The same set once more. It shares the ranges, so no memory is taken; where they have as
+    /// many owners as can be counted, it has ranges of its own.
+    pub fn copy(&self, alloc: Global) -> Result<Set, NoMemory>
         ensures { IfOk result (λ s. s ≡ self.now) }
     {
-        Ok(Set {
-            class: self.class.clone()?,
-            masks: self.masks,
-        })
+        match self.class.clone() {
+            Ok(class) => Ok(Set {
+                class,
+                masks: self.masks,
+            }),
+            Err(_) => sealed(alloc, self.class().clone()?),
+        }
     }
 
     /// Whether the two have the same members.

@@ -2,16 +2,19 @@
 ghost use Rattle.std.specs.Prelude.{◌≡◌, ◌≤◌, ◌++◌, ◌∷◌, [], length, IsTrue, IfOk, OnOk, OnErr, string_bytes};
 ghost use Rattle.rpl_print.specs.Quoted as Q;
 
+use json::Writer;
 use rpl_text::NoMemory;
 use std::alloc::Global;
 
-/// The text as a string of JSON, in memory of its own: what `serde_json` writes for it.
-pub fn quoted(alloc: Global, text: &str) -> Result<String, NoMemory>
+/// The text as a string of JSON, in memory of its own.
+fn quoted(alloc: Global, text: &str) -> Result<String, NoMemory>
     ensures { IfOk result (λ s. string_bytes s ≡ Q.quoted text.now) }
 {
-    match serde_json::to_string(alloc, &text) {
+    let mut writer = Writer::new(Vec::with_capacity(alloc, text.len() + 2)?);
+    writer.string(text)?;
+    match String::from_utf8(writer.into_inner()) {
         Ok(string) => Ok(string),
-        Err(_) => Err(NoMemory),
+        Err(_) => unreachable!(),
     }
 }
 
