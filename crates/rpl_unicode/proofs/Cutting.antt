@@ -1,12 +1,12 @@
 -- Ranges without their surrogates.
-use Rattle.std.proofs.Common.{◌≡◌, ℕ, ◌+◌, ◌<◌, ◌≤◌, List, [], ◌∷◌, ◌++◌, length, take, min, max, refl, sym, ap, ap₂, ◌∙◌, arith, inl, inr}
+use Rattle.std.proofs.Common.{◌≡◌, ℕ, ◌+◌, ◌<◌, ◌≤◌, List, [], length, take, min, max, refl, sym, ap, ap₂, ◌∙◌, arith, inl, inr}
 use Rattle.std.specs.Prelude.{Bool, true, false, ◌||◌, ◌&&◌, Result, Ok, Err, IfOk}
 use Rattle.regex_class.specs.declared.Class.{Class}
 use Rattle.std.proofs.lemmas.Bool.{cases_lt, and_parts, both_ways}
 use Rattle.std.proofs.lemmas.Bool.Decides.{nat_tests}
 use Rattle.std.proofs.Math.Bool.{and-false, and-or_distrib_left}
 use Rattle.regex_class.specs.Ranges.{Range, in_range, in_ranges, range_at, IsCanonical, HasExactly}
-use Rattle.regex_class.proofs.RangesLemmas.{or_assoc, in_range_tells, in_ranges-nil, in_ranges-push, in_ranges-more, in_ranges-above_max}
+use Rattle.regex_class.proofs.RangesLemmas.{or_assoc, or-false, in_range_tells, in_ranges-nil, in_ranges-more, in_ranges-above_max}
 use Rattle.rpl_text.specs.Characters.{is_char}
 use Rattle.rpl_unicode.specs.Ranges.{IsListOf}
 
@@ -20,15 +20,20 @@ parted : (r : Range) (c : ℕ) → c ≤ 0x10_ffff → (in_range (r.0, min r.1 0
 parted r c le = grind (arith, nat_tests, in_range_tells (r.0, min r.1 0xd7ff) c, in_range_tells (max r.0 0xe000, r.1) c, in_range_tells r c)
 
 pub cut_more : (old ps rs : List Range) (i : ℕ) (r : Range) → i < length rs → r ≡ range_at rs i → HasExactly old (λ c. is_char c && in_ranges (take i rs) c)
-    → ps ≡ (old ++ (r.0, min r.1 0xd7ff) ∷ []) ++ (max r.0 0xe000, r.1) ∷ [] → HasExactly ps (λ c. is_char c && in_ranges (take (i + 1) rs) c)
+    → ((c : ℕ) → in_ranges ps c ≡ ((in_ranges old c || in_range (r.0, min r.1 0xd7ff) c) || in_range (max r.0 0xe000, r.1) c))
+    → HasExactly ps (λ c. is_char c && in_ranges (take (i + 1) rs) c)
 cut_more old ps rs i r lt s h e c le =
-    ap (λ l. in_ranges l c) e ∙ in_ranges-push (old ++ (r.0, min r.1 0xd7ff) ∷ []) (max r.0 0xe000, r.1) c
-    ∙ ap (λ b. b || in_range (max r.0 0xe000, r.1) c) (in_ranges-push old (r.0, min r.1 0xd7ff) c)
-    ∙ sym (or_assoc (in_ranges old c) (in_range (r.0, min r.1 0xd7ff) c) (in_range (max r.0 0xe000, r.1) c))
+    e c ∙ sym (or_assoc (in_ranges old c) (in_range (r.0, min r.1 0xd7ff) c) (in_range (max r.0 0xe000, r.1) c))
     ∙ ap₂ ◌||◌ (h c le) (parted r c le)
     ∙ sym (and-or_distrib_left (is_char c) (in_ranges (take i rs) c) (in_range r c))
     ∙ ap (λ (x : Range). is_char c && (in_ranges (take i rs) c || in_range x c)) s
     ∙ ap (λ b. is_char c && b) (sym (in_ranges-more rs i c lt))
+
+-- a range without members adds none
+pub none_added : (old ps : List Range) (low high c : ℕ) → high < low → ps ≡ old → in_ranges ps c ≡ (in_ranges old c || in_range (low, high) c)
+none_added old ps low high c lt e =
+    let none : in_range (low, high) c ≡ false = grind (arith, in_range_tells (low, high) c) in
+    ap (λ l. in_ranges l c) e ∙ sym (or-false (in_ranges old c)) ∙ ap (λ b. in_ranges old c || b) (sym none)
 
 guarded : (x y : Bool) → x ≡ true → (x && y) ≡ y
 guarded true y e = refl

@@ -1,6 +1,6 @@
 // Ranges of characters in their one order.
-ghost use Rattle.std.specs.Prelude.{◌≡◌, ◌&&◌, IfOk};
-ghost use Rattle.regex_class.specs.Ranges.{in_ranges, HasExactly};
+ghost use Rattle.std.specs.Prelude.{◌≡◌, ℕ, ◌&&◌, ◌||◌, IfOk, OnOk};
+ghost use Rattle.regex_class.specs.Ranges.{in_range, in_ranges, HasExactly};
 ghost use Rattle.rpl_text.specs.Characters.{is_char};
 ghost use Rattle.rpl_unicode.specs.Ranges.{IsListOf};
 
@@ -12,14 +12,26 @@ use std::alloc::Global;
 /// Ranges of characters, in numbers of characters with both ends. Contracts see the list of them.
 pub type RangeList = List<ClassRange>;
 
-/// The ranges without their surrogates, each in two parts.
+/// Adds the numbers from one to another, where there are any.
+fn push_range(ranges: &mut Vec<ClassRange>, low: u32, high: u32) -> Result<(), NoMemory>
+    ensures { OnOk result ((c : ℕ) →
+        in_ranges ranges.new.items c ≡ (in_ranges ranges.old.items c || in_range (low, high) c)) }
+{
+    if low <= high {
+        ranges.push((low, high))?;
+    }
+    Ok(())
+}
+
+/// The ranges without their surrogates. A part without members is left out, so ranges that rise
+/// stay in order, and to sort them takes one look at each.
 fn cut(alloc: Global, ranges: &[ClassRange]) -> Result<Vec<ClassRange>, NoMemory>
     ensures { IfOk result (λ v. HasExactly v.items (λ c. is_char c && in_ranges ranges.now c)) }
 {
-    let mut parts = Vec::new(alloc);
+    let mut parts = Vec::with_capacity(alloc, ranges.len())?;
     for range in ranges {
-        parts.push((range.0, range.1.min(0xd7ff)))?;
-        parts.push((range.0.max(0xe000), range.1))?;
+        push_range(&mut parts, range.0, range.1.min(0xd7ff))?;
+        push_range(&mut parts, range.0.max(0xe000), range.1)?;
     }
     Ok(parts)
 }
