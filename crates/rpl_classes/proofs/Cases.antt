@@ -1,15 +1,14 @@
 -- The other case of ASCII letters.
-use Rattle.std.proofs.Common.{◌≡◌, ℕ, ◌+◌, ◌<◌, ◌≤◌, List, ◌++◌, refl, sym, ap, ◌∙◌, arith, inl, inr}
+use Rattle.std.proofs.Common.{◌≡◌, ℕ, ◌+◌, ◌<◌, ◌≤◌, List, refl, sym, ap, ◌∙◌, arith, inl, inr}
 use Rattle.std.specs.Prelude.{Bool, true, false, nat_lt, nat_le, nat_eq, ◌||◌, ◌&&◌}
 use Rattle.std.proofs.lemmas.Bool.Decides.{nat_tests}
 use Rattle.regex_class.specs.Ranges.{Range, in_ranges, IsCanonical, HasExactly}
-use Rattle.std.proofs.lemmas.Bool.{cases_eq, cases_lt, cases_Bool, lt-ltb, le-ltb}
-use Rattle.regex_class.proofs.RangesLemmas.{or-false, in_ranges-append}
-use Rattle.rpl_classes.proofs.Normal.{norm_just, norm_normal}
-use Rattle.rpl_classes.proofs.Operations.{norm_from_class, only_chars}
-use Rattle.rpl_classes.proofs.Named.{singles_members}
+use Rattle.std.proofs.lemmas.Bool.{cases_eq, cases_lt, cases_Bool}
+use Rattle.regex_class.proofs.RangesLemmas.{or-false, same_members-same}
+use Rattle.rpl_classes.proofs.Operations.{only_chars, set_members}
+use Rattle.rpl_classes.proofs.Named.{set_just, set_normal}
 use Rattle.rpl_classes.specs.Sets.{is_char, IsNormal, HasJust}
-use Rattle.rpl_classes.specs.Algebra.{singles, other_case, widened}
+use Rattle.rpl_classes.specs.Algebra.{set_of, other_case, widened}
 
 -- one of the first k letters, in either case
 abbrev pub is_cased : ℕ → ℕ → Bool
@@ -113,13 +112,6 @@ high_itself c h = grind (arith, nat_tests)
 low_char : (c : ℕ) → c < 128 → is_char c ≡ true
 low_char c h = grind (arith, nat_tests)
 
-either : (a : List Range) (c : ℕ) → in_ranges (a ++ singles (λ x. in_ranges a (other_case x)) 128) c ≡ (in_ranges a c || in_ranges a (other_case c))
-either a c = in_ranges-append a _ c ∙ ap (λ b. in_ranges a c || b) (singles_members (λ x. in_ranges a (other_case x)) 128 c) ∙ elim (cases_lt c 128) [
-  | inl lt ↦ ap (λ b. in_ranges a c || (b && in_ranges a (other_case c))) (lt-ltb c 128 lt)
-  | inr ge ↦ ap (λ b. in_ranges a c || (b && in_ranges a (other_case c))) (le-ltb c 128 ge) ∙ or-false (in_ranges a c) ∙ twice (in_ranges a c)
-      ∙ ap (λ k. in_ranges a c || in_ranges a k) (sym (high_itself c ge))
-]
-
 -- the characters of a normal list and their other cases are characters
 either_chars : (a : List Range) (c : ℕ) → IsNormal a → (in_ranges a c || in_ranges a (other_case c)) ≡ (is_char c && (in_ranges a c || in_ranges a (other_case c)))
 either_chars a c n = elim (cases_lt c 128) [
@@ -131,13 +123,14 @@ either_chars a c n = elim (cases_lt c 128) [
 -- a class with both cases of a normal list
 pub widened_from_class : (a u ps : List Range) → IsNormal a → IsCanonical u → ((c : ℕ) → in_ranges ps c ≡ (in_ranges a c || in_ranges a (other_case c))) → HasExactly u (in_ranges ps) → u ≡ widened a
 unfolding widened
-widened_from_class a u ps n k h g = norm_from_class u (a ++ singles (λ x. in_ranges a (other_case x)) 128) k (λ c le. g c le ∙ h c ∙ either_chars a c n
-    ∙ ap (λ b. is_char c && b) (sym (either a c)))
+widened_from_class a u ps n k h g =
+    let p : ℕ → Bool = λ c. in_ranges a c || in_ranges a (other_case c) in
+    same_members-same u (set_of p) k (set_normal p).rises (λ c le. g c le ∙ h c ∙ either_chars a c n ∙ sym (set_members p c))
 
 pub widened_just : (a s : List Range) → s ≡ widened a → HasJust s (λ c. in_ranges a c || in_ranges a (other_case c))
 unfolding widened
-widened_just a s q c e = ap (λ l. in_ranges l c) q ∙ norm_just (a ++ singles (λ x. in_ranges a (other_case x)) 128) c e ∙ either a c
+widened_just a s q c e = ap (λ l. in_ranges l c) q ∙ set_just (λ x. in_ranges a x || in_ranges a (other_case x)) c e
 
 pub widened_normal : (a : List Range) → IsNormal (widened a)
 unfolding widened
-widened_normal a = norm_normal (a ++ singles (λ x. in_ranges a (other_case x)) 128)
+widened_normal a = set_normal (λ x. in_ranges a x || in_ranges a (other_case x))

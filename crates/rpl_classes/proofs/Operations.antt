@@ -1,22 +1,20 @@
 -- The members of what is done with sets, and that a class with these members is it.
-use Rattle.std.proofs.Common.{◌≡◌, ℕ, zero, suc, ◌+◌, ◌≤◌, List, [], ◌∷◌, ◌++◌, min, max, refl, sym, ap, ap₂, ◌∙◌, arith, subst}
+use Rattle.std.proofs.Common.{◌≡◌, ℕ, ◌+◌, ◌≤◌, List, [], ◌∷◌, ◌++◌, refl, sym, ap, ap₂, ◌∙◌, arith, subst}
 use Rattle.std.specs.Prelude.{Result, Ok, Err, IfOk, Bool, true, false, nat_eq, nat_le, ◌||◌, ◌&&◌, not}
 use Rattle.std.proofs.lemmas.Bool.Decides.{nat_tests}
-use Rattle.std.proofs.Math.Bool.{and-false, and-or_distrib_left}
+use Rattle.std.proofs.Math.Bool.{and-or_distrib_left}
 use Rattle.regex_class.specs.Ranges.{Range, in_range, in_ranges, IsCanonical, HasExactly}
 use Rattle.regex_class.proofs.RangesLemmas.{in_ranges-push, in_range_tells, in_ranges-nil, in_ranges-cons, in_ranges-append, or-false, same_members-same}
 use Rattle.rpl_classes.specs.Sets.{is_char, IsNormal, HasJust}
 use Rattle.rpl_classes.specs.Norm.{norm}
-use Rattle.rpl_classes.specs.Algebra.{shares, all_shares, both, outside, others, without}
+use Rattle.rpl_classes.specs.Algebra.{both, others, without, set_of}
+use Rattle.rpl_classes.proofs.Named.{set_just, set_normal}
 use Rattle.rpl_classes.proofs.Normal.{norm-nil, norm_whole, norm_members, norm_normal, norm_just}
 
 tells : (x y : Bool) → (y ≡ true → x ≡ true) → y ≡ (x && y)
 tells x true h = sym (ap (λ b. b && true) (h refl))
 tells true false h = refl
 tells false false h = refl
-
-meet : (r s : Range) (c : ℕ) → in_range (max r.0 s.0, min r.1 s.1) c ≡ (in_range r c && in_range s c)
-meet r s c = grind (arith, in_range_tells (max r.0 s.0, min r.1 s.1) c, in_range_tells r c, in_range_tells s c)
 
 pub char_below : (c : ℕ) → is_char c ≡ true → c ≤ 0x10_ffff
 char_below c h = grind (arith, nat_tests)
@@ -54,81 +52,41 @@ spelled : (a b c : ℕ) → in_range (a, b) c ≡ (nat_le a c && nat_le c b)
 unfolding in_range
 spelled a b c = refl
 
-gather : (x y z : Bool) → ((x && z) || (y && z)) ≡ ((x || y) && z)
-gather true y true = refl
-gather true true false = refl
-gather true false false = refl
-gather false y z = refl
-
-above : (high c : ℕ) → c ≤ 0x10_ffff → in_range (high + 1, 0x10_ffff) c ≡ not (in_range (0, high) c)
-above high c le = grind (arith, in_range_tells (high + 1, 0x10_ffff) c, in_range_tells (0, high) c)
-
-around : (low high c : ℕ) → c ≤ 0x10_ffff → (in_range (0, low) c || in_range (high + 1, 0x10_ffff) c) ≡ not (in_range (suc low, high) c)
-around low high c le = grind (arith, in_range_tells (0, low) c, in_range_tells (high + 1, 0x10_ffff) c, in_range_tells (suc low, high) c)
-
 whole : (c : ℕ) → (is_char c && in_ranges ((0, 0x10_ffff) ∷ []) c) ≡ (is_char c && not false)
 whole c = cut_off (is_char c) (in_ranges ((0, 0x10_ffff) ∷ []) c) (λ e. in_ranges-cons (0, 0x10_ffff) [] c ∙ ap (λ b. b || in_ranges [] c) (within c (char_below c e)))
 
-narrow : (x y r s : Bool) → (x ≡ true → y ≡ not r) → (x && (y && (x && not s))) ≡ (x && not (r || s))
-narrow true y true s h = ap (λ b. b && not s) (h refl)
-narrow true y false s h = ap (λ b. b && not s) (h refl)
-narrow false y r s h = refl
+-- ---- the members of the set of a test
 
-again : (x y z : Bool) → (x && (y && (x && z))) ≡ (x && (y && z))
-again true y z = refl
-again false y z = refl
+alike : (x y z : Bool) → (x ≡ true → y ≡ z) → (x && y) ≡ (x && z)
+alike true y z h = h refl
+alike false y z h = refl
 
-shares_members : (r : Range) (ss : List Range) (c : ℕ) → in_ranges (shares r ss) c ≡ (in_range r c && in_ranges ss c)
-unfolding shares
-shares_members r [] c = in_ranges-nil c ∙ sym (and-false (in_range r c)) ∙ ap (λ b. in_range r c && b) (sym (in_ranges-nil c))
-shares_members r (s ∷ ss) c =
-    in_ranges-cons (max r.0 s.0, min r.1 s.1) (shares r ss) c
-    ∙ ap₂ ◌||◌ (meet r s c) (shares_members r ss c) ∙ sym (and-or_distrib_left (in_range r c) (in_range s c) (in_ranges ss c))
-    ∙ ap (λ b. in_range r c && b) (sym (in_ranges-cons s ss c))
-
-all_shares_members : (rs ss : List Range) (c : ℕ) → in_ranges (all_shares rs ss) c ≡ (in_ranges rs c && in_ranges ss c)
-unfolding all_shares
-all_shares_members [] ss c = in_ranges-nil c ∙ ap (λ b. b && in_ranges ss c) (sym (in_ranges-nil c))
-all_shares_members (r ∷ rs) ss c =
-    in_ranges-append (shares r ss) (all_shares rs ss) c
-    ∙ ap₂ ◌||◌ (shares_members r ss c) (all_shares_members rs ss c) ∙ gather (in_range r c) (in_ranges rs c) (in_ranges ss c)
-    ∙ ap (λ b. b && in_ranges ss c) (sym (in_ranges-cons r rs c))
+pub set_members : (p : ℕ → Bool) (c : ℕ) → in_ranges (set_of p) c ≡ (is_char c && p c)
+set_members p c = only_chars (set_of p) c (set_normal p) ∙ alike (is_char c) (in_ranges (set_of p) c) (p c) (set_just p c)
 
 pub both_members : (rs ss : List Range) (c : ℕ) → in_ranges (both rs ss) c ≡ (is_char c && (in_ranges rs c && in_ranges ss c))
 unfolding both
-both_members rs ss c = norm_members (all_shares rs ss) c ∙ ap (λ b. is_char c && b) (all_shares_members rs ss c)
-
-outside_members : (r : Range) (c : ℕ) → c ≤ 0x10_ffff → in_ranges (outside r) c ≡ not (in_range r c)
-unfolding outside
-outside_members (zero, high) c le = in_ranges-cons (high + 1, 0x10_ffff) [] c ∙ ap (λ b. in_range (high + 1, 0x10_ffff) c || b) (in_ranges-nil c) ∙ or-false (in_range (high + 1, 0x10_ffff) c) ∙ above high c le
-outside_members (suc low, high) c le = in_ranges-cons (0, low) ((high + 1, 0x10_ffff) ∷ []) c
-    ∙ ap (λ b. in_range (0, low) c || b) (in_ranges-cons (high + 1, 0x10_ffff) [] c ∙ ap (λ b. in_range (high + 1, 0x10_ffff) c || b) (in_ranges-nil c) ∙ or-false (in_range (high + 1, 0x10_ffff) c))
-    ∙ around low high c le
+both_members rs ss c = set_members (λ x. in_ranges rs x && in_ranges ss x) c
 
 pub others_members : (rs : List Range) (c : ℕ) → in_ranges (others rs) c ≡ (is_char c && not (in_ranges rs c))
 unfolding others
-others_members [] c = norm_members ((0, 0x10_ffff) ∷ []) c ∙ whole c ∙ ap (λ b. is_char c && not b) (sym (in_ranges-nil c))
-others_members (r ∷ rs) c = both_members (outside r) (others rs) c
-    ∙ ap (λ b. is_char c && (in_ranges (outside r) c && b)) (others_members rs c)
-    ∙ narrow (is_char c) (in_ranges (outside r) c) (in_range r c) (in_ranges rs c) (λ e. outside_members r c (char_below c e))
-    ∙ ap (λ b. is_char c && not b) (sym (in_ranges-cons r rs c))
+others_members rs c = set_members (λ x. not (in_ranges rs x)) c
 
 pub without_members : (rs ss : List Range) (c : ℕ) → in_ranges (without rs ss) c ≡ (is_char c && (in_ranges rs c && not (in_ranges ss c)))
 unfolding without
-without_members rs ss c = both_members rs (others ss) c ∙ ap (λ b. is_char c && (in_ranges rs c && b)) (others_members ss c) ∙ again (is_char c) (in_ranges rs c) (not (in_ranges ss c))
+without_members rs ss c = set_members (λ x. in_ranges rs x && not (in_ranges ss x)) c
 
 pub both_normal : (rs ss : List Range) → IsNormal (both rs ss)
 unfolding both
-both_normal rs ss = norm_normal (all_shares rs ss)
+both_normal rs ss = set_normal (λ x. in_ranges rs x && in_ranges ss x)
 
 pub others_normal : (rs : List Range) → IsNormal (others rs)
 unfolding others
-others_normal [] = norm_normal ((0, 0x10_ffff) ∷ [])
-others_normal (r ∷ rs) = both_normal (outside r) (others rs)
+others_normal rs = set_normal (λ x. not (in_ranges rs x))
 
 pub without_normal : (rs ss : List Range) → IsNormal (without rs ss)
 unfolding without
-without_normal rs ss = both_normal rs (others ss)
+without_normal rs ss = set_normal (λ x. in_ranges rs x && not (in_ranges ss x))
 
 pub nil_normal : IsNormal []
 nil_normal = subst IsNormal norm-nil (norm_normal [])
