@@ -2,11 +2,12 @@
 use Rattle.std.proofs.Common.{◌≡◌, ℕ, ◌+◌, ◌<◌, ◌≤◌, List, [], length, take, min, max, refl, sym, ap, ap₂, ◌∙◌, arith, inl, inr}
 use Rattle.std.specs.Prelude.{Bool, true, false, ◌||◌, ◌&&◌, Result, Ok, Err, IfOk}
 use Rattle.regex_class.specs.declared.Class.{Class}
-use Rattle.std.proofs.lemmas.Bool.{cases_lt, and_parts, both_ways}
+use Rattle.std.proofs.lemmas.Bool.{cases_lt, and_parts, and_from, both_ways}
+use Rattle.std.proofs.lemmas.List.{take_more}
 use Rattle.std.proofs.lemmas.Bool.Decides.{nat_tests}
 use Rattle.std.proofs.Math.Bool.{and-false, and-or_distrib_left}
-use Rattle.regex_class.specs.Ranges.{Range, in_range, in_ranges, range_at, IsCanonical, HasExactly}
-use Rattle.regex_class.proofs.RangesLemmas.{or_assoc, or-false, in_range_tells, in_ranges-nil, in_ranges-more, in_ranges-above_max}
+use Rattle.regex_class.specs.Ranges.{Range, in_range, in_ranges, range_at, fits_from, rises_from, IsCanonical, HasExactly}
+use Rattle.regex_class.proofs.RangesLemmas.{or_assoc, or-false, in_range_tells, in_ranges-nil, in_ranges-more, in_ranges-above_max, next_free, next_free-push, rises_from-push, le-fits_from}
 use Rattle.rpl_text.specs.Characters.{is_char}
 use Rattle.rpl_unicode.specs.Ranges.{IsListOf}
 
@@ -34,6 +35,16 @@ pub none_added : (old ps : List Range) (low high c : ℕ) → high < low → ps 
 none_added old ps low high c lt e =
     let none : in_range (low, high) c ≡ false = grind (arith, in_range_tells (low, high) c) in
     ap (λ l. in_ranges l c) e ∙ sym (or-false (in_ranges old c)) ∙ ap (λ b. in_ranges old c || b) (sym none)
+
+-- one range more, in order
+pub rises_more : (rs : List Range) (i n : ℕ) → i < length rs → IsCanonical (take i rs) → next_free 0 (take i rs) ≡ n → n ≤ (range_at rs i).0 → (range_at rs i).0 ≤ (range_at rs i).1
+    → (range_at rs i).1 ≤ 0x10_ffff → IsCanonical (take (i + 1) rs)
+rises_more rs i n lt k free a b c =
+    ap (rises_from 0) (take_more rs i (0, 0) lt) ∙ rises_from-push 0 (take i rs) (range_at rs i)
+    ∙ and_from _ _ k (ap (λ m. fits_from m (range_at rs i)) free ∙ le-fits_from n (range_at rs i) a b c)
+
+pub free_more : (rs : List Range) (i : ℕ) → i < length rs → next_free 0 (take (i + 1) rs) ≡ (range_at rs i).1 + 2
+free_more rs i lt = ap (next_free 0) (take_more rs i (0, 0) lt) ∙ next_free-push 0 (take i rs) (range_at rs i)
 
 guarded : (x y : Bool) → x ≡ true → (x && y) ≡ y
 guarded true y e = refl

@@ -1,11 +1,11 @@
 // Ranges of characters in their one order.
-ghost use Rattle.std.specs.Prelude.{◌≡◌, ℕ, ◌&&◌, ◌||◌, IfOk, OnOk};
-ghost use Rattle.regex_class.specs.Ranges.{in_range, in_ranges, HasExactly};
+ghost use Rattle.std.specs.Prelude.{◌≡◌, ℕ, ◌&&◌, ◌||◌, IfOk, IsTrue, OnOk};
+ghost use Rattle.regex_class.specs.Ranges.{in_range, in_ranges, HasExactly, IsCanonical};
 ghost use Rattle.rpl_text.specs.Characters.{is_char};
 ghost use Rattle.rpl_unicode.specs.Ranges.{IsListOf};
 
 use crate::NoMemory;
-use regex_class::{Class, ClassRange};
+use regex_class::{Class, ClassRange, MAX};
 use rpl_list::List;
 use std::alloc::Global;
 
@@ -36,11 +36,30 @@ fn cut(alloc: Global, ranges: &[ClassRange]) -> Result<Vec<ClassRange>, NoMemory
     Ok(parts)
 }
 
-/// The characters of the ranges, as a class.
+/// Whether the ranges have members, rise and don't touch.
+fn are_canonical(ranges: &[ClassRange]) -> bool
+    ensures { IsTrue result → IsCanonical ranges.now }
+{
+    let mut least = 0;
+    for range in ranges {
+        if range.0 < least || range.1 < range.0 || MAX < range.1 {
+            return false;
+        }
+        least = range.1 + 2;
+    }
+    true
+}
+
+/// The characters of the ranges, as a class. Most ranges are in order already, above all a single
+/// one, and aren't copied then.
 pub(crate) fn class_of(alloc: Global, ranges: &[ClassRange]) -> Result<Class, NoMemory>
     ensures { IfOk result (λ k. IsListOf (in_ranges ranges.now) k.ranges.items) }
 {
-    Class::new(cut(alloc, ranges)?)
+    let parts = cut(alloc, ranges)?;
+    if are_canonical(&parts) {
+        return Ok(Class { ranges: parts });
+    }
+    Class::new(parts)
 }
 
 /// The characters of the ranges, which come in any order and may overlap, in their one order: the ranges rise, don't
