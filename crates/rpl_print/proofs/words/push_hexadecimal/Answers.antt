@@ -4,9 +4,9 @@ use Rattle.std.specs.Str.{IsUtf8}
 use Rattle.rpl_print.proofs.Hexadecimal.{digits_text}
 use Rattle.rpl_print.proofs.words.push_hexadecimal.Goals as goal
 
-pub unreachable-requires : goal.unreachable-requires
-unreachable-requires c =
+pub from_utf8_unchecked-requires : goal.from_utf8_unchecked-requires
+from_utf8_unchecked-requires c =
     let room = c.put_digits-start.new.room in
     let start = c.put_digits-start.result in
     let all = take_all (64 - start) (drop start room) (omega (arith, length-drop start room)) in
-    c.in-Err.ensures.cases.0 (subst IsUtf8 (sym (all ∙ c.put_digits-start.ensures.digits)) (digits_text c.args.number))
+    subst IsUtf8 (sym (all ∙ c.put_digits-start.ensures.digits)) (digits_text c.args.number)
