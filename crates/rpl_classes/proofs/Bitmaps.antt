@@ -1,11 +1,12 @@
 -- The bits of ranges.
-use Rattle.std.proofs.Common.{◌≡◌, ℕ, zero, suc, ◌+◌, ◌<◌, ◌≤◌, List, [], ◌∷◌, length, take, refl, sym, ap, ◌∙◌, inl, inr, arith, le_of_suc-le-suc, not-suc-le-zero}
-use Rattle.std.specs.Prelude.{◌↔◌, ◌||◌, Bool, true, false, bit_or}
+use Rattle.std.proofs.Common.{◌≡◌, ℕ, zero, suc, ◌+◌, ◌*◌, ◌<◌, ◌≤◌, List, [], ◌∷◌, length, take, refl, sym, ap, subst, ◌∙◌, inl, inr, arith, le_of_suc-le-suc, not-suc-le-zero}
+use Rattle.std.specs.Prelude.{◌↔◌, ◌||◌, Bool, true, false, bit_or, get_or}
 use Rattle.std.specs.Int.{bit_at}
 use Rattle.std.proofs.lemmas.Bool.{and_parts, cases_lt}
 use Rattle.std.proofs.lemmas.Nat.Bits.{bit_at_or, bit_at-lt}
 use Rattle.regex_class.specs.Ranges.{Range, in_range, in_ranges, range_at, rises_from}
-use Rattle.regex_class.proofs.RangesLemmas.{in_range_tells, in_ranges-cons, in_ranges-nil, in_ranges-outside, rises_from-mono}
+use Rattle.rpl_classes.specs.Sets.{IsBitmap}
+use Rattle.regex_class.proofs.RangesLemmas.{in_range_tells, in_ranges-cons, in_ranges-nil, in_ranges-outside, or-false, rises_from-mono}
 
 -- the bits of both are those of either
 pub joined : (a b k : ℕ) (x y z : Bool) → (bit_at a k ≡ 1) ↔ (x ≡ true) → (bit_at b k ≡ 1) ↔ (y ≡ true) → z ≡ (x || y) → (bit_at (bit_or a b) k ≡ 1) ↔ (z ≡ true)
@@ -42,3 +43,15 @@ range_needs r c is = elim (in_range_tells r c) [
   | inl h ↦ (h.1, h.2)
   | inr h ↦ let f : false ≡ true = sym h.0 ∙ is in absurd (cc)
 ]
+
+-- the bits of a range are those of the list that has it alone
+one_mask : (r : Range) (n b : ℕ) → ((k : ℕ) → k < 64 → (bit_at b k ≡ 1) ↔ (in_range r (n + k) ≡ true)) → IsBitmap n (r ∷ []) b
+one_mask r n b h k lt =
+    let alone = in_ranges-cons r [] (n + k) ∙ ap (λ x. in_range r (n + k) || x) (in_ranges-nil (n + k)) ∙ or-false (in_range r (n + k)) in
+    subst (λ x. (bit_at b k ≡ 1) ↔ (x ≡ true)) (sym alone) (h k lt)
+
+pub two_masks : (r : Range) (a b : ℕ) → ((k : ℕ) → k < 64 → (bit_at a k ≡ 1) ↔ (in_range r (0 + k) ≡ true)) → ((k : ℕ) → k < 64 → (bit_at b k ≡ 1) ↔ (in_range r (64 + k) ≡ true))
+    → (j : ℕ) → j < 2 → IsBitmap (64 * j) (r ∷ []) (get_or (a ∷ b ∷ []) j 0)
+two_masks r a b p q zero lt = one_mask r 0 a p
+two_masks r a b p q (suc zero) lt = one_mask r 64 b q
+two_masks r a b p q (suc (suc j)) lt = absurd (omega (arith, lt))

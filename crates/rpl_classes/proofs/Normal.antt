@@ -1,12 +1,14 @@
 -- What the normal form is: normal, with the same members, and the only such list.
-use Rattle.std.proofs.Common.{inl, inr, ◌≡◌, ℕ, ◌+◌, ◌<◌, ◌≤◌, List, [], ◌∷◌, min, max, nat_lt, refl, sym, ap, ap₂, ◌∙◌, arith}
+use Rattle.std.proofs.Common.{inl, inr, ◌≡◌, ℕ, ◌+◌, ◌<◌, ◌≤◌, ◌⊎◌, List, [], ◌∷◌, min, max, nat_lt, refl, sym, ap, ap₂, ◌∙◌, arith}
 use Rattle.std.specs.Prelude.{Bool, true, false, nat_le, ◌||◌, ◌&&◌, if◌then◌else◌}
 use Rattle.std.proofs.lemmas.Bool.{and_parts, and_from, cases_lt, cases_Bool, both_ways, false_from_ne_true}
 use Rattle.std.proofs.lemmas.Bool.Decides.{nat_tests}
 use Rattle.regex_class.specs.Ranges.{Range, in_range, in_ranges, fits_from, rises_from, IsCanonical}
-use Rattle.regex_class.proofs.RangesLemmas.{in_range_tells, in_ranges-nil, in_ranges-cons, or_assoc, fits_from-true, le-fits_from, same_members-same}
+use Rattle.regex_class.proofs.RangesLemmas.{in_range_tells, in_ranges-nil, in_ranges-cons, or_assoc, or-false, fits_from-true, le-fits_from, same_members-same}
 use Rattle.rpl_classes.specs.Sets.{is_char, IsNormal, HasJust}
 use Rattle.rpl_classes.specs.Norm.{join, add, norm}
+use Rattle.rpl_classes.proofs.Bitmaps.{range_needs}
+use Rattle.std.proofs.Math.Utf8.{scalar, scalar_cases}
 
 pub rises-cons : (n : ℕ) (r : Range) (rs : List Range) → rises_from n (r ∷ rs) ≡ (fits_from n r && rises_from (r.1 + 2) rs)
 unfolding rises_from
@@ -190,6 +192,17 @@ norm_alike rs ss h = norm_only ss (norm rs) (norm_normal rs) (λ c e. norm_just 
 -- a normal list is its own normal form
 pub norm_normal_same : (s : List Range) → IsNormal s → norm s ≡ s
 norm_normal_same s n = sym (norm_only s s n (λ c e. refl))
+
+-- a range with no surrogates in it, by itself
+pub one_normal : (low high : ℕ) → low ≤ high → scalar high ≡ true → (high < 0xd800) ⊎ (0xdfff < low) → IsNormal ((low, high) ∷ [])
+one_normal low high le s apart =
+    let most : high ≤ 0x10_ffff = elim (scalar_cases high s) [ inl lt ↦ omega (arith, lt) | inr h ↦ omega (arith, h.1) ] in
+    let own : (c : ℕ) → in_ranges ((low, high) ∷ []) c ≡ in_range (low, high) c = λ c. in_ranges-cons (low, high) [] c ∙ ap (λ b. in_range (low, high) c || b) (in_ranges-nil c) ∙ or-false (in_range (low, high) c) in record {
+      rises = rises_build 0 (low, high) [] (omega arith) le most (rises-nil (high + 2));
+      chars = λ c e.
+          let b = range_needs (low, high) c (sym (own c) ∙ e) in
+          elim apart [ inl below ↦ grind (arith, nat_tests, b.0, b.1, below) | inr above ↦ grind (arith, nat_tests, b.0, b.1, above, most) ];
+    }
 
 -- the normal form of everything
 pub norm_whole : norm ((0, 0x10_ffff) ∷ []) ≡ (0, 0xd7ff) ∷ (0xe000, 0x10_ffff) ∷ []

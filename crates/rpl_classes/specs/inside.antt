@@ -1,3 +1,4 @@
 pub mod Scanned
 pub mod Operators
 pub mod Stack
+pub mod Held

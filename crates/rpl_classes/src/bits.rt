@@ -16,7 +16,7 @@ fn ones(low: u32, high: u32) -> u64
 }
 
 /// The bits of those of the 64 numbers from `start` on that are in the range.
-fn bits_in(range: ClassRange, start: u32) -> u64
+pub(crate) fn bits_in(range: ClassRange, start: u32) -> u64
     requires { start ≤ 64 }
     ensures { (k : ℕ) → k < 64 → (bit_at result k ≡ 1) ↔ (in_range range (start + k) ≡ true) }
 {

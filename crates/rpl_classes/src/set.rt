@@ -13,22 +13,31 @@ ghost use Rattle.rpl_classes.specs.Classes.{test_named, set_named};
 ghost use Rattle.rpl_classes.specs.Faults.{IsNamed};
 
 use crate::NoMemory;
-use crate::bits::{bitmap, but};
+use crate::bits::{bitmap, bits_in, but};
 use crate::classes::NamedClass;
 use crate::fault::SetFault;
-use regex_class::{Class, ClassRange};
+use regex_class::{Class, ClassRange, contains};
 use rpl_unicode::{ClassFault, RangeList, characters, class_ranges, folds_of};
 use std::alloc::Global;
 use std::marker::Model;
 use std::rc::Rc;
 
+/// The ranges of a set.
+#[derive(Debug, Drop)]
+enum Ranges {
+    /// A single one, which takes no memory of its own: the set of each character of a text.
+    One([ClassRange; 1]),
+    /// What the set and its copies share.
+    Shared(Rc<Class>),
+}
+
 /// A set of characters.
 ///
 /// Contracts see it as its list of ranges, in numbers of characters with both ends. The ranges of a set and of its
-/// copies stand in memory once.
+/// copies stand in memory once, where they are several.
 #[derive(Debug, Drop)]
 pub struct Set {
-    class: Rc<Class>,
+    ranges: Ranges,
     /// The members from 0 to 63, and those from 64 to 127, as bits.
     masks: [u64; 2],
 }
@@ -37,13 +46,14 @@ impl Model for Set {
     ghost use Rattle.std.specs.Prelude.{◌<◌, ◌*◌, ℕ, List, get_or};
     ghost use Rattle.regex_class.specs.Ranges.{Range};
     ghost use Rattle.rpl_classes.specs.Sets.{IsNormal, IsBitmap};
+    ghost use Rattle.rpl_classes.specs.inside.Held.{held};
 
     ghost Value = { List Range };
 
-    ghost view = { λ a. a.class.value.ranges.items };
+    ghost view = { λ a. held a.ranges };
 
-    ghost invariant = { λ a. IsNormal a.class.value.ranges.items
-        × ((j : ℕ) → j < 2 → IsBitmap (64 * j) a.class.value.ranges.items (get_or a.masks j 0)) };
+    ghost invariant = { λ a. IsNormal (held a.ranges)
+        × ((j : ℕ) → j < 2 → IsBitmap (64 * j) (held a.ranges) (get_or a.masks j 0)) };
 }
 
 /// The set of a class that is normal, with its masks.
@@ -53,8 +63,24 @@ fn sealed(alloc: Global, class: Class) -> Result<Set, NoMemory>
 {
     let masks = [bitmap(&class, 0), bitmap(&class, 64)];
     match Rc::new(alloc, class) {
-        Ok(class) => Ok(Set { class, masks }),
+        Ok(class) => Ok(Set {
+            ranges: Ranges::Shared(class),
+            masks,
+        }),
         Err(_) => Err(NoMemory),
+    }
+}
+
+/// The set of a range that is normal.
+fn single(low: u32, high: u32) -> Set
+    requires { IsNormal ((low, high) ∷ []) }
+    ensures same { result ≡ (low, high) ∷ [] }
+    ensures normal { IsNormal result }
+{
+    let range = (low, high);
+    Set {
+        ranges: Ranges::One([range]),
+        masks: [bits_in(range, 0), bits_in(range, 64)],
     }
 }
 
@@ -107,13 +133,25 @@ fn with_cases(alloc: Global, class: &Class) -> Result<Vec<ClassRange>, NoMemory>
 }
 
 impl Set {
-    /// The class that the set and its copies share.
+    /// The ranges.
     #[inline(always)]
-    fn class(&self) -> &Class
-        ensures same { result.now.ranges.items ≡ self.now }
+    fn as_slice(&self) -> &[ClassRange]
+        ensures same { result.now ≡ self.now }
         ensures normal { IsNormal self.now }
     {
-        Rc::as_ref(&self.class)
+        match &self.ranges {
+            Ranges::One(range) => range,
+            Ranges::Shared(class) => &Rc::as_ref(class).ranges,
+        }
+    }
+
+    /// The set as a class of its own.
+    fn class(&self, alloc: Global) -> Result<Class, NoMemory>
+        ensures same { IfOk result (λ k. k.ranges.items ≡ self.now) }
+        ensures normal { IfOk result (λ k. IsNormal k.ranges.items) }
+    {
+        let ranges = Vec::from_slice(alloc, self.as_slice())?;
+        Ok(Class { ranges })
     }
 
     /// The set with no member.
@@ -147,7 +185,11 @@ impl Set {
         ensures normal { IfOk result IsNormal }
         ensures members { IfOk result (λ s. HasJust s (λ c. nat_le low c && nat_le c high)) }
     {
-        Set::from_ranges(alloc, &[(low as u32, high as u32)])
+        let (low, high) = (low as u32, high as u32);
+        if high < 0xd800 || 0xdfff < low {
+            return Ok(single(low, high));
+        }
+        Set::from_ranges(alloc, &[(low, high)])
     }
 
     /// The characters that a name stands for: a class of the POSIX C locale by its own name, spelled exactly so, or
@@ -170,8 +212,8 @@ impl Set {
         ensures normal { IfOk result IsNormal }
         ensures members { IfOk result (λ s. HasJust s (λ c. in_ranges self.now c || in_ranges other.now c)) }
     {
-        let mut ranges = Vec::from_slice(alloc, &self.class().ranges)?;
-        ranges.extend_from_slice(&other.class().ranges)?;
+        let mut ranges = Vec::from_slice(alloc, self.as_slice())?;
+        ranges.extend_from_slice(other.as_slice())?;
         sealed(alloc, Class::new(ranges)?)
     }
 
@@ -191,7 +233,9 @@ impl Set {
         ensures normal { IfOk result IsNormal }
         ensures members { IfOk result (λ s. HasJust s (λ c. in_ranges self.now c && not (in_ranges other.now c))) }
     {
-        sealed(alloc, self.class().difference(other.class())?)
+        let own = self.class(alloc)?;
+        let others = other.class(alloc)?;
+        sealed(alloc, own.difference(&others)?)
     }
 
     /// The characters that are in both.
@@ -200,7 +244,9 @@ impl Set {
         ensures normal { IfOk result IsNormal }
         ensures members { IfOk result (λ s. HasJust s (λ c. in_ranges self.now c && in_ranges other.now c)) }
     {
-        sealed(alloc, self.class().intersection(other.class())?)
+        let own = self.class(alloc)?;
+        let others = other.class(alloc)?;
+        sealed(alloc, own.intersection(&others)?)
     }
 
     /// The set with the other case of each ASCII letter in it.
@@ -210,7 +256,8 @@ impl Set {
         ensures members { let own = self.now in
             IfOk result (λ s. HasJust s (λ c. in_ranges own c || in_ranges own (other_case c))) }
     {
-        let ranges = with_cases(alloc, self.class())?;
+        let own = self.class(alloc)?;
+        let ranges = with_cases(alloc, &own)?;
         sealed(alloc, Class::new(ranges)?)
     }
 
@@ -221,7 +268,7 @@ impl Set {
         ensures normal { IfOk result IsNormal }
         ensures members { IfOk result (λ s. HasJust s (folds_with (in_ranges self.now))) }
     {
-        listed(alloc, folds_of(alloc, &self.class().ranges)?)
+        listed(alloc, folds_of(alloc, self.as_slice())?)
     }
 
     /// The same set once more. It shares the ranges, so no memory is taken; where they have as
@@ -229,20 +276,24 @@ impl Set {
     pub fn copy(&self, alloc: Global) -> Result<Set, NoMemory>
         ensures { IfOk result (λ s. s ≡ self.now) }
     {
-        match self.class.clone() {
-            Ok(class) => Ok(Set {
-                class,
-                masks: self.masks,
-            }),
-            Err(_) => sealed(alloc, self.class().clone()?),
-        }
+        let ranges = match &self.ranges {
+            Ranges::One(range) => Ranges::One(*range),
+            Ranges::Shared(class) => match class.clone() {
+                Ok(class) => Ranges::Shared(class),
+                Err(_) => return sealed(alloc, self.class(alloc)?),
+            },
+        };
+        Ok(Set {
+            ranges,
+            masks: self.masks,
+        })
     }
 
     /// Whether the two have the same members.
     pub fn same(&self, other: &Set) -> bool
         ensures { IsTrue result ↔ (self.now ≡ other.now) }
     {
-        self.class().ranges == other.class().ranges
+        self.as_slice() == other.as_slice()
     }
 
     /// Whether the character is in the set. For an ASCII character this is one test of a bit.
@@ -254,7 +305,7 @@ impl Set {
         if number < 128 {
             (self.masks[(number / 64) as usize] >> (number % 64)) & 1 != 0
         } else {
-            self.class().contains(number)
+            contains(self.as_slice(), number)
         }
     }
 
@@ -281,6 +332,6 @@ impl Set {
         ensures same { result.now ≡ self.now }
         ensures normal { IsNormal self.now }
     {
-        &self.class().ranges
+        self.as_slice()
     }
 }

@@ -14,7 +14,7 @@ range_decides x y = (
 
 pub returns : goal.returns
 returns c =
-    let d = pointwise_decides range_decides c.class.result.now.ranges.items c.class-2.result.now.ranges.items in (
-      λ e. sym c.class.ensures.same ∙ d.0 (sym c.eq.ensures ∙ e) ∙ c.class-2.ensures.same,
-      λ e. c.eq.ensures ∙ d.1 (c.class.ensures.same ∙ e ∙ sym c.class-2.ensures.same),
+    let d = pointwise_decides range_decides c.as_slice.result.now c.as_slice-2.result.now in (
+      λ e. sym c.as_slice.ensures.same ∙ d.0 (sym c.eq.ensures ∙ e) ∙ c.as_slice-2.ensures.same,
+      λ e. c.eq.ensures ∙ d.1 (c.as_slice.ensures.same ∙ e ∙ sym c.as_slice-2.ensures.same),
     )
