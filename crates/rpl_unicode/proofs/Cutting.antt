@@ -1,13 +1,13 @@
 -- Ranges without their surrogates.
-use Rattle.std.proofs.Common.{◌≡◌, ℕ, ◌+◌, ◌<◌, ◌≤◌, List, [], length, take, min, max, refl, sym, ap, ap₂, ◌∙◌, arith, inl, inr}
+use Rattle.std.proofs.Common.{◌≡◌, ℕ, ◌+◌, ◌-◌, ◌<◌, ◌≤◌, List, [], ◌∷◌, ◌++◌, length, take, take_all, set, get_or, min, max, refl, sym, ap, ap₂, ◌∙◌, arith, inl, inr}
 use Rattle.std.specs.Prelude.{Bool, true, false, ◌||◌, ◌&&◌, Result, Ok, Err, IfOk}
 use Rattle.regex_class.specs.declared.Class.{Class}
 use Rattle.std.proofs.lemmas.Bool.{cases_lt, and_parts, and_from, both_ways}
-use Rattle.std.proofs.lemmas.List.{take_more}
+use Rattle.std.proofs.lemmas.List.{take_more, take_more_set, length-set}
 use Rattle.std.proofs.lemmas.Bool.Decides.{nat_tests}
 use Rattle.std.proofs.Math.Bool.{and-false, and-or_distrib_left}
 use Rattle.regex_class.specs.Ranges.{Range, in_range, in_ranges, range_at, fits_from, rises_from, IsCanonical, HasExactly}
-use Rattle.regex_class.proofs.RangesLemmas.{or_assoc, or-false, in_range_tells, in_ranges-nil, in_ranges-more, in_ranges-above_max, next_free, next_free-push, rises_from-push, le-fits_from}
+use Rattle.regex_class.proofs.RangesLemmas.{or_assoc, or-false, in_range_tells, in_ranges-nil, in_ranges-push, in_ranges-more, in_ranges-above_max, next_free, next_free-push, rises_from-push, le-fits_from}
 use Rattle.rpl_text.specs.Characters.{is_char}
 use Rattle.rpl_unicode.specs.Ranges.{IsListOf}
 
@@ -35,6 +35,29 @@ pub none_added : (old ps : List Range) (low high c : ℕ) → high < low → ps 
 none_added old ps low high c lt e =
     let none : in_range (low, high) c ≡ false = grind (arith, in_range_tells (low, high) c) in
     ap (λ l. in_ranges l c) e ∙ sym (or-false (in_ranges old c)) ∙ ap (λ b. in_ranges old c || b) (sym none)
+
+-- a list is its front and its last item, also after that item is replaced
+front_last : (xs : List Range) (n : ℕ) (last : Range) → n ≡ length xs → 0 < n → last ≡ get_or xs (n - 1) last → xs ≡ take (n - 1) xs ++ last ∷ []
+front_last xs n last len some is =
+    sym (take_all (n - 1 + 1) xs (omega arith)) ∙ take_more xs (n - 1) last (omega arith)
+    ∙ ap (λ (r : Range). take (n - 1) xs ++ r ∷ []) (sym is)
+
+front_new : (xs : List Range) (n : ℕ) (new : Range) → n ≡ length xs → 0 < n → set xs (n - 1) new ≡ take (n - 1) xs ++ new ∷ []
+front_new xs n new len some =
+    sym (take_all (n - 1 + 1) (set xs (n - 1) new) (omega (arith, length-set xs (n - 1) new)))
+    ∙ take_more_set xs (n - 1) new (omega arith)
+
+-- a range that begins in another or just behind it makes it longer
+longer : (b : Bool) (last r : Range) (m c : ℕ) → last.0 ≤ r.0 → r.0 ≤ last.1 + 1 → r.0 ≤ r.1 → m ≡ max last.1 r.1 → (b || in_range (last.0, m) c) ≡ ((b || in_range last c) || in_range r c)
+longer true last r m c p q s e = refl
+longer false last r m c p q s e = grind (arith, in_range_tells (last.0, m) c, in_range_tells last c, in_range_tells r c)
+
+pub last_longer : (xs new : List Range) (n : ℕ) (last r : Range) (m c : ℕ) → n ≡ length xs → 0 < n → last ≡ get_or xs (n - 1) last → new ≡ set xs (n - 1) (last.0, m)
+    → (last.0 ≤ r.0) × (r.0 ≤ last.1 + 1) → r.0 ≤ r.1 → m ≡ max last.1 r.1 → in_ranges new c ≡ (in_ranges xs c || in_range r c)
+last_longer xs new n last r m c len some is made meet le e =
+    ap (λ l. in_ranges l c) (made ∙ front_new xs n (last.0, m) len some) ∙ in_ranges-push (take (n - 1) xs) (last.0, m) c
+    ∙ longer (in_ranges (take (n - 1) xs) c) last r m c meet.0 meet.1 le e
+    ∙ ap (λ b. b || in_range r c) (sym (ap (λ l. in_ranges l c) (front_last xs n last len some is) ∙ in_ranges-push (take (n - 1) xs) last c))
 
 -- one range more, in order
 pub rises_more : (rs : List Range) (i n : ℕ) → i < length rs → IsCanonical (take i rs) → next_free 0 (take i rs) ≡ n → n ≤ (range_at rs i).0 → (range_at rs i).0 ≤ (range_at rs i).1

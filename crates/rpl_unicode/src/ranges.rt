@@ -1,5 +1,5 @@
 // Ranges of characters in their one order.
-ghost use Rattle.std.specs.Prelude.{◌≡◌, ℕ, ◌&&◌, ◌||◌, IfOk, IsTrue, OnOk};
+ghost use Rattle.std.specs.Prelude.{◌≡◌, ℕ, ◌≤◌, ◌+◌, ◌&&◌, ◌||◌, IfOk, IsTrue, OnOk};
 ghost use Rattle.regex_class.specs.Ranges.{in_range, in_ranges, HasExactly, IsCanonical};
 ghost use Rattle.rpl_text.specs.Characters.{is_char};
 ghost use Rattle.rpl_unicode.specs.Ranges.{IsListOf};
@@ -12,19 +12,36 @@ use std::alloc::Global;
 /// Ranges of characters, in numbers of characters with both ends. Contracts see the list of them.
 pub type RangeList = List<ClassRange>;
 
-/// Adds the numbers from one to another, where there are any.
+/// Whether a range that starts there begins in another or just behind it.
+fn meets(range: ClassRange, low: u32) -> bool
+    ensures { IsTrue result → (range.0 ≤ low) × (low ≤ range.1 + 1) }
+{
+    range.0 <= low && (low <= range.1 || low - 1 == range.1)
+}
+
+/// Adds the numbers from one to another, where there are any: to the last range, where they begin
+/// in it or just behind it.
 fn push_range(ranges: &mut Vec<ClassRange>, low: u32, high: u32) -> Result<(), NoMemory>
     ensures { OnOk result ((c : ℕ) →
         in_ranges ranges.new.items c ≡ (in_ranges ranges.old.items c || in_range (low, high) c)) }
 {
-    if low <= high {
-        ranges.push((low, high))?;
+    if high < low {
+        return Ok(());
     }
+    let len = ranges.len();
+    if len > 0 {
+        let last = ranges[len - 1];
+        if meets(last, low) {
+            ranges[len - 1] = (last.0, last.1.max(high));
+            return Ok(());
+        }
+    }
+    ranges.push((low, high))?;
     Ok(())
 }
 
-/// The ranges without their surrogates. A part without members is left out, so ranges that rise
-/// stay in order, and to sort them takes one look at each.
+/// The ranges without their surrogates. Those that rise stay so, and none is left that touches
+/// another: most tables have such.
 fn cut(alloc: Global, ranges: &[ClassRange]) -> Result<Vec<ClassRange>, NoMemory>
     ensures { IfOk result (λ v. HasExactly v.items (λ c. is_char c && in_ranges ranges.now c)) }
 {
