@@ -1,10 +1,13 @@
-// What stands for rules in a look-behind: their bodies without captures and notes, and with the bodies of earlier
-// rules in place of calls. It is counted for each rule, and made only where a look-behind asks for it.
-ghost use Rattle.std.specs.Prelude.{◌≡◌, ◌<◌, ◌+◌, IfOk, IfSome, OnOk, Option, [], ◌∷◌, ◌++◌, length, slice_get, take};
+// What stands for rules in a look-behind: their bodies without captures and notes, and with the
+// bodies of earlier rules in place of calls. It is counted for each rule, and made only where a
+// look-behind asks for it.
+ghost use Rattle.std.specs.Prelude.{◌≡◌, ◌<◌, ◌+◌, IfOk, IfSome, OnOk, Option, [], ◌∷◌, ◌++◌};
+ghost use Rattle.std.specs.Prelude.{length, slice_get, take};
 ghost use Rattle.rpl_core.specs.Core as C;
 ghost use Rattle.rpl_core.specs.Listed.{rules_of};
 ghost use Rattle.rpl_core.specs.View.{core_of, cores, listed};
-ghost use Rattle.rpl_forms.specs.inside.Counting.{Adds, Counts, CountsAll, IsFirst, KnowsInners, KnowsNext, known_of};
+ghost use Rattle.rpl_forms.specs.inside.Counting.{Adds, Counts, CountsAll, IsFirst, KnowsInners};
+ghost use Rattle.rpl_forms.specs.inside.Counting.{KnowsNext, known_of};
 ghost use Rattle.rpl_forms.specs.inside.Counting.{seen, seen_all};
 ghost use Rattle.rpl_forms.specs.Inlining.{Inners, called, inlined, inlined_all, inner};
 ghost use Rattle.rpl_forms.specs.Rows.{inners_of};
@@ -103,8 +106,8 @@ fn called_alone(peg: &Peg) -> Option<u32>
     }
 }
 
-/// The first rule of a chain of calls that ends at this body of the next rule: what stands for the one stands for the
-/// other. So a chain of names, however long, is followed in one step.
+/// The first rule of a chain of calls that ends at this body of the next rule: what stands for the
+/// one stands for the other. So a chain of names, however long, is followed in one step.
 fn first_in_chain(known: &[Option<Inner>], body: &Peg) -> u32
     requires { length known.now < 0xffff_ffff }
     ensures { (I : Inners) → KnowsInners known.now I → length known.now ≡ length I
@@ -224,7 +227,8 @@ fn inline_call(
     inline(alloc, rules, known, inner.rule, &rule.body)
 }
 
-/// What stands for the pattern: no captures and notes, and for calls of the first `limit` rules what stands for them.
+/// What stands for the pattern: no captures and notes, and for calls of the first `limit` rules
+/// what stands for them.
 #[cycle(inline)]
 fn inline(
     alloc: Global,

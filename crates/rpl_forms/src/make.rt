@@ -350,7 +350,8 @@ fn all_found(alloc: Global, in_lookbehind: bool, body: Peg) -> Result<Peg, NoMem
     endless(alloc, search, 1)
 }
 
-/// What a macro that searches makes of its argument, or a change of case, which the argument has had already.
+/// What a macro that searches makes of its argument, or a change of case, which the argument has
+/// had already.
 pub fn searched(
     alloc: Global,
     in_lookbehind: bool,

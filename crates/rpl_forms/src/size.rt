@@ -10,8 +10,8 @@ pub const MAX_DEPTH: u32 = 1_024;
 /// The number of the built-in rule `halt`, the second of each table.
 pub const HALT: u32 = 1;
 
-/// How many nodes a core has, and how deep they stand inside one another: each at most one above its limit, where it
-/// stops.
+/// How many nodes a core has, and how deep they stand inside one another: each at most one above
+/// its limit, where it stops.
 #[derive(Clone, Copy, Debug)]
 pub struct Count {
     pub size: u32,
@@ -20,8 +20,8 @@ pub struct Count {
     ghost flat: { depth ≤ 1025 },
 }
 
-/// What is known of what stands for a rule in a look-behind: its counts, and the number of the first rule in a
-/// chain of calls for which the same stands.
+/// What is known of what stands for a rule in a look-behind: its counts, and the number of the
+/// first rule in a chain of calls for which the same stands.
 #[derive(Clone, Copy, Debug)]
 pub struct Inner {
     pub count: Count,

@@ -1,5 +1,6 @@
 // Code while it is written.
-ghost use Rattle.std.specs.Prelude.{◌≡◌, ◌<◌, ◌≤◌, [], ◌∷◌, ◌++◌, IfSome, IsSome, OnErr, OnOk, length, take};
+ghost use Rattle.std.specs.Prelude.{◌≡◌, ◌<◌, ◌≤◌, [], ◌∷◌, ◌++◌, IfSome, IsSome, OnErr, OnOk};
+ghost use Rattle.std.specs.Prelude.{length, take};
 
 use crate::NoMemory;
 use crate::tables::{LabelTable, SetTable};
@@ -86,8 +87,8 @@ impl Draft {
         )
     }
 
-    /// Writes `testset`, which goes to `other` where no character of the set follows. Where memory runs out, nothing
-    /// changes.
+    /// Writes `testset`, which goes to `other` where no character of the set follows. Where memory
+    /// runs out, nothing changes.
     pub fn put_test(&mut self, alloc: Global, other: u32, set: &Set) -> Result<(), NoMemory>
         requires { length self.old.code < 1048576 }
         ensures adds { OnOk result (Adds self.old self.new (I.TestSet other set.now ∷ [])) }
@@ -136,8 +137,8 @@ impl Draft {
     }
 }
 
-/// Writes an instruction whose set was kept just now, where there were `count` of them. Where memory runs out, only
-/// these stay.
+/// Writes an instruction whose set was kept just now, where there were `count` of them. Where
+/// memory runs out, only these stay.
 fn put_with_set(
     code: &mut Instrs,
     sets: &mut SetTable,
@@ -156,8 +157,8 @@ fn put_with_set(
     pushed
 }
 
-/// Writes an instruction whose text was kept just now, where there were `count` of them. Where memory runs out, only
-/// these stay.
+/// Writes an instruction whose text was kept just now, where there were `count` of them. Where
+/// memory runs out, only these stay.
 fn put_with_text(
     code: &mut Instrs,
     labels: &mut LabelTable,

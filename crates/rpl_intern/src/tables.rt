@@ -1,5 +1,6 @@
 // Tables that keep each set and each text once, and find it by its hash.
-ghost use Rattle.std.specs.Prelude.{◌≡◌, [], ◌∷◌, IfOk, OnErr, Some, chars, length, slice_get, take};
+ghost use Rattle.std.specs.Prelude.{◌≡◌, [], ◌∷◌, IfOk, OnErr, Some, chars, length, slice_get};
+ghost use Rattle.std.specs.Prelude.{take};
 ghost use Rattle.rpl_intern.specs.Uses.{Keeps};
 
 use crate::NoMemory;
@@ -11,7 +12,8 @@ use rpl_text::Chars;
 use std::alloc::Global;
 use std::marker::Model;
 
-/// Sets in the order of their first uses, each once. Contracts see the list of their lists of ranges.
+/// Sets in the order of their first uses, each once. Contracts see the list of their lists of
+/// ranges.
 #[derive(Drop)]
 pub struct SetTable {
     known: IndexSet<Vec<ClassRange>>,
@@ -40,7 +42,8 @@ impl SetTable {
         }
     }
 
-    /// The number of the set, which is added where it isn't there. Where memory runs out, nothing changes.
+    /// The number of the set, which is added where it isn't there. Where memory runs out, nothing
+    /// changes.
     pub fn keep(&mut self, alloc: Global, set: &Set) -> Result<usize, NoMemory>
         ensures kept { IfOk result (λ k. Keeps self.old (set.now ∷ []) self.new) }
         ensures number { IfOk result (λ k. slice_get self.new k ≡ Some set.now) }
@@ -77,7 +80,8 @@ impl SetTable {
     }
 }
 
-/// Texts in the order of their first uses, each once. Contracts see the list of their lists of characters.
+/// Texts in the order of their first uses, each once. Contracts see the list of their lists of
+/// characters.
 #[derive(Drop)]
 pub struct LabelTable {
     known: IndexSet<Vec<char>>,
@@ -123,7 +127,8 @@ impl LabelTable {
         }
     }
 
-    /// The number of the text, which is added where it isn't there. Where memory runs out, nothing changes.
+    /// The number of the text, which is added where it isn't there. Where memory runs out, nothing
+    /// changes.
     pub fn keep(&mut self, alloc: Global, label: &Chars) -> Result<usize, NoMemory>
         ensures kept { IfOk result (λ k. Keeps self.old (label.now ∷ []) self.new) }
         ensures number { IfOk result (λ k. slice_get self.new k ≡ Some label.now) }

@@ -15,10 +15,11 @@ const MAX_TOKENS: usize = 262_144;
 
 /// The tokens of a text, or its first fault.
 ///
-/// At each place the longest token is taken, with blanks and comments between tokens. Where none begins,
-/// the fault says why: `BadChar` and `OpenText` stand there, `BadEscape` at the backslash and
-/// `NumberTooWide` at the number's first digit. `TooManyTokens` stands at the start of the 262,145th
-/// token, where that has no fault of its own. The time is linear in the length of the text.
+/// At each place the longest token is taken, with blanks and comments between tokens. Where none
+/// begins, the fault says why: `BadChar` and `OpenText` stand there, `BadEscape` at the backslash
+/// and `NumberTooWide` at the number's first digit. `TooManyTokens` stands at the start of the
+/// 262,145th token, where that has no fault of its own. The time is linear in the length of the
+/// text.
 pub fn lex(alloc: Global, text: &str) -> Result<Tokens, LexFault>
     ensures tokens { IfOk result (λ ts. IsCut text.now ts) }
     ensures fault { IfErr result (λ f. f.kind ≢ OutOfMemory → FailsAt text.now f.at f.kind) }

@@ -1,7 +1,9 @@
 // Texts and brackets.
-ghost use Rattle.std.specs.Prelude.{◌≡◌, ◌+◌, ◌^◌, ◌<◌, ◌≤◌, ◌&&◌, not, is_some, length, drop, take, false, IfSome};
+ghost use Rattle.std.specs.Prelude.{◌≡◌, ◌+◌, ◌^◌, ◌<◌, ◌≤◌, ◌&&◌, not, is_some, length, drop};
+ghost use Rattle.std.specs.Prelude.{take, false, IfSome};
 ghost use Rattle.rpl_text.specs.Escapes.{escape};
-ghost use Rattle.rpl_lexer.specs.Enclosed.{opens, closes, hides, ends, depth_after, close, bad, kind_of, enclosed};
+ghost use Rattle.rpl_lexer.specs.Enclosed.{opens, closes, hides, ends, depth_after, close, bad};
+ghost use Rattle.rpl_lexer.specs.Enclosed.{kind_of, enclosed};
 ghost use Rattle.rpl_lexer.specs.Nesting.{nesting};
 ghost use Rattle.rpl_lexer.specs.inside.Spans.{Within};
 
@@ -78,7 +80,8 @@ fn depth_after(enclosure: Enclosure, depth: usize, hidden: bool, b: u8) -> usize
     }
 }
 
-/// How many bytes come up to the closing one and with it; None where the line or the text ends before.
+/// How many bytes come up to the closing one and with it; None where the line or the text ends
+/// before.
 fn close_len(enclosure: Enclosure, bytes: &[u8]) -> Option<usize>
     ensures value { result ≡ close enclosure 0 false bytes.now }
     ensures inside { IfSome result (λ n. n ≤ length bytes.now) }

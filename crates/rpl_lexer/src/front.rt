@@ -1,7 +1,8 @@
 // The token at the front of some bytes.
 ghost use Rattle.std.specs.Prelude.{◌≡◌, ◌+◌, ◌<◌, ◌≤◌, ◌∷◌, length, drop, true};
 ghost use Rattle.rpl_lexer.specs.Bytes.{is_letter, is_digit, is_word, run, begins};
-ghost use Rattle.rpl_lexer.specs.Fronts.{first_name, begins_name, qualifies, name_stands, number_stands, stands};
+ghost use Rattle.rpl_lexer.specs.Fronts.{first_name, begins_name, qualifies, name_stands};
+ghost use Rattle.rpl_lexer.specs.Fronts.{number_stands, stands};
 ghost use Rattle.rpl_lexer.specs.inside.Spans.{Within};
 
 use crate::bounds::brace;

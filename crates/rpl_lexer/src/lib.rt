@@ -1,9 +1,10 @@
 //! The tokens of RPL text: which they are, where each begins and ends, and what it spells.
 //!
-//! For the parser, which goes over the tokens and never over the text. [`lex`] cuts a text whole, or tells
-//! its first fault with its place; the definition is a relation on spans, and there is one cut of each
-//! text. A token is its kind and its two byte places, which are boundaries of characters, and the other
-//! calls say what a token of the text spells. Besides, only memory can run out.
+//! For the parser, which goes over the tokens and never over the text. [`lex`] cuts a text whole,
+//! or tells its first fault with its place; the definition is a relation on spans, and there is one
+//! cut of each text. A token is its kind and its two byte places, which are boundaries of
+//! characters, and the other calls say what a token of the text spells. Besides, only memory can
+//! run out.
 #![tactic(auto)]
 
 mod bounds;

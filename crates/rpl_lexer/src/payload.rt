@@ -1,12 +1,14 @@
 // What tokens say.
-ghost use Rattle.std.specs.Prelude.{◌≡◌, ◌+◌, ◌<◌, ◌≤◌, ◌^◌, Some, IfOk, chars, string_bytes, length, slice_index};
+ghost use Rattle.std.specs.Prelude.{◌≡◌, ◌+◌, ◌<◌, ◌≤◌, ◌^◌, Some, IfOk, chars, string_bytes};
+ghost use Rattle.std.specs.Prelude.{length, slice_index};
 ghost use Rattle.std.specs.Prelude.{slice_range, drop};
 ghost use Rattle.rpl_text.specs.Places.{index, IsPlace, step_from};
 ghost use Rattle.rpl_lexer.specs.Bytes.{is_word, run};
 ghost use Rattle.rpl_lexer.specs.Keywords.{keyword_named};
 ghost use Rattle.rpl_lexer.specs.Signs.{punct};
 ghost use Rattle.rpl_lexer.specs.Nesting.{nesting};
-ghost use Rattle.rpl_lexer.specs.Payloads.{span, inner, decoded, text_of, prefix_of, name_of, keyword_of, punct_of};
+ghost use Rattle.rpl_lexer.specs.Payloads.{span, inner, decoded, text_of, prefix_of, name_of};
+ghost use Rattle.rpl_lexer.specs.Payloads.{keyword_of, punct_of};
 ghost use Rattle.rpl_lexer.specs.Payloads.{number_of, bounds_of};
 ghost use Rattle.rpl_lexer.specs.inside.Decoding.{Decodes};
 ghost use Rattle.rpl_lexer.specs.Cut.{IsToken};
@@ -93,7 +95,8 @@ pub fn bounds_of(text: &str, token: Token) -> Bounds
     bounds_in(inner(text, token).as_bytes())
 }
 
-/// How many brackets are open at once in a Bracket: 1 in `[a]`, 2 in `[[a]]`. An escaped one doesn't count.
+/// How many brackets are open at once in a Bracket: 1 in `[a]`, 2 in `[[a]]`. An escaped one
+/// doesn't count.
 pub fn nesting_of(text: &str, token: Token) -> usize
     requires kind { token.kind ≡ TokenKind.Bracket }
     requires stands { IsToken text.now token }
@@ -111,8 +114,8 @@ fn step_at(text: &str, place: usize) -> Option<(char, usize)>
     Text::new(text).step(place)
 }
 
-/// The character at a place of a text after its opening quote, by an escape or as it stands, and the
-/// place after it; None at the closing quote.
+/// The character at a place of a text after its opening quote, by an escape or as it stands, and
+/// the place after it; None at the closing quote.
 fn next_char(text: &str, place: usize) -> Option<(char, usize)>
     requires { IsPlace (chars text.now) place }
     ensures { Decodes (chars text.now) place result }

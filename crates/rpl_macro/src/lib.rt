@@ -1,8 +1,8 @@
 //! The macros: what each makes of its argument.
 //!
-//! For the loader, which asks by `check_use` whether a use is right, and for the expansion, which needs which macro a
-//! name means and what a change of case does to a set. `apply` is the equation of each macro (`specs/Macros.antt`).
-//! Only memory can run out.
+//! For the loader, which asks by `check_use` whether a use is right, and for the expansion, which
+//! needs which macro a name means and what a change of case does to a set. `apply` is the equation
+//! of each macro (`specs/Macros.antt`). Only memory can run out.
 #![tactic(auto)]
 
 mod casing;

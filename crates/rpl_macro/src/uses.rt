@@ -16,8 +16,8 @@ use rpl_syntax::{Expr, Exprs, Mark, QName, Sign, wrap};
 use rpl_text::Chars;
 use std::alloc::Global;
 
-/// What is wrong with the use of the macro of this name, if anything is: there is no such macro, or it takes a text, as
-/// `message` and `error` do, and the argument isn't one.
+/// What is wrong with the use of the macro of this name, if anything is: there is no such macro, or
+/// it takes a text, as `message` and `error` do, and the argument isn't one.
 pub fn check_use(name: &str, arg: &Expr) -> Option<MacroFault>
     ensures { result ≡ use_fault (kind_of (chars name.now)) (expr_of arg.now) }
 {
@@ -128,9 +128,9 @@ fn error(alloc: Global, arg: Expr) -> Result<Expr, NoMemory>
     pair(alloc, message, halt(alloc)?)
 }
 
-/// What the macro of this name makes of its argument: one step of its equation, which a macro in the argument is no
-/// part of. `find`, `findall` and `keepto` double their argument, so whoever would apply nested ones in turn counts
-/// first.
+/// What the macro of this name makes of its argument: one step of its equation, which a macro in
+/// the argument is no part of. `find`, `findall` and `keepto` double their argument, so whoever
+/// would apply nested ones in turn counts first.
 pub fn apply(alloc: Global, name: &str, arg: Expr) -> Result<Expr, NoMemory>
     requires { use_fault (kind_of (chars name.now)) (expr_of arg) ≡ None }
     ensures { IfOk result (λ e. expr_of e ≡ applied_if (kind_of (chars name.now)) (expr_of arg)) }

@@ -2,9 +2,12 @@
 ghost use Rattle.std.specs.Prelude.{◌≡◌, IfOk, chars};
 ghost use Rattle.rpl_classes.specs.Brackets.{bracket_of};
 ghost use Rattle.rpl_lexer.specs.Cut.{IsToken};
-ghost use Rattle.rpl_lexer.specs.declared.token.TokenKind.TheVariants.{Name as NameKind, Qualified as QualifiedKind};
-ghost use Rattle.rpl_parser.specs.Tokens.{AllStand, capped, capped_most, top_of, bounds_token, bounds_fault};
-ghost use Rattle.rpl_parser.specs.Tokens.{class_token, class_fault, place_in, place_behind, token_by, tokens_of};
+ghost use Rattle.rpl_lexer.specs.declared.token.TokenKind.TheVariants.{Name as NameKind};
+ghost use Rattle.rpl_lexer.specs.declared.token.TokenKind.TheVariants.{Qualified as QualifiedKind};
+ghost use Rattle.rpl_parser.specs.Tokens.{AllStand, capped, capped_most, top_of, bounds_token};
+ghost use Rattle.rpl_parser.specs.Tokens.{bounds_fault};
+ghost use Rattle.rpl_parser.specs.Tokens.{class_token, class_fault, place_in, place_behind};
+ghost use Rattle.rpl_parser.specs.Tokens.{token_by, tokens_of};
 ghost use Rattle.rpl_parser.specs.Tokens.{fault_by, first_bad};
 ghost use Rattle.rpl_syntax.specs.Bounds.{least_of, most_of};
 

@@ -1,5 +1,6 @@
-// The descent: each function reads one nonterminal of the grammar with one token ahead. `depth` is a bound on nesting
-// that the number of tokens always meets; the level that is counted before keeps calls from nesting deep.
+// The descent: each function reads one nonterminal of the grammar with one token ahead. `depth` is
+// a bound on nesting that the number of tokens always meets; the level that is counted before keeps
+// calls from nesting deep.
 ghost use Rattle.std.specs.Prelude.{◌≡◌, suc, ◌∷◌, length, Some};
 ghost use Rattle.rpl_parser.specs.inside.Gives.{Gives};
 ghost use Rattle.rpl_syntax.specs.Reading.{read, item_of, read_item, read_exp, seq_of, parts_of};

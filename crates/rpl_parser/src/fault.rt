@@ -15,11 +15,12 @@ pub enum ParseKind {
     /// The level of nesting passes 100 at this token.
     #[error("nested too deep")]
     TooDeep,
-    /// The statement that begins here, or the pattern, is none of the language, or stands where it may not.
+    /// The statement that begins here, or the pattern, is none of the language, or stands where it
+    /// may not.
     #[error("syntax")]
     Syntax,
-    /// The least number of these bounds is above the most, or one is above 255. Without an upper number `most` is
-    /// `least`.
+    /// The least number of these bounds is above the most, or one is above 255. Without an upper
+    /// number `most` is `least`.
     #[error("bad bounds")]
     BadBounds {
         /// The number before the comma, or 0.

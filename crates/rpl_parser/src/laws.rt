@@ -1,5 +1,6 @@
 // What holds of patterns, of the grammar of statements and of modules.
-ghost use Rattle.std.specs.Prelude.{◌≡◌, ◌⊎◌, ℕ, List, Some, None, Ok, Err, IsUtf8, encode_utf8_all};
+ghost use Rattle.std.specs.Prelude.{◌≡◌, ◌⊎◌, ℕ, List, Some, None, Ok, Err, IsUtf8};
+ghost use Rattle.std.specs.Prelude.{encode_utf8_all};
 ghost use Rattle.rpl_lexer.specs.Cut.{IsCut};
 ghost use Rattle.rpl_lexer.specs.declared.token.Token.{Token as Lexeme};
 ghost use Rattle.rpl_syntax.specs.Expression.{Expr};
@@ -30,15 +31,16 @@ pub fn one_pattern()
         IsPatternFault s ts f → IsPatternFault s ts g → f ≡ g }
 {}
 
-/// A pattern is what its text is read as; and a text that isn't nested too deep is the pattern that it is read as.
+/// A pattern is what its text is read as; and a text that isn't nested too deep is the pattern that
+/// it is read as.
 pub fn patterns_are_readings()
     ensures read { (s : List ℕ) (ts : List Lexeme) (x : Expr) → IsCut s ts → IsPattern s ts x → IsReadAs s x }
     ensures pattern { (s : List ℕ) (ts : List Lexeme) (x : Expr) →
         IsCut s ts → too_deep s ground_level ts ≡ None → IsReadAs s x → IsPattern s ts x }
 {}
 
-/// What is printed of a pattern is that pattern with the braces that printing adds, where it isn't nested too deep; but
-/// for the places of names, nothing else changes.
+/// What is printed of a pattern is that pattern with the braces that printing adds, where it isn't
+/// nested too deep; but for the places of names, nothing else changes.
 pub fn printed_again()
     ensures { (s : List ℕ) (ts us : List Lexeme) (x : Expr) →
         IsUtf8 s → IsCut s ts → IsPattern s ts x → HasFewTokens x →
@@ -52,16 +54,17 @@ pub fn bodies_can_be_written()
         IsUtf8 s → IsCut s ts → IsModule s ts m → BodiesWritten m.items }
 {}
 
-/// No tokens are a spelling of two statements, and reading from left to right finds what they spell.
+/// No tokens are a spelling of two statements, and reading from left to right finds what they
+/// spell.
 pub fn one_line()
     ensures only { (p : List Token) (l m : S.Line) → Spells p l → Spells p m → l ≡ m }
     ensures read { (p : List Token) (l : S.Line) → Spells p l → line_of p ≡ Some l }
     ensures spelled { (p : List Token) (l : S.Line) → line_of p ≡ Some l → Spells p l }
 {}
 
-/// No tokens of a text are a spelling of two modules, and those of a text are a module or have a first fault. What is
-/// read statement by statement is just the module that they spell, where none of them is at fault, and what is refused
-/// just their first fault.
+/// No tokens of a text are a spelling of two modules, and those of a text are a module or have a
+/// first fault. What is read statement by statement is just the module that they spell, where none
+/// of them is at fault, and what is refused just their first fault.
 pub fn one_module()
     ensures either { (s : List ℕ) (ts : List Lexeme) →
         ((m : ParsedModule) × IsModule s ts m) ⊎ ((f : ParseFault) × IsModuleFault s ts f) }

@@ -1,8 +1,10 @@
 // How deep tokens are nested.
 ghost use Rattle.std.specs.Prelude.{◌≡◌, ◌<◌, IfOk, OnOk, drop};
 ghost use Rattle.rpl_lexer.specs.Cut.{IsToken};
-ghost use Rattle.rpl_lexer.specs.declared.punct.Punct.TheVariants.{Slash, Bang, OpenParen, CloseParen, Ampersand};
-ghost use Rattle.rpl_parser.specs.Levels.{ground_level, sign_level, level_after, Level, reach_by, colon_by};
+ghost use Rattle.rpl_lexer.specs.declared.punct.Punct.TheVariants.{Slash, Bang, OpenParen};
+ghost use Rattle.rpl_lexer.specs.declared.punct.Punct.TheVariants.{CloseParen, Ampersand};
+ghost use Rattle.rpl_parser.specs.Levels.{ground_level, sign_level, level_after, Level, reach_by};
+ghost use Rattle.rpl_parser.specs.Levels.{colon_by};
 ghost use Rattle.rpl_parser.specs.Levels.{colon_next, too_deep};
 ghost use Rattle.rpl_parser.specs.inside.Stacks.{level_of};
 ghost use Rattle.rpl_parser.specs.Tokens.{AllStand};

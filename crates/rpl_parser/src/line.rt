@@ -1,7 +1,8 @@
 // Statements, one by one.
 ghost use Rattle.std.specs.Prelude.{◌≡◌, ℕ, suc, ◌∷◌, length, Some, true, false, IfSome, IfNone};
 ghost use Rattle.rpl_parser.specs.inside.Gives.{Gives};
-ghost use Rattle.rpl_parser.specs.Lines.{path_of, as_of, entry_of, entries_of, all_of, binds, line_of};
+ghost use Rattle.rpl_parser.specs.Lines.{path_of, as_of, entry_of, entries_of, all_of, binds};
+ghost use Rattle.rpl_parser.specs.Lines.{line_of};
 ghost use Rattle.rpl_parser.specs.inside.Lines.{is_path_end, comma};
 ghost use Rattle.rpl_parser.specs.inside.Statements.{line_seen};
 ghost use Rattle.rpl_lexer.specs.declared.keyword.Keyword.TheVariants.{Rpl, Package};

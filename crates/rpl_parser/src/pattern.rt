@@ -67,9 +67,9 @@ fn read_pattern(alloc: Global, text: &str, lexemes: &[Lexeme]) -> Result<Expr, P
     }
 }
 
-/// Reads a text with its tokens as a pattern. The first fault is answered: TooDeep, where the level of nesting passes
-/// 100; else Syntax at the first token, or at 0 where there is none, where the tokens spell no expression; else the
-/// first by place of BadBounds and Class.
+/// Reads a text with its tokens as a pattern. The first fault is answered: TooDeep, where the level
+/// of nesting passes 100; else Syntax at the first token, or at 0 where there is none, where the
+/// tokens spell no expression; else the first by place of BadBounds and Class.
 pub fn parse_pattern(alloc: Global, text: &str, tokens: &Tokens) -> Result<Expr, ParseFault>
     requires { IsCut text.now tokens.now }
     ensures ok { IfOk result (λ x. IsPattern text.now tokens.now (expr_of x)) }

@@ -1,9 +1,11 @@
-// The pieces of a module: each is a statement's tokens. They are told apart before any bracket is read.
+// The pieces of a module: each is a statement's tokens. They are told apart before any bracket is
+// read.
 ghost use Rattle.std.specs.Prelude.{◌≡◌, ◌<◌, ◌≤◌, length, drop};
 ghost use Rattle.rpl_lexer.specs.Cut.{IsToken};
 ghost use Rattle.rpl_parser.specs.Pieces.{front, piece_len, closes_later};
 ghost use Rattle.rpl_parser.specs.Tokens.{AllStand, token_by, tokens_of};
-ghost use Rattle.rpl_parser.specs.inside.Roles.{sign_role, role_of, next_role, is_local, leads, is_end, begins_by};
+ghost use Rattle.rpl_parser.specs.inside.Roles.{sign_role, role_of, next_role, is_local, leads};
+ghost use Rattle.rpl_parser.specs.inside.Roles.{is_end, begins_by};
 
 use rpl_lexer::{Keyword, Punct, Token, TokenKind, keyword_of, punct_of};
 

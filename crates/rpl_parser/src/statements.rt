@@ -47,7 +47,8 @@ fn checked(
     }
 }
 
-/// The statement that a piece spells, and what is bad in it. Its level is counted before any of its brackets is read.
+/// The statement that a piece spells, and what is bad in it. Its level is counted before any of its
+/// brackets is read.
 fn read_piece(
     alloc: Global,
     text: &str,
@@ -103,10 +104,10 @@ fn read_all(alloc: Global, text: &str, lexemes: &[Lexeme]) -> Result<Module, Par
     walk.finish()
 }
 
-/// Reads a text with its tokens as a module. Statements are taken in order, and the first with a fault decides: first
-/// TooDeep, where the level of nesting passes 100; else Syntax at its first token, where it is no statement or stands
-/// out of its place; else the first by place of BadBounds and Class. Version comes after all statements, where the
-/// version is not 1.0 to 1.4.
+/// Reads a text with its tokens as a module. Statements are taken in order, and the first with a
+/// fault decides: first TooDeep, where the level of nesting passes 100; else Syntax at its first
+/// token, where it is no statement or stands out of its place; else the first by place of BadBounds
+/// and Class. Version comes after all statements, where the version is not 1.0 to 1.4.
 pub fn parse_module(alloc: Global, text: &str, tokens: &Tokens) -> Result<Module, ParseFault>
     requires { IsCut text.now tokens.now }
     ensures ok { IfOk result (λ m. IsModule text.now tokens.now (said m)) }

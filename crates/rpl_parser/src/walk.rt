@@ -3,7 +3,8 @@ ghost use Rattle.std.specs.Prelude.{◌≡◌, Some};
 ghost use Rattle.rpl_parser.specs.inside.Gives.{Gives};
 ghost use Rattle.rpl_parser.specs.Pieces.{closes_later};
 ghost use Rattle.rpl_parser.specs.Tokens.{AllStand, tokens_of};
-ghost use Rattle.rpl_parser.specs.Walks.{begun, versioned, packaged, imported, ruled, bound, opened, split, shut};
+ghost use Rattle.rpl_parser.specs.Walks.{begun, versioned, packaged, imported, ruled, bound};
+ghost use Rattle.rpl_parser.specs.Walks.{opened, split, shut};
 ghost use Rattle.rpl_parser.specs.Walks.{closed, place, finish};
 ghost use Rattle.rpl_parser.specs.Answers.{Answers};
 ghost use Rattle.rpl_parser.specs.inside.Walked.{walk_of, inside};
@@ -187,7 +188,8 @@ impl Walk {
         }
     }
 
-    /// Takes one more statement, which begins at this place. The tokens after it say whether a block is closed.
+    /// Takes one more statement, which begins at this place. The tokens after it say whether a
+    /// block is closed.
     pub fn place(
         &mut self,
         alloc: Global,

@@ -7,27 +7,29 @@ ghost use Rattle.rpl_syntax.specs.Braces.{again, plain};
 ghost use Rattle.rpl_syntax.specs.Readable.{Good};
 ghost use Rattle.rpl_syntax.specs.Trees.{exp_tree};
 ghost use Rattle.rpl_syntax.specs.Reading.{read};
-ghost use Rattle.rpl_syntax.specs.Texts.{IsReadAs, ReadsAsItself, ReadsBack, HasFewTokens, Writable};
+ghost use Rattle.rpl_syntax.specs.Texts.{IsReadAs, ReadsAsItself, ReadsBack, HasFewTokens};
+ghost use Rattle.rpl_syntax.specs.Texts.{Writable};
 ghost use Rattle.rpl_syntax.specs.Writing.{write_exp};
 ghost use Rattle.rpl_syntax.specs.declared.token.Token.{Token};
 
-/// No tokens are a spelling of two expressions, and reading from left to right finds what they spell.
+/// No tokens are a spelling of two expressions, and reading from left to right finds what they
+/// spell.
 pub fn one_reading()
     ensures only { (p : List Token) (x y : M.Expr) → Reads p x → Reads p y → x ≡ y }
     ensures read { (p : List Token) (x : M.Expr) → Reads p x → read p ≡ Some x }
     ensures spelled { (p : List Token) (x : M.Expr) → read p ≡ Some x → Reads p x }
 {}
 
-/// The tokens of the printed text of what some tokens spell are a spelling of it with the braces that printing adds:
-/// a choice or an `&` that stands as an item, and what a quantifier can't stand after, is then a raw group of one
-/// item.
-/// But for the places of names, nothing else changes.
+/// The tokens of the printed text of what some tokens spell are a spelling of it with the braces
+/// that printing adds: a choice or an `&` that stands as an item, and what a quantifier can't stand
+/// after, is then a raw group of one item. But for the places of names, nothing else changes.
 pub fn reads_back()
     ensures { (p : List Token) (x : M.Expr) → Reads p x →
         (y : M.Expr) × Reads (spell_exp (exp_tree x) []) y × (plain y ≡ plain (again x)) }
 {}
 
-/// The printed text of an expression is its tree as it is written: the text of each token in turn, with spaces between.
+/// The printed text of an expression is its tree as it is written: the text of each token in turn,
+/// with spaces between.
 pub fn prints_tree()
     ensures { (x : M.Expr) → Good x → printed x ≡ write_exp (exp_tree x) [] }
 {}
@@ -38,14 +40,15 @@ pub fn readings_of_texts()
     ensures writable { (s : List ℕ) (x : M.Expr) → IsUtf8 s → IsReadAs s x → Good x × Writable x }
 {}
 
-/// The printed text of an expression is read as that expression with the braces that printing adds, and nothing else
-/// changes but the places of names.
+/// The printed text of an expression is read as that expression with the braces that printing adds,
+/// and nothing else changes but the places of names.
 pub fn printed_reads_back()
     ensures { (x : M.Expr) → Good x → Writable x → HasFewTokens x → ReadsBack x }
 {}
 
-/// What a text is read as is printed, and the printed text is read as the same expression, up to the places of names
-/// and up to taking a raw group of one item as that item. So is what is printed of anything that can be written.
+/// What a text is read as is printed, and the printed text is read as the same expression, up to
+/// the places of names and up to taking a raw group of one item as that item. So is what is printed
+/// of anything that can be written.
 pub fn printed_reads_as_itself()
     ensures read { (s : List ℕ) (x : M.Expr) → IsUtf8 s → IsReadAs s x → HasFewTokens x → ReadsAsItself x }
     ensures written { (x : M.Expr) → Good x → Writable x → HasFewTokens x → ReadsAsItself x }

@@ -1,9 +1,11 @@
-//! The syntax of RPL: tokens with what they stand for, expressions, modules, the grammar, and printing.
+//! The syntax of RPL: tokens with what they stand for, expressions, modules, the grammar, and
+//! printing.
 //!
-//! For the parser, which makes expressions and modules of tokens, and for all that walk over them. The grammar
-//! (`specs/Grammar.antt`) is a relation with one case for each of its lines; the laws promise that no tokens are a
-//! spelling of two expressions, and that the printed text of an expression is cut into tokens that are read as that
-//! expression (`specs/Texts.antt`). Besides, only memory can run out.
+//! For the parser, which makes expressions and modules of tokens, and for all that walk over them.
+//! The grammar (`specs/Grammar.antt`) is a relation with one case for each of its lines; the laws
+//! promise that no tokens are a spelling of two expressions, and that the printed text of an
+//! expression is cut into tokens that are read as that expression (`specs/Texts.antt`). Besides,
+//! only memory can run out.
 #![tactic(auto)]
 
 mod build;

@@ -1,8 +1,10 @@
 // The printed text of an expression, which reads back as that expression.
 ghost use Rattle.std.specs.Prelude.{◌≡◌, [], ◌∷◌, ◌++◌, IfOk, OnOk};
-ghost use Rattle.rpl_syntax.specs.Printed.{is_joined, is_compound, in_braces, printed, items_printed, parts_printed};
+ghost use Rattle.rpl_syntax.specs.Printed.{is_joined, is_compound, in_braces, printed};
+ghost use Rattle.rpl_syntax.specs.Printed.{items_printed, parts_printed};
 ghost use Rattle.rpl_syntax.specs.Printed.{sign_char};
-ghost use Rattle.rpl_syntax.specs.inside.Pieces.{item_printed, body_printed, part_of_choice, item_of_group};
+ghost use Rattle.rpl_syntax.specs.inside.Pieces.{item_printed, body_printed, part_of_choice};
+ghost use Rattle.rpl_syntax.specs.inside.Pieces.{item_of_group};
 ghost use Rattle.rpl_syntax.specs.View.{expr_of, shown};
 
 use crate::NoMemory;
@@ -178,9 +180,8 @@ impl Printer {
     }
 }
 
-/// The text of an expression, as `specs/Printed.antt` defines it. What only macros make has no spelling: of `Marked`
-/// the
-/// body is printed, of `Note` the text.
+/// The text of an expression, as `specs/Printed.antt` defines it. What only macros make has no
+/// spelling: of `Marked` the body is printed, of `Note` the text.
 pub fn print_expr(alloc: Global, e: &Expr) -> Result<Chars, NoMemory>
     ensures { IfOk result (λ text. text ≡ printed (expr_of e.now)) }
 {

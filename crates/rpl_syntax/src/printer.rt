@@ -1,8 +1,11 @@
 // A text that grows by what an expression is made of.
 ghost use Rattle.std.specs.Fmt.{decimal};
-ghost use Rattle.std.specs.Prelude.{◌≡◌, ◌<◌, ◌+◌, ◌/◌, ◌%◌, None, [], ◌∷◌, ◌++◌, chars, OnOk, IfOk};
-ghost use Rattle.rpl_syntax.specs.Printed.{digit_char, quoted_char, quoted, literal_text, four_digits, point_text};
-ghost use Rattle.rpl_syntax.specs.Printed.{range_text, ranges_text, members_text, caret_text, class_text, name_text};
+ghost use Rattle.std.specs.Prelude.{◌≡◌, ◌<◌, ◌+◌, ◌/◌, ◌%◌, None, [], ◌∷◌, ◌++◌, chars, OnOk};
+ghost use Rattle.std.specs.Prelude.{IfOk};
+ghost use Rattle.rpl_syntax.specs.Printed.{digit_char, quoted_char, quoted, literal_text};
+ghost use Rattle.rpl_syntax.specs.Printed.{four_digits, point_text};
+ghost use Rattle.rpl_syntax.specs.Printed.{range_text, ranges_text, members_text, caret_text};
+ghost use Rattle.rpl_syntax.specs.Printed.{class_text, name_text};
 ghost use Rattle.rpl_syntax.specs.Printed.{bounds_text, quant_text};
 
 use crate::NoMemory;

@@ -3,8 +3,8 @@ use rpl_classes::Set;
 use rpl_lexer::{Keyword, Punct};
 use rpl_text::Chars;
 
-/// A token with what it stands for: the characters of a text with its escapes read, the set of a bracket, the
-/// numbers of bounds. A name keeps its byte place, which an expression keeps too.
+/// A token with what it stands for: the characters of a text with its escapes read, the set of a
+/// bracket, the numbers of bounds. A name keeps its byte place, which an expression keeps too.
 #[derive(Debug, Drop)]
 pub enum Token {
     Name {

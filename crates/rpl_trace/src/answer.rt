@@ -5,7 +5,8 @@ use rpl_text::Chars;
 use std::alloc::AllocError;
 use thiserror::Error;
 
-/// The text of a trace, a line for each evaluation, and the place in bytes where the match ends, if there is one.
+/// The text of a trace, a line for each evaluation, and the place in bytes where the match ends, if
+/// there is one.
 #[derive(Drop)]
 pub struct Trace {
     pub printed: Chars,

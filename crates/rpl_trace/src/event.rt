@@ -29,7 +29,7 @@ pub(crate) enum Event<'a> {
     Begins { kind: Kind<'a>, start: usize },
     /// The innermost evaluation under way ends.
     Ends(End),
-    /// The innermost one was to be a turn, and its body doesn't succeed: it is none, and what it made stands in its
-    /// place.
+    /// The innermost one was to be a turn, and its body doesn't succeed: it is none, and what it
+    /// made stands in its place.
     Vanishes,
 }

@@ -25,9 +25,10 @@ use std::alloc::Global;
 
 /// The trace of a checked goal on a text: the evaluations that its outcome makes, printed.
 ///
-/// It is refused exactly where the outcome takes more work than `limit`, and no more evaluations than that are made. It
-/// takes time and memory for each of them and for what is printed, and no stack. It needs that the goal means something
-/// on every text, as each goal does that `check_pattern` lets pass.
+/// It is refused exactly where the outcome takes more work than `limit`, and no more evaluations
+/// than that are made. It takes time and memory for each of them and for what is printed, and no
+/// stack. It needs that the goal means something on every text, as each goal does that
+/// `check_pattern` lets pass.
 pub fn trace(
     alloc: Global,
     checked: &Checked,

@@ -1,5 +1,6 @@
 // The lines of a trace, of what happened in it.
-ghost use Rattle.std.specs.Prelude.{◌≡◌, ◌+◌, ◌-◌, ◌<◌, ◌≤◌, ◌^◌, ℕ, List, [], ◌∷◌, ◌++◌, reverse, OnOk, IfOk, map};
+ghost use Rattle.std.specs.Prelude.{◌≡◌, ◌+◌, ◌-◌, ◌<◌, ◌≤◌, ◌^◌, ℕ, List, [], ◌∷◌, ◌++◌, reverse};
+ghost use Rattle.std.specs.Prelude.{OnOk, IfOk, map};
 ghost use Rattle.rpl_trace.specs.Evaluations.{Evaluations};
 ghost use Rattle.rpl_trace.specs.inside.Seen.{EventStands, EventsStand};
 ghost use Rattle.rpl_trace.specs.inside.Standing.{Standing, Whole, after, standing};

@@ -1,8 +1,8 @@
 // What is still to be done in a trace.
 use rpl_core::Peg;
 
-/// What is to be done once the evaluation before it has ended, by how that ended. Places are numbers of bytes, lengths
-/// numbers of characters.
+/// What is to be done once the evaluation before it has ended, by how that ended. Places are
+/// numbers of bytes, lengths numbers of characters.
 #[derive(Clone, Copy)]
 pub(crate) enum Task<'a> {
     /// Evaluate the pattern, where the one before it matched up to a place.
@@ -17,7 +17,8 @@ pub(crate) enum Task<'a> {
     Not(usize),
     /// What an `And` makes of its body.
     And(usize),
-    /// What a length of a look-behind makes of its body: it matches where that ends just at the place.
+    /// What a length of a look-behind makes of its body: it matches where that ends just at the
+    /// place.
     Meets(usize),
     /// The lengths that are left of a look-behind, where the one before them failed.
     Lengths(Lengths<'a>),

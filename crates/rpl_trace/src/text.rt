@@ -1,5 +1,6 @@
 // The text of a trace.
-ghost use Rattle.std.specs.Prelude.{◌≡◌, ◌++◌, [], ℕ, List, OnOk, IfOk, reverse, map, slice_index_or, string_bytes};
+ghost use Rattle.std.specs.Prelude.{◌≡◌, ◌++◌, [], ℕ, List, OnOk, IfOk, reverse, map};
+ghost use Rattle.std.specs.Prelude.{slice_index_or, string_bytes};
 ghost use Rattle.std.specs.Str.{encode_utf8_all};
 ghost use Rattle.rpl_core.specs.Listed.{rules_of};
 ghost use Rattle.rpl_core.specs.Table.{names_of};
@@ -8,7 +9,8 @@ ghost use Rattle.rpl_text.specs.Places.{index, IsPlace};
 ghost use Rattle.rpl_trace.specs.inside.Kinds.{kind_of};
 ghost use Rattle.rpl_trace.specs.Printed as P;
 ghost use Rattle.rpl_trace.specs.inside.Seen.{kind_seen, end_seen, EndStands};
-ghost use Rattle.rpl_trace.specs.inside.Lines.{LineStands, LinesStand, row_seen, row_text, rows_text};
+ghost use Rattle.rpl_trace.specs.inside.Lines.{LineStands, LinesStand, row_seen, row_text};
+ghost use Rattle.rpl_trace.specs.inside.Lines.{rows_text};
 
 use crate::event::{End, Kind};
 use crate::lines::Line;

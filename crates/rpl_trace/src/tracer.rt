@@ -1,4 +1,5 @@
-// A goal evaluated step by step: what is still to be done stands on a stack, what happened in a list.
+// A goal evaluated step by step: what is still to be done stands on a stack, what happened in a
+// list.
 ghost use Rattle.std.specs.Prelude.{◌≡◌, ◌+◌, ◌-◌, ◌^◌, ◌<◌, ◌≤◌, ℕ, List, [], slice_get, false};
 ghost use Rattle.std.specs.Prelude.{MatchOption, OnOk, IfOk, IfErr};
 ghost use Rattle.rpl_core.specs.Core.{Core, Choice, NoMore, Then};
@@ -16,7 +17,8 @@ ghost use Rattle.rpl_trace.specs.declared.task.Task.TheVariants as T;
 ghost use Rattle.rpl_trace.specs.inside.Levels.{AreAlike, is_alone};
 ghost use Rattle.rpl_trace.specs.inside.Seen.{EndStands};
 ghost use Rattle.rpl_trace.specs.inside.Tasks.{TaskStands};
-ghost use Rattle.rpl_trace.specs.inside.Steps.{Calls, Chooses, Comes, Done, Enters, Goes, Refused, Stands};
+ghost use Rattle.rpl_trace.specs.inside.Steps.{Calls, Chooses, Comes, Done, Enters, Goes, Refused};
+ghost use Rattle.rpl_trace.specs.inside.Steps.{Stands};
 ghost use Rattle.rpl_trace.specs.inside.Steps.{counted, due, happened, left, state_of};
 
 use crate::answer::TraceFault;
@@ -200,7 +202,8 @@ impl<'a> Tracer<'a> {
         }
     }
 
-    /// What is inside an evaluation of a pattern at a place, which has just begun, up to the first evaluation in it.
+    /// What is inside an evaluation of a pattern at a place, which has just begun, up to the first
+    /// evaluation in it.
     fn enter(
         &mut self,
         rules: &'a Rules,
