@@ -17,7 +17,8 @@ use Rattle.rpl_load_laws.proofs.Labels.{AreLabelled, AreFree, labels, free_with,
 use Rattle.rpl_load_laws.proofs.Lists.{nth_end, nth_last, nth_more}
 use Rattle.rpl_load_laws.proofs.Steps.{both}
 use Rattle.rpl_load_laws.proofs.Texts.{label_plain, plain_text}
-use Rattle.rpl_load_laws.proofs.Under.{AreUnder, under_kept, label_kept, plain_rules, statements_in, taken_in, prefix_at}
+use Rattle.rpl_load_laws.proofs.Under.{AreUnder, Dotless, all_dotless, under_kept, label_kept, plain_rules, statements_in, taken_in}
+use Rattle.rpl_load_laws.proofs.Under.{prefix_at}
 
 -- ---- all rules stand under their names
 
@@ -62,11 +63,11 @@ kept hs s t (text gs a f) h = record {
 }
 kept hs s t (said gs a f k x m is e) h = record {
   all = h.all;
-  own = statements_in AreUnder HasNoDot under_kept f k s.stock.modules x.items s.own m (plain_text x is).dotless h.own e;
+  own = statements_in AreUnder HasNoDot Dotless under_kept f k s.stock.modules x.items s.own m (all_dotless k x.items (plain_text x is).dotless) h.own e;
 }
 kept hs s t (again gs a f i j m asked k e) h = record {
   all = h.all;
-  own = taken_in AreUnder HasNoDot under_kept f i j s.stock.modules s.own m
+  own = taken_in AreUnder HasNoDot Dotless under_kept f i j s.stock.modules s.own m
       (plain_rules (nth s.stock.modules j) (λ y at. h.all.each j y at)) h.own e;
 }
 kept hs s t (imported gs a u f i x m asked is unheld b e) h =
@@ -78,7 +79,7 @@ kept hs s t (imported gs a u f i x m asked is unheld b e) h =
     let ms = (finished u.stock u.own).modules in
     record {
       all = all;
-      own = taken_in AreUnder HasNoDot under_kept f i n ms s.own m (plain_rules (nth ms n) (λ y at. all.each n y at))
+      own = taken_in AreUnder HasNoDot Dotless under_kept f i n ms s.own m (plain_rules (nth ms n) (λ y at. all.each n y at))
           h.own e;
     }
 kept hs s t (rooted gs a u x q is name fresh unheld b) h =
@@ -226,9 +227,9 @@ put_apart f e j i s t (Some m) h at g =
     let c = both (add_prefix f e.at e.path j m) (λ n. Ok (with_module s i n)) t g in
     let k : with_module s i c.0 ≡ t = (let q = c.2 in cc) in
     let o = first_of e.path m.prefixes in
-    let label = prefix_at (λ y. y.label ≡ m.label) (λ k. Unit {0}) (label_kept m.label) f e.at e.path j m c.0 o refl refl
+    let label = prefix_at (λ y. y.label ≡ m.label) (λ k. Unit {0}) Dotless (label_kept m.label) f e.at e.path j m c.0 o refl refl
     c.1 in
-    let own = prefix_at AreUnder HasNoDot under_kept f e.at e.path j m c.0 o refl (h.apart.under.each i m at) c.1 in
+    let own = prefix_at AreUnder HasNoDot Dotless under_kept f e.at e.path j m c.0 o refl (h.apart.under.each i m at) c.1 in
     subst (λ x. IsApart x i) k (with_apart s i m c.0 h at own label)
 
 -- so it is in every set that is built

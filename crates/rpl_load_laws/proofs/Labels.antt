@@ -11,7 +11,7 @@ use Rattle.rpl_package.specs.Built.{Becomes, same, on, text, said, again, import
 use Rattle.rpl_load_laws.proofs.FullNames.{star}
 use Rattle.rpl_load_laws.proofs.Lists.{first_more, nth_end}
 use Rattle.rpl_load_laws.proofs.Texts.{label_plain, plain_text}
-use Rattle.rpl_load_laws.proofs.Under.{all_unit, first_new, label_kept, statements_in, taken_in}
+use Rattle.rpl_load_laws.proofs.Under.{Dotless, all_dotless, all_unit, first_new, label_kept, statements_in, taken_in}
 
 -- ---- names that are held
 
@@ -197,13 +197,13 @@ labels hs s t (text gs a f) h k = record { labelled = h; free = k; own = refl }
 labels hs s t (said gs a f k x m is e) h free = record {
   labelled = h;
   free = free;
-  own = statements_in (λ y. y.label ≡ s.own.label) (λ k. Unit {0}) (label_kept s.own.label) f k s.stock.modules x.items
-      s.own m (plain_text x is).dotless refl e;
+  own = statements_in (λ y. y.label ≡ s.own.label) (λ k. Unit {0}) Dotless (label_kept s.own.label) f k s.stock.modules x.items
+      s.own m (all_dotless k x.items (plain_text x is).dotless) refl e;
 }
 labels hs s t (again gs a f i j m asked k e) h free = record {
   labelled = h;
   free = free;
-  own = taken_in (λ y. y.label ≡ s.own.label) (λ k. Unit {0}) (label_kept s.own.label) f i j s.stock.modules s.own m
+  own = taken_in (λ y. y.label ≡ s.own.label) (λ k. Unit {0}) Dotless (label_kept s.own.label) f i j s.stock.modules s.own m
       (all_unit (rules_at (nth s.stock.modules j))) refl e;
 }
 labels hs s t (imported gs a u f i x m asked is unheld b e) h free =
@@ -214,7 +214,7 @@ labels hs s t (imported gs a u f i x m asked is unheld b e) h free =
     record {
       labelled = d.0;
       free = d.1;
-      own = taken_in (λ y. y.label ≡ s.own.label) (λ k. Unit {0}) (label_kept s.own.label) f i (length u.stock.modules)
+      own = taken_in (λ y. y.label ≡ s.own.label) (λ k. Unit {0}) Dotless (label_kept s.own.label) f i (length u.stock.modules)
           (finished u.stock u.own).modules s.own m
           (all_unit (rules_at (nth (finished u.stock u.own).modules (length u.stock.modules)))) refl e;
     }

@@ -31,3 +31,5 @@ pub mod Listing
 pub mod Told
 pub mod Bounds
 pub mod Names
+pub mod Choices
+pub mod Parts

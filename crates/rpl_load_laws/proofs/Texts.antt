@@ -1,8 +1,8 @@
--- What the texts that are read say: no block has a boundary, no rule has a dot in its name, and no star is the package
--- name of a text or stands last in the path of an import.
+-- What the texts that are read say: no block has a boundary, no rule has a dot in its name, the body of each is of the
+-- form of a reading, and no star is the package name of a text or stands last in the path of an import.
 use Rattle.std.proofs.Common.{◌≡◌, ◌≢◌, ℕ, List, [], ◌∷◌, ◌++◌, length, Option, Some, None, sym, ap, subst, refl}
 use Rattle.std.proofs.Common.{◌∙◌, arith}
-use Rattle.std.specs.Prelude.{true, false, Result, Ok, Err}
+use Rattle.std.specs.Prelude.{Bool, true, false, IsUtf8, Result, Ok, Err}
 use Rattle.std.specs.List.{AllByRecursion}
 use Rattle.std.proofs.lemmas.List.{length-append}
 use Rattle.std.proofs.lemmas.List.Elements.{All-contains, All-from_recursion}
@@ -14,11 +14,13 @@ use Rattle.rpl_lexer.specs.declared.punct.Punct.TheVariants.{Comma}
 use Rattle.rpl_lexer.specs.declared.token.Token.{Token as Lexeme}
 use Rattle.rpl_lexer.proofs.Computing.{cut_found}
 use Rattle.rpl_lexer.proofs.Cuts.{tokens_stand}
-use Rattle.rpl_syntax.specs.Modules.{Rule, ParsedModule}
+use Rattle.rpl_syntax.specs.Modules.{Rule, Entry, One, Block, ParsedModule}
+use Rattle.rpl_syntax.specs.Readable.{Good}
 use Rattle.rpl_syntax.specs.declared.module.Import.{Import}
 use Rattle.rpl_syntax.specs.declared.name.QName.{QName}
 use Rattle.rpl_syntax.specs.declared.token.Token.{Token}
 use Rattle.rpl_syntax.specs.declared.token.Token.TheVariants as T
+use Rattle.rpl_parser.specs.Bodies.{BodiesWritten, EntryWritten, RulesWritten}
 use Rattle.rpl_parser.specs.Order.{Placed, Title, Importing, Part, Alone, Whole, Halves, NoneLocal, LocalOutside}
 use Rattle.rpl_parser.specs.Order.{AllLocalOutside, rule_lines, part_lines, parts_lines, import_lines, title_lines}
 use Rattle.rpl_parser.specs.Order.{version_lines, outline_lines, part_entry, part_entries, Stands, AreLines, IsModule}
@@ -30,10 +32,13 @@ use Rattle.rpl_parser.specs.Tokens.{AllStand, tokens_of}
 use Rattle.rpl_parser.specs.Walks.{module_of}
 use Rattle.rpl_parser.specs.declared.fault.ParseFault.{ParseFault}
 use Rattle.rpl_parser.specs.declared.walk.Numbered.{Numbered}
+use Rattle.rpl_parser.proofs.Bodies.{bodies_written}
 use Rattle.rpl_parser.proofs.Cutting.{take_all, drop_all}
 use Rattle.rpl_parser.proofs.Modules.{module_sound}
 use Rattle.rpl_parser.proofs.Told.{all_said}
 use Rattle.rpl_parser.proofs.Walking.{stands_take, stands_drop}
+use Rattle.rpl_scope.specs.Packages.{Rule as Scoped}
+use Rattle.rpl_scope.specs.Statements.{block_rules, rules_of}
 use Rattle.rpl_package.specs.Loading.{label_of}
 use Rattle.rpl_package.specs.Tables.{boundary_name}
 use Rattle.rpl_package.specs.Texts.{of_cut, of_parse}
@@ -42,6 +47,7 @@ use Rattle.rpl_load_laws.proofs.Asked.{goal_ends}
 use Rattle.rpl_load_laws.proofs.Entering.{AreUnmarked, IsPlainEntry, ArePlainEntries}
 use Rattle.rpl_load_laws.proofs.FullNames.{AreDotless, AreDotlessEntries, HasNoDot, IsDotlessEntry, mark_has_none, star}
 use Rattle.rpl_load_laws.proofs.Lists.{all_append}
+use Rattle.rpl_load_laws.proofs.Under.{AllMake}
 use Rattle.rpl_load_laws.proofs.Words.{All_named, EndsWell, all_named, name_ends, no_dot, no_star, under_ends}
 
 -- ---- imports
@@ -165,19 +171,42 @@ past_version : (o : Option Numbered) (q : List Placed) → LinesPlain (version_l
 past_version None q h = h
 past_version (Some v) q h = h.1
 
+-- the body of each rule that they make is of the form of a reading
+abbrev pub RuleGood : Scoped → Type 0
+RuleGood r = Good r.body
+
+block_good : (k start : ℕ) (hidden : Bool) (bs : List Rule) → RulesWritten bs
+    → AllByRecursion RuleGood (block_rules k start hidden bs)
+block_good k start hidden [] h = tt
+block_good k start hidden (b ∷ bs) h = (h.0.0, block_good k start hidden bs h.1)
+
+entry_good : (k n : ℕ) (e : Entry) → EntryWritten e → AllByRecursion RuleGood (rules_of k n e)
+entry_good k n (One b) h = (h.0, tt)
+entry_good k n (Block hs vs) h =
+    all_append RuleGood (block_rules k n true hs) (block_rules k n false vs) (block_good k n true hs h.0)
+    (block_good k n false vs h.1)
+
+entries_good : (k : ℕ) (es : List Entry) → BodiesWritten es → AllMake RuleGood k es
+entries_good k [] h = tt
+entries_good k (e ∷ es) h = (λ n. entry_good k n e h.0, entries_good k es h.1)
+
 -- what is known of all that is read
 pub record IsPlain (t : ParsedModule) : Type 0 where
+  pub good : (k : ℕ) → AllMake RuleGood k t.items
   pub unmarked : ArePlainEntries t.items
   pub dotless : AreDotlessEntries t.items
   pub title : (n : QName) → t.name ≡ Some n → n.name ≢ star
   pub imports : AllByRecursion ImportEnds t.imports
 
-module_plain : (s : List ℕ) (ts : List Lexeme) (m : ParsedModule) → IsCut s ts → IsModule s ts m → IsPlain m
-module_plain s ts m c h =
+module_plain : (s : List ℕ) (ts : List Lexeme) (m : ParsedModule) → IsUtf8 s → IsCut s ts → IsModule s ts m
+    → IsPlain m
+module_plain s ts m u c h =
     let all = lines_plain s ts (outline_lines h.tree) (λ i t e. tokens_stand s ts i t c e) h.spelled in
     let title = past_title h.tree.title _ (past_version h.tree.version _ all) in
     let imports = imports_end h.tree.imports _ title.1 in
+    let whole = subst (λ y. BodiesWritten y.items) h.stands_for (bodies_written s ts m u c h) in
     subst IsPlain (sym h.stands_for) (record {
+      good = λ k. entries_good k _ whole;
       unmarked = parts_plain h.tree.parts h.blocks imports.1;
       dotless = parts_dotless h.tree.parts imports.1;
       title = title.0;
@@ -186,18 +215,18 @@ module_plain s ts m c h =
 
 -- ---- texts
 
-by_parse : (f s : List ℕ) (ts : List Lexeme) (t : ParsedModule) (r : Result ParsedModule ParseFault) → IsCut s ts → module_of s ts ≡ r
-    → of_parse f r ≡ Ok t → IsPlain t
-by_parse f s ts t (Ok x) c e h = let k : x ≡ t = cc in module_plain s ts t c (module_sound s ts t (e ∙ ap Ok k))
-by_parse f s ts t (Err x) c e h = absurd (cc)
+by_parse : (f s : List ℕ) (ts : List Lexeme) (t : ParsedModule) (r : Result ParsedModule ParseFault) → IsUtf8 s
+    → IsCut s ts → module_of s ts ≡ r → of_parse f r ≡ Ok t → IsPlain t
+by_parse f s ts t (Ok x) u c e h = let k : x ≡ t = cc in module_plain s ts t u c (module_sound s ts t (e ∙ ap Ok k))
+by_parse f s ts t (Err x) u c e h = absurd (cc)
 
-by_cut : (f s : List ℕ) (t : ParsedModule) (r : Result (List Lexeme) LexFault) → cut_of s ≡ r → of_cut f (module_of s) r ≡ Ok t
-    → IsPlain t
-by_cut f s t (Ok ts) e h = by_parse f s ts t (module_of s ts) (cut_found s ts e) refl h
-by_cut f s t (Err x) e h = absurd (cc)
+by_cut : (f s : List ℕ) (t : ParsedModule) (r : Result (List Lexeme) LexFault) → IsUtf8 s → cut_of s ≡ r
+    → of_cut f (module_of s) r ≡ Ok t → IsPlain t
+by_cut f s t (Ok ts) u e h = by_parse f s ts t (module_of s ts) u (cut_found s ts e) refl h
+by_cut f s t (Err x) u e h = absurd (cc)
 
 pub plain_text : (t : ParsedModule) → IsSaid t → IsPlain t
-plain_text t h = by_cut h.file h.bytes t (cut_of h.bytes) refl h.read
+plain_text t h = by_cut h.file h.bytes t (cut_of h.bytes) h.form refl h.read
 
 -- ---- package names
 

@@ -77,51 +77,62 @@ first_new n (p ∷ ps) x h =
 
 -- ---- what holds of a module when rules, prefixes and names come into it
 
--- one rule, prefix or name more keeps it, where that isn't there yet, and D holds of the name
-pub record IsKept (P : Module → Type 0) (D : List ℕ → Type 0) : Type 0 where
-  pub rule : (m : Module) (r : Rule) → P m → HasNoDot r.name → first_of r.name m.names ≡ None → P (with_rule m r)
+-- one rule, prefix or name more keeps it, where that isn't there yet, R holds of the rule and D of the name
+pub record IsKept (P : Module → Type 0) (D : List ℕ → Type 0) (R : Rule → Type 0) : Type 0 where
+  pub rule : (m : Module) (r : Rule) → P m → R r → first_of r.name m.names ≡ None → P (with_rule m r)
   pub prefix : (m : Module) (k : List ℕ) (x : Prefix) → P m → first_of k m.prefixes ≡ None → P (with_prefix m k x)
   pub name : (m : Module) (k : List ℕ) (x : Entry) → P m → D k → first_of k m.names ≡ None → P (with_name m k x)
 
+-- R holds of each rule that these statements of the text k make, wherever they start
+abbrev pub AllMake : (Rule → Type 0) → ℕ → List S.Entry → Type 0
+AllMake R k is = AllByRecursion (λ i. (n : ℕ) → AllByRecursion R (rules_of k n i)) is
+
+abbrev pub Dotless : Rule → Type 0
+Dotless r = HasNoDot r.name
+
 -- no rule of a statement has a dot in its name
 block_dotless : (k start : ℕ) (hidden : Bool) (bs : List S.Rule) → AreDotless bs
-    → AllByRecursion (λ r. HasNoDot r.name) (block_rules k start hidden bs)
+    → AllByRecursion Dotless (block_rules k start hidden bs)
 block_dotless k start hidden [] d = tt
 block_dotless k start hidden (b ∷ bs) d = (d.0, block_dotless k start hidden bs d.1)
 
-rules_dotless : (k n : ℕ) (i : S.Entry) → IsDotlessEntry i → AllByRecursion (λ r. HasNoDot r.name) (rules_of k n i)
+rules_dotless : (k n : ℕ) (i : S.Entry) → IsDotlessEntry i → AllByRecursion Dotless (rules_of k n i)
 rules_dotless k n (S.One b) d = (d, tt)
 rules_dotless k n (S.Block h v) d =
-    all_append (λ (r : Rule). HasNoDot r.name) (block_rules k n true h) (block_rules k n false v)
+    all_append Dotless (block_rules k n true h) (block_rules k n false v)
     (block_dotless k n true h d.0) (block_dotless k n false v d.1)
 
-module _ (P : Module → Type 0) (D : List ℕ → Type 0) (keeps : IsKept P D) where
-  entered : (f : List ℕ) (r : Rule) (m n : Module) (o : Option Entry) → HasNoDot r.name → first_of r.name m.names ≡ o
+pub all_dotless : (k : ℕ) (is : List S.Entry) → AreDotlessEntries is → AllMake Dotless k is
+all_dotless k [] d = tt
+all_dotless k (i ∷ is) d = (λ n. rules_dotless k n i d.0, all_dotless k is d.1)
+
+module _ (P : Module → Type 0) (D : List ℕ → Type 0) (R : Rule → Type 0) (keeps : IsKept P D R) where
+  entered : (f : List ℕ) (r : Rule) (m n : Module) (o : Option Entry) → R r → first_of r.name m.names ≡ o
       → P m → enter_at o f r m ≡ Ok n → P n
   entered f r m n None d none h e = let s : with_rule m r ≡ n = cc in subst P s (keeps.rule m r h d none)
   entered f r m n (Some x) d some h e = absurd (cc)
 
-  all_entered : (f : List ℕ) (rs : List Rule) (m n : Module) → AllByRecursion (λ r. HasNoDot r.name) rs → P m
+  all_entered : (f : List ℕ) (rs : List Rule) (m n : Module) → AllByRecursion R rs → P m
       → enter_all f rs m ≡ Ok n → P n
   all_entered f [] m n d h e = let s : m ≡ n = cc in subst P s h
   all_entered f (r ∷ rs) m n d h e =
       let c = both (enter f r m) (in_turn (enter f) rs) n e in
       all_entered f rs c.0 n d.1 (entered f r m c.0 (first_of r.name m.names) d.0 refl h c.1) c.2
 
-  statement_in : (f : List ℕ) (k : ℕ) (ms : List Module) (i : S.Entry) (m n : Module) → IsDotlessEntry i → P m
-      → statement f k ms i m ≡ Ok n → P n
+  statement_in : (f : List ℕ) (k : ℕ) (ms : List Module) (i : S.Entry) (m n : Module)
+      → AllByRecursion R (rules_of k (length m.rules) i) → P m → statement f k ms i m ≡ Ok n → P n
   statement_in f k ms i m n d h e =
       let l = length m.rules in
       let c = both (enter_all f (rules_of k l i) m) (λ m1. unless (bodies_fault f ms l (bindings_of i) m1) m1) n e in
       let p = passed (bodies_fault f ms l (bindings_of i) c.0) c.0 n c.2 in
-      subst P p.1 (all_entered f (rules_of k l i) m c.0 (rules_dotless k l i d) h c.1)
+      subst P p.1 (all_entered f (rules_of k l i) m c.0 d h c.1)
 
-  pub statements_in : (f : List ℕ) (k : ℕ) (ms : List Module) (is : List S.Entry) (m n : Module) → AreDotlessEntries is
+  pub statements_in : (f : List ℕ) (k : ℕ) (ms : List Module) (is : List S.Entry) (m n : Module) → AllMake R k is
       → P m → statements f k ms is m ≡ Ok n → P n
   statements_in f k ms [] m n d h e = let s : m ≡ n = cc in subst P s h
   statements_in f k ms (i ∷ is) m n d h e =
       let c = both (statement f k ms i m) (in_turn (statement f k ms) is) n e in
-      statements_in f k ms is c.0 n d.1 (statement_in f k ms i m c.0 d.0 h c.1) c.2
+      statements_in f k ms is c.0 n d.1 (statement_in f k ms i m c.0 (d.0 (length m.rules)) h c.1) c.2
 
   same_or : (t : Bool) (f : List ℕ) (at : ℕ) (k : List ℕ) (m n : Module)
       → (if t then Ok m else fault f at (Duplicate k)) ≡ Ok n → P m → P n
@@ -196,7 +207,7 @@ rule_more m r h d none = record {
       ap Own (sym g.0),
     )
 
-pub under_kept : IsKept AreUnder HasNoDot
+pub under_kept : IsKept AreUnder HasNoDot Dotless
 under_kept = record {
   rule = rule_more;
   prefix = λ m k x h new. record {
@@ -216,5 +227,5 @@ under_kept = record {
 }
 
 -- and so does the package name
-pub label_kept : (l : List ℕ) → IsKept (λ m. m.label ≡ l) (λ k. Unit {0})
+pub label_kept : (l : List ℕ) → IsKept (λ m. m.label ≡ l) (λ k. Unit {0}) Dotless
 label_kept l = record { rule = λ m r h d none. h; prefix = λ m k x h new. h; name = λ m k x h d new. h }

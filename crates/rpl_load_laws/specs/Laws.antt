@@ -1,7 +1,7 @@
 -- What holds of every set of packages that is loaded, from real files too.
 use Rattle.std.specs.Prelude.{◌≡◌, ◌<◌, ◌+◌, ℕ, Bool, true, List, length, Option, Some, None, Result, Ok, map}
 use Rattle.std.specs.Prelude.{slice_get}
-use Rattle.std.specs.List.{Contains}
+use Rattle.std.specs.List.{All, Contains}
 use Rattle.rpl_core.specs.Core.{Core, Capture}
 use Rattle.rpl_core.specs.Order.{IsInOrder}
 use Rattle.rpl_core.specs.Table.{AreDistinct, bodies_of, blocks_of}
@@ -9,7 +9,8 @@ use Rattle.rpl_core.specs.declared.rules.Rule.{Rule}
 use Rattle.rpl_forms.specs.Inlining.{Inners}
 use Rattle.rpl_forms.specs.Rows.{rows_of, inners_of}
 use Rattle.rpl_expand.specs.Expansion.{core}
-use Rattle.rpl_expand.specs.Sets.{captures_of, scope_of, statement_at, statements, table_of}
+use Rattle.rpl_expand.specs.Laws.{HasParts}
+use Rattle.rpl_expand.specs.Sets.{captures_of, goal_of, scope_of, statement_at, statements, table_of}
 use Rattle.rpl_expand.specs.Table.{Statement}
 use Rattle.rpl_expand.specs.Bound.{AreBound, IsOver, MakeTrees}
 use Rattle.rpl_macro.specs.Kinds.{kind_of}
@@ -32,7 +33,7 @@ use Rattle.rpl_package.specs.declared.rooted.Root.{Root}
 use Rattle.rpl_package.specs.declared.targets.NameFault.{NameFault}
 use Rattle.rpl_package.specs.declared.stock.Head.{Head}
 use Rattle.rpl_package.specs.declared.targets.Target.{Target}
-use Rattle.rpl_package.specs.Built.{IsBuilt}
+use Rattle.rpl_package.specs.Built.{IsBuilt, IsGoal}
 
 -- ---- loaded sets
 
@@ -112,6 +113,17 @@ abbrev pub OwnNamesAreRules : Type 0
 OwnNamesAreRules =
     OfAllBuilt (λ p. (rs : List Rule) (i : ℕ) (n : List ℕ) (t : Target) → AreRulesOf rs p → own p i n ≡ Some t
     → IsRuleOf (bodies_of rs) t)
+
+-- ---- the parts of choices
+
+-- every choice in the core of a rule of the table has a part
+abbrev pub TablesHaveParts : Type 0
+TablesHaveParts = OfAllBuilt (λ p. All (λ r. HasParts r.body) (table_of p))
+
+-- and so has every choice in the core of a pattern that was read
+abbrev pub GoalsHaveParts : Type 0
+GoalsHaveParts =
+    OfAllBuilt (λ p. (rs : List Rule) (e : Expr) → AreRulesOf rs p → IsGoal e → HasParts (goal_of p (inners_of rs) e))
 
 -- ---- macros
 
