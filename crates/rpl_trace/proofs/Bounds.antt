@@ -1,16 +1,16 @@
 -- No more evaluations were made than are made in the end.
-use Rattle.std.proofs.Common.{◌≡◌, ◌≢◌, ℕ, suc, ◌+◌, ◌-◌, ◌<◌, ◌≤◌, List, [], ◌∷◌, refl, arith}
+use Rattle.std.proofs.Common.{ℕ, suc, ◌+◌, ◌-◌, ◌<◌, ◌≤◌, List, [], ◌∷◌, arith}
 use Rattle.std.specs.Prelude.{Bool, true, false, nat_le, if◌then◌else◌}
-use Rattle.rpl_core.specs.Core.{Core, Cores, Choice, Many}
+use Rattle.rpl_core.specs.Core.{Core, Many}
 use Rattle.rpl_core.specs.Meaning.{Outcome, lengths}
-use Rattle.rpl_core.specs.View.{core_of, cores}
+use Rattle.rpl_core.specs.View.{core_of}
 use Rattle.rpl_text.specs.Places.{index}
 use Rattle.rpl_trace.specs.Evaluations.{Evaluations, NoneLeft, One, Ending, Unsaid, Fails, EndsAt, HaltsAt, Length}
 use Rattle.rpl_trace.specs.Evaluations.{lengths_made, length_ending, where_no_end, count, inside_of}
 use Rattle.rpl_trace.specs.inside.Levels.{below, under, core_at, made_at}
-use Rattle.rpl_trace.specs.inside.Standing.{Standing, ended, vanished}
-use Rattle.rpl_trace.specs.inside.Tasks.{Onward, Leads, LeadsCore, LeadsAll, LeadsFirst, LeadsTurns, LeadsLengths}
-use Rattle.rpl_trace.specs.inside.Tasks.{OnMatch, OnFailure, Turned, Does, DoesAll, if_failed, if_matched, if_met}
+use Rattle.rpl_trace.specs.inside.Standing.{Standing, ended}
+use Rattle.rpl_trace.specs.inside.Tasks.{Onward, Leads, LeadsCore, LeadsTurns, LeadsLengths}
+use Rattle.rpl_trace.specs.inside.Tasks.{OnMatch, OnFailure, Turned, Does, DoesAll}
 use Rattle.rpl_trace.specs.declared.task.Task.{Task}
 use Rattle.rpl_trace.specs.declared.task.Task.TheVariants as T
 use Rattle.rpl_trace.proofs.Counted.{is_one}

@@ -1,14 +1,13 @@
 -- What is inside an evaluation that has just begun, core by core.
-use Rattle.std.proofs.Common.{◌≡◌, ◌≢◌, ℕ, zero, suc, ◌+◌, ◌-◌, ◌^◌, ◌<◌, ◌≤◌, List, [], ◌∷◌, length, get_or, drop, Option, Some, None, refl, sym, ap, subst, ◌∙◌, arith}
-use Rattle.std.specs.Prelude.{Bool, true, false, slice_get}
+use Rattle.std.proofs.Common.{◌≡◌, ℕ, ◌+◌, ◌-◌, ◌^◌, ◌≤◌, List, [], ◌∷◌, length, get_or, drop, Option, Some, None, refl, sym, subst, arith}
+use Rattle.std.specs.Prelude.{false, slice_get}
 use Rattle.std.specs.Borrow.{Bor}
 use Rattle.rpl_core.specs.Core as C
 use Rattle.rpl_core.specs.Core.{Core, Cores, NoMore}
-use Rattle.rpl_core.specs.Meaning.{Outcome}
 use Rattle.rpl_core.specs.View.{core_of, cores}
 use Rattle.rpl_core.specs.declared.peg.Peg.{Peg}
 use Rattle.rpl_text.specs.Places.{index, IsPlace}
-use Rattle.rpl_trace.specs.Evaluations.{Evaluations, NoneLeft, Ending, Fails, EndsAt, ending, inside_of, count}
+use Rattle.rpl_trace.specs.Evaluations.{Evaluations, NoneLeft, EndsAt, ending, inside_of}
 use Rattle.rpl_trace.specs.inside.Levels.{core_at, made_at, is_alone}
 use Rattle.rpl_trace.specs.inside.Seen.{end_seen, EndStands}
 use Rattle.rpl_trace.specs.inside.Standing.{Standing, standing}

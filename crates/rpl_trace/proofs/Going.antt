@@ -1,20 +1,20 @@
 -- What each task comes to, as a step from one state to the next.
-use Rattle.std.proofs.Common.{◌≡◌, ◌≢◌, ℕ, zero, suc, ◌+◌, ◌-◌, ◌*◌, ◌^◌, ◌<◌, ◌≤◌, List, [], ◌∷◌, length, drop, get_or, Option, Some, None, Result, Ok, Err, refl, sym, ap, subst, ◌∙◌, arith}
-use Rattle.std.specs.Prelude.{Bool, true, false, nat_le, IsErrAnd, OnOk, IfErr}
+use Rattle.std.proofs.Common.{◌≡◌, ◌≢◌, ℕ, suc, ◌+◌, ◌-◌, ◌*◌, ◌<◌, ◌≤◌, List, [], ◌∷◌, length, drop, get_or, Result, Ok, Err, refl, sym, ap, subst, ◌∙◌, arith}
+use Rattle.std.specs.Prelude.{true, false, nat_le, IsErrAnd, OnOk, IfErr}
 use Rattle.std.specs.Borrow.{Bor}
 use Rattle.rpl_core.specs.Core as C
 use Rattle.rpl_core.specs.Core.{Core, Cores, NoMore}
 use Rattle.rpl_core.specs.View.{core_of, cores}
 use Rattle.rpl_core.specs.declared.peg.Peg.{Peg}
 use Rattle.rpl_text.specs.Places.{index, IsPlace}
-use Rattle.rpl_trace.specs.Evaluations.{Evaluations, NoneLeft, One, Ending, Fails, EndsAt, HaltsAt, Kind, Choice}
+use Rattle.rpl_trace.specs.Evaluations.{Evaluations, NoneLeft, Ending, Kind}
 use Rattle.rpl_trace.specs.Evaluations.{Length, count}
 use Rattle.rpl_trace.specs.inside.Kinds.{kind_of}
 use Rattle.rpl_trace.specs.inside.Levels.{AreAlike, is_alone}
 use Rattle.rpl_trace.specs.inside.Seen.{kind_seen, end_seen, EndStands}
-use Rattle.rpl_trace.specs.inside.Standing.{Standing, Inside, standing}
-use Rattle.rpl_trace.specs.inside.Tasks.{Onward, Does, DoesAll, LeadsCore, LeadsAll, LeadsFirst, LeadsInside, LeadsLengths, OnMatch, TaskStands}
-use Rattle.rpl_trace.specs.inside.Tasks.{if_failed, if_matched, if_met}
+use Rattle.rpl_trace.specs.inside.Standing.{Inside, standing}
+use Rattle.rpl_trace.specs.inside.Tasks.{Onward, DoesAll, LeadsCore, LeadsAll, LeadsFirst, LeadsInside, LeadsLengths, TaskStands}
+use Rattle.rpl_trace.specs.inside.Tasks.{if_met}
 use Rattle.rpl_trace.specs.inside.Steps.{State, due, happened, counted, left, Stands, Comes, Steps, Refused, Goes, Enters, Chooses, Done}
 use Rattle.rpl_trace.specs.declared.event.End.{End}
 use Rattle.rpl_trace.specs.declared.event.End.TheVariants as E

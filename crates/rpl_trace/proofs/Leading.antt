@@ -7,14 +7,13 @@ use Rattle.rpl_core.specs.Forest.{Forest, NoTree}
 use Rattle.rpl_core.specs.Meaning as M
 use Rattle.rpl_core.specs.Meaning.{Outcome, Open, Fail, At, HaltAt, more, prefixed, then_do, or_else, turns}
 use Rattle.rpl_core.specs.Meaning.{if_fails, if_matches, ends_here, lengths, called}
-use Rattle.rpl_trace.specs.Evaluations as S
-use Rattle.rpl_trace.specs.Evaluations.{Evaluations, NoneLeft, One, Ending, Fails, EndsAt, HaltsAt, Kind, Turn, Length}
-use Rattle.rpl_trace.specs.Evaluations.{ending, joined, inside_of, where_ends, where_fails, turned, where_no_end}
+use Rattle.rpl_trace.specs.Evaluations.{Evaluations, NoneLeft, One, Ending, Fails, EndsAt, HaltsAt, Turn, Length}
+use Rattle.rpl_trace.specs.Evaluations.{ending, joined, inside_of, where_ends, where_fails, turns_made, where_no_end}
 use Rattle.rpl_trace.specs.Evaluations.{length_ending, lengths_made, called_made, count}
 use Rattle.rpl_trace.specs.inside.Kinds.{kind_of}
 use Rattle.rpl_trace.specs.inside.Levels.{below, under, core_at, made_at, all_at, all_made, first_at, first_made}
 use Rattle.rpl_trace.specs.inside.Levels.{AreAlike, is_alone}
-use Rattle.rpl_trace.specs.inside.Standing.{Standing, Inside, add, ended, vanished}
+use Rattle.rpl_trace.specs.inside.Standing.{Standing, Inside, add, ended}
 use Rattle.rpl_trace.specs.inside.Tasks.{Onward, Leads, LeadsCore, LeadsAll, LeadsFirst, LeadsTurns, LeadsInside}
 use Rattle.rpl_trace.specs.inside.Tasks.{LeadsLengths, OnMatch, OnFailure, Turned, if_failed, if_matched, if_met}
 use Rattle.rpl_trace.proofs.Levels.{peg_is, evaluations_are}
@@ -204,10 +203,10 @@ first_way R t onward p q ps i s v (n, h) = (n, else_ways R t (closing onward) n 
 -- ---- turns
 
 turn_by : (R : List Core) (t : List ℕ) (onward : Onward) (n : ℕ) (o : Outcome) (f : Evaluations) (p : Core) (i : ℕ) (s : Standing) (v : ℕ)
-    → Leads onward (turns o i (below n R t (C.Many p))) (joined (turned o i f) (where_ends o (λ j. inside_of (under n R t (C.Many p) j)))) s v
+    → Leads onward (turns o i (below n R t (C.Many p))) (turns_made o i f (under n R t (C.Many p))) s v
     → Leads (Turned R t p i onward) o f (Inside s Turn i NoneLeft) v
 turn_by R t onward n Open f p i s v h = absurd (h.0 refl)
-turn_by R t onward n (Fail w) f p i s v h = (λ e. absurd (cc), stops onward (EndsAt i) f s v h.1)
+turn_by R t onward n (Fail w) f p i s v h = (λ e. absurd (cc), h.1)
 turn_by R t onward n (At w j x) f p i s v h =
     let o = below n R t (C.Many p) j in
     let g = inside_of (under n R t (C.Many p) j) in
@@ -215,7 +214,7 @@ turn_by R t onward n (At w j x) f p i s v h =
     let m = joins onward o (One Turn i (EndsAt j) f NoneLeft) g s v k in
     let P : ℕ → Type 0 = λ w. Leads onward o g (add s (One Turn i (EndsAt j) f NoneLeft)) w in
     (λ e. absurd (cc), down_inside R t onward n p j (add s (One Turn i (EndsAt j) f NoneLeft)) (v + count f + 1) (subst P (omega arith) m))
-turn_by R t onward n (HaltAt w j x) f p i s v h = (λ e. absurd (cc), stops onward (HaltsAt j) f s v h.1)
+turn_by R t onward n (HaltAt w j x) f p i s v h = (λ e. absurd (cc), h.1)
 
 pub turn : (R : List Core) (t : List ℕ) (onward : Onward) (p : Core) (i : ℕ) (s : Standing) (v : ℕ) → LeadsTurns R t onward p i s v → LeadsCore R t (Turned R t p i onward) p i (Inside s Turn i NoneLeft) v
 turn R t onward p i s v (n, h) = (n, turn_by R t onward n (core_at n R t p i) (made_at n R t p i) p i s v h)

@@ -1,5 +1,5 @@
 -- What stands, with more evaluations that ended.
-use Rattle.std.proofs.Common.{◌≡◌, ◌≢◌, ℕ, ◌+◌, List, refl, sym, ap, subst, ◌∙◌, arith}
+use Rattle.std.proofs.Common.{◌≡◌, ◌+◌, refl, ap, arith}
 use Rattle.rpl_trace.specs.Evaluations.{Evaluations, NoneLeft, One, joined, count}
 use Rattle.rpl_trace.specs.inside.Standing.{Standing, Whole, Inside, Broken, add}
 

@@ -1,11 +1,10 @@
 -- A state, with one more task, event or evaluation.
-use Rattle.std.proofs.Common.{◌≡◌, ◌≢◌, ℕ, zero, suc, ◌+◌, ◌-◌, ◌*◌, ◌<◌, ◌≤◌, List, [], ◌∷◌, ◌++◌, length, reverse, refl, sym, ap, subst, ◌∙◌, arith}
+use Rattle.std.proofs.Common.{◌≡◌, ℕ, ◌+◌, ◌-◌, ◌*◌, ◌<◌, ◌≤◌, List, [], ◌∷◌, ◌++◌, length, reverse, refl, sym, ap, subst, ◌∙◌, arith}
 use Rattle.std.proofs.lemmas.List.{reverse-append}
 use Rattle.rpl_core.specs.Core.{Core}
 use Rattle.rpl_trace.specs.Evaluations.{Ending, Evaluations, count}
-use Rattle.rpl_trace.specs.inside.Seen.{end_seen, EventStands, EndStands}
-use Rattle.rpl_trace.specs.inside.Standing.{standing}
-use Rattle.rpl_trace.specs.inside.Tasks.{TaskStands, DoesAll}
+use Rattle.rpl_trace.specs.inside.Seen.{EventStands}
+use Rattle.rpl_trace.specs.inside.Tasks.{TaskStands}
 use Rattle.rpl_trace.specs.inside.Steps.{State, due, happened, counted, Stands, Comes, Refused, left}
 use Rattle.rpl_trace.specs.declared.event.End.{End}
 use Rattle.rpl_trace.specs.declared.event.Event.{Event}

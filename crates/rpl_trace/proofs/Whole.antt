@@ -1,6 +1,6 @@
 -- A goal on a whole text.
-use Rattle.std.proofs.Common.{◌≡◌, ◌≢◌, ℕ, ◌+◌, ◌<◌, ◌≤◌, List, [], ◌∷◌, Option, Result, Ok, Err, refl, sym, ap, subst, ◌∙◌, zero-add, arith}
-use Rattle.std.specs.Prelude.{IsErrAnd, IfErr, OnOk}
+use Rattle.std.proofs.Common.{◌≡◌, ◌≢◌, ℕ, ◌<◌, List, [], Result, Ok, Err, refl, sym, ap, subst, ◌∙◌, zero-add, arith}
+use Rattle.std.specs.Prelude.{IsErrAnd, IfErr}
 use Rattle.std.specs.Borrow.{Bor}
 use Rattle.rpl_core.specs.Core.{Core}
 use Rattle.rpl_core.specs.Meaning.{Outcome, Open, Fail, At, HaltAt, peg}

@@ -73,12 +73,14 @@ where_fails (Fail w) rest = rest
 where_fails (At w j f) rest = NoneLeft
 where_fails (HaltAt w j f) rest = NoneLeft
 
--- a body that succeeds stands under its turn; one that doesn't, or halts, stands alone
-abbrev pub turned : Outcome → ℕ → Evaluations → Evaluations
-turned Open i body = body
-turned (Fail w) i body = body
-turned (At w j f) i body = One Turn i (EndsAt j) body NoneLeft
-turned (HaltAt w j f) i body = body
+-- The turns of a repetition from the place i on, of which `body` is the first. A body that ends is a turn, and after it
+-- come the turns from where it ends, which stand inside the repetition that begins there. A body that fails, or halts,
+-- stands alone, and is the last.
+abbrev pub turns_made : Outcome → ℕ → (body : Evaluations) → (again : ℕ → Evaluations) → Evaluations
+turns_made Open i body again = body
+turns_made (Fail w) i body again = body
+turns_made (At w j f) i body again = One Turn i (EndsAt j) body (inside_of (again j))
+turns_made (HaltAt w j f) i body again = body
 
 -- a length ends at i where its body does; else the other lengths follow
 abbrev pub length_ending : Outcome → ℕ → Ending
@@ -107,8 +109,8 @@ abbrev pub called_made : Option Core → (Core → Evaluations) → Evaluations
 called_made None go = NoneLeft
 called_made (Some p) go = go p
 
--- The evaluations at one depth, from the outcomes and the evaluations at the depth below it.
--- A further turn is one at the depth below, without the evaluation of the `Many` itself around it.
+-- The evaluations at one depth, from the outcomes and the evaluations at the depth below it, where the body of a called
+-- rule and the further turns of a repetition are.
 abbrev mutual
   pub made : (Core → ℕ → Outcome) → (Core → ℕ → Evaluations) → List Core → List ℕ → Core → ℕ → Evaluations
   made below under R t (C.Set s) i = one (Set s) i (level below R t (C.Set s) i) NoneLeft
@@ -116,8 +118,7 @@ abbrev mutual
   made below under R t (C.Choice ps) i = made_first below under R t ps i
   made below under R t (C.Many p) i =
       one Many i (level below R t (C.Many p) i)
-      (joined (turned (level below R t p i) i (made below under R t p i))
-      (where_ends (level below R t p i) (λ j. inside_of (under (C.Many p) j))))
+      (turns_made (level below R t p i) i (made below under R t p i) (under (C.Many p)))
   made below under R t (C.Not p) i = one Not i (level below R t (C.Not p) i) (made below under R t p i)
   made below under R t (C.And p) i = one And i (level below R t (C.And p) i) (made below under R t p i)
   made below under R t (C.Behind l m p) i =

@@ -8,7 +8,7 @@ use Rattle.rpl_core.specs.declared.peg.Peg.{Peg}
 use Rattle.rpl_text.specs.Places.{index}
 use Rattle.rpl_trace.specs.Evaluations.{Ending, Evaluations, count}
 use Rattle.rpl_trace.specs.inside.Seen.{end_seen, EndStands, EventsStand}
-use Rattle.rpl_trace.specs.inside.Standing.{Standing, Whole, standing}
+use Rattle.rpl_trace.specs.inside.Standing.{Whole, standing}
 use Rattle.rpl_trace.specs.inside.Tasks.{DoesAll, LeadsInside, TasksStand}
 use Rattle.rpl_trace.specs.declared.event.End.{End}
 use Rattle.rpl_trace.specs.declared.event.End.TheVariants as E

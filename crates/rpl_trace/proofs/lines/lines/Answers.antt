@@ -1,5 +1,4 @@
-use Rattle.std.proofs.Common.{◌≡◌, ◌+◌, ◌-◌, ◌≤◌, ℕ, List, length, reverse, refl, sym, ap, subst, ◌∙◌, arith}
-use Rattle.rpl_trace.specs.inside.Lines.{ends_in}
+use Rattle.std.proofs.Common.{reverse, ap, ◌∙◌, arith}
 use Rattle.rpl_trace.proofs.Reading as R
 use Rattle.rpl_trace.proofs.States.{last_first, nil_from_length}
 use Rattle.rpl_trace.proofs.lines.lines.Goals as goal

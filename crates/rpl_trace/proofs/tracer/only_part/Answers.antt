@@ -1,4 +1,4 @@
-use Rattle.std.proofs.Common.{◌≡◌, Option, sym, ap, subst, ◌∙◌, arith}
+use Rattle.std.proofs.Common.{◌≡◌, sym, ap, subst, ◌∙◌, arith}
 use Rattle.std.specs.Prelude.{false, MatchOption}
 use Rattle.rpl_core.specs.Core as C
 use Rattle.rpl_core.specs.Core.{Core, NoMore}

@@ -1,11 +1,10 @@
-use Rattle.std.proofs.Common.{◌≡◌, ◌+◌, ◌-◌, ◌++◌, ◌∷◌, [], ℕ, List, Some, None, refl, sym, ap, subst, ◌∙◌, arith}
+use Rattle.std.proofs.Common.{◌≡◌, ◌+◌, ◌++◌, ◌∷◌, [], Some, None, refl, sym, ap, subst, ◌∙◌, arith}
 use Rattle.std.specs.Prelude.{OnOk}
-use Rattle.rpl_trace.specs.inside.Lines.{Fits, Reads, IsRead, ends_in}
+use Rattle.rpl_trace.specs.inside.Lines.{Fits, Reads, ends_in}
 use Rattle.rpl_text.specs.Places.{index}
 use Rattle.rpl_trace.specs.inside.Seen.{EventStands, kind_seen}
 use Rattle.rpl_trace.specs.inside.Standing.{after}
 use Rattle.rpl_trace.specs.declared.event.Event.{Event}
-use Rattle.rpl_trace.specs.declared.event.Event.TheVariants as V
 use Rattle.rpl_trace.proofs.Reading as R
 use Rattle.rpl_trace.proofs.States.{nil_from_length}
 use Rattle.rpl_trace.proofs.lines.Backwards.read.Goals as goal

@@ -1,4 +1,4 @@
-use Rattle.std.proofs.Common.{◌≡◌, ◌+◌, ◌-◌, ℕ, List, Bool, false, refl, sym, ap, subst, ◌∙◌, arith}
+use Rattle.std.proofs.Common.{◌≡◌, List, false, refl, sym, ap, subst, ◌∙◌}
 use Rattle.std.specs.Prelude.{IfOk}
 use Rattle.std.proofs.lemmas.Result.{IfOk-weaker}
 use Rattle.rpl_core.specs.Core as C
@@ -9,12 +9,12 @@ use Rattle.rpl_core.specs.Table.{bodies_of}
 use Rattle.rpl_core.specs.View.{core_of, cores}
 use Rattle.rpl_core.specs.declared.peg.Peg.{Peg}
 use Rattle.rpl_core.proofs.Rows.{seq_view, choice_view}
-use Rattle.rpl_text.specs.Places.{index, IsPlace}
+use Rattle.rpl_text.specs.Places.{index}
 use Rattle.rpl_text.specs.Seen.{text_of}
 use Rattle.rpl_trace.specs.Evaluations.{ending}
 use Rattle.rpl_trace.specs.inside.Levels.{is_alone}
 use Rattle.std.specs.Borrow.{Bor}
-use Rattle.rpl_trace.specs.inside.Steps.{Enters, Chooses, due, happened, state_of}
+use Rattle.rpl_trace.specs.inside.Steps.{Enters, due, happened, state_of}
 use Rattle.rpl_trace.specs.declared.event.Event.TheVariants as V
 use Rattle.rpl_trace.specs.declared.event.Kind.TheVariants as K
 use Rattle.rpl_trace.specs.declared.task.Task.TheVariants as T

@@ -1,16 +1,10 @@
-use Rattle.std.proofs.Common.{◌≡◌, ◌≢◌, ◌+◌, ◌-◌, ℕ, suc, List, length, refl, sym, ap, subst, ◌∙◌, arith}
-use Rattle.rpl_core.specs.Core.{Core}
+use Rattle.std.proofs.Common.{refl}
 use Rattle.rpl_core.specs.Listed.{rules_of}
 use Rattle.rpl_core.specs.Table.{bodies_of}
 use Rattle.rpl_core.specs.View.{core_of}
-use Rattle.rpl_text.specs.Places.{index}
 use Rattle.rpl_text.specs.Seen.{text_of}
-use Rattle.rpl_trace.specs.inside.Seen.{EndStands}
-use Rattle.rpl_trace.specs.inside.Steps.{State, Stands, Goes, due, happened, counted, state_of}
-use Rattle.rpl_trace.specs.declared.event.End.{End}
+use Rattle.rpl_trace.specs.inside.Steps.{due, state_of}
 use Rattle.rpl_trace.specs.declared.event.End.TheVariants as E
-use Rattle.rpl_trace.specs.declared.event.Event.TheVariants as V
-use Rattle.rpl_trace.specs.declared.event.Kind.TheVariants as K
 use Rattle.rpl_trace.specs.declared.task.Task.TheVariants as T
 use Rattle.rpl_trace.proofs.Going as G
 use Rattle.rpl_trace.proofs.States as A
