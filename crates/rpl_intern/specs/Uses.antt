@@ -27,6 +27,6 @@ Keeps table [] other = other ≡ table
 Keeps table (x ∷ xs) other =
     (Contains table x × Keeps table xs other) ⊎ ((Contains table x → ⊥) × Keeps (table ++ x ∷ []) xs other)
 
--- the table has the uses, each once, in the order of their first uses
+-- the table has the uses, each once, in the order of their first uses; `Laws` says it by three facts
 abbrev pub KeepsOnce : {A : Type 0} → List A → List A → Type 0
 KeepsOnce uses table = Keeps [] uses table
