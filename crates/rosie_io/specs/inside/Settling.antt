@@ -1,5 +1,6 @@
 -- What a reader answers for what was gathered, and where it stands then.
-use Rattle.std.specs.Prelude.{ℕ, ◌+◌, ◌*◌, ◌<◌, Bool, true, false, List, [], length, Result, Ok, Err}
+use Rattle.std.specs.Prelude.{ℕ, ◌+◌, ◌*◌, ◌<◌, Bool, true, false, List, [], length, if◌then◌else◌, Result, Ok, Err}
+use Rattle.std.specs.Str.{is_utf8}
 use Rattle.rosie_io.specs.Reader.{Reader}
 use Rattle.rosie_io.specs.declared.gather.Found.{Found}
 use Rattle.rosie_io.specs.declared.gather.Found.TheVariants.{Line, Long, End}
@@ -21,13 +22,23 @@ answer_of (Err NoMemory) is_text n = Err OutOfMemory
 answer_of (Err ReadFault) is_text n = Err ReadFailed
 answer_of (Err Spent) is_text n = Err AllSpent
 
--- where the reader stands, which held no line's text
-abbrev pub settled : Result Found GatherFault → Bool → List ℕ → Reader → Reader
-settled (Ok Line) true line r = record r { text = line; number = r.number + 1 }
-settled (Ok Line) false line r = record r { text = []; number = r.number + 1 }
-settled (Ok Long) is_text line r = record r { text = []; number = r.number + 1 }
-settled (Ok End) is_text line r = record r { text = []; done = true }
-settled (Err trouble) is_text line r = record r { text = []; done = true }
+-- where the reader stands that counts what was gathered
+abbrev pub settled : Result Found GatherFault → Reader → Reader
+settled (Ok Line) r = record r { number = r.number + 1 }
+settled (Ok Long) r = record r { number = r.number + 1 }
+settled (Ok End) r = record r { done = true }
+settled (Err trouble) r = record r { done = true }
+
+-- the bytes where they are a text, and else none
+abbrev pub text_in : List ℕ → List ℕ
+text_in bytes = if is_utf8 bytes then bytes else []
+
+-- those of a line
+abbrev pub line_in : Result Found GatherFault → List ℕ → List ℕ
+line_in (Ok Line) bytes = text_in bytes
+line_in (Ok Long) bytes = []
+line_in (Ok End) bytes = []
+line_in (Err trouble) bytes = []
 
 -- the reads suffice to count the line that was gathered
 abbrev pub CanCount : Result Found GatherFault → Reader → Type 0
