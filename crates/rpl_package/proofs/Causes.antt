@@ -9,7 +9,7 @@ use Rattle.rpl_scope.specs.declared.fault.LoadKind.TheVariants as K
 use Rattle.rpl_scope.specs.declared.fault.Stop.{Stop}
 use Rattle.rpl_scope.specs.declared.fault.Stop.TheVariants.{Memory, Fault}
 use Rattle.rpl_scope.specs.Faults.{Or, is_silent, StopIs, IsStop, Gives}
-use Rattle.rpl_package.specs.Reading.{KindCause, StopCause, IsQuiet, IsLoud}
+use Rattle.rpl_package.specs.inside.Reading.{KindCause, StopCause, IsQuiet, IsLoud}
 
 -- a call that reads nothing stops with no read fault
 kind_cause : (k : LoadKind) (r0 r1 o0 o1 : ℕ) → is_silent k ≡ false → r1 ≡ r0 → o1 ≡ o0 → KindCause k r0 r1 o0 o1

@@ -4,7 +4,7 @@ use Rattle.std.proofs.Common.{None, refl, sym, ap, subst, ◌∙◌}
 use Rattle.rpl_scope.specs.Packages.{first_of, added, added_at}
 use Rattle.rpl_scope.specs.Seen.{module_seen, modules_seen}
 use Rattle.rpl_scope.specs.declared.module.Module.{Module as Declared}
-use Rattle.rpl_package.specs.Kept.{BeginsWith, Keeps}
+use Rattle.rpl_package.specs.inside.Kept.{BeginsWith, Keeps}
 use Rattle.rpl_package.specs.Loading.{Stock, with_path}
 
 take_whole : {A : Type 0} (xs ys : List A) → take (length xs) (xs ++ ys) ≡ xs

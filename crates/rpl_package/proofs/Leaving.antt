@@ -3,7 +3,7 @@ use Rattle.std.proofs.Common.{arith, refl, ◌∙◌}
 use Rattle.std.specs.Prelude.{Ok, Err}
 use Rattle.rosie_io.specs.declared.outside.Source.{Ghosts}
 use Rattle.rpl_scope.specs.declared.fault.Stop.{Stop}
-use Rattle.rpl_package.specs.Reading.{IsLoud}
+use Rattle.rpl_package.specs.inside.Reading.{IsLoud}
 use Rattle.rpl_package.specs.inside.Leaving.{LeavesFiles}
 use Rattle.rpl_package.proofs.Causes.{fewer, loud_cause}
 

@@ -6,7 +6,7 @@ use Rattle.rpl_scope.specs.Packages.{Rule, Module, nth, first_rule}
 use Rattle.rpl_scope.specs.Seen.{module_seen, modules_seen}
 use Rattle.rpl_scope.specs.declared.module.Module.{Module as Declared}
 use Rattle.rpl_package.specs.Tables.{begun_in, rows_of, rows_from}
-use Rattle.rpl_package.specs.Firsts.{firsts_from, firsts}
+use Rattle.rpl_package.specs.inside.Firsts.{firsts_from, firsts}
 use Rattle.rpl_package.specs.Targets.{then, rule_in}
 use Rattle.rpl_package.proofs.Rows.{length-rows_of}
 

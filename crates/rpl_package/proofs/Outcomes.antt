@@ -11,7 +11,7 @@ use Rattle.rpl_scope.specs.declared.fault.Stop.{Stop}
 use Rattle.rpl_scope.specs.declared.fault.Stop.TheVariants.{Memory, Fault}
 use Rattle.rpl_package.specs.Asking.{Outcome, at_once, asked_then, and_then, each_in_turn, Explains, MayStop, Walks}
 use Rattle.rpl_package.specs.Asking.{KindAsks, StopAsks}
-use Rattle.rpl_package.specs.Reading.{IsQuiet}
+use Rattle.rpl_package.specs.inside.Reading.{IsQuiet}
 
 -- the same answer, and what one asks for the other asks for
 abbrev pub Follows : {A : Type 0} → Outcome A → Outcome A → Type 0

@@ -11,9 +11,9 @@ use Rattle.rpl_scope.specs.Seen.{module_seen, modules_seen}
 use Rattle.rpl_scope.specs.declared.fault.LoadFault.{LoadFault}
 use Rattle.rpl_scope.specs.declared.module.Module.{Module as Declared}
 use Rattle.rpl_scope.specs.declared.module.Prefix.{Prefix}
-use Rattle.rpl_package.specs.Kept.{BeginsWith, Keeps, shortened, with_shortened}
+use Rattle.rpl_package.specs.inside.Kept.{BeginsWith, Keeps, shortened, with_shortened}
 use Rattle.rpl_package.specs.Loading.{Stock}
-use Rattle.rpl_package.specs.Marks.{CutsTo, prefixes_of}
+use Rattle.rpl_package.specs.inside.Marks.{CutsTo, prefixes_of}
 use Rattle.rpl_package.specs.Patterns.{replaced, with_module}
 
 take_all : {A : Type 0} (xs : List A) → take (length xs) xs ≡ xs

@@ -3,7 +3,7 @@ use Rattle.std.proofs.Common.{arith, ◌≡◌, ◌<◌, ℕ, length, ap, ◌∙
 use Rattle.std.proofs.lemmas.List.{length-map}
 use Rattle.rpl_scope.specs.Seen.{module_seen}
 use Rattle.rpl_package.specs.Loading as L
-use Rattle.rpl_package.specs.Marks.{CutsTo, cut_back, marks_of}
+use Rattle.rpl_package.specs.inside.Marks.{CutsTo, cut_back, marks_of}
 use Rattle.rpl_package.specs.Stocks.{stock_seen}
 use Rattle.rpl_package.specs.declared.rollback.Marks.{Marks}
 use Rattle.rpl_package.specs.declared.stock.Stock.{Stock}

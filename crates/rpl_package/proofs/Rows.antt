@@ -8,7 +8,7 @@ use Rattle.rpl_scope.specs.declared.module.Rule.{Rule}
 use Rattle.rpl_scope.specs.declared.module.Module.{Module}
 use Rattle.rpl_scope.proofs.Checking.{front}
 use Rattle.rpl_package.specs.Tables.{full_name, begun_at, begun_in, row_of, rows_of, rows_from}
-use Rattle.rpl_package.specs.Firsts.{firsts_from}
+use Rattle.rpl_package.specs.inside.Firsts.{firsts_from}
 use Rattle.rpl_package.specs.declared.table.Row.{Row}
 
 pub named_fully : (label name : List ℕ) → label ≢ [] → full_name label name ≡ label ++ 46 ∷ name

@@ -15,7 +15,7 @@ use Rattle.rpl_scope.specs.declared.fault.LoadKind.TheVariants.{Lex, Parse}
 use Rattle.rpl_scope.specs.declared.fault.Stop.{Stop}
 use Rattle.rpl_scope.specs.declared.fault.Stop.TheVariants.{Memory}
 use Rattle.rpl_scope.proofs.Stops.{told}
-use Rattle.rpl_package.specs.Reading.{IsLoud}
+use Rattle.rpl_package.specs.inside.Reading.{IsLoud}
 use Rattle.rpl_package.proofs.Causes.{told_loud}
 use Rattle.rpl_package.specs.Goals.{ReadsTokens, ReadsCut, ReadsText, pattern_file, sought}
 use Rattle.rpl_package.proofs.Readings.{lex_memory, parse_memory}

@@ -10,7 +10,7 @@ use Rattle.rpl_scope.specs.declared.fault.Stop.{Stop}
 use Rattle.rpl_scope.proofs.Stops.{told}
 use Rattle.rpl_scope.specs.declared.fault.LoadKind.TheVariants.{ImportCycle, ImportMissing, TooManyPackages, Duplicate}
 use Rattle.rpl_package.specs.Asking.{at_once, and_then, MayStop, StopAsks}
-use Rattle.rpl_package.specs.Reading.{IsQuiet}
+use Rattle.rpl_package.specs.inside.Reading.{IsQuiet}
 use Rattle.rpl_package.specs.Loading.{World, Walk, Stock, State, find, search, tried, fresh, known_or, load_import}
 use Rattle.rpl_package.specs.Loading.{is_loading, is_taken, taken_up, own_text, checks, empty_module}
 use Rattle.rpl_package.specs.Loading.{label_of, label_at, walk}

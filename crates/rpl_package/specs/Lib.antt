@@ -3,17 +3,13 @@ pub mod Steps
 pub mod Asking
 pub mod Built
 pub mod Goals
-pub mod Kept
 pub mod Loading
-pub mod Marks
 pub mod Names
 pub mod Owned
 pub mod Patterns
-pub mod Reading
 pub mod Roots
 pub mod Sets
 pub mod Stocks
-pub mod Firsts
 pub mod Tables
 pub mod Targets
 pub mod Texts

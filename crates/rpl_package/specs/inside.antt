@@ -1,3 +1,8 @@
 -- Words of the private contracts: nothing here is needed to read what the crate promises.
+pub mod Firsts
+pub mod Kept
 pub mod Leaving
+pub mod Marks
 pub mod Noted
+pub mod Numbering
+pub mod Reading

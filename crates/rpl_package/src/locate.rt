@@ -3,7 +3,7 @@ ghost use Rattle.std.specs.Prelude.{◌≡◌, IfOk, IfErr, false, [], ◌∷◌
 ghost use Rattle.rosie_io.specs.Opening.{file_of};
 ghost use Rattle.rpl_package.specs.Asking.{Asks};
 ghost use Rattle.rpl_package.specs.Loading.{file_in, find, tried};
-ghost use Rattle.rpl_package.specs.Reading.{ReadsFile, Locates, IsQuiet};
+ghost use Rattle.rpl_package.specs.inside.Reading.{ReadsFile, Locates, IsQuiet};
 ghost use Rattle.rpl_package.specs.inside.Leaving.{LeavesFiles};
 
 use crate::reading::Read;

@@ -2,7 +2,7 @@
 ghost use Rattle.std.specs.Prelude.{◌≡◌, ◌<◌, IfSome, length};
 ghost use Rattle.rpl_scope.specs.Seen.{modules_seen};
 ghost use Rattle.rpl_package.specs.Owned as O;
-ghost use Rattle.rpl_package.specs.Stocks.{IsTable};
+ghost use Rattle.rpl_package.specs.inside.Numbering.{IsTable};
 
 use crate::resolve::target_in;
 use crate::set::PackageSet;

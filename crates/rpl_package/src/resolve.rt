@@ -3,7 +3,7 @@ ghost use Rattle.std.specs.Prelude.{◌≡◌, ◌+◌};
 ghost use Rattle.rpl_scope.specs.Packages.{nth};
 ghost use Rattle.rpl_scope.specs.Seen.{modules_seen};
 ghost use Rattle.rpl_package.specs.Views.{rule_found};
-ghost use Rattle.rpl_package.specs.Stocks.{IsTable};
+ghost use Rattle.rpl_package.specs.inside.Numbering.{IsTable};
 ghost use Rattle.rpl_package.specs.Targets as T;
 
 use crate::set::PackageSet;

@@ -3,7 +3,8 @@ ghost use Rattle.std.specs.Prelude.{◌≡◌, ◌<◌, [], length};
 ghost use Rattle.rpl_scope.specs.Seen.{modules_seen};
 ghost use Rattle.rpl_package.specs.Built.{IsBuilt, packages};
 ghost use Rattle.rpl_package.specs.Roots.{AreWithin};
-ghost use Rattle.rpl_package.specs.Stocks.{IsTable, stock_seen};
+ghost use Rattle.rpl_package.specs.Stocks.{stock_seen};
+ghost use Rattle.rpl_package.specs.inside.Numbering.{IsTable};
 
 use crate::stock::Stock;
 use crate::table::Table;

@@ -1,6 +1,6 @@
 // The modules that are loaded, and those that are being loaded.
 ghost use Rattle.std.specs.Prelude.{◌≡◌, ◌++◌, ◌∷◌, [], OnErr, OnOk, IfOk, IfErr, length};
-ghost use Rattle.rpl_package.specs.Kept.{Keeps};
+ghost use Rattle.rpl_package.specs.inside.Kept.{Keeps};
 ghost use Rattle.rpl_package.specs.inside.Noted.{noted};
 ghost use Rattle.rpl_package.specs.Loading.{is_loading, is_held, is_taken, finished, empty_module, with_path};
 ghost use Rattle.rpl_package.specs.Stocks.{stock_seen};

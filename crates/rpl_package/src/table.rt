@@ -3,7 +3,7 @@ ghost use Rattle.std.specs.Prelude.{◌≡◌, ◌≤◌, ◌<◌, ◌+◌, ◌+
 ghost use Rattle.rpl_scope.specs.Seen.{module_seen, modules_seen, rule_seen, rules_seen};
 ghost use Rattle.rpl_scope.specs.declared.fault.Stop.TheVariants.{Memory as OutOfMemory};
 ghost use Rattle.rpl_package.specs.Tables.{begun_at, begun_in, full_name, in_block, row_of, rows_of};
-ghost use Rattle.rpl_package.specs.Stocks.{IsTable};
+ghost use Rattle.rpl_package.specs.inside.Numbering.{IsTable};
 
 use rpl_scope::{Module, NoMemory, Rule, Stop};
 use rpl_text::Chars;

@@ -3,10 +3,10 @@ ghost use Rattle.std.specs.Prelude.{◌≡◌, ◌<◌, ℕ, All, List, OnOk, If
 ghost use Rattle.rpl_syntax.specs.Modules.{said};
 ghost use Rattle.rpl_package.specs.Asking.{Walks};
 ghost use Rattle.rpl_package.specs.Built.{Becomes, IsAsked, IsSaid, Loads, Makes, Reaches};
-ghost use Rattle.rpl_package.specs.Kept.{Keeps};
+ghost use Rattle.rpl_package.specs.inside.Kept.{Keeps};
 ghost use Rattle.rpl_package.specs.Loading.{world, walk, load_import, import_entry, import_entries, checks, own_text};
 ghost use Rattle.rpl_package.specs.Loading.{label_of, label_at, with_text};
-ghost use Rattle.rpl_package.specs.Reading.{IsRead};
+ghost use Rattle.rpl_package.specs.inside.Reading.{IsRead};
 ghost use Rattle.rpl_scope.specs.Seen.{module_seen};
 ghost use Rattle.rpl_scope.specs.declared.fault.Stop.TheVariants.{Memory as OutOfMemory};
 ghost use Rattle.rpl_package.specs.Stocks.{stock_seen, state_seen};

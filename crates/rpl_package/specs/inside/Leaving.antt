@@ -2,7 +2,7 @@
 use Rattle.std.specs.Prelude.{◌≡◌, false, Result}
 use Rattle.rosie_io.specs.Loading.{NotFewer}
 use Rattle.rosie_io.specs.declared.outside.Source.{Ghosts}
-use Rattle.rpl_package.specs.Reading.{HasCause}
+use Rattle.rpl_package.specs.inside.Reading.{HasCause}
 use Rattle.rpl_scope.specs.declared.fault.Stop.{Stop}
 
 -- the counts of failed reads and opens tell why the call stopped; the bytes that were taken are no fewer, the tree is

@@ -4,7 +4,7 @@ use Rattle.rpl_package.specs.Asking.{each_in_turn}
 use Rattle.rpl_package.specs.Built.{StaysBuilt}
 use Rattle.rpl_package.specs.Loading as L
 use Rattle.rpl_package.specs.Loading.{world}
-use Rattle.rpl_package.specs.Marks.{CutsTo}
+use Rattle.rpl_package.specs.inside.Marks.{CutsTo}
 use Rattle.rpl_package.specs.Patterns.{pattern_name}
 use Rattle.rpl_package.specs.Stocks.{stock_seen}
 use Rattle.rpl_package.specs.inside.Leaving.{LeavesFiles}

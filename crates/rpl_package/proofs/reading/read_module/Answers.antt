@@ -3,7 +3,7 @@ use Rattle.std.specs.Prelude.{IsUtf8}
 use Rattle.std.proofs.lemmas.Str.{IsUtf8-string_bytes}
 use Rattle.rpl_syntax.specs.Modules.{said}
 use Rattle.rpl_scope.specs.Faults.{Gives}
-use Rattle.rpl_package.specs.Reading.{IsRead}
+use Rattle.rpl_package.specs.inside.Reading.{IsRead}
 use Rattle.rpl_package.specs.Texts.{parsed}
 use Rattle.rpl_package.proofs.Building.{said_by}
 use Rattle.rpl_package.proofs.Readings.{is_parsed}

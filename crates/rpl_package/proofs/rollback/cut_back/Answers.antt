@@ -1,7 +1,7 @@
 use Rattle.std.proofs.Common.{sym, ap, ◌∙◌}
 use Rattle.std.proofs.lemmas.List.{take-map}
 use Rattle.rpl_scope.specs.Seen.{module_seen, modules_seen}
-use Rattle.rpl_package.specs.Kept.{with_shortened}
+use Rattle.rpl_package.specs.inside.Kept.{with_shortened}
 use Rattle.rpl_package.proofs.Placing.{stock_is}
 use Rattle.rpl_package.proofs.rollback.cut_back.Goals as goal
 

@@ -4,7 +4,7 @@ use Rattle.rpl_scope.specs.Seen.{modules_seen}
 use Rattle.rpl_package.specs.Built.{IsBuilt, packages}
 use Rattle.rpl_package.specs.Loading.{Stock}
 use Rattle.rpl_package.specs.Roots.{Packages}
-use Rattle.rpl_package.specs.Stocks.{IsTable}
+use Rattle.rpl_package.specs.inside.Numbering.{IsTable}
 use Rattle.rpl_package.proofs.Returning.{cut_home, same_inside, more_inside, more_within}
 use Rattle.rpl_package.proofs.rollback.enter_goal.Goals as goal
 

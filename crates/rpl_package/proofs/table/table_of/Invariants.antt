@@ -1,7 +1,7 @@
 use Rattle.std.proofs.Common.{◌≡◌, ◌≤◌, ◌+◌, ◌++◌, length, drop}
 use Rattle.rpl_scope.specs.Seen.{modules_seen}
 use Rattle.rpl_package.specs.Tables.{rows_from}
-use Rattle.rpl_package.specs.Firsts.{firsts_from}
+use Rattle.rpl_package.specs.inside.Firsts.{firsts_from}
 use Rattle.rpl_package.proofs.table.table_of.Given as goal
 
 abbrev pub invariant-loop-module : goal.invariant-loop-module

@@ -2,7 +2,7 @@ use Rattle.std.proofs.Common.{◌≡◌, ◌+◌, ◌*◌, drop}
 use Rattle.std.specs.Prelude.{Ok}
 use Rattle.rpl_package.specs.Loading.{world, walk, import_entries}
 use Rattle.rpl_package.specs.Built.{Becomes}
-use Rattle.rpl_package.specs.Kept.{Keeps}
+use Rattle.rpl_package.specs.inside.Kept.{Keeps}
 use Rattle.rpl_package.specs.Stocks.{stock_seen, state_seen}
 use Rattle.rpl_package.specs.inside.Leaving.{LeavesFiles}
 use Rattle.rpl_package.proofs.Outcomes.{Follows}
