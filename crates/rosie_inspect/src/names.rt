@@ -64,7 +64,8 @@ pub fn names_text(alloc: Global, set: &PackageSet) -> Result<String, NoMemory>
 {
     let names = set.names(alloc)?;
     let mut lines = make_lines(alloc, &names)?;
-    // They are in this order already; that a name has no character before the space is not said of a set.
+    // They are in this order already, since no name of a set has a character before the space. What is proved here asks
+    // for no such thing.
     lines.sort()?;
     join(alloc, &lines)
 }

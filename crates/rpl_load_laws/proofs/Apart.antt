@@ -6,7 +6,7 @@ use Rattle.std.specs.Str.{bytes_eq}
 use Rattle.std.proofs.lemmas.Slice.Eq.{bytes_eq-Decides}
 use Rattle.rpl_core.specs.Table.{AreDistinct}
 use Rattle.rpl_scope.specs.Packages.{first_of}
-use Rattle.rpl_load_laws.proofs.FullNames.{HasNoDot}
+use Rattle.rpl_load_laws.proofs.FullNames.{IsUnbroken}
 
 -- ---- in a list
 
@@ -82,7 +82,7 @@ pub keys_more : {A : Type 0} (k : List ℕ) (x : A) (ps : List (List ℕ × A)) 
     → AllApart (keys (ps ++ (k, x) ∷ []))
 keys_more k x ps a h = one_more k x ps a (none_lacks k ps h)
 
-pub dotless_more : {A : Type 0} (k : List ℕ) (x : A) (ps : List (List ℕ × A)) → AllByRecursion HasNoDot (keys ps)
-    → HasNoDot k → AllByRecursion HasNoDot (keys (ps ++ (k, x) ∷ []))
-dotless_more k x [] a d = (d, tt)
-dotless_more k x (p ∷ ps) a d = (a.0, dotless_more k x ps a.1 d)
+pub unbroken_more : {A : Type 0} (k : List ℕ) (x : A) (ps : List (List ℕ × A)) → AllByRecursion IsUnbroken (keys ps)
+    → IsUnbroken k → AllByRecursion IsUnbroken (keys (ps ++ (k, x) ∷ []))
+unbroken_more k x [] a d = (d, tt)
+unbroken_more k x (p ∷ ps) a d = (a.0, unbroken_more k x ps a.1 d)

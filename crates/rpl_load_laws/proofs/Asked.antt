@@ -1,4 +1,4 @@
--- The path of an import ends well, and so does the prefix of a name of a pattern.
+-- The prefix of a name of a pattern ends well, and is unbroken.
 use Rattle.std.proofs.Common.{◌≡◌, inl, inr, ℕ, List, [], ◌∷◌, length, Option, Some, None}
 use Rattle.std.proofs.Common.{refl, sym, subst}
 use Rattle.std.specs.Prelude.{Bool, true, false, Result, Ok, Err, chars}
@@ -31,7 +31,8 @@ use Rattle.rpl_package.specs.Goals.{ReadsText, ReadsCut, sought}
 use Rattle.rpl_package.specs.Texts.{max_text_bytes}
 use Rattle.rpl_package.specs.Built.{IsGoal, InGoal}
 use Rattle.rpl_load_laws.proofs.Lists.{all_append}
-use Rattle.rpl_load_laws.proofs.Words.{All_named, Named_token, EndsWell, all_named, name_ends}
+use Rattle.rpl_load_laws.proofs.FullNames.{IsUnbroken}
+use Rattle.rpl_load_laws.proofs.Words.{All_named, Named_token, EndsWell, all_named, name_ends, name_unbroken}
 
 -- the names of an expression are names
 abbrev IsFit : QName → Type 0
@@ -174,12 +175,13 @@ goal_fit e g =
       | inr short ↦ text_fit g.fixed g.find g.text e (g.read.text short)
     ]
 
-prefix_fit : (o : Option (List ℕ)) (n p : List ℕ) → o ≡ Some p → AreNames o n → EndsWell p
+prefix_fit : (o : Option (List ℕ)) (n p : List ℕ) → o ≡ Some p → AreNames o n → EndsWell p × IsUnbroken p
 prefix_fit None n p e h = absurd (cc)
-prefix_fit (Some x) n p e h = let k : x ≡ p = cc in subst EndsWell k (name_ends x false h.0)
+prefix_fit (Some x) n p e h =
+    let k : x ≡ p = cc in (subst EndsWell k (name_ends x false h.0), subst IsUnbroken k (name_unbroken x false h.0))
 
--- the prefix of a name of a pattern ends well
-pub goal_ends : (q : QName) (p : List ℕ) → InGoal q → q.prefix ≡ Some p → EndsWell p
+-- the prefix of a name of a pattern
+pub goal_ends : (q : QName) (p : List ℕ) → InGoal q → q.prefix ≡ Some p → EndsWell p × IsUnbroken p
 goal_ends q p g is =
     let all = All-from_recursion IsFit (names g.goal) (goal_fit g.goal g.read) in
     prefix_fit q.prefix q.name p is (All-contains IsFit (names g.goal) q all g.stands)

@@ -11,14 +11,14 @@ use Rattle.rpl_package.specs.Roots.{Packages, begun, top_head}
 use Rattle.rpl_package.specs.declared.stock.Head.{Head}
 use Rattle.rpl_package.specs.Built.{Becomes, same, on, text, said, again, imported, rooted, opened, headed}
 use Rattle.rpl_package.specs.Built.{IsAsked, Loads, Reaches, IsBuilt, by_roots, by_name, packages}
-use Rattle.rpl_load_laws.proofs.FullNames.{HasNoDot, star}
+use Rattle.rpl_load_laws.proofs.FullNames.{IsUnbroken, star}
 use Rattle.rpl_load_laws.proofs.Goals.{replaced_at}
 use Rattle.rpl_load_laws.proofs.Labels.{AreLabelled, AreFree, labels, free_with, done, label_more}
 use Rattle.rpl_load_laws.proofs.Lists.{nth_end, nth_last, nth_more}
 use Rattle.rpl_load_laws.proofs.Steps.{both}
-use Rattle.rpl_load_laws.proofs.Texts.{label_plain, plain_text}
-use Rattle.rpl_load_laws.proofs.Under.{AreUnder, Dotless, all_dotless, under_kept, label_kept, plain_rules, statements_in, taken_in}
-use Rattle.rpl_load_laws.proofs.Under.{prefix_at}
+use Rattle.rpl_load_laws.proofs.Texts.{asked_brings, asked_path, label_plain, plain_text}
+use Rattle.rpl_load_laws.proofs.Under.{AreUnder, Unbroken, all_unbroken, under_kept, label_kept, plain_rules}
+use Rattle.rpl_load_laws.proofs.Under.{statements_in, taken_in, prefix_at}
 
 -- ---- all rules stand under their names
 
@@ -39,10 +39,11 @@ under_more ms m h own = record { each = λ i x g. by i x (nth_end ms m i x g) }
 nothing_under : (path : Option (List ℕ)) (label : List ℕ) → AreUnder (empty_module path label)
 nothing_under path label = record {
   each = λ k r g. absurd (cc);
-  dotless = λ k r g. absurd (cc);
+  unbroken = λ k r g. absurd (cc);
   names = tt;
   plain = tt;
   prefixes = tt;
+  clear = tt;
 }
 
 starts : (s : Stock) (path : Option (List ℕ)) (label : List ℕ) → AllUnder s.modules → Kept (opened s path label)
@@ -55,19 +56,21 @@ kept hs s t (text gs a f) h = record {
   all = h.all;
   own = record {
     each = h.own.each;
-    dotless = h.own.dotless;
+    unbroken = h.own.unbroken;
     names = h.own.names;
     plain = h.own.plain;
     prefixes = h.own.prefixes;
+    clear = h.own.clear;
   };
 }
 kept hs s t (said gs a f k x m is e) h = record {
   all = h.all;
-  own = statements_in AreUnder HasNoDot Dotless under_kept f k s.stock.modules x.items s.own m (all_dotless k x.items (plain_text x is).dotless) h.own e;
+  own = statements_in AreUnder IsUnbroken Unbroken under_kept f k s.stock.modules x.items s.own m
+      (all_unbroken k x.items (plain_text x is).unbroken) h.own e;
 }
 kept hs s t (again gs a f i j m asked k e) h = record {
   all = h.all;
-  own = taken_in AreUnder HasNoDot Dotless under_kept f i j s.stock.modules s.own m
+  own = taken_in AreUnder IsUnbroken Unbroken under_kept f i j s.stock.modules s.own m (asked_brings i asked)
       (plain_rules (nth s.stock.modules j) (λ y at. h.all.each j y at)) h.own e;
 }
 kept hs s t (imported gs a u f i x m asked is unheld b e) h =
@@ -79,8 +82,8 @@ kept hs s t (imported gs a u f i x m asked is unheld b e) h =
     let ms = (finished u.stock u.own).modules in
     record {
       all = all;
-      own = taken_in AreUnder HasNoDot Dotless under_kept f i n ms s.own m (plain_rules (nth ms n) (λ y at. all.each n y at))
-          h.own e;
+      own = taken_in AreUnder IsUnbroken Unbroken under_kept f i n ms s.own m (asked_brings i asked)
+          (plain_rules (nth ms n) (λ y at. all.each n y at)) h.own e;
     }
 kept hs s t (rooted gs a u x q is name fresh unheld b) h =
     let l = q.name in
@@ -88,7 +91,7 @@ kept hs s t (rooted gs a u x q is name fresh unheld b) h =
     record {
       all = under_more u.stock.modules u.own r.all r.own;
       own = under_kept.prefix s.own l (record { since = length s.own.rules; number = length u.stock.modules }) h.own
-          fresh;
+          ((plain_text x is).title q name).1 fresh;
     }
 
 -- a module that is done stays as it is
@@ -220,16 +223,17 @@ module _ (s : Stock) (i : ℕ) (m y : Module) (h : IsApart s i) (at : nth s.modu
     };
   }
 
-put_apart : (f : List ℕ) (e : Import) (j i : ℕ) (s t : Stock) (o : Option Module) → IsApart s i → nth s.modules i ≡ o
-    → put_by f e j i s o ≡ Ok t → IsApart t i
-put_apart f e j i s t None h at g = let k : s ≡ t = cc in subst (λ x. IsApart x i) k h
-put_apart f e j i s t (Some m) h at g =
+put_apart : (f : List ℕ) (e : Import) (j i : ℕ) (s t : Stock) (o : Option Module) → IsUnbroken e.path → IsApart s i
+    → nth s.modules i ≡ o → put_by f e j i s o ≡ Ok t → IsApart t i
+put_apart f e j i s t None clear h at g = let k : s ≡ t = cc in subst (λ x. IsApart x i) k h
+put_apart f e j i s t (Some m) clear h at g =
     let c = both (add_prefix f e.at e.path j m) (λ n. Ok (with_module s i n)) t g in
     let k : with_module s i c.0 ≡ t = (let q = c.2 in cc) in
     let o = first_of e.path m.prefixes in
-    let label = prefix_at (λ y. y.label ≡ m.label) (λ k. Unit {0}) Dotless (label_kept m.label) f e.at e.path j m c.0 o refl refl
+    let label = prefix_at (λ y. y.label ≡ m.label) (λ k. Unit {0}) Unbroken (label_kept m.label) f e.at e.path j m c.0 o clear
+    refl refl c.1 in
+    let own = prefix_at AreUnder IsUnbroken Unbroken under_kept f e.at e.path j m c.0 o clear refl (h.apart.under.each i m at)
     c.1 in
-    let own = prefix_at AreUnder HasNoDot Dotless under_kept f e.at e.path j m c.0 o refl (h.apart.under.each i m at) c.1 in
     subst (λ x. IsApart x i) k (with_apart s i m c.0 h at own label)
 
 -- so it is in every set that is built
@@ -237,4 +241,4 @@ pub set_apart : (p : Packages) → IsBuilt p → IsApart p.stock p.top
 set_apart p (by_roots s rs b) = whole_apart s b
 set_apart p (by_name s t i rs f e r b asked k g) =
     let h = set_apart (packages s i rs) b in
-    put_apart f e r.0 i r.1 t (nth r.1.modules i) (reached e s i r asked h k) refl g
+    put_apart f e r.0 i r.1 t (nth r.1.modules i) (asked_path e asked) (reached e s i r asked h k) refl g

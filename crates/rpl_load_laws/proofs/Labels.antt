@@ -10,8 +10,8 @@ use Rattle.rpl_package.specs.declared.stock.Head.{Head}
 use Rattle.rpl_package.specs.Built.{Becomes, same, on, text, said, again, imported, rooted, opened, headed}
 use Rattle.rpl_load_laws.proofs.FullNames.{star}
 use Rattle.rpl_load_laws.proofs.Lists.{first_more, nth_end}
-use Rattle.rpl_load_laws.proofs.Texts.{label_plain, plain_text}
-use Rattle.rpl_load_laws.proofs.Under.{Dotless, all_dotless, all_unit, first_new, label_kept, statements_in, taken_in}
+use Rattle.rpl_load_laws.proofs.Texts.{asked_brings, label_plain, plain_text}
+use Rattle.rpl_load_laws.proofs.Under.{Unbroken, all_unbroken, all_unit, first_new, label_kept, statements_in, taken_in}
 
 -- ---- names that are held
 
@@ -197,14 +197,14 @@ labels hs s t (text gs a f) h k = record { labelled = h; free = k; own = refl }
 labels hs s t (said gs a f k x m is e) h free = record {
   labelled = h;
   free = free;
-  own = statements_in (λ y. y.label ≡ s.own.label) (λ k. Unit {0}) Dotless (label_kept s.own.label) f k s.stock.modules x.items
-      s.own m (all_dotless k x.items (plain_text x is).dotless) refl e;
+  own = statements_in (λ y. y.label ≡ s.own.label) (λ k. Unit {0}) Unbroken (label_kept s.own.label) f k s.stock.modules x.items
+      s.own m (all_unbroken k x.items (plain_text x is).unbroken) refl e;
 }
 labels hs s t (again gs a f i j m asked k e) h free = record {
   labelled = h;
   free = free;
-  own = taken_in (λ y. y.label ≡ s.own.label) (λ k. Unit {0}) Dotless (label_kept s.own.label) f i j s.stock.modules s.own m
-      (all_unit (rules_at (nth s.stock.modules j))) refl e;
+  own = taken_in (λ y. y.label ≡ s.own.label) (λ k. Unit {0}) Unbroken (label_kept s.own.label) f i j s.stock.modules s.own m
+      (asked_brings i asked) (all_unit (rules_at (nth s.stock.modules j))) refl e;
 }
 labels hs s t (imported gs a u f i x m asked is unheld b e) h free =
     let l = label_of x.name i.path in
@@ -214,12 +214,12 @@ labels hs s t (imported gs a u f i x m asked is unheld b e) h free =
     record {
       labelled = d.0;
       free = d.1;
-      own = taken_in (λ y. y.label ≡ s.own.label) (λ k. Unit {0}) Dotless (label_kept s.own.label) f i (length u.stock.modules)
-          (finished u.stock u.own).modules s.own m
+      own = taken_in (λ y. y.label ≡ s.own.label) (λ k. Unit {0}) Unbroken (label_kept s.own.label) f i (length u.stock.modules)
+          (finished u.stock u.own).modules s.own m (asked_brings i asked)
           (all_unit (rules_at (nth (finished u.stock u.own).modules (length u.stock.modules)))) refl e;
     }
 labels hs s t (rooted gs a u x q is name fresh unheld b) h free =
     let l = q.name in
     let r = labels (headed hs None l) (opened s.stock None l) u b h (free_with hs None l s.stock unheld free) in
-    let d = done hs None l s.stock unheld free u r ((plain_text x is).title q name) in
+    let d = done hs None l s.stock unheld free u r ((plain_text x is).title q name).0 in
     record { labelled = d.0; free = d.1; own = refl }

@@ -21,18 +21,18 @@ use Rattle.rpl_package.specs.declared.table.Row.{Row}
 use Rattle.rpl_package.specs.Built.{IsBuilt}
 use Rattle.rpl_load_laws.specs.Laws.{RulesAreDistinct}
 use Rattle.rpl_load_laws.proofs.Distinct.{IsApart, set_apart}
-use Rattle.rpl_load_laws.proofs.FullNames.{HasNoDot, dotted, full_same, mark_has_none, split, star}
+use Rattle.rpl_load_laws.proofs.FullNames.{IsUnbroken, dotted, full_same, mark_unbroken, split, star}
 use Rattle.rpl_load_laws.proofs.Labels.{one_of_label}
 use Rattle.rpl_load_laws.proofs.Rows.{Located, located}
 use Rattle.rpl_load_laws.proofs.Tables.{nth_statement, row_there}
 use Rattle.rpl_load_laws.proofs.Under.{one_of_name}
-use Rattle.rpl_load_laws.proofs.Words.{words_no_dot}
+use Rattle.rpl_load_laws.proofs.Words.{words_unbroken}
 
 abbrev halt_word : List ℕ
 halt_word = codes "halt"
 
-halt_no_dot : HasNoDot halt_word
-halt_no_dot = words_no_dot halt_word refl
+halt_unbroken : IsUnbroken halt_word
+halt_unbroken = words_unbroken halt_word refl
 
 -- ---- the built-in rules have names of their own
 
@@ -42,15 +42,15 @@ marked false n is e = let k : bytes_eq n boundary_name ≡ true = (bytes_eq-Deci
 
 no_mark : (l n : List ℕ) → full_name l n ≢ boundary_name
 no_mark [] n e = marked (bytes_eq n boundary_name) n refl e
-no_mark (c ∷ l) n e = dotted (c ∷ l) n (subst HasNoDot (sym e) mark_has_none)
+no_mark (c ∷ l) n e = dotted (c ∷ l) n (subst IsUnbroken (sym e) mark_unbroken)
 
-top_halt : (b : Bool) (n : List ℕ) → HasNoDot n → (if b then codes "*.~" else n) ≢ codes "*.halt"
+top_halt : (b : Bool) (n : List ℕ) → IsUnbroken n → (if b then codes "*.~" else n) ≢ codes "*.halt"
 top_halt true n h e = absurd (cc)
-top_halt false n h e = dotted star halt_word (subst HasNoDot e h)
+top_halt false n h e = dotted star halt_word (subst IsUnbroken e h)
 
-star_halt : (l n : List ℕ) → HasNoDot n → l ≢ star → full_name l n ≢ codes "*.halt"
+star_halt : (l n : List ℕ) → IsUnbroken n → l ≢ star → full_name l n ≢ codes "*.halt"
 star_halt [] n h s e = top_halt (bytes_eq n boundary_name) n h e
-star_halt (c ∷ l) n h s e = s (split (c ∷ l) star n halt_word h halt_no_dot e).0
+star_halt (c ∷ l) n h s e = s (split (c ∷ l) star n halt_word h halt_unbroken e).0
 
 top_plain : (b : Bool) (n : List ℕ) → (if b then codes "*.~" else n) ≡ halt_word → n ≡ halt_word
 top_plain true n e = absurd (cc)
@@ -58,7 +58,7 @@ top_plain false n e = e
 
 plain_halt : (l n : List ℕ) → full_name l n ≡ halt_word → (l ≡ []) × (n ≡ halt_word)
 plain_halt [] n e = (refl, top_plain (bytes_eq n boundary_name) n e)
-plain_halt (c ∷ l) n e = absurd (dotted (c ∷ l) n (subst HasNoDot (sym e) halt_no_dot))
+plain_halt (c ∷ l) n e = absurd (dotted (c ∷ l) n (subst IsUnbroken (sym e) halt_unbroken))
 
 -- ---- the rows of the table
 
@@ -66,8 +66,8 @@ module _ (p : Packages) (h : IsApart p.stock p.top) where
   name_of : (n : ℕ) (w : Row) (x : Located 0 0 p.stock.modules n w) → w.name ≡ full_name x.home.label x.rule.name
   name_of n w x = ap (λ z. z.name) x.row
 
-  no_dot_in : (n : ℕ) (w : Row) (x : Located 0 0 p.stock.modules n w) → HasNoDot x.rule.name
-  no_dot_in n w x = (h.apart.under.each x.owner x.home x.at).dotless x.place x.rule x.has
+  unbroken_in : (n : ℕ) (w : Row) (x : Located 0 0 p.stock.modules n w) → IsUnbroken x.rule.name
+  unbroken_in n w x = (h.apart.under.each x.owner x.home x.at).unbroken x.place x.rule x.has
 
   -- rows of one full name are one
   one_of_full_name : (n k : ℕ) (v w : Row) → nth (rows p.stock.modules) n ≡ Some v
@@ -76,7 +76,7 @@ module _ (p : Packages) (h : IsApart p.stock p.top) where
       let ms = p.stock.modules in
       let x = located 0 0 ms n v f in
       let y = located 0 0 ms k w g in
-      let t = full_same x.home.label y.home.label x.rule.name y.rule.name (no_dot_in n v x) (no_dot_in k w y)
+      let t = full_same x.home.label y.home.label x.rule.name y.rule.name (unbroken_in n v x) (unbroken_in k w y)
       (h.apart.labelled.starless x.owner x.home x.at) (h.apart.labelled.starless y.owner y.home y.at)
       (sym (name_of n v x) ∙ e ∙ name_of k w y) in
       let i = one_of_label p.stock x.owner y.owner x.home y.home h.apart.labelled x.at y.at t.0 in
@@ -103,7 +103,7 @@ module _ (p : Packages) (h : IsApart p.stock p.top) where
   halt_by_name : (b : Bool) → binds_halt p ≡ b → (n : ℕ) (w : Row) (x : Located 0 0 p.stock.modules n w)
       → full_name x.home.label x.rule.name ≢ halt_by b
   halt_by_name true is n w x e =
-      star_halt x.home.label x.rule.name (no_dot_in n w x) (h.apart.labelled.starless x.owner x.home x.at) e
+      star_halt x.home.label x.rule.name (unbroken_in n w x) (h.apart.labelled.starless x.owner x.home x.at) e
   halt_by_name false is n w x e =
       let k = plain_halt x.home.label x.rule.name e in
       let yes = bound_halt x.owner x.place x.home x.rule x.at x.has k.0 k.1 in

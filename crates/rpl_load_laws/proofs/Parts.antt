@@ -40,7 +40,8 @@ use Rattle.rpl_package.specs.Built.{IsBuilt, IsGoal, Reaches, by_roots, by_name,
 use Rattle.rpl_load_laws.proofs.Choices.{InnerHas, InnersHave, core_has, inlined_has}
 use Rattle.rpl_load_laws.proofs.Lists.{all_append}
 use Rattle.rpl_load_laws.proofs.Steps.{both}
-use Rattle.rpl_load_laws.proofs.Texts.{RuleGood, plain_text}
+use Rattle.rpl_load_laws.proofs.FullNames.{IsUnbroken}
+use Rattle.rpl_load_laws.proofs.Texts.{RuleGood, asked_brings, asked_path, plain_text}
 use Rattle.rpl_load_laws.proofs.Under.{IsKept, all_unit, prefix_at, statements_in, taken_in}
 use Rattle.rpl_load_laws.specs.Laws.{GoalsHaveParts, TablesHaveParts}
 
@@ -52,7 +53,7 @@ ModuleGood m = AllByRecursion RuleGood m.rules
 good_kept : IsKept ModuleGood (λ k. Unit {0}) RuleGood
 good_kept = record {
   rule = λ m r h g none. all_append RuleGood m.rules (r ∷ []) h (g, tt);
-  prefix = λ m k x h new. h;
+  prefix = λ m k x h u new. h;
   name = λ m k x h d new. h;
 }
 
@@ -79,7 +80,7 @@ kept hs s t (said gs a f k x m is e) h = record {
 kept hs s t (again gs a f i j m asked k e) h = record {
   all = h.all;
   own = taken_in ModuleGood (λ k. Unit {0}) RuleGood good_kept f i j s.stock.modules s.own m
-      (all_unit (rules_at (nth s.stock.modules j))) h.own e;
+      (asked_brings i asked) (all_unit (rules_at (nth s.stock.modules j))) h.own e;
 }
 kept hs s t (imported gs a u f i x m asked is unheld b e) h =
     let l = label_of x.name i.path in
@@ -89,7 +90,7 @@ kept hs s t (imported gs a u f i x m asked is unheld b e) h =
     record {
       all = good_more u (kept (headed hs p l) (opened s.stock p l) u b (starts s.stock p l h.all));
       own = taken_in ModuleGood (λ k. Unit {0}) RuleGood good_kept f i n ms s.own m
-          (all_unit (rules_at (nth ms n))) h.own e;
+          (asked_brings i asked) (all_unit (rules_at (nth ms n))) h.own e;
     }
 kept hs s t (rooted gs a u x q is name fresh unheld b) h = record {
   all = good_more u (kept (headed hs None q.name) (opened s.stock None q.name) u b (starts s.stock None q.name h.all));
@@ -121,14 +122,14 @@ nth_has P [] i h = tt
 nth_has P (x ∷ xs) zero h = h.0
 nth_has P (x ∷ xs) (suc i) h = nth_has P xs i h.1
 
-put_good : (f : List ℕ) (e : Import) (j i : ℕ) (s t : Stock) (o : Option Module) → AllByRecursion ModuleGood s.modules
-    → IfAny ModuleGood o → put_by f e j i s o ≡ Ok t → AllByRecursion ModuleGood t.modules
-put_good f e j i s t None h g is = let k : s ≡ t = cc in subst (λ x. AllByRecursion ModuleGood x.modules) k h
-put_good f e j i s t (Some m) h g is =
+put_good : (f : List ℕ) (e : Import) (j i : ℕ) (s t : Stock) (o : Option Module) → IsUnbroken e.path
+    → AllByRecursion ModuleGood s.modules → IfAny ModuleGood o → put_by f e j i s o ≡ Ok t → AllByRecursion ModuleGood t.modules
+put_good f e j i s t None clear h g is = let k : s ≡ t = cc in subst (λ x. AllByRecursion ModuleGood x.modules) k h
+put_good f e j i s t (Some m) clear h g is =
     let c = both (add_prefix f e.at e.path j m) (λ n. Ok (with_module s i n)) t is in
     let k : with_module s i c.0 ≡ t = (let q = c.2 in cc) in
     let own = prefix_at ModuleGood (λ k. Unit {0}) RuleGood good_kept f e.at e.path j m c.0 (first_of e.path m.prefixes)
-    refl g c.1 in
+    clear refl g c.1 in
     subst (λ x. AllByRecursion ModuleGood x.modules) k (replaced_good s.modules i c.0 h own)
 
 set_good : (p : Packages) → IsBuilt p → AllByRecursion ModuleGood p.stock.modules
@@ -136,7 +137,7 @@ set_good p (by_roots s rs b) =
     good_more s (kept (top_head ∷ []) begun.state s b (record { all = tt; own = tt }))
 set_good p (by_name s t i rs f e r b asked k g) =
     let h = reached e.path s r (set_good (packages s i rs) b) k in
-    put_good f e r.0 i r.1 t (nth r.1.modules i) h (nth_has ModuleGood r.1.modules i h) g
+    put_good f e r.0 i r.1 t (nth r.1.modules i) (asked_path e asked) h (nth_has ModuleGood r.1.modules i h) g
 
 -- ---- their statements
 

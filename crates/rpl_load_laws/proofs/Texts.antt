@@ -1,5 +1,6 @@
--- What the texts that are read say: no block has a boundary, no rule has a dot in its name, the body of each is of the
--- form of a reading, and no star is the package name of a text or stands last in the path of an import.
+-- What the texts that are read say: no block has a boundary; no name of a rule, no package name and no path or prefix of
+-- an import has a dot or a space; the body of each rule is of the form of a reading; and no star is the package name of
+-- a text or stands last in the path of an import.
 use Rattle.std.proofs.Common.{◌≡◌, ◌≢◌, ℕ, List, [], ◌∷◌, ◌++◌, length, Option, Some, None, sym, ap, subst, refl}
 use Rattle.std.proofs.Common.{◌∙◌, arith}
 use Rattle.std.specs.Prelude.{Bool, true, false, IsUtf8, Result, Ok, Err}
@@ -17,6 +18,8 @@ use Rattle.rpl_lexer.proofs.Cuts.{tokens_stand}
 use Rattle.rpl_syntax.specs.Modules.{Rule, Entry, One, Block, ParsedModule}
 use Rattle.rpl_syntax.specs.Readable.{Good}
 use Rattle.rpl_syntax.specs.declared.module.Import.{Import}
+use Rattle.rpl_syntax.specs.declared.module.ImportAs.{ImportAs}
+use Rattle.rpl_syntax.specs.declared.module.ImportAs.TheVariants as A
 use Rattle.rpl_syntax.specs.declared.name.QName.{QName}
 use Rattle.rpl_syntax.specs.declared.token.Token.{Token}
 use Rattle.rpl_syntax.specs.declared.token.Token.TheVariants as T
@@ -27,7 +30,7 @@ use Rattle.rpl_parser.specs.Order.{version_lines, outline_lines, part_entry, par
 use Rattle.rpl_parser.specs.Order.{all_imports, title_name}
 use Rattle.rpl_parser.specs.Spelling as S
 use Rattle.rpl_parser.specs.Spelling.{Line, Statement, spell_statement, Path, As, Entries, spell_path, spell_as}
-use Rattle.rpl_parser.specs.Spelling.{spell_entries, path_text, entries}
+use Rattle.rpl_parser.specs.Spelling.{spell_entries, path_text, import_as, entries}
 use Rattle.rpl_parser.specs.Tokens.{AllStand, tokens_of}
 use Rattle.rpl_parser.specs.Walks.{module_of}
 use Rattle.rpl_parser.specs.declared.fault.ParseFault.{ParseFault}
@@ -45,32 +48,53 @@ use Rattle.rpl_package.specs.Texts.{of_cut, of_parse}
 use Rattle.rpl_package.specs.Built.{IsSaid, IsAsked, by_text, by_goal}
 use Rattle.rpl_load_laws.proofs.Asked.{goal_ends}
 use Rattle.rpl_load_laws.proofs.Entering.{AreUnmarked, IsPlainEntry, ArePlainEntries}
-use Rattle.rpl_load_laws.proofs.FullNames.{AreDotless, AreDotlessEntries, HasNoDot, IsDotlessEntry, mark_has_none, star}
+use Rattle.rpl_load_laws.proofs.FullNames.{AreUnbroken, AreUnbrokenEntries, IsUnbroken, IsUnbrokenEntry, mark_unbroken, star}
 use Rattle.rpl_load_laws.proofs.Lists.{all_append}
-use Rattle.rpl_load_laws.proofs.Under.{AllMake}
-use Rattle.rpl_load_laws.proofs.Words.{All_named, EndsWell, all_named, name_ends, no_dot, no_star, under_ends}
+use Rattle.rpl_load_laws.proofs.Under.{AllMake, BringsUnbroken}
+use Rattle.rpl_load_laws.proofs.Words.{All_named, EndsWell, all_named, last_unbroken, name_ends, name_unbroken, no_star}
+use Rattle.rpl_load_laws.proofs.Words.{under_ends, under_unbroken}
 
 -- ---- imports
 
-abbrev ImportEnds : Import → Type 0
-ImportEnds i = EndsWell i.path
+abbrev pub IsUnbrokenAs : ImportAs → Type 0
+IsUnbrokenAs A.Last = Unit {0}
+IsUnbrokenAs (A.Named p) = IsUnbroken p
+IsUnbrokenAs A.Plain = Unit {0}
 
-path_ends : (p : Path) (r : List Token) → All_named (spell_path p r) → EndsWell (path_text p) × All_named r
-path_ends (S.Last n at) r f = (name_ends n false f.0, f.1)
+pub record ImportEnds (i : Import) : Type 0 where
+  pub ends : EndsWell i.path
+  pub path : IsUnbroken i.path
+  pub name : IsUnbrokenAs i.name
+
+record Path_ends (p : Path) (r : List Token) : Type 0 where
+  ends : EndsWell (path_text p)
+  path : IsUnbroken (path_text p)
+  rest : All_named r
+
+path_ends : (p : Path) (r : List Token) → All_named (spell_path p r) → Path_ends p r
+path_ends (S.Last n at) r f = record { ends = name_ends n false f.0; path = name_unbroken n false f.0; rest = f.1 }
 path_ends (S.Under n at p) r f =
-    let k = path_ends p r f.1.1 in (under_ends n (path_text p) false f.0 k.0, k.1)
+    let k = path_ends p r f.1.1 in
+    record {
+      ends = under_ends n (path_text p) false f.0 k.ends;
+      path = under_unbroken n (path_text p) false f.0 k.path;
+      rest = k.rest;
+    }
 
-as_rest : (a : As) (r : List Token) → All_named (spell_as a r) → All_named r
-as_rest S.NoAs r f = f
-as_rest (S.AsName n at) r f = f.1.1
-as_rest S.AsDot r f = f.1.1
+as_rest : (a : As) (r : List Token) → All_named (spell_as a r) → IsUnbrokenAs (import_as a) × All_named r
+as_rest S.NoAs r f = (tt, f)
+as_rest (S.AsName n at) r f = (name_unbroken n false f.1.0, f.1.1)
+as_rest S.AsDot r f = (tt, f.1.1)
 
 entries_end : (es : Entries) → All_named (spell_entries es) → AllByRecursion ImportEnds (entries es)
-entries_end (S.Single p a) f = ((path_ends p (spell_as a []) f).0, tt)
+entries_end (S.Single p a) f =
+    let k = path_ends p (spell_as a []) f in
+    (record { ends = k.ends; path = k.path; name = (as_rest a [] k.rest).0 }, tt)
 entries_end (S.More p a es) f =
     let r = T.Sign Comma ∷ spell_entries es in
     let k = path_ends p (spell_as a r) f in
-    (k.0, entries_end es (as_rest a r k.1).1)
+    let j = as_rest a r k.rest in
+    (record { ends = k.ends; path = k.path; name = j.0 }, entries_end es j.1.1)
 
 -- ---- a statement
 
@@ -78,8 +102,8 @@ not_mark : (n : List ℕ) → IsName n false → n ≢ boundary_name
 not_mark n h e = let k : is_name boundary_name ≡ true = subst (λ x. is_name x ≡ true) e h.name in absurd (cc)
 
 abbrev LinePlain : Line → Type 0
-LinePlain (S.Binds local alias name body) = (local ≡ false → name ≢ boundary_name) × HasNoDot name
-LinePlain (S.Package name) = name ≢ star
+LinePlain (S.Binds local alias name body) = (local ≡ false → name ≢ boundary_name) × IsUnbroken name
+LinePlain (S.Package name) = (name ≢ star) × IsUnbroken name
 LinePlain (S.Imports es) = AllByRecursion ImportEnds es
 LinePlain _ = Unit {0}
 
@@ -89,13 +113,13 @@ LinesPlain (l ∷ ls) = LinePlain l.line × LinesPlain ls
 
 statement_plain : (t : Statement) → All_named (spell_statement t) → LinePlain (S.line t)
 statement_plain (S.RplLine a b) f = tt
-statement_plain (S.PackageLine n at) f = no_star n false f.1.0
+statement_plain (S.PackageLine n at) f = (no_star n false f.1.0, name_unbroken n false f.1.0)
 statement_plain (S.ImportLine es) f = entries_end es f.1
-statement_plain (S.BindingLine true true n at e) f = (λ h. absurd (cc), no_dot n false f.1.1.0)
-statement_plain (S.BindingLine true false n at e) f = (λ h. absurd (cc), no_dot n false f.1.0)
-statement_plain (S.BindingLine false true n at e) f = (λ h. not_mark n f.1.0, no_dot n false f.1.0)
-statement_plain (S.BindingLine false false n at e) f = (λ h. not_mark n f.0, no_dot n false f.0)
-statement_plain (S.BoundaryLine e) f = (λ h. absurd (cc), mark_has_none)
+statement_plain (S.BindingLine true true n at e) f = (λ h. absurd (cc), name_unbroken n false f.1.1.0)
+statement_plain (S.BindingLine true false n at e) f = (λ h. absurd (cc), name_unbroken n false f.1.0)
+statement_plain (S.BindingLine false true n at e) f = (λ h. not_mark n f.1.0, name_unbroken n false f.1.0)
+statement_plain (S.BindingLine false false n at e) f = (λ h. not_mark n f.0, name_unbroken n false f.0)
+statement_plain (S.BoundaryLine e) f = (λ h. absurd (cc), mark_unbroken)
 statement_plain S.GrammarLine f = tt
 statement_plain S.InLine f = tt
 statement_plain S.EndLine f = tt
@@ -139,22 +163,22 @@ parts_plain : (ps : List Part) → AllLocalOutside ps → LinesPlain (parts_line
 parts_plain [] n h = tt
 parts_plain (p ∷ ps) n h = let k = part_plain p (parts_lines ps) n.0 h in (k.0, parts_plain ps n.1 k.1)
 
-rules_dotless : (rs : List Rule) (q : List Placed) → LinesPlain (rule_lines rs q) → AreDotless rs × LinesPlain q
-rules_dotless [] q h = (tt, h)
-rules_dotless (r ∷ rs) q h = let k = rules_dotless rs q h.1 in ((h.0.1, k.0), k.1)
+rules_unbroken : (rs : List Rule) (q : List Placed) → LinesPlain (rule_lines rs q) → AreUnbroken rs × LinesPlain q
+rules_unbroken [] q h = (tt, h)
+rules_unbroken (r ∷ rs) q h = let k = rules_unbroken rs q h.1 in ((h.0.1, k.0), k.1)
 
-part_dotless : (p : Part) (q : List Placed) → LinesPlain (part_lines p q) → IsDotlessEntry (part_entry p)
+part_unbroken : (p : Part) (q : List Placed) → LinesPlain (part_lines p q) → IsUnbrokenEntry (part_entry p)
     × LinesPlain q
-part_dotless (Alone r) q h = (h.0.1, h.1)
-part_dotless (Whole o vs c) q h = let k = rules_dotless vs _ h.1 in ((tt, k.0), k.1.1)
-part_dotless (Halves o hs i vs c) q h =
-    let j = rules_dotless hs _ h.1 in
-    let k = rules_dotless vs _ j.1.1 in
+part_unbroken (Alone r) q h = (h.0.1, h.1)
+part_unbroken (Whole o vs c) q h = let k = rules_unbroken vs _ h.1 in ((tt, k.0), k.1.1)
+part_unbroken (Halves o hs i vs c) q h =
+    let j = rules_unbroken hs _ h.1 in
+    let k = rules_unbroken vs _ j.1.1 in
     ((j.0, k.0), k.1.1)
 
-parts_dotless : (ps : List Part) → LinesPlain (parts_lines ps) → AreDotlessEntries (part_entries ps)
-parts_dotless [] h = tt
-parts_dotless (p ∷ ps) h = let k = part_dotless p (parts_lines ps) h in (k.0, parts_dotless ps k.1)
+parts_unbroken : (ps : List Part) → LinesPlain (parts_lines ps) → AreUnbrokenEntries (part_entries ps)
+parts_unbroken [] h = tt
+parts_unbroken (p ∷ ps) h = let k = part_unbroken p (parts_lines ps) h in (k.0, parts_unbroken ps k.1)
 
 imports_end : (is : List Importing) (q : List Placed) → LinesPlain (import_lines is q)
     → AllByRecursion ImportEnds (all_imports is) × LinesPlain q
@@ -162,10 +186,14 @@ imports_end [] q h = (tt, h)
 imports_end (i ∷ is) q h =
     let k = imports_end is q h.1 in (all_append ImportEnds i.entries (all_imports is) h.0 k.0, k.1)
 
+-- it may be a package name
+abbrev pub IsTitle : List ℕ → Type 0
+IsTitle n = (n ≢ star) × IsUnbroken n
+
 past_title : (o : Option Title) (q : List Placed) → LinesPlain (title_lines o q)
-    → ((n : QName) → title_name o ≡ Some n → n.name ≢ star) × LinesPlain q
+    → ((n : QName) → title_name o ≡ Some n → IsTitle n.name) × LinesPlain q
 past_title None q h = (λ n e. absurd (cc), h)
-past_title (Some t) q h = (λ n e g. h.0 (let k : t.name ≡ n.name = cc in k ∙ g), h.1)
+past_title (Some t) q h = (λ n e. (let k : t.name ≡ n.name = cc in subst IsTitle k h.0), h.1)
 
 past_version : (o : Option Numbered) (q : List Placed) → LinesPlain (version_lines o q) → LinesPlain q
 past_version None q h = h
@@ -194,8 +222,8 @@ entries_good k (e ∷ es) h = (λ n. entry_good k n e h.0, entries_good k es h.1
 pub record IsPlain (t : ParsedModule) : Type 0 where
   pub good : (k : ℕ) → AllMake RuleGood k t.items
   pub unmarked : ArePlainEntries t.items
-  pub dotless : AreDotlessEntries t.items
-  pub title : (n : QName) → t.name ≡ Some n → n.name ≢ star
+  pub unbroken : AreUnbrokenEntries t.items
+  pub title : (n : QName) → t.name ≡ Some n → IsTitle n.name
   pub imports : AllByRecursion ImportEnds t.imports
 
 module_plain : (s : List ℕ) (ts : List Lexeme) (m : ParsedModule) → IsUtf8 s → IsCut s ts → IsModule s ts m
@@ -208,7 +236,7 @@ module_plain s ts m u c h =
     subst IsPlain (sym h.stands_for) (record {
       good = λ k. entries_good k _ whole;
       unmarked = parts_plain h.tree.parts h.blocks imports.1;
-      dotless = parts_dotless h.tree.parts imports.1;
+      unbroken = parts_unbroken h.tree.parts imports.1;
       title = title.0;
       imports = imports.0;
     })
@@ -230,16 +258,30 @@ plain_text t h = by_cut h.file h.bytes t (cut_of h.bytes) h.form refl h.read
 
 -- ---- package names
 
-asked_ends : (i : Import) → IsAsked i → EndsWell i.path
+asked_ends : (i : Import) → IsAsked i → ImportEnds i
 asked_ends i (by_text t is c) =
     All-contains ImportEnds t.imports i (All-from_recursion ImportEnds t.imports (plain_text t is).imports) c
-asked_ends i (by_goal q g p) = goal_ends q i.path g p
+asked_ends i (by_goal q g p last) =
+    let k = goal_ends q i.path g p in
+    record { ends = k.0; path = k.1; name = subst IsUnbrokenAs (sym last) tt }
 
-by_title : (o : Option QName) (path : List ℕ) → ((n : QName) → o ≡ Some n → n.name ≢ star) → EndsWell path
+-- a path that is asked for is unbroken, and so is the prefix that it brings
+pub asked_path : (i : Import) → IsAsked i → IsUnbroken i.path
+asked_path i a = (asked_ends i a).path
+
+brings_by : (a : ImportAs) (path : List ℕ) → IsUnbroken path → IsUnbrokenAs a → BringsUnbroken a path
+brings_by A.Last path h k = last_unbroken [] path tt h
+brings_by (A.Named p) path h k = k
+brings_by A.Plain path h k = tt
+
+pub asked_brings : (i : Import) → IsAsked i → BringsUnbroken i.name i.path
+asked_brings i a = let k = asked_ends i a in brings_by i.name i.path k.path k.name
+
+by_title : (o : Option QName) (path : List ℕ) → ((n : QName) → o ≡ Some n → IsTitle n.name) → EndsWell path
     → label_of o path ≢ star
 by_title None path f e = e
-by_title (Some q) path f e = f q refl
+by_title (Some q) path f e = (f q refl).0
 
 -- that of an imported text is no star
 pub label_plain : (t : ParsedModule) (i : Import) → IsSaid t → IsAsked i → label_of t.name i.path ≢ star
-label_plain t i is a = by_title t.name i.path (plain_text t is).title (asked_ends i a)
+label_plain t i is a = by_title t.name i.path (plain_text t is).title (asked_ends i a).ends

@@ -9,6 +9,7 @@ use Rattle.std.proofs.lemmas.Str.{IsUtf8-from_is_utf8}
 use Rattle.rpl_syntax.specs.Expression.{Expr}
 use Rattle.rpl_syntax.specs.Modules.{ParsedModule}
 use Rattle.rpl_syntax.specs.declared.module.Import.{Import}
+use Rattle.rpl_syntax.specs.declared.module.ImportAs.TheVariants.{Last}
 use Rattle.rpl_syntax.specs.declared.name.QName.{QName}
 use Rattle.rpl_scope.specs.Bodies as B
 use Rattle.rpl_scope.specs.Faults.{Or, fault}
@@ -39,17 +40,24 @@ use Rattle.rpl_load_laws.specs.Laws.{IsLoaded, by_roots, by_pattern}
 use Rattle.rpl_load_laws.proofs.Labels.{none_of}
 use Rattle.rpl_load_laws.proofs.Steps.{both, passed, unless_fault, else_fault}
 
-wanted_in : (o : Option Prefix) (p : List ℕ) (at : ℕ) (x : Import) → needed_unless o p at ≡ Some x → p ≡ x.path
-wanted_in None p at x h = cc
+-- an import of the path that the prefix says, under its last name
+abbrev Wanted : Option (List ℕ) → Import → Type 0
+Wanted o x = (o ≡ Some x.path) × (x.name ≡ Last)
+
+wanted_in : (o : Option Prefix) (p : List ℕ) (at : ℕ) (x : Import) → needed_unless o p at ≡ Some x → Wanted (Some p) x
+wanted_in None p at x h =
+    let i : Import = record { path = p; at = at; name = Last } in
+    let alike : i ≡ x = cc in
+    (ap (λ y. Some y.path) alike, sym (ap (λ y. y.name) alike))
 wanted_in (Some y) p at x h = absurd (cc)
 
-wanted_of : (m : Module) (at : ℕ) (o : Option (List ℕ)) (x : Import) → needed_by m at o ≡ Some x → o ≡ Some x.path
+wanted_of : (m : Module) (at : ℕ) (o : Option (List ℕ)) (x : Import) → needed_by m at o ≡ Some x → Wanted o x
 wanted_of m at None x h = absurd (cc)
 wanted_of m at (Some []) x h = absurd (cc)
-wanted_of m at (Some (c ∷ p)) x h = ap Some (wanted_in (first_of (c ∷ p) m.prefixes) (c ∷ p) at x h)
+wanted_of m at (Some (c ∷ p)) x h = wanted_in (first_of (c ∷ p) m.prefixes) (c ∷ p) at x h
 
--- what a name asks for is the path that its prefix says
-wanted_path : (q : QName) (o : Option Module) (x : Import) → needed_at q o ≡ Some x → q.prefix ≡ Some x.path
+-- that is what a name asks for
+wanted_path : (q : QName) (o : Option Module) (x : Import) → needed_at q o ≡ Some x → Wanted q.prefix x
 wanted_path q None x h = absurd (cc)
 wanted_path q (Some m) x h = wanted_of m q.at q.prefix x h
 
@@ -266,7 +274,7 @@ module _ (w : World) (reads : (f bytes : List ℕ) (t : ParsedModule) → w.text
       let c = both (pattern_name w f i q s).answer (λ u. (each_in_turn (pattern_name w f i) qs u).answer) t is in
       let m = nth s.modules i in
       let stands : InGoal q = record { goal = e; read = g; stands = all.0 } in
-      let here = wants_in f i s c.0 (needed_at q m) (λ x k. by_goal q stands (wanted_path q m x k)) c.1 in
+      let here = wants_in f i s c.0 (needed_at q m) (λ x k. let y = wanted_path q m x k in by_goal q stands y.0 y.1) c.1 in
       names_in f i e qs c.0 t g all.1 c.2 rs (here rs b)
 
   entered : (f : List ℕ) (i : ℕ) (e : Expr) (s t : Stock) → IsGoal e → (enter_pattern w f i s e).answer ≡ Ok t

@@ -1,5 +1,5 @@
 -- Each rule of a module stands under its name there, so that no two have one name; no name and no prefix stands there
--- twice; and no name has a dot.
+-- twice; and no name or prefix has a dot or a space.
 use Rattle.std.proofs.Common.{◌≡◌, ◌⊎◌, inl, inr, ℕ, suc, ◌+◌, List, [], ◌∷◌, ◌++◌, length, Option, Some, None, refl, sym, ap}
 use Rattle.std.proofs.Common.{subst, ◌∙◌}
 use Rattle.std.specs.Prelude.{Bool, true, false, nat_eq, ◌||◌, if◌then◌else◌, Ok}
@@ -21,28 +21,35 @@ use Rattle.rpl_scope.specs.declared.fault.LoadKind.TheVariants.{Duplicate}
 use Rattle.rpl_scope.specs.declared.module.Entry.{Entry}
 use Rattle.rpl_scope.specs.declared.module.Prefix.{Prefix}
 use Rattle.rpl_scope.specs.declared.module.Referent.TheVariants.{Own, Of}
-use Rattle.rpl_load_laws.proofs.Apart.{AllApart, dotless_more, keys, keys_more}
-use Rattle.rpl_load_laws.proofs.FullNames.{AreDotless, AreDotlessEntries, HasNoDot, IsDotlessEntry}
+use Rattle.rpl_load_laws.proofs.Apart.{AllApart, unbroken_more, keys, keys_more}
+use Rattle.rpl_load_laws.proofs.FullNames.{AreUnbroken, AreUnbrokenEntries, IsUnbroken, IsUnbrokenEntry}
 use Rattle.rpl_load_laws.proofs.Lists.{all_append, first_more, nth_end}
 use Rattle.rpl_load_laws.proofs.Steps.{both, passed}
 
 pub record AreUnder (m : Module) : Type 0 where
   pub each : (k : ℕ) (r : Rule) → nth m.rules k ≡ Some r
       → (e : Entry) × (first_of r.name m.names ≡ Some e) × (e.referent ≡ Own k)
-  pub dotless : (k : ℕ) (r : Rule) → nth m.rules k ≡ Some r → HasNoDot r.name
+  pub unbroken : (k : ℕ) (r : Rule) → nth m.rules k ≡ Some r → IsUnbroken r.name
   pub names : AllApart (keys m.names)
-  pub plain : AllByRecursion HasNoDot (keys m.names)
+  pub plain : AllByRecursion IsUnbroken (keys m.names)
   pub prefixes : AllApart (keys m.prefixes)
+  pub clear : AllByRecursion IsUnbroken (keys m.prefixes)
+
+-- the prefix that an import of this path brings is unbroken
+abbrev pub BringsUnbroken : ImportAs → List ℕ → Type 0
+BringsUnbroken Last path = IsUnbroken (last_part [] path)
+BringsUnbroken (Named p) path = IsUnbroken p
+BringsUnbroken Plain path = Unit {0}
 
 all_at : {A : Type 0} (P : A → Type 0) (xs : List A) → ((k : ℕ) (x : A) → nth xs k ≡ Some x → P x) → AllByRecursion P xs
 all_at P [] f = tt
 all_at P (x ∷ xs) f = (f 0 x refl, all_at P xs (λ k y h. f (suc k) y h))
 
--- no rule of a module, if it is there, has a dot in its name
+-- each rule of a module, if it is there, has an unbroken name
 pub plain_rules : (o : Option Module) → ((m : Module) → o ≡ Some m → AreUnder m)
-    → AllByRecursion (λ r. HasNoDot r.name) (rules_at o)
+    → AllByRecursion (λ r. IsUnbroken r.name) (rules_at o)
 plain_rules None f = tt
-plain_rules (Some m) f = all_at (λ (r : Rule). HasNoDot r.name) m.rules (f m refl).dotless
+plain_rules (Some m) f = all_at (λ (r : Rule). IsUnbroken r.name) m.rules (f m refl).unbroken
 
 pub all_unit : (rs : List Rule) → AllByRecursion (λ r. Unit {0}) rs
 all_unit [] = tt
@@ -80,31 +87,32 @@ first_new n (p ∷ ps) x h =
 -- one rule, prefix or name more keeps it, where that isn't there yet, R holds of the rule and D of the name
 pub record IsKept (P : Module → Type 0) (D : List ℕ → Type 0) (R : Rule → Type 0) : Type 0 where
   pub rule : (m : Module) (r : Rule) → P m → R r → first_of r.name m.names ≡ None → P (with_rule m r)
-  pub prefix : (m : Module) (k : List ℕ) (x : Prefix) → P m → first_of k m.prefixes ≡ None → P (with_prefix m k x)
+  pub prefix : (m : Module) (k : List ℕ) (x : Prefix) → P m → IsUnbroken k → first_of k m.prefixes ≡ None
+      → P (with_prefix m k x)
   pub name : (m : Module) (k : List ℕ) (x : Entry) → P m → D k → first_of k m.names ≡ None → P (with_name m k x)
 
 -- R holds of each rule that these statements of the text k make, wherever they start
 abbrev pub AllMake : (Rule → Type 0) → ℕ → List S.Entry → Type 0
 AllMake R k is = AllByRecursion (λ i. (n : ℕ) → AllByRecursion R (rules_of k n i)) is
 
-abbrev pub Dotless : Rule → Type 0
-Dotless r = HasNoDot r.name
+abbrev pub Unbroken : Rule → Type 0
+Unbroken r = IsUnbroken r.name
 
--- no rule of a statement has a dot in its name
-block_dotless : (k start : ℕ) (hidden : Bool) (bs : List S.Rule) → AreDotless bs
-    → AllByRecursion Dotless (block_rules k start hidden bs)
-block_dotless k start hidden [] d = tt
-block_dotless k start hidden (b ∷ bs) d = (d.0, block_dotless k start hidden bs d.1)
+-- each rule of a statement has an unbroken name
+block_unbroken : (k start : ℕ) (hidden : Bool) (bs : List S.Rule) → AreUnbroken bs
+    → AllByRecursion Unbroken (block_rules k start hidden bs)
+block_unbroken k start hidden [] d = tt
+block_unbroken k start hidden (b ∷ bs) d = (d.0, block_unbroken k start hidden bs d.1)
 
-rules_dotless : (k n : ℕ) (i : S.Entry) → IsDotlessEntry i → AllByRecursion Dotless (rules_of k n i)
-rules_dotless k n (S.One b) d = (d, tt)
-rules_dotless k n (S.Block h v) d =
-    all_append Dotless (block_rules k n true h) (block_rules k n false v)
-    (block_dotless k n true h d.0) (block_dotless k n false v d.1)
+rules_unbroken : (k n : ℕ) (i : S.Entry) → IsUnbrokenEntry i → AllByRecursion Unbroken (rules_of k n i)
+rules_unbroken k n (S.One b) d = (d, tt)
+rules_unbroken k n (S.Block h v) d =
+    all_append Unbroken (block_rules k n true h) (block_rules k n false v)
+    (block_unbroken k n true h d.0) (block_unbroken k n false v d.1)
 
-pub all_dotless : (k : ℕ) (is : List S.Entry) → AreDotlessEntries is → AllMake Dotless k is
-all_dotless k [] d = tt
-all_dotless k (i ∷ is) d = (λ n. rules_dotless k n i d.0, all_dotless k is d.1)
+pub all_unbroken : (k : ℕ) (is : List S.Entry) → AreUnbrokenEntries is → AllMake Unbroken k is
+all_unbroken k [] d = tt
+all_unbroken k (i ∷ is) d = (λ n. rules_unbroken k n i d.0, all_unbroken k is d.1)
 
 module _ (P : Module → Type 0) (D : List ℕ → Type 0) (R : Rule → Type 0) (keeps : IsKept P D R) where
   entered : (f : List ℕ) (r : Rule) (m n : Module) (o : Option Entry) → R r → first_of r.name m.names ≡ o
@@ -140,12 +148,12 @@ module _ (P : Module → Type 0) (D : List ℕ → Type 0) (R : Rule → Type 0)
   same_or false f at k m n e h = absurd (cc)
 
   pub prefix_at : (f : List ℕ) (at : ℕ) (k : List ℕ) (j : ℕ) (m n : Module) (o : Option Prefix)
-      → first_of k m.prefixes ≡ o → P m → add_prefix_at o f at k j m ≡ Ok n → P n
-  prefix_at f at k j m n None new h e =
+      → IsUnbroken k → first_of k m.prefixes ≡ o → P m → add_prefix_at o f at k j m ≡ Ok n → P n
+  prefix_at f at k j m n None u new h e =
       let x : Prefix = record { since = length m.rules; number = j } in
       let s : with_prefix m k x ≡ n = cc in
-      subst P s (keeps.prefix m k x h new)
-  prefix_at f at k j m n (Some q) there h e = same_or (nat_eq q.number j) f at k m n e h
+      subst P s (keeps.prefix m k x h u new)
+  prefix_at f at k j m n (Some q) u there h e = same_or (nat_eq q.number j) f at k m n e h
 
   name_at : (f : List ℕ) (at i k : ℕ) (x : List ℕ) (m n : Module) (o : Option Entry) → D x
       → first_of x m.names ≡ o → P m → add_name_at o f at i k x m ≡ Ok n → P n
@@ -168,32 +176,35 @@ module _ (P : Module → Type 0) (D : List ℕ → Type 0) (R : Rule → Type 0)
       names_in f at i (k + 1) rs c.0 n d.1 (seen_at (r.local || r.hidden) f at i (k, r) m c.0 d.0 h c.1) c.2
 
   by_form : (f : List ℕ) (i : Import) (form : ImportAs) (j : ℕ) (ms : List Module) (m n : Module)
-      → AllByRecursion (λ r. D r.name) (rules_at (nth ms j)) → P m → take_as f i form j ms m ≡ Ok n → P n
-  by_form f i Last j ms m n d h e =
-      prefix_at f i.at (last_part [] i.path) j m n (first_of (last_part [] i.path) m.prefixes) refl h e
-  by_form f i (Named p) j ms m n d h e = prefix_at f i.at p j m n (first_of p m.prefixes) refl h e
-  by_form f i Plain j ms m n d h e = names_in f i.at j 0 (rules_at (nth ms j)) m n d h e
+      → BringsUnbroken form i.path → AllByRecursion (λ r. D r.name) (rules_at (nth ms j)) → P m
+      → take_as f i form j ms m ≡ Ok n → P n
+  by_form f i Last j ms m n u d h e =
+      prefix_at f i.at (last_part [] i.path) j m n (first_of (last_part [] i.path) m.prefixes) u refl h e
+  by_form f i (Named p) j ms m n u d h e = prefix_at f i.at p j m n (first_of p m.prefixes) u refl h e
+  by_form f i Plain j ms m n u d h e = names_in f i.at j 0 (rules_at (nth ms j)) m n d h e
 
   -- D holds of the name of each rule of the module that is imported
   pub taken_in : (f : List ℕ) (i : Import) (j : ℕ) (ms : List Module) (m n : Module)
-      → AllByRecursion (λ r. D r.name) (rules_at (nth ms j)) → P m → take_in f i j ms m ≡ Ok n → P n
-  taken_in f i j ms m n d h e = by_form f i i.name j ms m n d h e
+      → BringsUnbroken i.name i.path → AllByRecursion (λ r. D r.name) (rules_at (nth ms j)) → P m
+      → take_in f i j ms m ≡ Ok n → P n
+  taken_in f i j ms m n u d h e = by_form f i i.name j ms m n u d h e
 
 -- ---- each rule stays under its name
 
-rule_more : (m : Module) (r : Rule) → AreUnder m → HasNoDot r.name → first_of r.name m.names ≡ None
+rule_more : (m : Module) (r : Rule) → AreUnder m → IsUnbroken r.name → first_of r.name m.names ≡ None
     → AreUnder (with_rule m r)
 rule_more m r h d none = record {
   each = λ k q g. by k q (nth_end m.rules r k q g);
-  dotless = λ k q g. dotless_by k q (nth_end m.rules r k q g);
+  unbroken = λ k q g. unbroken_by k q (nth_end m.rules r k q g);
   names = keys_more r.name (entry_for r (length m.rules)) m.names h.names none;
-  plain = dotless_more r.name (entry_for r (length m.rules)) m.names h.plain d;
+  plain = unbroken_more r.name (entry_for r (length m.rules)) m.names h.plain d;
   prefixes = h.prefixes;
+  clear = h.clear;
 }
   where
-    dotless_by : (k : ℕ) (q : Rule) → (nth m.rules k ≡ Some q) ⊎ ((k ≡ length m.rules) × (q ≡ r)) → HasNoDot q.name
-    dotless_by k q (inl g) = h.dotless k q g
-    dotless_by k q (inr g) = subst (λ x. HasNoDot x.name) (sym g.1) d
+    unbroken_by : (k : ℕ) (q : Rule) → (nth m.rules k ≡ Some q) ⊎ ((k ≡ length m.rules) × (q ≡ r)) → IsUnbroken q.name
+    unbroken_by k q (inl g) = h.unbroken k q g
+    unbroken_by k q (inr g) = subst (λ x. IsUnbroken x.name) (sym g.1) d
 
     by : (k : ℕ) (q : Rule) → (nth m.rules k ≡ Some q) ⊎ ((k ≡ length m.rules) × (q ≡ r))
         → (e : Entry) × (first_of q.name (with_rule m r).names ≡ Some e) × (e.referent ≡ Own k)
@@ -207,25 +218,27 @@ rule_more m r h d none = record {
       ap Own (sym g.0),
     )
 
-pub under_kept : IsKept AreUnder HasNoDot Dotless
+pub under_kept : IsKept AreUnder IsUnbroken Unbroken
 under_kept = record {
   rule = rule_more;
-  prefix = λ m k x h new. record {
+  prefix = λ m k x h u new. record {
     each = h.each;
-    dotless = h.dotless;
+    unbroken = h.unbroken;
     names = h.names;
     plain = h.plain;
     prefixes = keys_more k x m.prefixes h.prefixes new;
+    clear = unbroken_more k x m.prefixes h.clear u;
   };
   name = λ m k x h d new. record {
     each = λ j r g. let y = h.each j r g in (y.0, first_more r.name m.names ((k, x) ∷ []) y.0 y.1, y.2);
-    dotless = h.dotless;
+    unbroken = h.unbroken;
     names = keys_more k x m.names h.names new;
-    plain = dotless_more k x m.names h.plain d;
+    plain = unbroken_more k x m.names h.plain d;
     prefixes = h.prefixes;
+    clear = h.clear;
   };
 }
 
 -- and so does the package name
-pub label_kept : (l : List ℕ) → IsKept (λ m. m.label ≡ l) (λ k. Unit {0}) Dotless
-label_kept l = record { rule = λ m r h d none. h; prefix = λ m k x h new. h; name = λ m k x h d new. h }
+pub label_kept : (l : List ℕ) → IsKept (λ m. m.label ≡ l) (λ k. Unit {0}) Unbroken
+label_kept l = record { rule = λ m r h d none. h; prefix = λ m k x h u new. h; name = λ m k x h d new. h }

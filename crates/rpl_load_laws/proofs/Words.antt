@@ -1,5 +1,5 @@
--- What the tokens of a text say of names: none has a dot, and what stands last in a path is no star.
-use Rattle.std.proofs.Common.{arith, ◌≡◌, ◌≢◌, ℕ, suc, ◌+◌, List, [], ◌∷◌, ◌++◌, drop}
+-- What the tokens of a text say of names: none has a dot or a space, and what stands last in a path is no star.
+use Rattle.std.proofs.Common.{arith, ◌≡◌, ◌≢◌, ◌<◌, ℕ, suc, ◌+◌, List, [], ◌∷◌, ◌++◌, drop}
 use Rattle.std.proofs.Common.{refl, sym, ap, subst, ◌∙◌, append_assoc}
 use Rattle.std.specs.Prelude.{Bool, true, false, nat_eq, if◌then◌else◌, chars}
 use Rattle.std.proofs.lemmas.Bool.{and_parts}
@@ -21,26 +21,29 @@ use Rattle.rpl_syntax.proofs.Fronts.{name_ascii, halves}
 use Rattle.rpl_syntax.proofs.Said.{form_of}
 use Rattle.rpl_parser.specs.Tokens.{AllStand}
 use Rattle.rpl_scope.specs.Imports.{last_part}
-use Rattle.rpl_load_laws.proofs.FullNames.{HasNoDot, star}
+use Rattle.rpl_load_laws.proofs.FullNames.{IsUnbroken, star}
 
 -- ---- a name
 
 word_no_dot : (c : ℕ) → is_word c ≡ true → c ≢ 46
 word_no_dot c h = grind (arith, nat_tests)
 
+word_past_space : (c : ℕ) → is_word c ≡ true → 32 < c
+word_past_space c h = grind (arith, nat_tests)
+
 word_no_slash : (c : ℕ) → is_word c ≡ true → nat_eq c 47 ≡ false
 word_no_slash c h = grind (arith, nat_tests)
 
-pub words_no_dot : (n : List ℕ) → each is_word n ≡ true → HasNoDot n
-words_no_dot [] h = tt
-words_no_dot (c ∷ n) h =
-    let p = and_parts (is_word c) (each is_word n) h in (word_no_dot c p.0, words_no_dot n p.1)
+pub words_unbroken : (n : List ℕ) → each is_word n ≡ true → IsUnbroken n
+words_unbroken [] h = tt
+words_unbroken (c ∷ n) h =
+    let p = and_parts (is_word c) (each is_word n) h in (word_no_dot c p.0, word_past_space c p.0, words_unbroken n p.1)
 
 words_of : (n : List ℕ) (b : Bool) → IsName n b → each is_word n ≡ true
 words_of n b h = (and_parts (begins is_letter n) (each is_word n) h.name).1
 
-pub no_dot : (n : List ℕ) (b : Bool) → IsName n b → HasNoDot n
-no_dot n b h = words_no_dot n (words_of n b h)
+pub name_unbroken : (n : List ℕ) (b : Bool) → IsName n b → IsUnbroken n
+name_unbroken n b h = words_unbroken n (words_of n b h)
 
 pub no_star : (n : List ℕ) (b : Bool) → IsName n b → n ≢ star
 no_star n b h e = let k : is_name star ≡ true = subst (λ x. is_name x ≡ true) e h.name in absurd (cc)
@@ -70,6 +73,28 @@ name_ends n b h e = no_star n b h (sym (last_word [] n (words_of n b h)) ∙ e)
 
 pub under_ends : (n q : List ℕ) (b : Bool) → IsName n b → EndsWell q → EndsWell (n ++ 47 ∷ q)
 under_ends n q b h k e = k (sym (last_behind [] n q (words_of n b h)) ∙ e)
+
+-- a path is unbroken, and then so is what stands last in it
+unbroken_append : (m n : List ℕ) → IsUnbroken m → IsUnbroken n → IsUnbroken (m ++ n)
+unbroken_append [] n h k = k
+unbroken_append (c ∷ m) n h k = (h.0, h.1, unbroken_append m n h.2 k)
+
+slash_no_dot : ◌≡◌ {A = ℕ} 47 46 → ⊥
+slash_no_dot x = omega (arith, x)
+
+pub under_unbroken : (n q : List ℕ) (b : Bool) → IsName n b → IsUnbroken q → IsUnbroken (n ++ 47 ∷ q)
+under_unbroken n q b h k = unbroken_append n (47 ∷ q) (name_unbroken n b h) (slash_no_dot, omega arith, k)
+
+last_at : (b : Bool) (acc rest p : List ℕ) → IsUnbroken (last_part [] p) → IsUnbroken (last_part rest p)
+    → IsUnbroken (if b then last_part [] p else last_part rest p)
+last_at true acc rest p h k = h
+last_at false acc rest p h k = k
+
+pub last_unbroken : (acc p : List ℕ) → IsUnbroken acc → IsUnbroken p → IsUnbroken (last_part acc p)
+last_unbroken acc [] h k = h
+last_unbroken acc (c ∷ p) h k =
+    last_at (nat_eq c 47) acc (acc ++ c ∷ []) p (last_unbroken [] p tt k.2)
+    (last_unbroken (acc ++ c ∷ []) p (unbroken_append acc (c ∷ []) h (k.0, k.1, tt)) k.2)
 
 -- ---- tokens
 

@@ -177,3 +177,8 @@ TableIsDistinct = OfAllBuilt (λ p. AreDistinct (map (λ r. r.name) (table_of p)
 -- and no name is listed twice among those that a pattern may use
 abbrev pub NoNameTwice : Type 0
 NoNameTwice = OfAllBuilt (λ p. AreDistinct (map (λ l. l.name) (all_listed p)))
+
+-- nor has one of them a space, or a character before it
+abbrev pub NoNameHasASpace : Type 0
+NoNameHasASpace =
+    OfAllBuilt (λ p. (n : List ℕ) (c : ℕ) → Contains (map (λ l. l.name) (all_listed p)) n → Contains n c → 32 < c)

@@ -11,11 +11,11 @@
 #![tactic(auto)]
 
 ghost use Rattle.rpl_load_laws.specs.Laws.{GoalsHaveParts, LoadedIsBound, MacrosAreEquations};
-ghost use Rattle.rpl_load_laws.specs.Laws.{ModulesAreApart, NoNameTwice, OwnNamesAreRules};
-ghost use Rattle.rpl_load_laws.specs.Laws.{PatternsResolve, RulesHaveStatements, ScopesAreOver};
-ghost use Rattle.rpl_load_laws.specs.Laws.{StatementsResolve, TableIsDistinct, TablesAreInOrder};
-ghost use Rattle.rpl_load_laws.specs.Laws.{TablesHaveParts, ToldIsBuilt, TopIsThere, TreesAreMade};
-ghost use Rattle.rpl_load_laws.specs.Laws.{WalksAreWhole};
+ghost use Rattle.rpl_load_laws.specs.Laws.{ModulesAreApart, NoNameHasASpace, NoNameTwice};
+ghost use Rattle.rpl_load_laws.specs.Laws.{OwnNamesAreRules, PatternsResolve, RulesHaveStatements};
+ghost use Rattle.rpl_load_laws.specs.Laws.{ScopesAreOver, StatementsResolve, TableIsDistinct};
+ghost use Rattle.rpl_load_laws.specs.Laws.{TablesAreInOrder, TablesHaveParts, ToldIsBuilt};
+ghost use Rattle.rpl_load_laws.specs.Laws.{TopIsThere, TreesAreMade, WalksAreWhole};
 
 /// Where the files are told, each set that roots are loaded to, and that a pattern brings more
 /// modules to, is built.
@@ -99,4 +99,9 @@ pub fn walks_are_whole()
 /// Of the names that a pattern may use none is listed twice.
 pub fn no_name_twice()
     ensures { NoNameTwice }
+{}
+
+/// None of them has a space, or a character that comes before it, so that their lines stand in the order of the names.
+pub fn no_name_has_a_space()
+    ensures { NoNameHasASpace }
 {}

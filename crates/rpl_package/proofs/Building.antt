@@ -123,19 +123,25 @@ one_of xs i x f P lt is all =
 same_some : {A : Type 0} (x y : A) → Some x ≡ Some y → x ≡ y
 same_some x y e = cc
 
-asks_unless : (o : Option Prefix) (p : List ℕ) (at : ℕ) (i : Import) → needed_unless o p at ≡ Some i → p ≡ i.path
-asks_unless None p at i h = ap (λ x. x.path) (same_some (record { path = p; at = at; name = Last }) i h)
+asks_unless : (o : Option Prefix) (p : List ℕ) (at : ℕ) (i : Import) → needed_unless o p at ≡ Some i
+    → (p ≡ i.path) × (Last ≡ i.name)
+asks_unless None p at i h =
+    let same = same_some (record { path = p; at = at; name = Last }) i h in
+    (ap (λ x. x.path) same, ap (λ x. x.name) same)
 asks_unless (Some x) p at i h = absurd (cc)
 
-asks_with : (m : Module) (at : ℕ) (o : Option (List ℕ)) (i : Import) → needed_by m at o ≡ Some i → o ≡ Some i.path
+asks_with : (m : Module) (at : ℕ) (o : Option (List ℕ)) (i : Import) → needed_by m at o ≡ Some i
+    → (o ≡ Some i.path) × (i.name ≡ Last)
 asks_with m at None i h = absurd (cc)
 asks_with m at (Some []) i h = absurd (cc)
-asks_with m at (Some (c ∷ p)) i h = ap Some (asks_unless (first_of (c ∷ p) m.prefixes) (c ∷ p) at i h)
+asks_with m at (Some (c ∷ p)) i h =
+    let is = asks_unless (first_of (c ∷ p) m.prefixes) (c ∷ p) at i h in
+    (ap Some is.0, sym is.1)
 
 -- the import that a name of a pattern asks for
 pub asks_at : (q : QName) (o : Option Module) (i : Import) → InGoal q → needed_at q o ≡ Some i → IsAsked i
 asks_at q None i h e = absurd (cc)
-asks_at q (Some m) i h e = by_goal q h (asks_with m q.at q.prefix i e)
+asks_at q (Some m) i h e = let is = asks_with m q.at q.prefix i e in by_goal q h is.0 is.1
 
 -- a text that isn't too long and is read as a pattern
 pub reads_goal : (fixed find : Bool) (s : List ℕ) (e : Expr) → length s ≤ max_text_bytes

@@ -4,6 +4,7 @@ use Rattle.std.specs.List.{Contains}
 use Rattle.rpl_syntax.specs.Expression.{Expr}
 use Rattle.rpl_syntax.specs.Modules.{ParsedModule}
 use Rattle.rpl_syntax.specs.declared.module.Import.{Import}
+use Rattle.rpl_syntax.specs.declared.module.ImportAs.TheVariants.{Last}
 use Rattle.rpl_syntax.specs.declared.name.QName.{QName}
 use Rattle.rpl_scope.specs.Bodies.{names}
 use Rattle.rpl_scope.specs.Imports.{take_in, with_prefix}
@@ -36,10 +37,11 @@ pub record InGoal (q : QName) : Type 0 where
   pub read : IsGoal goal
   pub stands : Contains (names goal) q
 
--- the import stands in a text that was read, or a name of a pattern has its path as a prefix
+-- the import stands in a text that was read; or a name of a pattern has its path as a prefix, and its names are then
+-- seen under the last name of the path
 pub data IsAsked (i : Import) : Type 0 where
   by_text : (t : ParsedModule) → IsSaid t → Contains t.imports i → IsAsked i
-  by_goal : (q : QName) → InGoal q → q.prefix ≡ Some i.path → IsAsked i
+  by_goal : (q : QName) → InGoal q → q.prefix ≡ Some i.path → i.name ≡ Last → IsAsked i
 
 -- a module of its own, before anything of its text
 abbrev pub opened : Stock → Option (List ℕ) → List ℕ → State
