@@ -17,9 +17,10 @@ use Rattle.rpl_core.specs.Head.{head, first_head, all_heads, lone_set}
 use Rattle.rpl_core.specs.Instr.{Instr}
 use Rattle.rpl_core.specs.Instr as I
 use Rattle.rpl_core.specs.Programs.{address, bodies, program}
-use Rattle.rpl_codefile.specs.Compiled.{IsFit, AreFit, GoesWithin, CompiledCanBeSpelled}
+use Rattle.rpl_codefile.specs.Compiled.{IsFit, AreFit, CompiledCanBeSpelled}
 use Rattle.rpl_codefile.specs.Laws.{Spellable}
 use Rattle.rpl_codefile.specs.Spelling.{FitsText}
+use Rattle.rpl_codefile.proofs.Going.{GoesWithin, goes_within}
 
 -- what is asked of an instruction but for its address
 abbrev Fine : Instr → Type 0
@@ -212,8 +213,9 @@ spell n (I.PartialCommit l) h k = k
 spell n I.Halt h k = tt
 
 pub compiled_can_be_spelled : CompiledCanBeSpelled
-compiled_can_be_spelled R g ins is rules goal within limit =
+compiled_can_be_spelled R g ins is are rules goal limit =
     let fine : All Fine ins = subst (All Fine) (sym is.same) (program_fine is.marks R g rules goal) in
+    let within = goes_within R g ins is are in
     record {
       some = omega (arith, ap length is.same, program_some is.marks R g);
       limit = limit;

@@ -10,6 +10,7 @@ pub mod Numbered
 pub mod Knowing
 pub mod Parts
 pub mod Making
+pub mod Going
 pub mod Fitting
 pub mod Shapes
 pub mod Deciding

@@ -8,8 +8,8 @@ pub fn has_spelling()
     ensures { HasSpelling }
 {}
 
-/// The code of a goal over a table of rules is such a code, where it isn't too long and its addresses are its own: the
-/// sets of the cores are in their one form, their names and messages are texts, and their look-behinds are short.
+/// The code of a goal over a table of rules is such a code, where it isn't too long: the cores call rules of the table
+/// alone, their sets are in their one form, their names and messages are texts, and their look-behinds are short.
 pub fn compiled_can_be_spelled()
     ensures { CompiledCanBeSpelled }
 {}
