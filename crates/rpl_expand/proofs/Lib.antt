@@ -1,5 +1,6 @@
 mod Examples
 pub mod Drops
+pub mod Parted
 pub mod Parts
 pub mod Places
 pub mod Calls

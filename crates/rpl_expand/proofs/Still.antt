@@ -21,7 +21,8 @@ use Rattle.rpl_syntax.specs.declared.expr.Mark.TheVariants.{Hit, Skip}
 use Rattle.rpl_syntax.specs.declared.expr.Sign.{Sign}
 use Rattle.rpl_syntax.specs.declared.expr.Sign.TheVariants as S
 use Rattle.rpl_expand.specs.Expansion.{Scope, core, cores, is_cooked, signed_by}
-use Rattle.rpl_expand.specs.Laws.{is_still, all_still, is_error, HasParts, AllHaveParts}
+use Rattle.rpl_expand.specs.Laws.{is_still, all_still, is_error, HasParts}
+use Rattle.rpl_expand.proofs.Parted.{Parted, AllParted, parted}
 
 left : (a b : Bool) → (a && b) ≡ true → a ≡ true
 left true b e = refl
@@ -185,22 +186,25 @@ kept_core t h = ap seq_of (others t h)
 
 -- a core takes no fewer characters than it may and has no fewer nodes
 mutual
-  pub least_nodes : (p : Core) → HasParts p → least p ≤ nodes p
-  least_nodes (Set s) h = omega arith
-  least_nodes (Seq ps) h = let f = sum_nodes ps h in omega (arith, f)
-  least_nodes (Choice NoMore) h = absurd h
-  least_nodes (Choice (Then p ps)) h = let f = least_nodes p h.0 in omega (arith, f)
-  least_nodes (Many p) h = omega arith
-  least_nodes (Not p) h = omega arith
-  least_nodes (And p) h = omega arith
-  least_nodes (Behind l m p) h = omega arith
-  least_nodes (Call r) h = omega arith
-  least_nodes (Capture c p) h = let f = least_nodes p h in omega (arith, f)
-  least_nodes (Note x) h = omega arith
-  least_nodes Start h = omega arith
-  least_nodes End h = omega arith
-  least_nodes Halt h = omega arith
+  least_parted : (p : Core) → Parted p → least p ≤ nodes p
+  least_parted (Set s) h = omega arith
+  least_parted (Seq ps) h = let f = sum_nodes ps h in omega (arith, f)
+  least_parted (Choice NoMore) h = absurd h
+  least_parted (Choice (Then p ps)) h = let f = least_parted p h.0 in omega (arith, f)
+  least_parted (Many p) h = omega arith
+  least_parted (Not p) h = omega arith
+  least_parted (And p) h = omega arith
+  least_parted (Behind l m p) h = omega arith
+  least_parted (Call r) h = omega arith
+  least_parted (Capture c p) h = let f = least_parted p h in omega (arith, f)
+  least_parted (Note x) h = omega arith
+  least_parted Start h = omega arith
+  least_parted End h = omega arith
+  least_parted Halt h = omega arith
 
-  sum_nodes : (ps : Cores) → AllHaveParts ps → least_sum ps ≤ all_nodes ps
+  sum_nodes : (ps : Cores) → AllParted ps → least_sum ps ≤ all_nodes ps
   sum_nodes NoMore h = omega arith
-  sum_nodes (Then p ps) h = let f = least_nodes p h.0 in let g = sum_nodes ps h.1 in omega (arith, f, g)
+  sum_nodes (Then p ps) h = let f = least_parted p h.0 in let g = sum_nodes ps h.1 in omega (arith, f, g)
+
+pub least_nodes : (p : Core) → HasParts p → least p ≤ nodes p
+least_nodes p h = least_parted p (parted p h)

@@ -4,6 +4,7 @@ use Rattle.regex_class.specs.Ranges.{Range}
 use Rattle.rpl_classes.specs.Algebra.{folded, widened}
 use Rattle.rpl_core.specs.Core.{Core, Seq, Cores, NoMore}
 use Rattle.rpl_core.specs.Lengths.{has_call}
+use Rattle.rpl_core.specs.Parts.{some_inside}
 use Rattle.rpl_core.specs.Core as C
 use Rattle.rpl_forms.specs.Forms.{copies, halt_rule}
 use Rattle.rpl_macro.specs.Kinds.{kind_of}
@@ -69,27 +70,14 @@ abbrev pub UciKeepsOthers : Type 0
 UciKeepsOthers =
     (s : Scope) (t : List ℕ) → HasNoLetters t → core Folded s (Text t) ≡ core Plain s (Text t)
 
--- every choice in a core has a part
-abbrev mutual
-  pub HasParts : Core → Type 0
-  HasParts (C.Set s) = Unit {0}
-  HasParts (C.Seq ps) = AllHaveParts ps
-  HasParts (C.Choice NoMore) = ⊥
-  HasParts (C.Choice (C.Then p ps)) = HasParts p × AllHaveParts ps
-  HasParts (C.Many p) = HasParts p
-  HasParts (C.Not p) = HasParts p
-  HasParts (C.And p) = HasParts p
-  HasParts (C.Behind l m p) = HasParts p
-  HasParts (C.Call r) = Unit {0}
-  HasParts (C.Capture c p) = HasParts p
-  HasParts (C.Note x) = Unit {0}
-  HasParts C.Start = Unit {0}
-  HasParts C.End = Unit {0}
-  HasParts C.Halt = Unit {0}
+-- a choice without parts
+abbrev pub is_hollow : Core → Bool
+is_hollow (C.Choice NoMore) = true
+is_hollow _ = false
 
-  pub AllHaveParts : Cores → Type 0
-  AllHaveParts NoMore = Unit {0}
-  AllHaveParts (C.Then p ps) = HasParts p × AllHaveParts ps
+-- every choice in a core has a part, as in each core of a loaded set (`rpl_load_laws`)
+abbrev pub HasParts : Core → Type 0
+HasParts p = some_inside is_hollow p ≡ false
 
 -- Folding twice is folding once, and the fold of a set has both cases of its ASCII letters, whichever the set has.
 pub record FoldsOnce : Type 0 where

@@ -1,5 +1,5 @@
 -- The rule table, and the core of a pattern.
-use Rattle.std.specs.Prelude.{ℕ, ◌+◌, Bool, true, false, List, [], ◌∷◌, ◌++◌, Option, None, codes, not}
+use Rattle.std.specs.Prelude.{ℕ, Bool, true, false, List, [], ◌∷◌, ◌++◌, Option, None, codes, not}
 use Rattle.rpl_core.specs.Core.{Core, Set, Choice, Many, Not, And, Behind, Capture, Start, End, Halt}
 use Rattle.rpl_core.specs.Core.{NoMore, Then}
 use Rattle.rpl_syntax.specs.Expression.{Expr}

@@ -11,8 +11,8 @@ use rpl_forms::Inner;
 use rpl_forms::inner::call;
 use std::alloc::Global;
 
-/// Where an expression stands, the rules of the table so far, and what is known of what stands for each of them in
-/// a look-behind.
+/// Where an expression stands, the rules of the table so far, and what is known of what stands for
+/// each of them in a look-behind.
 #[derive(Clone, Copy)]
 pub(crate) struct Base<'a> {
     pub(crate) scope: Scope<'a>,

@@ -1,5 +1,6 @@
 // The printed text of a core.
-ghost use Rattle.std.specs.Prelude.{◌≡◌, ◌++◌, ◌∷◌, [], IfOk, OnOk, codes, decimal, encode_utf8_all, slice_get};
+ghost use Rattle.std.specs.Prelude.{◌≡◌, ◌++◌, ◌∷◌, [], IfOk, OnOk, codes, decimal};
+ghost use Rattle.std.specs.Prelude.{encode_utf8_all, slice_get};
 ghost use Rattle.std.specs.Prelude.{string_bytes};
 ghost use Rattle.rpl_core.specs.Listed.{rules_of};
 ghost use Rattle.rpl_core.specs.Table.{names_of};
@@ -139,8 +140,8 @@ pub fn push_peg(out: &mut String, rules: &Rules, peg: &Peg) -> Result<(), NoMemo
     }
 }
 
-/// The printed text of a pattern over a table of rules, as `rosie expand` writes it: `(seq (set 61) (call ~))`. A call
-/// is printed by the rule's full name; one of no rule of the table has none.
+/// The printed text of a pattern over a table of rules, as `rosie expand` writes it: `(seq (set 61)
+/// (call ~))`. A call is printed by the rule's full name; one of no rule of the table has none.
 pub fn print_peg(alloc: Global, rules: &Rules, peg: &Peg) -> Result<Chars, NoMemory>
     ensures { IfOk result (λ t. encode_utf8_all t ≡ printed (names_of (rules_of rules.now)) (core_of peg.now)) }
 {

@@ -9,7 +9,8 @@ ghost use Rattle.rpl_core.specs.View.{core_of};
 ghost use Rattle.rpl_expand.specs.Expansion.{core};
 ghost use Rattle.rpl_expand.specs.Faults.{size_fault, table_fault};
 ghost use Rattle.rpl_expand.specs.Answers.{Answers};
-ghost use Rattle.rpl_expand.specs.Sets.{captures_of, goal_of, makes_tree, scope_of, statements, table_of};
+ghost use Rattle.rpl_expand.specs.Sets.{captures_of, goal_of, makes_tree, scope_of, statements};
+ghost use Rattle.rpl_expand.specs.Sets.{table_of};
 ghost use Rattle.rpl_expand.specs.Table.{captured, has_root, row_of};
 ghost use Rattle.rpl_expand.specs.Bound.{AreBound, IsOver, MakeTrees};
 ghost use Rattle.rpl_expand.specs.inside.Scopes.{scope_seen};
@@ -119,8 +120,9 @@ fn halt_name(set: &PackageSet) -> &str
     }
 }
 
-/// The rule table of a set of packages: the boundary, the built-in `halt`, and a rule for each statement of the set in
-/// its order. The first rule whose core is too large is answered instead. Each is counted before it is made.
+/// The rule table of a set of packages: the boundary, the built-in `halt`, and a rule for each
+/// statement of the set in its order. The first rule whose core is too large is answered instead.
+/// Each is counted before it is made.
 ///
 /// No two of these rules have one full name, as in every set that is loaded.
 ///
@@ -168,8 +170,8 @@ fn check_goal_size(
     check_size(None, counts_under(captures, own))
 }
 
-/// The core of a pattern over the rule table of its set, under its root capture unless it is the name of a rule that
-/// makes a tree; or that it is too large. It is counted before it is made.
+/// The core of a pattern over the rule table of its set, under its root capture unless it is the
+/// name of a rule that makes a tree; or that it is too large. It is counted before it is made.
 pub fn expand_pattern(
     alloc: Global,
     set: &PackageSet,
@@ -183,9 +185,9 @@ pub fn expand_pattern(
     ensures calls { IsOver (bodies_of (rules_of rules.now))
         (scope_of (set_seen set.now) None (inners_of (rules_of rules.now)))
         → IfOk result (λ p. (r : ℕ) → calls (core_of p) r ≡ true → r < length (rules_of rules.now)) }
-    ensures root { MakeTrees (bodies_of (rules_of rules.now)) (captures_of (set_seen set.now))
-        (scope_of (set_seen set.now) None (inners_of (rules_of rules.now)))
-        → IfOk result (λ p. (label : List ℕ) × IsCapture (bodies_of (rules_of rules.now)) label (core_of p)) }
+    ensures root { let R = bodies_of (rules_of rules.now) in let p = set_seen set.now in
+        MakeTrees R (captures_of p) (scope_of p None (inners_of (rules_of rules.now)))
+        → IfOk result (λ q. (label : List ℕ) × IsCapture R label (core_of q)) }
 {
     let scope = Scope::new(set, None);
     let known = inners(alloc, rules)?;

@@ -95,7 +95,7 @@ repeated false b p l m = repeat p l m
 
 -- The look-behind at a body: its least and greatest length, the greatest stopping at 256, or none where a call or a
 -- repetition is in it. The least stops at 65,536, which is as many characters as a core of the allowed size can ask
--- for.
+-- for, as `least_within_nodes` of `rpl_expand` says.
 abbrev pub behind : Core → Core
 behind p =
     if has_call p || has_repetition p then Behind 0 0 p else Behind (min 65536 (least p)) (min 256 (greatest p)) p

@@ -8,7 +8,8 @@ use Rattle.std.proofs.lemmas.List.Elements.{All-from_recursion}
 use Rattle.rpl_core.specs.Core.{Core}
 use Rattle.rpl_expand.specs.Expansion.{core}
 use Rattle.rpl_expand.specs.Laws.{HasParts}
-use Rattle.rpl_expand.specs.Sets.{scope_of, statement_at, statement_by, statements, statements_from}
+use Rattle.rpl_expand.proofs.Parted.{Parted, has_parts}
+use Rattle.rpl_expand.specs.Sets.{goal_of, scope_of, statement_at, statement_by, statements, statements_from}
 use Rattle.rpl_expand.specs.Sets.{table_of, with_one}
 use Rattle.rpl_expand.specs.Table.{Statement, body_of, built_in, captured, has_root, row_of, scope_at}
 use Rattle.rpl_expand.specs.Table as E
@@ -187,17 +188,17 @@ module _ (p : Packages) (good : AllByRecursion ModuleGood p.stock.modules) where
 -- ---- the table
 
 abbrev RowHas : Row → Type 0
-RowHas r = HasParts r.body
+RowHas r = Parted r.body
 
-captured_has : (b : Bool) (name : List ℕ) (c : Core) → HasParts c → HasParts (captured b name c)
+captured_has : (b : Bool) (name : List ℕ) (c : Core) → Parted c → Parted (captured b name c)
 captured_has true name c h = h
 captured_has false name c h = h
 
-inner_has : (I : Inners) (o : Option ℕ) (c : Core) → InnersHave I → HasParts c → InnerHas (inner I o c)
+inner_has : (I : Inners) (o : Option ℕ) (c : Core) → InnersHave I → Parted c → InnerHas (inner I o c)
 inner_has I None c i h = inlined_has I c i h
 inner_has I (Some b) c i h = tt
 
-inners_more : (I : Inners) (o : Option ℕ) (c : Core) → InnersHave I → HasParts c → InnersHave (I ++ inner I o c ∷ [])
+inners_more : (I : Inners) (o : Option ℕ) (c : Core) → InnersHave I → Parted c → InnersHave (I ++ inner I o c ∷ [])
 inners_more I o c i h = all_append InnerHas I (inner I o c ∷ []) i (inner_has I o c i h, tt)
 
 inners_have : (I : Inners) (rs : List Row) → InnersHave I → AllByRecursion RowHas rs → InnersHave (inners_from I rs)
@@ -225,8 +226,13 @@ table_has p b =
     (rows_have I (statements p) (inners_have [] (built_in (halt_name p)) tt first)
     (statements_good p (set_good p b)))
 
+each_has : (rs : List Row) → AllByRecursion RowHas rs → AllByRecursion (λ r. HasParts r.body) rs
+each_has [] h = tt
+each_has (r ∷ rs) h = (has_parts r.body h.0, each_has rs h.1)
+
 pub tables_have_parts : TablesHaveParts
-tables_have_parts p b = All-from_recursion RowHas (table_of p) (table_has p b)
+tables_have_parts p b =
+    All-from_recursion (λ (r : Row). HasParts r.body) (table_of p) (each_has (table_of p) (table_has p b))
 
 -- ---- a pattern
 
@@ -257,4 +263,4 @@ goals_have_parts p b rs e alike g =
     let i : InnersHave I = subst (λ x. InnersHave (inners_from [] x)) (sym alike)
     (inners_have [] (table_of p) tt (table_has p b)) in
     let s = scope_of p None I in
-    captured_has _ _ (core Plain s e) (core_has Plain s e i (goal_good e g))
+    has_parts (goal_of p I e) (captured_has _ _ (core Plain s e) (core_has Plain s e i (goal_good e g)))
