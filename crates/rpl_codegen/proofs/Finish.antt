@@ -3,6 +3,7 @@ use Rattle.std.proofs.Common.{◌≡◌, ℕ, ◌+◌, ◌≤◌, List, [], ◌�
 use Rattle.std.proofs.lemmas.Bool.{lt-ltb}
 use Rattle.std.proofs.lemmas.List.{get_or_default}
 use Rattle.std.proofs.lemmas.Option.{slice_get_within}
+use Rattle.std.specs.BTreeSet.{BTreeSet}
 use Rattle.std.specs.List.{list_all}
 use Rattle.std.specs.Prelude.{Bool, true, false, ◌&&◌, nat_lt, map, option_map, slice_get, slice_index_or}
 use Rattle.regex_class.specs.Ranges.{Range}
@@ -20,8 +21,8 @@ use Rattle.rpl_intern.specs.declared.draft.Draft.{Draft}
 use Rattle.rpl_codegen.specs.declared.layout.Layout.{Layout}
 use Rattle.rpl_core.specs.Marked.{CallsAreRules}
 use Rattle.rpl_codegen.specs.inside.Laid.{LaysOut, whole_len}
-use Rattle.rpl_core.specs.Marked.{marked}
-use Rattle.rpl_core.specs.Marked.{MarksReached}
+use Rattle.rpl_core.specs.Marked.{has}
+use Rattle.rpl_core.specs.Marked.{HasReached}
 use Rattle.rpl_intern.specs.Uses.{Keeps}
 use Rattle.rpl_intern.specs.Written.{shown, Says, Adds}
 use Rattle.rpl_codegen.specs.inside.Written.{address_of}
@@ -112,23 +113,23 @@ pub all_said : (d d1 : Draft) (is : List Instr) → d.code ≡ [] → Adds d d1 
 all_said d d1 is none a = a.code [] (ap (map (shown d.sets d.labels)) none)
 
 -- a layout that fits has all addresses
-pub compiled : (d d1 d2 d3 : Draft) (l : Layout) (bs b1 b2 : List Bool) (R : List Core) (g : Core) → b1 ≡ bs → b2 ≡ bs → LaysOut (marked b1) R g l → l.end ≤ 1048576 → d.code ≡ [] → Adds d d1 (code (address_of l) g (length d.code)) → Adds d1 d2 (I.Finish ∷ []) → Adds d2 d3 (bodies (marked b2) (address_of l) R 0 (length d2.code)) → Adds d d3 (program (marked bs) R g)
+pub compiled : (d d1 d2 d3 : Draft) (l : Layout) (bs b1 b2 : BTreeSet ℕ) (R : List Core) (g : Core) → b1 ≡ bs → b2 ≡ bs → LaysOut (has b1) R g l → l.end ≤ 1048576 → d.code ≡ [] → Adds d d1 (code (address_of l) g (length d.code)) → Adds d1 d2 (I.Finish ∷ []) → Adds d2 d3 (bodies (has b2) (address_of l) R 0 (length d2.code)) → Adds d d3 (program (has bs) R g)
 compiled d d1 d2 d3 l bs b1 b2 R g same1 same2 out fits none x y z =
-    let out1 = subst (λ b. LaysOut (marked b) R g l) same1 out in
-    let small : whole_len (marked bs) R g ≤ 1048576 = omega (arith, out1.whole) in
-    whole_code d d1 d2 d3 (marked bs) (address_of l) R g (out1.each small) none x y (subst (λ b. Adds d2 d3 (bodies (marked b) (address_of l) R 0 (length d2.code))) same2 z)
+    let out1 = subst (λ b. LaysOut (has b) R g l) same1 out in
+    let small : whole_len (has bs) R g ≤ 1048576 = omega (arith, out1.whole) in
+    whole_code d d1 d2 d3 (has bs) (address_of l) R g (out1.each small) none x y (subst (λ b. Adds d2 d3 (bodies (has b) (address_of l) R 0 (length d2.code))) same2 z)
 
 -- the code of a draft that was empty, and says the whole code
-pub finished : (d d1 : Draft) (bs : List Bool) (R : List Core) (g : Core) → CallsAreRules R g → MarksReached R g bs → d.code ≡ [] → Adds d d1 (program (marked bs) R g) → (map (instr_of d1.sets d1.labels) d1.code ≡ program (marked bs) R g) × AreInRange d1.code d1.sets d1.labels
+pub finished : (d d1 : Draft) (bs : BTreeSet ℕ) (R : List Core) (g : Core) → CallsAreRules R g → HasReached R g bs → d.code ≡ [] → Adds d d1 (program (has bs) R g) → (map (instr_of d1.sets d1.labels) d1.code ≡ program (has bs) R g) × AreInRange d1.code d1.sets d1.labels
 finished d d1 bs R g calls reached none a =
-    let m = marked bs in
-    let within = program_within m R g calls (λ r. (reached.exact r).1) (λ r. (reached.exact r).0) in
+    let m = has bs in
+    let within = program_within m R g calls (λ r. (reached r).1) (λ r. (reached r).0) in
     let all = all_meant (whole_len m R g) d1.sets d1.labels d1.code (program m R g) (all_said d d1 (program m R g) none a) within in
     let long : whole_len m R g ≡ length d1.code = omega (arith, a.long, ap length none, program_length m R g) in
     (all.0, subst (λ n. list_all (in_range n (length d1.sets) (length d1.labels)) d1.code ≡ true) long all.1)
 
-pub is_code : (bs : List Bool) (R : List Core) (g : Core) (is : List Instr) → MarksReached R g bs → is ≡ program (marked bs) R g → IsCode R g is
-is_code bs R g is reached e = record { marks = marked bs; exact = reached.exact; same = e }
+pub is_code : (bs : BTreeSet ℕ) (R : List Core) (g : Core) (is : List Instr) → HasReached R g bs → is ≡ program (has bs) R g → IsCode R g is
+is_code bs R g is reached e = record { marks = has bs; exact = reached; same = e }
 
 pub program_means : (p : Program) (code : List R.Instr) (sets : List (List Range)) (labels : List (List ℕ)) (is : List Instr) → p.code ≡ code → p.sets ≡ sets → p.labels ≡ labels → map (instr_of sets labels) code ≡ is → instructions p ≡ is
 program_means p code sets labels is e f h m =

@@ -1,5 +1,5 @@
 -- Where the bodies of the marked rules stand.
-use Rattle.std.proofs.Common.{◌≡◌, ℕ, zero, suc, ◌+◌, ◌<◌, ◌≤◌, List, [], ◌∷◌, ◌++◌, length, drop, Option, Some, None, refl, sym, ap, ◌∙◌, arith, length-append, zero-add, add-zero, append_assoc, ⊎_elim, min, get_or}
+use Rattle.std.proofs.Common.{◌≡◌, ℕ, zero, suc, ◌+◌, ◌-◌, ◌<◌, ◌≤◌, List, [], ◌∷◌, ◌++◌, length, drop, Option, Some, None, refl, sym, ap, ◌∙◌, arith, length-append, zero-add, add-zero, append_assoc, ⊎_elim, min, get_or}
 use Rattle.std.proofs.Math.Seq.{get_or-append_seam}
 use Rattle.std.proofs.lemmas.Bool.{cases_lt}
 use Rattle.std.proofs.lemmas.List.{get_or_append_left, get_or_default, get_or_past}
@@ -92,6 +92,15 @@ module _ (marks : ℕ → Bool) where
           let long : a + size p + 1 ≡ a + length (code at p a ++ I.Return ∷ []) = omega (arith, length-append (code at p a) (I.Return ∷ []), code_length at p a, size_is p) in
           ap (λ n. code at p a ++ I.Return ∷ bodies marks at rest (k + 1) n) long ∙ sym (append_assoc (code at p a) (I.Return ∷ []) (bodies marks at rest (k + 1) (a + length (code at p a ++ I.Return ∷ []))))
 
+  -- the same where that rule is marked, and where it isn't
+  pub bodies_on : (at : ℕ → ℕ) (R : List Core) (k a : ℕ) → k < length R → marks k ≡ true → bodies marks at (drop k R) k a ≡ rule_code true at (slice_get R k) a ++ bodies marks at (drop (k + 1) R) (k + 1) (a + length (rule_code true at (slice_get R k) a))
+  bodies_on at R k a lt on = bodies_here at R k a lt ∙ ap (λ b. rule_code b at (slice_get R k) a ++ bodies marks at (drop (k + 1) R) (k + 1) (a + length (rule_code b at (slice_get R k) a))) on
+
+  pub bodies_off : (at : ℕ → ℕ) (R : List Core) (k a : ℕ) → k < length R → marks k ≡ false → bodies marks at (drop k R) k a ≡ bodies marks at (drop (k + 1) R) (k + 1) a
+  bodies_off at R k a lt off =
+      bodies_here at R k a lt ∙ ap (λ b. rule_code b at (slice_get R k) a ++ bodies marks at (drop (k + 1) R) (k + 1) (a + length (rule_code b at (slice_get R k) a))) off
+      ∙ ap (bodies marks at (drop (k + 1) R) (k + 1)) (add-zero a)
+
   pub rule_length : (at : ℕ → ℕ) (b : Bool) (o : Option Core) (a : ℕ) → length (rule_code b at o a) ≡ (if b then body_len o else 0)
   rule_length at false o a = refl
   rule_length at true None a = refl
@@ -102,25 +111,25 @@ module _ (marks : ℕ → Bool) where
       let x = some_at R k lt in
       ap (λ l. bodies_len marks l k) (drop_here R k x.0 lt (sym (read_at R k x.0 x.1))) ∙ ap (λ o. (if marks k then body_len o else 0) + bodies_len marks (drop (k + 1) R) (k + 1)) (sym x.1)
 
--- the addresses that a list holds, and the end for every other number
-pub addresses_are : (items : List ℕ) (end n : ℕ) (place : ℕ → ℕ) → length items ≡ n → end ≡ place n → ((r : ℕ) → r < n → get_or items r 0 ≡ place r) → ((r : ℕ) → n ≤ r → place r ≡ place n) → (r : ℕ) → get_or items r end ≡ place r
-addresses_are items end n place long is each past r = ⊎_elim inside outside (cases_lt r n)
-  where
-    inside : r < n → get_or items r end ≡ place r
-    inside lt = get_or_default items r end 0 (omega arith) ∙ each r lt
+  -- what goes on over numbers that aren't marked
+  module _ (R : List Core) where
+    pub place_off : (a r : ℕ) → r < length R → marks r ≡ false → place_of marks R 0 a r ≡ place_of marks R 0 a (r + 1)
+    place_off a r lt off =
+        sym (place_turn R a r lt ∙ ap (λ b. place_of marks R 0 a r + (if b then body_len (slice_get R r) else 0)) off ∙ add-zero (place_of marks R 0 a r))
 
-    outside : n ≤ r → get_or items r end ≡ place r
-    outside le = get_or_past items r end (omega arith) ∙ is ∙ sym (past r le)
+    pub bodies_len_off : (k : ℕ) → k < length R → marks k ≡ false → bodies_len marks (drop k R) k ≡ bodies_len marks (drop (k + 1) R) (k + 1)
+    bodies_len_off k lt off =
+        bodies_len_here R k lt ∙ ap (λ b. (if b then body_len (slice_get R k) else 0) + bodies_len marks (drop (k + 1) R) (k + 1)) off
+        ∙ zero-add (bodies_len marks (drop (k + 1) R) (k + 1))
 
--- one address more
-pub addresses_more : (items : List ℕ) (n x : ℕ) (place : ℕ → ℕ) → length items ≡ n → ((r : ℕ) → r < n → get_or items r 0 ≡ min 1048577 (place r)) → x ≡ min 1048577 (place n) → (r : ℕ) → r < n + 1 → get_or (items ++ x ∷ []) r 0 ≡ min 1048577 (place r)
-addresses_more items n x place long each is r lt = ⊎_elim before here (cases_lt r n)
-  where
-    before : r < n → get_or (items ++ x ∷ []) r 0 ≡ min 1048577 (place r)
-    before le = get_or_append_left items (x ∷ []) 0 r (omega arith) ∙ each r le
+-- what is the same from each number to the next is so from the first to the last
+pub gap : {X : Type 0} (f : ℕ → X) (k d : ℕ) → ((r : ℕ) → k ≤ r → r < k + d → f r ≡ f (r + 1)) → f k ≡ f (k + d)
+gap f k zero h = ap f (sym (add-zero k))
+gap f k (suc d) h =
+    let more : k + d + 1 ≡ k + suc d = omega arith in
+    gap f k d (λ r le lt. h r le (omega arith)) ∙ h (k + d) (omega arith) (omega arith) ∙ ap f more
 
-    here : n ≤ r → get_or (items ++ x ∷ []) r 0 ≡ min 1048577 (place r)
-    here le =
-        let e : r ≡ length items = omega arith in
-        let f : n ≡ r = omega arith in
-        ap (λ k. get_or (items ++ x ∷ []) k 0) e ∙ get_or-append_seam items x [] 0 ∙ is ∙ ap (λ k. min 1048577 (place k)) f
+pub gap_to : {X : Type 0} (f : ℕ → X) (k j : ℕ) → k ≤ j → ((r : ℕ) → k ≤ r → r < j → f r ≡ f (r + 1)) → f k ≡ f j
+gap_to f k j le h =
+    let same : k + (j - k) ≡ j = omega arith in
+    gap f k (j - k) (λ r a b. h r a (omega arith)) ∙ ap f same

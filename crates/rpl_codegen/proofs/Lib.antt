@@ -8,3 +8,4 @@ pub mod Finish
 pub mod Taking
 pub mod Gathering
 pub mod Passing
+pub mod Starting

@@ -1,7 +1,7 @@
 -- How nodes are listed, and taken from the list.
 use Rattle.std.proofs.Common.{◌≡◌, ℕ, suc, ◌+◌, ◌<◌, List, [], ◌∷◌, ◌++◌, length, drop, get_or, refl, sym, ap, ◌∙◌, subst, append_assoc, arith, length-drop}
 use Rattle.std.proofs.lemmas.List.{append_cancel_left, set_at}
-use Rattle.std.specs.Prelude.{Bool, slice_get, slice_set}
+use Rattle.std.specs.Prelude.{Bool, false, slice_get, slice_set}
 use Rattle.rpl_core.specs.Core.{Core}
 use Rattle.rpl_core.specs.declared.peg.Peg.{Peg}
 use Rattle.rpl_core.specs.View.{core_of, cores}
@@ -75,6 +75,10 @@ pub nodes_here : (marks : ℕ → Bool) (R : List Core) (k : ℕ) → k < length
 nodes_here marks R k lt =
     let x = some_at R k lt in
     ap (λ l. bodies_nodes marks l k) (drop_here R k x.0 lt (sym (read_at R k x.0 x.1))) ∙ ap (λ o. rule_nodes (marks k) o ++ bodies_nodes marks (drop (k + 1) R) (k + 1)) (sym x.1)
+
+-- a rule that isn't marked
+pub nodes_off : (marks : ℕ → Bool) (R : List Core) (k : ℕ) → k < length R → marks k ≡ false → bodies_nodes marks (drop k R) k ≡ bodies_nodes marks (drop (k + 1) R) (k + 1)
+nodes_off marks R k lt off = nodes_here marks R k lt ∙ ap (λ b. rule_nodes b (slice_get R k) ++ bodies_nodes marks (drop (k + 1) R) (k + 1)) off
 
 -- more nodes in a list
 pub listed_turn : (s t xs r u z : List Node) → t ≡ s ++ xs → r ≡ xs ++ u → (s ++ r) ≡ z → (t ++ u) ≡ z

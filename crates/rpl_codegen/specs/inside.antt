@@ -5,3 +5,4 @@ pub mod Taken
 pub mod Written
 pub mod Laid
 pub mod Gathered
+pub mod Starts

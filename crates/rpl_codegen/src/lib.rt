@@ -9,7 +9,9 @@
 mod compiling;
 mod head;
 mod layout;
+mod next;
 mod size;
+mod starts;
 mod whole;
 mod writing;
 

@@ -1,14 +1,14 @@
 // The code of a goal.
-ghost use Rattle.std.specs.Prelude.{◌≡◌, ◌<◌, ◌≤◌, ◌+◌, [], ◌++◌, IfErr, IfOk, OnOk, length, slice_get};
+ghost use Rattle.std.specs.Prelude.{◌≡◌, ◌≤◌, ◌+◌, [], ◌++◌, IfErr, IfOk, OnOk, length, slice_get, true};
 ghost use Rattle.rpl_core.specs.Listed.{rules_of};
-ghost use Rattle.rpl_core.specs.Marked.{CallsAreRules, marked};
+ghost use Rattle.rpl_core.specs.Marked.{CallsAreRules, has};
 ghost use Rattle.rpl_core.specs.Numbers.{AreInRange};
 ghost use Rattle.rpl_core.specs.Program.{code_of, instructions, labels_of, sets_of};
 ghost use Rattle.rpl_core.specs.Programs.{IsCode, bodies, program};
 ghost use Rattle.rpl_core.specs.Table.{bodies_of};
 ghost use Rattle.rpl_core.specs.View.{core_of};
 ghost use Rattle.rpl_codegen.specs.Compiled.{HasLongCode};
-ghost use Rattle.rpl_codegen.specs.inside.Laid.{LaysOut, bodies_len, bodies_nodes, rule_code, rule_len, rule_nodes};
+ghost use Rattle.rpl_codegen.specs.inside.Laid.{LaysOut, bodies_len, bodies_nodes, body_len, rule_code, rule_nodes};
 ghost use Rattle.rpl_codegen.specs.inside.Nodes.{nodes_in};
 ghost use Rattle.rpl_codegen.specs.inside.Taken.{Begins, Takes, left};
 ghost use Rattle.rpl_intern.specs.Uses.{KeepsOnce, labels_in, sets_in};
@@ -18,11 +18,13 @@ ghost use Rattle.rpl_codegen.specs.declared.whole.CompileFault.TheVariants.{NoMe
 
 use crate::NoMemory;
 use crate::layout::Layout;
+use crate::next::next_in;
 use crate::size::{MAX_CODE, Measured, Nodes};
 use crate::writing::emit;
-use rpl_core::{Instr, Peg, Program, Rules, reached};
+use rpl_core::{Instr, Peg, Program, Rules, reached_rules};
 use rpl_intern::Draft;
 use std::alloc::Global;
+use std::collections::BTreeSet;
 use thiserror::Error;
 
 /// Why there is no code.
@@ -59,15 +61,15 @@ pub(crate) fn compile_goal(
     ensures too_long { IfErr result (λ e. e ≡ CompileFault.CodeTooLong
         → HasLongCode (bodies_of (rules_of rules.now)) (core_of goal.now)) }
 {
-    let marks = reached(alloc, rules, goal)?;
+    let reached = reached_rules(alloc, rules, goal)?;
     let mut measured = Measured::new(alloc);
-    let layout = Layout::new(alloc, rules, goal, &marks, &mut measured)?;
+    let layout = Layout::new(alloc, rules, goal, &reached, &mut measured)?;
     if layout.size() > MAX_CODE {
         return Err(CompileFault::CodeTooLong);
     }
     let mut nodes = Nodes::new(measured.nodes);
     let mut draft = Draft::new(alloc);
-    emit_whole(&mut draft, &layout, &mut nodes, rules, goal, &marks)?;
+    emit_whole(&mut draft, &layout, &mut nodes, rules, goal, &reached)?;
     Ok(program_of(alloc, draft)?)
 }
 
@@ -84,71 +86,65 @@ fn program_of(alloc: Global, draft: Draft) -> Result<Program, NoMemory>
     Ok(Program::new(draft.code, sets, labels))
 }
 
-/// Writes the goal, `finish`, and the marked rules into an empty draft.
+/// Writes the goal, `finish`, and the reached rules into an empty draft.
 fn emit_whole(
     draft: &mut Draft,
     layout: &Layout,
     nodes: &mut Nodes,
     rules: &Rules,
     goal: &Peg,
-    marks: &[bool],
+    reached: &BTreeSet<u32>,
 ) -> Result<(), NoMemory>
     requires empty { draft.old.code ≡ [] }
-    requires long { length marks.now ≡ length (rules_of rules.now) }
-    requires layout { LaysOut (marked marks.now) (bodies_of (rules_of rules.now)) (core_of goal.now) layout.now }
+    requires layout { LaysOut (has reached.now) (bodies_of (rules_of rules.now)) (core_of goal.now) layout.now }
     requires room { layout.now.end ≤ 1048576 }
     requires nodes { left nodes.old
-        ≡ nodes_in (core_of goal.now) ++ bodies_nodes (marked marks.now) (bodies_of (rules_of rules.now)) 0 }
+        ≡ nodes_in (core_of goal.now) ++ bodies_nodes (has reached.now) (bodies_of (rules_of rules.now)) 0 }
     ensures { OnOk result (Adds draft.old draft.new
-        (program (marked marks.now) (bodies_of (rules_of rules.now)) (core_of goal.now))) }
+        (program (has reached.now) (bodies_of (rules_of rules.now)) (core_of goal.now))) }
 {
     emit(draft, layout, nodes, goal)?;
     draft.put(Instr::Finish)?;
-    emit_rules(draft, layout, nodes, rules, marks)
+    emit_rules(draft, layout, nodes, rules, reached)
 }
 
-/// Writes the marked rules in the order of the table, each with its return.
+/// Writes the reached rules in the order of the table, each with its return.
 fn emit_rules(
     draft: &mut Draft,
     layout: &Layout,
     nodes: &mut Nodes,
     rules: &Rules,
-    marks: &[bool],
+    reached: &BTreeSet<u32>,
 ) -> Result<(), NoMemory>
-    requires long { length marks.now ≡ length (rules_of rules.now) }
-    requires room { length draft.old.code + bodies_len (marked marks.now) (bodies_of (rules_of rules.now)) 0 ≤ 1048576 }
-    requires nodes { Begins (left nodes.old) (bodies_nodes (marked marks.now) (bodies_of (rules_of rules.now)) 0) }
+    requires room { length draft.old.code + bodies_len (has reached.now) (bodies_of (rules_of rules.now)) 0 ≤ 1048576 }
+    requires nodes { Begins (left nodes.old) (bodies_nodes (has reached.now) (bodies_of (rules_of rules.now)) 0) }
     ensures { OnOk result (Writes draft.old draft.new
-        (bodies (marked marks.now) (address_of layout.now) (bodies_of (rules_of rules.now)) 0)) }
+        (bodies (has reached.now) (address_of layout.now) (bodies_of (rules_of rules.now)) 0)) }
 {
-    for number in 0..rules.len() {
-        emit_rule(draft, layout, nodes, rules, marks, number as u32)?;
+    let count = rules.len();
+    let mut number = next_in(reached, 0, count);
+    while number < count {
+        emit_rule(draft, layout, nodes, rules, number as u32)?;
+        number = next_in(reached, number + 1, count);
     }
     Ok(())
 }
 
-/// Writes the rule with this number and its return, if it is marked.
+/// Writes the rule with this number and its return.
 fn emit_rule(
     draft: &mut Draft,
     layout: &Layout,
     nodes: &mut Nodes,
     rules: &Rules,
-    marks: &[bool],
     number: u32,
 ) -> Result<(), NoMemory>
-    requires inside { number < length marks.now }
-    requires room { length draft.old.code
-        + rule_len (marked marks.now number) (slice_get (bodies_of (rules_of rules.now)) number) ≤ 1048576 }
-    requires nodes { Begins (left nodes.old)
-        (rule_nodes (marked marks.now number) (slice_get (bodies_of (rules_of rules.now)) number)) }
-    ensures code { OnOk result (Writes draft.old draft.new (rule_code (marked marks.now number)
-        (address_of layout.now) (slice_get (bodies_of (rules_of rules.now)) number))) }
+    requires room { length draft.old.code + body_len (slice_get (bodies_of (rules_of rules.now)) number) ≤ 1048576 }
+    requires nodes { Begins (left nodes.old) (rule_nodes true (slice_get (bodies_of (rules_of rules.now)) number)) }
+    ensures code { OnOk result (Writes draft.old draft.new
+        (rule_code true (address_of layout.now) (slice_get (bodies_of (rules_of rules.now)) number))) }
     ensures nodes { OnOk result (Takes nodes.old nodes.new
-        (rule_nodes (marked marks.now number) (slice_get (bodies_of (rules_of rules.now)) number))) }
+        (rule_nodes true (slice_get (bodies_of (rules_of rules.now)) number))) }
 {
-    if !marks[number as usize] {
-        return Ok(());
-    }
     if let Some(rule) = rules.get(number) {
         emit(draft, layout, nodes, &rule.body)?;
         draft.put(Instr::Return)?;

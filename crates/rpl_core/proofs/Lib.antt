@@ -13,6 +13,6 @@ pub mod Reaching
 pub mod Rows
 pub mod Standings
 pub mod Walk
-mod RuleMarks
+mod RuleFinds
 mod Parts
 pub mod Search

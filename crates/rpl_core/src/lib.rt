@@ -1,8 +1,9 @@
 //! What a pattern means, what the machine does, and the code that joins them, as definitions (`specs/`), and the
 //! types that hold patterns, rules and code. Every other crate of patterns stands on these: expansion makes a `Peg`,
 //! the compiler a `Program`, and the machine runs it. The types promise that rules have distinct names and that
-//! every number in a program is in range; [`reached`] marks just the rules that a goal reaches; the laws say what
-//! holds of the definitions alone. docs/MEANING.md tells the definitions in plain words.
+//! every number in a program is in range; [`reached_rules`] finds just the rules that a goal
+//! reaches, and [`reached`] marks them; the laws say what holds of the definitions alone.
+//! docs/MEANING.md tells the definitions in plain words.
 #![tactic(auto)]
 
 mod caught;
@@ -22,7 +23,7 @@ pub use lengths::{greatest_length, has_call, has_repetition, least_length};
 pub use order::{calls_are_rules, is_in_order, is_outside, joins_next};
 pub use peg::{Peg, Pegs};
 pub use program::{Labels, Program, Sets};
-pub use reach::reached;
+pub use reach::{reached, reached_rules};
 pub use rules::{Rule, Rules};
 /// Out of memory, which every call that takes memory may answer.
 pub use std::alloc::AllocError as NoMemory;

@@ -4,62 +4,81 @@ ghost use Rattle.rpl_core.specs.Listed.{rules_of};
 ghost use Rattle.rpl_core.specs.Programs.{calls, calls_any};
 ghost use Rattle.rpl_core.specs.Table.{bodies_of};
 ghost use Rattle.rpl_core.specs.View.{core_of, cores};
-ghost use Rattle.rpl_core.specs.Marked.{CallsAreRules, MarksReached};
-ghost use Rattle.rpl_core.specs.inside.Searching.{Marks};
+ghost use Rattle.rpl_core.specs.Marked.{CallsAreRules, HasReached, MarksReached, has};
+ghost use Rattle.rpl_core.specs.inside.Searching.{Finds};
 
 use crate::NoMemory;
 use crate::peg::Peg;
 use crate::rules::Rules;
 use std::alloc::Global;
+use std::collections::BTreeSet;
 
 /// The rules found so far, and those of them whose bodies weren't looked at.
 #[derive(Drop)]
 struct RuleSearch {
-    marks: Vec<bool>,
+    found: BTreeSet<u32>,
     waiting: Vec<u32>,
 }
 
 impl RuleSearch {
-    /// Marks the rule, if it is in the table.
-    fn mark(&mut self, rule: u32) -> Result<(), NoMemory>
-        ensures { OnOk result (Marks (λ r. nat_eq rule r) self.old self.new) }
+    /// Adds the rule to those found.
+    fn find(&mut self, rule: u32) -> Result<(), NoMemory>
+        ensures { OnOk result (Finds (λ r. nat_eq rule r) self.old self.new) }
     {
-        let place = rule as usize;
-        if place < self.marks.len() && !self.marks[place] {
+        if self.found.insert(rule)? {
             self.waiting.push(rule)?;
-            self.marks[place] = true;
         }
         Ok(())
     }
 }
 
-/// Marks the rules that the pattern calls.
-#[cycle(mark)]
-fn mark_calls(search: &mut RuleSearch, peg: &Peg) -> Result<(), NoMemory>
-    ensures { OnOk result (Marks (calls (core_of peg.now)) search.old search.new) }
+/// Finds the rules that the pattern calls.
+#[cycle(find)]
+fn find_calls(search: &mut RuleSearch, peg: &Peg) -> Result<(), NoMemory>
+    ensures { OnOk result (Finds (calls (core_of peg.now)) search.old search.new) }
 {
     match peg {
-        Peg::Call(rule) => search.mark(*rule),
-        Peg::Seq(parts) => mark_all(search, parts.as_slice()),
-        Peg::Choice(parts) => mark_all(search, parts.as_slice()),
-        Peg::Many(body) => mark_calls(search, body),
-        Peg::Not(body) => mark_calls(search, body),
-        Peg::And(body) => mark_calls(search, body),
-        Peg::Behind { body, .. } => mark_calls(search, body),
-        Peg::Capture(_, body) => mark_calls(search, body),
+        Peg::Call(rule) => search.find(*rule),
+        Peg::Seq(parts) => find_all(search, parts.as_slice()),
+        Peg::Choice(parts) => find_all(search, parts.as_slice()),
+        Peg::Many(body) => find_calls(search, body),
+        Peg::Not(body) => find_calls(search, body),
+        Peg::And(body) => find_calls(search, body),
+        Peg::Behind { body, .. } => find_calls(search, body),
+        Peg::Capture(_, body) => find_calls(search, body),
         Peg::Set(_) | Peg::Note(_) | Peg::Start | Peg::End | Peg::Halt => Ok(()),
     }
 }
 
-/// Marks the rules that some part calls.
-#[cycle(mark)]
-fn mark_all(search: &mut RuleSearch, parts: &[Peg]) -> Result<(), NoMemory>
-    ensures { OnOk result (Marks (calls_any (cores parts.now)) search.old search.new) }
+/// Finds the rules that some part calls.
+#[cycle(find)]
+fn find_all(search: &mut RuleSearch, parts: &[Peg]) -> Result<(), NoMemory>
+    ensures { OnOk result (Finds (calls_any (cores parts.now)) search.old search.new) }
 {
     for part in parts {
-        mark_calls(search, part)?;
+        find_calls(search, part)?;
     }
     Ok(())
+}
+
+/// The rules of the table that the goal reaches. It costs what these rules cost, however long the
+/// table is.
+pub fn reached_rules(alloc: Global, rules: &Rules, goal: &Peg) -> Result<BTreeSet<u32>, NoMemory>
+    requires { CallsAreRules (bodies_of (rules_of rules.now)) (core_of goal.now) }
+    ensures { IfOk result (HasReached (bodies_of (rules_of rules.now)) (core_of goal.now)) }
+{
+    let mut search = RuleSearch {
+        found: BTreeSet::new(alloc),
+        waiting: Vec::new(alloc),
+    };
+    find_calls(&mut search, goal)?;
+    while let Some(number) = search.waiting.pop() {
+        if let Some(rule) = rules.get(number) {
+            find_calls(&mut search, &rule.body)?;
+        }
+    }
+    let RuleSearch { found, .. } = search;
+    Ok(found)
 }
 
 /// Which rules of the table the goal reaches, in a list as long as the table.
@@ -67,16 +86,10 @@ pub fn reached(alloc: Global, rules: &Rules, goal: &Peg) -> Result<Vec<bool>, No
     requires { CallsAreRules (bodies_of (rules_of rules.now)) (core_of goal.now) }
     ensures { IfOk result (λ marks. MarksReached (bodies_of (rules_of rules.now)) (core_of goal.now) marks.items) }
 {
-    let mut search = RuleSearch {
-        marks: vec![in alloc; false; rules.len()]?,
-        waiting: Vec::new(alloc),
-    };
-    mark_calls(&mut search, goal)?;
-    while let Some(number) = search.waiting.pop() {
-        if let Some(rule) = rules.get(number) {
-            mark_calls(&mut search, &rule.body)?;
-        }
+    let found = reached_rules(alloc, rules, goal)?;
+    let mut marks = Vec::new(alloc);
+    for number in 0..rules.len() {
+        marks.push(found.contains(&(number as u32)))?;
     }
-    let RuleSearch { marks, .. } = search;
     Ok(marks)
 }

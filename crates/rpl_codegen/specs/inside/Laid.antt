@@ -16,10 +16,6 @@ abbrev pub body_len : Option Core → ℕ
 body_len None = 0
 body_len (Some p) = len p + 1
 
--- a body with its return, if there is such a rule and it is marked
-abbrev pub rule_len : Bool → Option Core → ℕ
-rule_len b o = if b then body_len o else 0
-
 -- the bodies of the marked rules; the first rule has the number k
 abbrev pub bodies_len : (ℕ → Bool) → List Core → ℕ → ℕ
 bodies_len marks [] k = 0

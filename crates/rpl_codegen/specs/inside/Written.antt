@@ -1,5 +1,5 @@
 -- How a draft grows by code that is placed where it begins.
-use Rattle.std.specs.Prelude.{◌≡◌, ℕ, suc, ◌+◌, List, [], ◌∷◌, ◌++◌, length, Option, Some, None, slice_index_or}
+use Rattle.std.specs.Prelude.{◌≡◌, ℕ, suc, ◌+◌, List, [], ◌∷◌, ◌++◌, length, Option, Some, None}
 use Rattle.regex_class.specs.Ranges.{Range}
 use Rattle.rpl_core.specs.Code.{Placed, code, lengths_code}
 use Rattle.rpl_core.specs.Instr.{Instr}
@@ -9,6 +9,7 @@ use Rattle.rpl_core.specs.declared.peg.Peg.{Peg}
 use Rattle.rpl_intern.specs.Written.{Adds}
 use Rattle.rpl_intern.specs.declared.draft.Draft.{Draft}
 use Rattle.rpl_codegen.specs.declared.layout.Layout.{Layout}
+use Rattle.rpl_codegen.specs.inside.Starts.{start_from}
 
 -- the draft has this code more, placed where it begins
 abbrev pub Writes : Draft → Draft → Placed → Type 0
@@ -28,7 +29,7 @@ Tries old new body end back =
 
 -- the address of each rule
 abbrev pub address_of : Layout → ℕ → ℕ
-address_of l r = slice_index_or l.addresses.items r l.end
+address_of l r = start_from l.starts.list.items r l.end
 
 -- the test of a head, if there is one
 abbrev pub test_code : Option (List Range) → ℕ → List Instr

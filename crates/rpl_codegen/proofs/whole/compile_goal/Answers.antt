@@ -6,22 +6,22 @@ use Rattle.rpl_core.specs.Programs.{program}
 use Rattle.rpl_core.specs.Table.{bodies_of}
 use Rattle.rpl_core.specs.View.{core_of}
 use Rattle.rpl_codegen.specs.inside.Laid.{LaysOut}
-use Rattle.rpl_core.specs.Marked.{marked}
+use Rattle.rpl_core.specs.Marked.{has}
 use Rattle.rpl_intern.specs.Uses.{sets_in, labels_in}
 use Rattle.rpl_intern.specs.Written.{Adds}
 use Rattle.rpl_codegen.proofs.Finish.{finished, is_code, program_means, kept}
 use Rattle.rpl_codegen.proofs.Jumps.{program_length}
-use Rattle.rpl_codegen.proofs.whole.compile_goal.Goals.{After-drop-marks-2}
+use Rattle.rpl_codegen.proofs.whole.compile_goal.Goals.{After-drop-reached-2}
 use Rattle.rpl_codegen.proofs.whole.compile_goal.Goals as goal
 
 pub returns-then-size-gt-MAX_CODE-clause-too_long : goal.returns-then-size-gt-MAX_CODE-clause-too_long
 returns-then-size-gt-MAX_CODE-clause-too_long c =
     let R = bodies_of (rules_of c.args.rules.now) in
     let g = core_of c.args.goal.now in
-    let bs = c.in_ok-marks.marks.items in
-    let m = marked bs in
-    let out = subst (λ b. LaysOut (marked b) R g c.in_ok-layout.layout) c.deref.ensures.value c.in_ok-layout.ensures.layout in
-    λ e. (program m R g, is_code bs R g (program m R g) c.in_ok-marks.ensures refl, omega (arith, out.whole, program_length m R g, c.size.ensures, c.if-size-gt-MAX_CODE.true))
+    let bs = c.in_ok-reached.reached in
+    let m = has bs in
+    let out = c.in_ok-layout.ensures.layout in
+    λ e. (program m R g, is_code bs R g (program m R g) c.in_ok-reached.ensures refl, omega (arith, out.whole, program_length m R g, c.size.ensures, c.if-size-gt-MAX_CODE.true))
 
 pub program_of-requires : goal.program_of-requires
 program_of-requires c =
@@ -29,26 +29,25 @@ program_of-requires c =
     let g = core_of c.args.goal.now in
     let d = c.new-draft.result in
     let d1 = c.emit_whole.new.draft in
-    let adds = subst (λ b. Adds d d1 (program (marked b) R g)) c.deref-2.ensures.value c.in_ok-emit_whole.ensures in
-    (finished d d1 c.in_ok-marks.marks.items R g c.requires c.in_ok-marks.ensures c.new-draft.ensures.code adds).1
+    let adds = c.in_ok-emit_whole.ensures in
+    (finished d d1 c.in_ok-reached.reached R g c.requires c.in_ok-reached.ensures c.new-draft.ensures.code adds).1
 
 -- the program of the goal, and that the draft holds it
-abbrev goal_code : After-drop-marks-2 → List Instr
-goal_code c = program (marked c.in_ok-marks.marks.items) (bodies_of (rules_of c.args.rules.now)) (core_of c.args.goal.now)
+abbrev goal_code : After-drop-reached-2 → List Instr
+goal_code c = program (has c.in_ok-reached.reached) (bodies_of (rules_of c.args.rules.now)) (core_of c.args.goal.now)
 
-written : (c : After-drop-marks-2) → Adds c.new-draft.result c.emit_whole.new.draft (goal_code c)
-written c =
-    subst (λ b. Adds c.new-draft.result c.emit_whole.new.draft (program (marked b) (bodies_of (rules_of c.args.rules.now)) (core_of c.args.goal.now))) c.deref-2.ensures.value c.in_ok-emit_whole.ensures
+written : (c : After-drop-reached-2) → Adds c.new-draft.result c.emit_whole.new.draft (goal_code c)
+written c = c.in_ok-emit_whole.ensures
 
-means : (c : After-drop-marks-2) → instructions c.in_ok-program_of.field-0 ≡ goal_code c
+means : (c : After-drop-reached-2) → instructions c.in_ok-program_of.field-0 ≡ goal_code c
 means c =
     let d = c.emit_whole.new.draft in
     let e = c.in_ok-program_of.ensures in
-    let is = finished c.new-draft.result d c.in_ok-marks.marks.items (bodies_of (rules_of c.args.rules.now)) (core_of c.args.goal.now) c.requires c.in_ok-marks.ensures c.new-draft.ensures.code (written c) in
+    let is = finished c.new-draft.result d c.in_ok-reached.reached (bodies_of (rules_of c.args.rules.now)) (core_of c.args.goal.now) c.requires c.in_ok-reached.ensures c.new-draft.ensures.code (written c) in
     program_means c.in_ok-program_of.field-0 d.code d.sets d.labels (goal_code c) e.code e.sets e.labels is.0
 
 pub returns-clause-code : goal.returns-clause-code
-returns-clause-code c = is_code c.in_ok-marks.marks.items (bodies_of (rules_of c.args.rules.now)) (core_of c.args.goal.now) _ c.in_ok-marks.ensures (means c)
+returns-clause-code c = is_code c.in_ok-reached.reached (bodies_of (rules_of c.args.rules.now)) (core_of c.args.goal.now) _ c.in_ok-reached.ensures (means c)
 
 pub returns-clause-sets : goal.returns-clause-sets
 returns-clause-sets c =

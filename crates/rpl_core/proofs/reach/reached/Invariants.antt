@@ -1,13 +1,7 @@
-use Rattle.std.proofs.Common.{◌+◌, length}
-use Rattle.rpl_core.specs.Listed.{rules_of}
-use Rattle.rpl_core.specs.Table.{bodies_of}
-use Rattle.rpl_core.specs.View.{core_of}
-use Rattle.rpl_core.specs.inside.Searching.{Reached}
-use Rattle.rpl_core.specs.inside.Marks.{unmarked}
+use Rattle.std.proofs.Common.{◌≡◌, ℕ, ◌<◌, length}
+use Rattle.rpl_core.specs.Marked.{has, marked}
 use Rattle.rpl_core.proofs.reach.reached.Given as goal
 
 abbrev pub invariant-loop-number : goal.invariant-loop-number
-invariant-loop-number l = Reached (bodies_of (rules_of l.rules)) (core_of l.goal) l.search
-
-abbrev pub decreases-loop-number : goal.decreases-loop-number
-decreases-loop-number l = length l.search.waiting.items + unmarked l.search.marks.items
+invariant-loop-number l =
+    (length l.marks.items ≡ l.number) × ((r : ℕ) → r < l.number → marked l.marks.items r ≡ has l.found r)
