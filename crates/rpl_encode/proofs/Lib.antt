@@ -1,3 +1,4 @@
+pub mod Notes
 pub mod Escaping
 pub mod Nodes
 pub mod Walking

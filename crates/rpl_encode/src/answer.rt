@@ -22,8 +22,13 @@ pub(crate) const MAX_ANSWER_BYTES: usize = 67_108_864;
 #[derive(Drop)]
 pub struct AnswerText {
     text: Vec<u8>,
-    /// The next text, until it is known that it isn't too long.
-    draft: Vec<u8>,
+    draft: Draft,
+}
+
+/// The next text, until it is known that it isn't too long, and the room for the work on it.
+#[derive(Drop)]
+struct Draft {
+    text: Vec<u8>,
     /// How many nodes are still to come in each list of JSON that is open.
     pending: Vec<usize>,
     shared: SharedParts,
@@ -44,9 +49,7 @@ impl AnswerText {
     {
         AnswerText {
             text: Vec::new(alloc),
-            draft: Vec::new(alloc),
-            pending: Vec::new(alloc),
-            shared: SharedParts::new(alloc),
+            draft: Draft::new(alloc),
         }
     }
 
@@ -73,20 +76,15 @@ impl AnswerText {
         ensures too_long { IsTooLong result (answer_text style line.now program.now (option_copied found.entry)) }
         ensures err { OnErr result (self.new ≡ self.old) }
     {
-        self.draft.clear();
-        put_answer(
-            &mut self.draft,
-            &mut self.pending,
-            &mut self.shared,
-            style,
-            line,
-            found,
-            program,
-        )?;
-        if self.draft.len() > MAX_ANSWER_BYTES {
+        self.draft.text.clear();
+        match found {
+            Some(forest) => self.draft.put_match(style, line, forest, program)?,
+            None => put_miss(&mut self.draft.text, style)?,
+        }
+        if self.draft.text.len() > MAX_ANSWER_BYTES {
             return Err(EncodeFault::AnswerTooLong);
         }
-        std::mem::swap(&mut self.text, &mut self.draft);
+        std::mem::swap(&mut self.text, &mut self.draft.text);
         Ok(())
     }
 }
@@ -117,27 +115,6 @@ pub fn encode(
     Ok(Bytes::from_vec(answer.text))
 }
 
-/// Writes the text of an outcome.
-fn put_answer(
-    out: &mut Vec<u8>,
-    pending: &mut Vec<usize>,
-    shared: &mut SharedParts,
-    style: Style,
-    line: &str,
-    found: Option<&Forest>,
-    program: &Program,
-) -> Result<(), EncodeFault>
-    ensures too_long { IsTooLong result
-        (out.old.items ++ answer_text style line.now program.now (option_copied found.entry)) }
-    ensures text { OnOk result
-        (out.new.items ≡ out.old.items ++ (answer_text style line.now program.now (option_copied found.entry))) }
-{
-    match found {
-        Some(forest) => put_match(out, pending, shared, style, line, forest, program),
-        None => Ok(put_miss(out, style)?),
-    }
-}
-
 /// Writes the text of a line that isn't matched.
 fn put_miss(out: &mut Vec<u8>, style: Style) -> Result<(), NoMemory>
     ensures { OnOk result (out.new.items ≡ out.old.items ++ (line_by_line (none style))) }
@@ -148,37 +125,48 @@ fn put_miss(out: &mut Vec<u8>, style: Style) -> Result<(), NoMemory>
     }
 }
 
-/// Writes the text of a match.
-fn put_match(
-    out: &mut Vec<u8>,
-    pending: &mut Vec<usize>,
-    shared: &mut SharedParts,
-    style: Style,
-    line: &str,
-    forest: &Forest,
-    program: &Program,
-) -> Result<(), EncodeFault>
-    ensures too_long { IsTooLong result (out.old.items ++ match_text style line.now program.now forest.now) }
-    ensures text { OnOk result (out.new.items ≡ out.old.items ++ (match_text style line.now program.now forest.now)) }
-{
-    match style {
-        Style::Json => {
-            shared.fill(line, program)?;
-            let source = Source {
-                line: line.as_bytes(),
-                shared,
-                program,
-            };
-            put_tree(out, pending, forest, source)
+impl Draft {
+    fn new(alloc: Global) -> Draft {
+        Draft {
+            text: Vec::new(alloc),
+            pending: Vec::new(alloc),
+            shared: SharedParts::new(alloc),
         }
-        Style::Line => Ok(put_line(out, line.as_bytes())?),
-        Style::Matches => put_hits(out, line.as_bytes(), forest, program),
-        Style::Subs => {
-            put_texts(out, false, line.as_bytes(), forest, program)?;
-            Ok(())
+    }
+
+    /// Adds the text of a match.
+    fn put_match(
+        &mut self,
+        style: Style,
+        line: &str,
+        forest: &Forest,
+        program: &Program,
+    ) -> Result<(), EncodeFault>
+        ensures too_long { IsTooLong result
+            (self.old.text.items ++ match_text style line.now program.now forest.now) }
+        ensures text { OnOk result
+            (self.new.text.items ≡ self.old.text.items ++ (match_text style line.now program.now forest.now)) }
+    {
+        let bytes = line.as_bytes();
+        match style {
+            Style::Json => {
+                self.shared.fill(line, program)?;
+                let source = Source {
+                    line: bytes,
+                    shared: &self.shared,
+                    program,
+                };
+                put_tree(&mut self.text, &mut self.pending, forest, source)
+            }
+            Style::Line => Ok(put_line(&mut self.text, bytes)?),
+            Style::Matches => put_hits(&mut self.text, bytes, forest, program),
+            Style::Subs => {
+                put_texts(&mut self.text, false, bytes, forest, program)?;
+                Ok(())
+            }
+            Style::Plain => Ok(put_root_text(&mut self.text, bytes, forest, program)?),
+            Style::Bool => Ok(self.text.extend_from_slice(b"true\n")?),
         }
-        Style::Plain => Ok(put_root_text(out, line.as_bytes(), forest, program)?),
-        Style::Bool => Ok(out.extend_from_slice(b"true\n")?),
     }
 }
 

@@ -8,7 +8,6 @@ ghost use Rattle.rpl_encode.specs.Texts.{fields};
 ghost use Rattle.rpl_encode.specs.inside.Escapes.{AreOf};
 ghost use Rattle.rpl_encode.specs.inside.Walk.{text_at, fields_at, comma, ending};
 
-use crate::escapes::Escapes;
 use crate::front::{put_escaped, put_front, put_new_front};
 use crate::shared_parts::Source;
 use itoa::{Buffer, write_digits};
@@ -57,39 +56,35 @@ pub(crate) fn put_node(
         ++ (comma is_first
         ++ (fields_at (labels_of source.entry.program.now) source.entry.line.now node ++ ending has_subs))) }
 {
-    let Source {
-        line,
-        shared,
-        program,
-    } = source;
+    let program = source.program;
     match node.note {
         Some(text) => {
             let text = label_of(program, text);
-            put_message(out, is_first, has_subs, "message", node.start, text)
+            put_message(out, is_first, has_subs, node.start, text)
         }
         None => {
             let label = label_of(program, node.label);
-            put_front(out, &shared.fronts, is_first, node.label, label)?;
+            put_front(out, &source.shared.fronts, is_first, node.label, label)?;
             put_places(out, node.start, node.end)?;
-            put_part(out, has_subs, &shared.escapes, line, node.start, node.end)
+            put_part(out, node, has_subs, source)
         }
     }
 }
 
-/// Writes the object of a note, which has this type.
+/// Writes the object of a note.
 fn put_message(
     out: &mut Vec<u8>,
     is_first: bool,
     has_subs: bool,
-    label: &str,
     place: usize,
     text: &str,
 ) -> Result<(), NoMemory>
     ensures { OnOk result
         (out.new.items
-        ≡ out.old.items ++ (comma is_first ++ (fields label.now place place text.now ++ ending has_subs))) }
+        ≡ out.old.items
+        ++ (comma is_first ++ (fields (codes "message") place place text.now ++ ending has_subs))) }
 {
-    put_new_front(out, is_first, label)?;
+    put_new_front(out, is_first, "message")?;
     put_places(out, place, place)?;
     put_escaped(out, text)?;
     put_ending(out, has_subs)
@@ -98,17 +93,20 @@ fn put_message(
 /// Writes the text of a node that is a part of the line, and what stands after it.
 fn put_part(
     out: &mut Vec<u8>,
+    node: Node,
     has_subs: bool,
-    escapes: &Escapes,
-    line: &[u8],
-    start: usize,
-    end: usize,
+    source: Source<'_>,
 ) -> Result<(), NoMemory>
-    requires { AreOf line.now escapes.now }
+    requires { AreOf source.line.now source.shared.now.escapes }
     ensures { OnOk result
-        (out.new.items ≡ out.old.items ++ (escape (slice_range line.now start end) ++ 34 ∷ ending has_subs)) }
+        (out.new.items
+        ≡ out.old.items
+        ++ (escape (slice_range source.entry.line.now node.start node.end) ++ 34 ∷ ending has_subs)) }
 {
-    escapes.put(out, line, start, end)?;
+    source
+        .shared
+        .escapes
+        .put(out, source.line, node.start, node.end)?;
     put_ending(out, has_subs)
 }
 
