@@ -52,6 +52,7 @@ pub fn read_in<F: Files>(alloc: Global, files: &mut F, file: &Chars) -> Result<O
 }
 
 /// The file of an import in the first folder that has it. It is closed afterwards.
+#[inline(never)]
 pub fn locate<F: Files>(
     alloc: Global,
     files: &mut F,

@@ -69,6 +69,7 @@ pub fn parse(alloc: Global, file: &Chars, text: &str) -> Result<ParsedModule, St
 
 /// The module of a file.
 #[tactic(auto, using(rpl_scope::proofs::Stops::told, crate::proofs::Causes::told_loud))]
+#[inline(never)]
 pub fn read_module(alloc: Global, file: &Chars, read: Read) -> Result<ParsedModule, Stop>
     ensures gives { (bytes : List ℕ) → IsRead read bytes → Gives said result (module_text file.now bytes) }
     ensures loud { IfErr result IsLoud }

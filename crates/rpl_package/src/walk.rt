@@ -32,6 +32,7 @@ pub struct Importer<'a> {
 }
 
 /// One text more of a module.
+#[inline(never)]
 fn push_text(alloc: Global, own: &mut Module, file: &Chars) -> Result<usize, Stop>
     ensures text { OnOk result (module_seen own.new ≡ with_text (module_seen own.old) file.now) }
     ensures number { IfOk result (λ n. n ≡ length (module_seen own.old).texts) }
@@ -98,6 +99,7 @@ pub fn load_import<F: Files>(
 }
 
 /// The package name of an imported text, and the place where it is given.
+#[inline(never)]
 fn label_of(alloc: Global, name: &Option<QName>, path: &Chars) -> Result<(Chars, usize), Stop>
     ensures ok { IfOk result (λ l. l ≡ (label_of name.now path.now, label_at name.now)) }
     ensures memory { IfErr result (λ s. s ≡ OutOfMemory) }

@@ -159,6 +159,7 @@ fn add_names(
 }
 
 /// What an import brings of the loaded module with this number.
+#[inline(never)]
 pub fn take_in(
     alloc: Global,
     modules: &[Module],

@@ -184,6 +184,7 @@ fn enter_item(
 }
 
 /// The statements of the text with this number, in order.
+#[inline(never)]
 pub fn enter_items(
     alloc: Global,
     modules: &[Module],
