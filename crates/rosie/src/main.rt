@@ -1,8 +1,8 @@
-//! The program: the real streams and files, and one call of `rosie_cli::rosie`. It is the trusted edge: no contract
-//! says what a stream holds.
+//! The program: the real streams and files, and one call of `rosie_cli::rosie`. It is the trusted
+//! edge: no contract says what a stream holds.
 //!
-//! Where a word isn't UTF-8 it writes nothing and ends with status 2, and where there is no memory for the words or the
-//! streams with status 6.
+//! Where a word isn't UTF-8 it writes nothing and ends with status 2, and where there is no memory
+//! for the words or the streams with status 6.
 #![tactic(auto)]
 
 ghost use Rattle.std.specs.Prelude.{◌≡◌, ◌<◌};
@@ -37,8 +37,8 @@ fn status_without_words(error: io::Error) -> Status {
     }
 }
 
-/// Runs the command over the real streams and files. `blank` is the ledger on which its steps are counted: it takes no
-/// memory, and nobody reads it.
+/// Runs the command over the real streams and files. `blank` is the ledger on which its steps are
+/// counted: it takes no memory, and nobody reads it.
 fn run<L: Ledger>(rt: &HostRuntime, words: &[String], blank: Blank) -> Status
     requires name { blank.name ≡ L.name }
     requires parts { blank.parts ≡ L.parts }

@@ -21,7 +21,8 @@ pub(crate) enum Asked {
 
 /// The text for words that are no command: the line of the fault, and the usage text.
 fn usage_text(alloc: Global, fault: &UsageFault) -> Result<String, NoMemory>
-    ensures { IfOk result (λ text. (fault.now ≢ E.NoMemory) × (string_bytes text ≡ fault_line fault.now ++ usage)) }
+    ensures { IfOk result (λ text. (fault.now ≢ E.NoMemory) ×
+        (string_bytes text ≡ fault_line fault.now ++ usage)) }
 {
     if let UsageFault::NoMemory = fault {
         return Err(AllocError);

@@ -25,7 +25,8 @@ pub(crate) fn plan_code<F: Files>(
     files: &mut F,
 ) -> Result<Plan, Unready>
     ensures plans { F.tells → (p : Planned)
-        → IsCodeLines settings (encode_utf8_all path) (input_names inputs) (F.tree files.old) p → Plans result p }
+        → IsCodeLines settings (encode_utf8_all path) (input_names inputs) (F.tree files.old) p →
+        Plans result p }
     ensures leaves { Leaves F.Source result files.old files.new }
 {
     let names = input_names(alloc, inputs)?;

@@ -33,7 +33,8 @@ pub(crate) fn plan_compiled<F: Files>(
     request: &PatternRequest<'_>,
     files: &mut F,
 ) -> Result<Plan, Unready>
-    ensures plans { F.tells → (p : Planned) → IsCompiled (request_seen request.now) (F.tree files.old) p
+    ensures plans { F.tells → (p : Planned) → IsCompiled (request_seen request.now)
+        (F.tree files.old) p
         → Plans result p }
     ensures idle { PlansIdle result }
     ensures leaves { Leaves F.Source result files.old files.new }

@@ -41,7 +41,8 @@ pub(crate) fn plan_expansion<F: Files>(
     wants_code: bool,
     files: &mut F,
 ) -> Result<Plan, Unready>
-    ensures plans { F.tells → (p : Planned) → IsExpanded (request_seen request.now) wants_code (F.tree files.old) p
+    ensures plans { F.tells → (p : Planned) → IsExpanded (request_seen request.now) wants_code
+        (F.tree files.old) p
         → Plans result p }
     ensures idle { PlansIdle result }
     ensures leaves { Leaves F.Source result files.old files.new }

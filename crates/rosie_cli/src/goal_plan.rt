@@ -91,10 +91,12 @@ fn plan_job(alloc: Global, job: Job, purpose: Purpose) -> Result<Plan, NoMemory>
     }
 }
 
-/// The job of a goal that is prepared, for which alone its rules are kept. Its code may be too long.
+/// The job of a goal that is prepared, for which alone its rules are kept. Its code may be too
+/// long.
 fn compile_goal(alloc: Global, ready: Prepared) -> Result<Job, CompileFault>
     requires { IsReady ready }
-    ensures job { IfOk result (λ job. IsJobOf (bodies_of ready.rules) (core_of (peg_of ready.goal)) (job_of job)) }
+    ensures job { IfOk result (λ job. IsJobOf (bodies_of ready.rules) (core_of (peg_of ready.goal))
+        (job_of job)) }
     ensures names { IfOk result (λ job. rule_names job ≡ names_of_rules ready.rules) }
     ensures too_long { IfErr result (λ e. e ≡ CompileFault.CodeTooLong
         → HasLongCode (bodies_of ready.rules) (core_of (peg_of ready.goal))) }
@@ -122,7 +124,8 @@ pub(crate) fn plan_goal<F: Files>(
     files: &mut F,
 ) -> Result<Plan, Unready>
     ensures plans { F.tells → (p : Planned)
-        → IsRunning (run_of purpose) (request_seen request.now) (F.tree files.old) p → Plans result p }
+        → IsRunning (run_of purpose) (request_seen request.now) (F.tree files.old) p →
+        Plans result p }
     ensures leaves { Leaves F.Source result files.old files.new }
 {
     let ready = prepare(alloc, files, request)?;

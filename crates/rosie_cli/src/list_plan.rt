@@ -18,7 +18,8 @@ pub(crate) fn plan_list<F: Files>(
     folders: &LibPath,
     files: &mut F,
 ) -> Result<Plan, Unready>
-    ensures plans { F.tells → (p : Planned) → IsListed roots.now folders.now (F.tree files.old) p → Plans result p }
+    ensures plans { F.tells → (p : Planned) → IsListed roots.now folders.now (F.tree files.old) p →
+        Plans result p }
     ensures idle { PlansIdle result }
     ensures leaves { Leaves F.Source result files.old files.new }
 {

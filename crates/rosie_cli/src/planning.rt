@@ -36,7 +36,8 @@ struct Base<'a> {
 }
 
 impl<'a> Base<'a> {
-    /// What a command wants of its pattern, which is matched from the start of a line or looked for.
+    /// What a command wants of its pattern, which is matched from the start of a line or looked
+    /// for.
     fn request(&self, pattern: &'a Chars, find: bool) -> PatternRequest<'a>
         ensures { request_seen result ≡ record {
           roots = self.now.roots.now;

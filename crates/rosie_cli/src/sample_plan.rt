@@ -34,7 +34,8 @@ pub(crate) fn plan_sample<F: Files>(
     files: &mut F,
 ) -> Result<Plan, Unready>
     ensures plans { F.tells → (p : Planned)
-        → IsRunning (run_of purpose) (sample_request folders.now) (F.tree files.old) p → Plans result p }
+        → IsRunning (run_of purpose) (sample_request folders.now) (F.tree files.old) p →
+        Plans result p }
     ensures leaves { Leaves F.Source result files.old files.new }
 {
     let roots = sample_roots(alloc)?;

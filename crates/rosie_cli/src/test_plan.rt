@@ -12,7 +12,8 @@ use rpl_package::LibPath;
 use rpl_text::Chars;
 use std::alloc::Global;
 
-/// The plan of `test`: the tests of a file, over these folders, each in at most so many steps, where that is given.
+/// The plan of `test`: the tests of a file, over these folders, each in at most so many steps,
+/// where that is given.
 pub(crate) fn plan_tests<F: Files>(
     alloc: Global,
     file: Chars,
@@ -20,7 +21,8 @@ pub(crate) fn plan_tests<F: Files>(
     budget: Option<u64>,
     files: &mut F,
 ) -> Result<Plan, Unready>
-    ensures plans { F.tells → (p : Planned) → IsTesting folders.now file budget (F.tree files.old) p → Plans result p }
+    ensures plans { F.tells → (p : Planned) → IsTesting folders.now file budget (F.tree files.old) p
+        → Plans result p }
     ensures leaves { Leaves F.Source result files.old files.new }
 {
     let suite = load_suite(alloc, files, folders, file, budget)?;

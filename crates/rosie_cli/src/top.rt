@@ -1,5 +1,5 @@
-//! The top call: the words are read, their command is planned, the plan runs, and the run is ended. A session runs
-//! without a plan.
+//! The top call: the words are read, their command is planned, the plan runs, and the run is ended.
+//! A session runs without a plan.
 
 ghost use Rattle.std.specs.Prelude.{◌≡◌, ◌≢◌, ◌∷◌, [], ℕ, true, string_bytes, IfErr};
 ghost use Rattle.rosie_jobs.specs.Lines.{reading};
@@ -51,7 +51,8 @@ fn refuse<O: Sink, E: Sink>(line: String, out: &mut O, err: &mut E) -> Result<Ta
         (shown O.Sink E.Sink out.old err.old n)
         (shown O.Sink E.Sink out.new err.new n) }
     ensures no_cut { IfErr result IsNoCut }
-    ensures sinks { WritesCause result (O.faults out.old) (O.faults out.new) (E.faults err.old) (E.faults err.new) }
+    ensures sinks { WritesCause result (O.faults out.old) (O.faults out.new) (E.faults err.old)
+        (E.faults err.new) }
 {
     say(out, err, &[], line.as_bytes(), Mark::Stop)
 }
@@ -80,8 +81,10 @@ fn run_plan<F: Files, I: Source, O: Sink, E: Sink, L: Ledger>(
         (moment_of I.Source input.new)
         (moment_of F.Source files.old)
         (moment_of F.Source files.new) }
-    ensures sinks { WritesCause result (O.faults out.old) (O.faults out.new) (E.faults err.old) (E.faults err.new) }
-    ensures untouched { IsSaid (plan_of plan.old) → (files.new ≡ files.old) × (input.new ≡ input.old) }
+    ensures sinks { WritesCause result (O.faults out.old) (O.faults out.new) (E.faults err.old)
+        (E.faults err.new) }
+    ensures untouched { IsSaid (plan_of plan.old) → (files.new ≡ files.old) ×
+        (input.new ≡ input.old) }
     ensures unread { LeavesInput (plan_of plan.old) → input.new ≡ input.old }
     ensures idle { IsIdlePlan (plan_of plan.old) → steps.new ≡ steps.old }
 {
@@ -132,13 +135,15 @@ fn run_planned<F: Files, I: Source, O: Sink, E: Sink, L: Ledger>(
         → IsPlannedAs command command.what (F.tree files.old) p → KnowsInputs p.plan F.tells I.tells
         → GoesOn result (ReadsInput p.plan → I.rest input.new ≡ []) }
     ensures unread { KnowsFor command.what F.tells → (p : Planned)
-        → IsPlannedAs command command.what (F.tree files.old) p → LeavesInput p.plan → input.new ≡ input.old }
+        → IsPlannedAs command command.what (F.tree files.old) p → LeavesInput p.plan →
+        input.new ≡ input.old }
     ensures idle { is_idle command.what ≡ true → steps.new ≡ steps.old }
     ensures cause { SourcesCause result (moment_of I.Source input.old)
         (moment_of I.Source input.new)
         (moment_of F.Source files.old)
         (moment_of F.Source files.new) }
-    ensures sinks { WritesCause result (O.faults out.old) (O.faults out.new) (E.faults err.old) (E.faults err.new) }
+    ensures sinks { WritesCause result (O.faults out.old) (O.faults out.new) (E.faults err.old)
+        (E.faults err.new) }
 {
     match plan_command(alloc, command, files) {
         Ok(mut plan) => run_plan(alloc, &mut plan, files, input, out, err, steps),
@@ -150,8 +155,8 @@ fn run_planned<F: Files, I: Source, O: Sink, E: Sink, L: Ledger>(
     }
 }
 
-/// Runs a session: each line of the input is a command, and is answered before the next is waited for. Imports are
-/// looked for in the folders, and `steps` counts the machine's steps.
+/// Runs a session: each line of the input is a command, and is answered before the next is waited
+/// for. Imports are looked for in the folders, and `steps` counts the machine's steps.
 pub fn session<F: Files, I: Source, O: Sink, E: Sink, L: Ledger>(
     alloc: Global,
     files: &mut F,
@@ -182,10 +187,12 @@ fn run_command<F: Files, I: Source, O: Sink, E: Sink, L: Ledger>(
     steps: &mut Steps<L>,
 ) -> Status
     ensures answers { Answers (call F.Source I.Source O.Sink E.Sink
-        (IsPlannedAs command command.what (F.tree files.old)) (KnowsFor command.what F.tells) files.old files.new
+        (IsPlannedAs command command.what (F.tree files.old)) (KnowsFor command.what F.tells)
+        files.old files.new
         input.old input.new out.old out.new err.old err.new steps.old steps.new result) }
     ensures unread { KnowsFor command.what F.tells → (p : Planned)
-        → IsPlannedAs command command.what (F.tree files.old) p → LeavesInput p.plan → input.new ≡ input.old }
+        → IsPlannedAs command command.what (F.tree files.old) p → LeavesInput p.plan →
+        input.new ≡ input.old }
     ensures idle { is_idle command.what ≡ true → steps.new ≡ steps.old }
     ensures out_flushed { O.counts → IsFlushed result (O.number out.new) (O.flushed out.new) }
     ensures err_flushed { E.counts → IsFlushed result (E.number err.new) (E.flushed err.new) }
@@ -199,8 +206,8 @@ fn run_command<F: Files, I: Source, O: Sink, E: Sink, L: Ledger>(
     }
 }
 
-/// Does what the words say: `words` are those after the program's name, `input` is the standard input, and `steps`
-/// counts the machine's steps.
+/// Does what the words say: `words` are those after the program's name, `input` is the standard
+/// input, and `steps` counts the machine's steps.
 ///
 /// # Examples
 ///
@@ -223,17 +230,24 @@ pub fn rosie<F: Files, I: Source, O: Sink, E: Sink, L: Ledger>(
     err: &mut E,
     steps: &mut Steps<L>,
 ) -> Status
-    // What is written, answered and read, by the report of what the words come to: `specs/Rosie.antt`.
+    // What is written, answered and read, by the report of what the words come to:
+    // `specs/Rosie.antt`.
     ensures answers { Answers (call F.Source I.Source O.Sink E.Sink
-        (IsPlanned (asked (words_of words.now)) (F.tree files.old)) (KnowsFiles (asked (words_of words.now)) F.tells)
-        files.old files.new input.old input.new out.old out.new err.old err.new steps.old steps.new result) }
+        (IsPlanned (asked (words_of words.now)) (F.tree files.old))
+        (KnowsFiles (asked (words_of words.now)) F.tells)
+        files.old files.new input.old input.new out.old out.new err.old err.new steps.old steps.new
+        result) }
 
-    // Where the standard input isn't among the inputs, nothing of it is read. Words that are refused open nothing.
+    // Where the standard input isn't among the inputs, nothing of it is read. Words that are
+    // refused open nothing.
     ensures unread { (p : Planned) → KnowsFiles (asked (words_of words.now)) F.tells
-        → IsPlanned (asked (words_of words.now)) (F.tree files.old) p → LeavesInput p.plan → input.new ≡ input.old }
-    ensures untouched { IsRefused (asked (words_of words.now)) → (files.new ≡ files.old) × (input.new ≡ input.old) }
+        → IsPlanned (asked (words_of words.now)) (F.tree files.old) p → LeavesInput p.plan →
+        input.new ≡ input.old }
+    ensures untouched { IsRefused (asked (words_of words.now)) → (files.new ≡ files.old) ×
+        (input.new ≡ input.old) }
 
-    // Where no line, no test and no sample is run, the machine makes no step, whatever the files hold.
+    // Where no line, no test and no sample is run, the machine makes no step, whatever the files
+    // hold.
     ensures idle { IsIdle (asked (words_of words.now)) → steps.new ≡ steps.old }
 
     // All is flushed, unless a write failed or memory ran out.

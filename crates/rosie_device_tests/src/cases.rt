@@ -1,12 +1,13 @@
 // A run of each command, and what comes of it where one call fails.
 //
-// A row tells what is written on `out`, and after the `!` on `err`. A `¶` stands for a line feed, and `…` for all that
-// is written there where no call fails. The first row of a device is for its first call, and so on to its last.
+// A row tells what is written on `out`, and after the `!` on `err`. A `¶` stands for a line feed,
+// and `…` for all that is written there where no call fails. The first row of a device is for its
+// first call, and so on to its last.
 //
-// A line is answered once its line feed, or the end, was read, and before more is read. A text for `out` is written
-// before one for `err`, and flushed before it. Where a read of an input may wait, what was written since the last one
-// is flushed first, on both; a session does so each time. At the end both are flushed. What a file says is known
-// before anything is written.
+// A line is answered once its line feed, or the end, was read, and before more is read. A text for
+// `out` is written before one for `err`, and flushed before it. Where a read of an input may wait,
+// what was written since the last one is flushed first, on both; a session does so each time. At
+// the end both are flushed. What a file says is known before anything is written.
 use crate::command::{Device, Run};
 use crate::files::CODE;
 use rosie_cli::Status;
@@ -41,7 +42,8 @@ pub(crate) const CASES: [Case; 12] = [
     MATCH, GREP, TEST, LIST, EXPAND, TRACE, SAMPLE, REPL, COMPILE, CODE_FILE, CLASS, MISSING,
 ];
 
-/// A pattern of an imported package, on two files, and on the standard input between them. Calls move a few bytes.
+/// A pattern of an imported package, on two files, and on the standard input between them. Calls
+/// move a few bytes.
 const MATCH: Case = Case {
     run: Run {
         words: "match --steps -o line --libpath lib p.ab f - g",
@@ -52,8 +54,8 @@ const MATCH: Case = Case {
     out: b"ab1\nab2\nab3\nab4\n",
     err: b"steps 7\nsteps 4\nsteps 7\nrosie: -:2: not UTF-8\n\
         steps 7\nrosie: g:1: not UTF-8\nsteps 7\n",
-    // The package is opened, and has three reads and the end; `f` is opened, and has a read and the end, and so has
-    // `g`.
+    // The package is opened, and has three reads and the end; `f` is opened, and has a read and the
+    // end, and so has `g`.
     files: "\
         !rosie: lib/p.rpl: read failed¶
         !rosie: lib/p.rpl: read failed¶
@@ -74,8 +76,9 @@ const MATCH: Case = Case {
         ab1¶ab2¶!steps 7¶steps 4¶steps 7¶rosie: -:2: not UTF-8¶rosie: -: read failed¶
         ab1¶ab2¶!steps 7¶steps 4¶steps 7¶rosie: -:2: not UTF-8¶rosie: -: read failed¶
         ab1¶ab2¶ab3¶!steps 7¶steps 4¶steps 7¶rosie: -:2: not UTF-8¶steps 7¶rosie: -: read failed¶",
-    // Each answer takes two writes, and a flush, since its steps are reported. A line without an answer takes a flush
-    // for that alone. One more comes where no whole line is left that was read, and at the end.
+    // Each answer takes two writes, and a flush, since its steps are reported. A line without an
+    // answer takes a flush for that alone. One more comes where no whole line is left that was
+    // read, and at the end.
     out_calls: "\
         !
         ab1!
@@ -97,8 +100,8 @@ const MATCH: Case = Case {
         ab1¶ab2¶ab3¶ab4!steps 7¶steps 4¶steps 7¶rosie: -:2: not UTF-8¶steps 7¶rosie: g:1: not UTF-8¶
         …!steps 7¶steps 4¶steps 7¶rosie: -:2: not UTF-8¶steps 7¶rosie: g:1: not UTF-8¶
         …!…",
-    // The steps of a line take one write and each fault takes two; a flush comes where no whole line is left that was
-    // read, and at the end.
+    // The steps of a line take one write and each fault takes two; a flush comes where no whole
+    // line is left that was read, and at the end.
     err_calls: "\
         ab1¶!
         ab1¶!steps 7¶
@@ -153,7 +156,8 @@ const GREP: Case = Case {
         …!…",
 };
 
-/// The file is read twice, for its rules and for its tests. One test isn't met, and one is over its budget.
+/// The file is read twice, for its rules and for its tests. One test isn't met, and one is over its
+/// budget.
 const TEST: Case = Case {
     run: Run {
         words: "test --budget 30 t.rpl",

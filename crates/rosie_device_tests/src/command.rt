@@ -41,7 +41,8 @@ pub(crate) struct Run<'a> {
     pub(crate) words: &'a str,
     /// What the standard input has.
     pub(crate) input: &'a [u8],
-    /// Whether a call moves only a few bytes: 8 of a file, 3 of the input and of `out`, and 20 of `err`.
+    /// Whether a call moves only a few bytes: 8 of a file, 3 of the input and of `out`, and 20 of
+    /// `err`.
     pub(crate) in_pieces: bool,
 }
 

@@ -2,8 +2,8 @@
 use rosie_io::{Bytes, NoMemory, Tree, TreeFile};
 use std::alloc::Global;
 
-/// The code file of the pattern `"a"`: one set of one range, one text, and the code `open 0`, `set 0`, `close`,
-/// `finish`.
+/// The code file of the pattern `"a"`: one set of one range, one text, and the code `open 0`, `set
+/// 0`, `close`, `finish`.
 pub(crate) const CODE: &[u8] = b"\
 RPLCODE1\0\0\0\x01\0\0\0\x01\0\0\0a\0\0\0a\0\0\0\x01\0\0\0\0\0\0\0\x01*\
 \0\0\0\x04\x0d\0\0\0\0\x01\0\0\0\0\x0e\x10";

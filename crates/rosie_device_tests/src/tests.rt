@@ -34,7 +34,8 @@ fn is_whole(case: &Case, got: &Outcome) -> bool {
     got.status == case.status && got.out.as_slice() == case.out && got.err.as_slice() == case.err
 }
 
-/// The first row of a device that isn't what comes of its call, or nothing. After its last call no call fails.
+/// The first row of a device that isn't what comes of its call, or nothing. After its last call no
+/// call fails.
 fn first_other(alloc: Global, case: &Case, device: Device) -> Result<&'static str, NoMemory> {
     let mut call = 1u64;
     for row in case.rows(device).lines() {

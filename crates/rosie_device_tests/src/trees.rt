@@ -72,8 +72,8 @@ fn is_tree(tree: &Value, line: &str) -> bool {
     false
 }
 
-/// `serde_json` reads objects and lists up to 127 deep. A tree that is 64 deep has so many, and one that is 65 deep two
-/// more.
+/// `serde_json` reads objects and lists up to 127 deep. A tree that is 64 deep has so many, and one
+/// that is 65 deep two more.
 #[test]
 fn trees_are_read_again(rt: HostRuntime) -> Result<(), Fail> {
     let alloc = rt.alloc();

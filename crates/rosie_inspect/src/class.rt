@@ -22,7 +22,8 @@ fn push_range(out: &mut String, range: (u32, u32)) -> Result<(), NoMemory>
 
 /// Adds ranges, a line for each.
 fn push_ranges(out: &mut String, ranges: &[(u32, u32)]) -> Result<(), NoMemory>
-    ensures { OnOk result (string_bytes out.new ≡ string_bytes out.old ++ flat_map line_of ranges.now) }
+    ensures { OnOk result (string_bytes out.new ≡ string_bytes out.old
+        ++ flat_map line_of ranges.now) }
 {
     for range in ranges {
         push_range(out, *range)?;
@@ -31,7 +32,8 @@ fn push_ranges(out: &mut String, ranges: &[(u32, u32)]) -> Result<(), NoMemory>
     Ok(())
 }
 
-/// Adds the text of a set: a line for each of its ranges, in hexadecimal, or `none` where it has no character.
+/// Adds the text of a set: a line for each of its ranges, in hexadecimal, or `none` where it has no
+/// character.
 pub fn push_class(out: &mut String, set: &Set) -> Result<(), NoMemory>
     ensures { OnOk result (string_bytes out.new ≡ string_bytes out.old ++ class_text set.now) }
 {

@@ -8,7 +8,8 @@ ghost use Rattle.rpl_core.specs.Table.{bodies_of, names_of};
 ghost use Rattle.rpl_core.specs.View.{core_of};
 ghost use Rattle.rpl_forms.specs.Rows.{row_at, rows_of};
 ghost use Rattle.rpl_syntax.specs.View.{expr_of};
-ghost use Rattle.rosie_inspect.specs.Expansions.{rule_line, line_if, rule_lines, pattern_lines, IsExpansion};
+ghost use Rattle.rosie_inspect.specs.Expansions.{rule_line, line_if, rule_lines, pattern_lines};
+ghost use Rattle.rosie_inspect.specs.Expansions.{IsExpansion};
 
 use rpl_check::{Checked, CheckedPeg};
 use rpl_core::{NoMemory, Peg, Rule, Rules, reached};
@@ -65,7 +66,8 @@ fn push_pattern(
     rules: &Rules,
     goal: &Peg,
 ) -> Result<(), NoMemory>
-    ensures { let written = pattern_lines (names_of (rules_of rules.now)) (expr_of expr.now) (core_of goal.now) in
+    ensures { let written = pattern_lines (names_of (rules_of rules.now)) (expr_of expr.now)
+        (core_of goal.now) in
         OnOk result (string_bytes out.new ≡ string_bytes out.old ++ written) }
 {
     out.push_str("pattern ")?;
@@ -75,8 +77,9 @@ fn push_pattern(
     out.push_str("\n")
 }
 
-/// The text of a pattern that is the expression `expr` and has the core `goal` over these rules: the pattern as it is
-/// written, its core, and in the order of the table the core of each rule that it reaches.
+/// The text of a pattern that is the expression `expr` and has the core `goal` over these rules:
+/// the pattern as it is written, its core, and in the order of the table the core of each rule that
+/// it reaches.
 pub fn expansion_text(
     alloc: Global,
     expr: &Expr,
@@ -85,7 +88,8 @@ pub fn expansion_text(
 ) -> Result<String, NoMemory>
     requires { IsWhole (bodies_of rules.now) (core_of (peg_of goal.now)) }
     ensures { IfOk result (λ text.
-        IsExpansion (rows_of rules.now) (expr_of expr.now) (core_of (peg_of goal.now)) (string_bytes text)) }
+        IsExpansion (rows_of rules.now) (expr_of expr.now) (core_of (peg_of goal.now))
+        (string_bytes text)) }
 {
     let marks = reached(alloc, rules.rules(), goal.peg())?;
     let mut out = String::new(alloc);

@@ -1,5 +1,6 @@
 // The text of one instruction.
-ghost use Rattle.std.specs.Prelude.{◌≡◌, ◌∷◌, ◌++◌, [], OnOk, decimal, slice_index_or, string_bytes};
+ghost use Rattle.std.specs.Prelude.{◌≡◌, ◌∷◌, ◌++◌, [], OnOk, decimal, slice_index_or};
+ghost use Rattle.std.specs.Prelude.{string_bytes};
 ghost use Rattle.std.specs.Str.{encode_utf8_all};
 ghost use Rattle.rpl_core.specs.Numbers.{instr_of};
 ghost use Rattle.rpl_core.specs.Program.{labels_of, sets_of};
@@ -12,7 +13,8 @@ use rpl_print::{push_decimal, push_quoted, push_set};
 
 /// Adds an instruction of a program.
 pub(crate) fn push_instr(out: &mut String, program: &Program, instr: Instr) -> Result<(), NoMemory>
-    ensures { let written = instr_text (instr_of (sets_of program.now) (labels_of program.now) instr) in
+    ensures { let written = instr_text (instr_of (sets_of program.now) (labels_of program.now)
+        instr) in
         OnOk result (string_bytes out.new ≡ string_bytes out.old ++ written) }
 {
     match instr {
@@ -50,7 +52,8 @@ pub(crate) fn push_instr(out: &mut String, program: &Program, instr: Instr) -> R
 
 /// Adds a word and a number.
 fn push_numbered(out: &mut String, word: &str, number: u32) -> Result<(), NoMemory>
-    ensures { OnOk result (string_bytes out.new ≡ string_bytes out.old ++ (word.now ++ decimal number)) }
+    ensures { OnOk result (string_bytes out.new ≡ string_bytes out.old
+        ++ (word.now ++ decimal number)) }
 {
     out.push_str(word)?;
     push_decimal(out, number as u64)

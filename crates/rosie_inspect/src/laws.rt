@@ -6,7 +6,8 @@ pub fn one_names_text()
     ensures { OneNamesText }
 {}
 
-/// The lines of names that have no space, and no byte that comes before it, stand in the order of the names.
+/// The lines of names that have no space, and no byte that comes before it, stand in the order of
+/// the names.
 pub fn lines_follow_names()
     ensures { LinesFollowNames }
 {}

@@ -37,7 +37,8 @@ fn make_line(alloc: Global, listed: &Listed) -> Result<String, NoMemory>
 
 /// The lines of names.
 fn make_lines(alloc: Global, names: &Names) -> Result<Vec<String>, NoMemory>
-    ensures { IfOk result (λ lines. map (λ l. string_bytes l) lines.items ≡ map name_line names.now) }
+    ensures { IfOk result (λ lines. map (λ l. string_bytes l) lines.items
+        ≡ map name_line names.now) }
 {
     let mut lines = Vec::new(alloc);
     for listed in names.as_slice() {
@@ -48,7 +49,8 @@ fn make_lines(alloc: Global, names: &Names) -> Result<Vec<String>, NoMemory>
 
 /// Lines one after the other.
 fn join(alloc: Global, lines: &[String]) -> Result<String, NoMemory>
-    ensures { IfOk result (λ text. string_bytes text ≡ concat (map (λ l. string_bytes l) lines.now)) }
+    ensures { IfOk result (λ text. string_bytes text
+        ≡ concat (map (λ l. string_bytes l) lines.now)) }
 {
     let mut text = String::new(alloc);
     for line in lines {
@@ -57,15 +59,16 @@ fn join(alloc: Global, lines: &[String]) -> Result<String, NoMemory>
     Ok(text)
 }
 
-/// A line for each name that a pattern may use, in the order of the lines' bytes: the name, then ` capture ` and the
-/// type of its nodes, or ` alias -` where it makes none.
+/// A line for each name that a pattern may use, in the order of the lines' bytes: the name, then `
+/// capture ` and the type of its nodes, or ` alias -` where it makes none.
 pub fn names_text(alloc: Global, set: &PackageSet) -> Result<String, NoMemory>
-    ensures { IfOk result (λ text. IsNamesText (all_listed (set_seen set.now)) (string_bytes text)) }
+    ensures { IfOk result (λ text. IsNamesText (all_listed (set_seen set.now))
+        (string_bytes text)) }
 {
     let names = set.names(alloc)?;
     let mut lines = make_lines(alloc, &names)?;
-    // They are in this order already, since no name of a set has a character before the space. What is proved here asks
-    // for no such thing.
+    // They are in this order already, since no name of a set has a character before the space. What
+    // is proved here asks for no such thing.
     lines.sort()?;
     join(alloc, &lines)
 }

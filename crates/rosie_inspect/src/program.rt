@@ -11,7 +11,8 @@ use std::alloc::Global;
 
 /// Adds the text of a program.
 pub fn push_program(out: &mut String, program: &Program) -> Result<(), NoMemory>
-    ensures { OnOk result (string_bytes out.new ≡ string_bytes out.old ++ lines 0 (instructions program.now)) }
+    ensures { OnOk result (string_bytes out.new ≡ string_bytes out.old
+        ++ lines 0 (instructions program.now)) }
 {
     for (address, instr) in program.code().iter().enumerate() {
         push_decimal(out, address as u64)?;

@@ -46,8 +46,8 @@ fn far_feed(bytes: &[u8], from: usize) -> Option<usize>
     None
 }
 
-/// The place of the first line feed. A search for any byte begins with more bytes at once than most lines have, so it
-/// takes longer.
+/// The place of the first line feed. A search for any byte begins with more bytes at once than most
+/// lines have, so it takes longer.
 pub(crate) fn first_feed(bytes: &[u8]) -> Option<usize>
     ensures { IsFirstByte (is_byte 10) bytes.now result }
 {

@@ -16,8 +16,8 @@ use rpl_machine::Steps;
 use std::alloc::Global;
 use std::sync::ledger::Ledger;
 
-/// Runs a safe code on each line, and prints what it matched: the captures of a match are those of some trees. All of
-/// its memory is kept from line to line.
+/// Runs a safe code on each line, and prints what it matched: the captures of a match are those of
+/// some trees. All of its memory is kept from line to line.
 #[derive(Drop)]
 pub struct CodeJob {
     program: Program,

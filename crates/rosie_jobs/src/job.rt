@@ -14,8 +14,8 @@ use rpl_codegen::{CompileFault, compile};
 use rpl_core::Program;
 use std::alloc::Global;
 
-/// A goal, the rules that it may call, and their code, which does what the goal means. The goal means something on
-/// every text.
+/// A goal, the rules that it may call, and their code, which does what the goal means. The goal
+/// means something on every text.
 #[derive(Drop)]
 pub struct Job {
     rules: Checked,
@@ -40,7 +40,8 @@ impl Job {
     /// Compiles a goal that was checked over these rules. Its code may be too long.
     pub fn new(alloc: Global, rules: Checked, goal: CheckedPeg) -> Result<Job, CompileFault>
         requires { IsWhole (bodies_of rules) (core_of (peg_of goal)) }
-        ensures job { IfOk result (λ job. IsJobOf (bodies_of rules) (core_of (peg_of goal)) (job_of job)) }
+        ensures job { IfOk result (λ job. IsJobOf (bodies_of rules) (core_of (peg_of goal))
+            (job_of job)) }
         ensures names { IfOk result (λ job. rule_names job ≡ names_of rules) }
         ensures too_long { IfErr result (λ e. e ≡ CompileFault.CodeTooLong
             → HasLongCode (bodies_of rules) (core_of (peg_of goal))) }

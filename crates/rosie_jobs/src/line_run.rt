@@ -1,6 +1,7 @@
 //! The run of a program on a line, and what is printed of it.
 
-ghost use Rattle.std.specs.Prelude.{◌≡◌, ◌⊎◌, ◌≤◌, ◌^◌, ◌+◌, Some, length, chars, string_bytes, IfOk, OnOk, IsTrue};
+ghost use Rattle.std.specs.Prelude.{◌≡◌, ◌⊎◌, ◌≤◌, ◌^◌, ◌+◌, Some, length, chars, string_bytes};
+ghost use Rattle.std.specs.Prelude.{IfOk, OnOk, IsTrue};
 ghost use Rattle.std.specs.Str.{IsAscii};
 ghost use Rattle.rosie_run.specs.Made.{IsMade};
 ghost use Rattle.rpl_core.specs.Forest as F;
@@ -28,7 +29,8 @@ use std::sync::ledger::Ledger;
 /// How many entries the machine's lists have room for from the start.
 const ENTRIES: u64 = 65_536;
 
-/// Runs a program on one line after the other, and prints what it matched. All of its memory is kept from line to line.
+/// Runs a program on one line after the other, and prints what it matched. All of its memory is
+/// kept from line to line.
 #[derive(Drop)]
 pub(crate) struct LineRun {
     pub(crate) settings: Settings,
@@ -50,8 +52,8 @@ fn characters(line: &str, is_ascii: bool) -> u64
     line.chars().count() as u64
 }
 
-/// The steps that a line may take: those that are given, else a million, and a thousand for each of its characters. It
-/// may be known that all bytes of the line are ASCII.
+/// The steps that a line may take: those that are given, else a million, and a thousand for each of
+/// its characters. It may be known that all bytes of the line are ASCII.
 pub fn budget_or(given: Option<u64>, line: &str, is_ascii: bool) -> u64
     requires fits { length line.now ≤ 2 ^ 30 }
     requires ascii { IsTrue is_ascii → IsAscii line.now }
@@ -63,7 +65,8 @@ pub fn budget_or(given: Option<u64>, line: &str, is_ascii: bool) -> u64
     }
 }
 
-/// Makes the trees of these captures, unless a style prints the same of all trees: then those of an earlier line stay.
+/// Makes the trees of these captures, unless a style prints the same of all trees: then those of an
+/// earlier line stay.
 fn make_trees(forest: &mut Forest, captures: &[Caught], style: Style) -> Result<(), NoMemory>
     ensures { OnOk result (IgnoresTrees style ⊎ BuildsEach captures.now forest.new) }
 {
@@ -83,7 +86,8 @@ fn print_match(
     program: &Program,
 ) -> Result<bool, NoMemory>
     ensures { IfOk result (λ fits. (f : F.Forest) → Catches captures.now program.now line.now f
-        → Printed fits (answer style line.now (Some (placed (at (chars line.now)) f))) texts.new.answer) }
+        → Printed fits (answer style line.now (Some (placed (at (chars line.now)) f)))
+        texts.new.answer) }
 {
     make_trees(forest, captures, style)?;
     texts.print(style, line, Some(forest), program)
@@ -115,10 +119,13 @@ impl LineRun {
         requires fits { length line.now ≤ 2 ^ 30 }
         requires ascii { IsTrue is_ascii → IsAscii line.now }
         ensures same { self.new.settings ≡ self.old.settings }
-        ensures made { let a = ran self.old.settings (instructions program.now) line.now in (o : Outcome) → IsShown a o
-            → IfOk result (λ mark. IsMade mark self.new.texts.answer (string_bytes self.new.texts.told)
+        ensures made { let a = ran self.old.settings (instructions program.now) line.now in
+            (o : Outcome) → IsShown a o
+            → IfOk result (λ mark. IsMade mark self.new.texts.answer
+            (string_bytes self.new.texts.told)
             (ran_piece self.old.settings place.entry.file.now place.entry.number line.now o a)) }
-        ensures steps { OnOk result (steps.new ≡ steps.old + made (budget_of self.old.settings (chars line.now))
+        ensures steps { OnOk result (steps.new ≡ steps.old + made
+            (budget_of self.old.settings (chars line.now))
             (ran self.old.settings (instructions program.now) line.now)) }
     {
         let settings = self.settings;

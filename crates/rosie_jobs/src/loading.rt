@@ -1,5 +1,6 @@
 // From a code file to its program.
-ghost use Rattle.std.specs.Prelude.{◌≡◌, ◌≢◌, ◌<◌, ◌≤◌, ◌-◌, ◌^◌, ℕ, Some, false, codes, length, IfOk};
+ghost use Rattle.std.specs.Prelude.{◌≡◌, ◌≢◌, ◌<◌, ◌≤◌, ◌-◌, ◌^◌, ℕ, Some, false, codes, length};
+ghost use Rattle.std.specs.Prelude.{IfOk};
 ghost use Rattle.rosie_jobs.specs.Loaded.{IsRead};
 ghost use Rattle.rosie_jobs.specs.Answers.{HasCause, Loads};
 ghost use Rattle.rosie_jobs.specs.inside.Telling.{IsToldOfFile, Reads, Refuses};

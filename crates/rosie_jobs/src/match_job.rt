@@ -11,7 +11,8 @@ use rpl_machine::Steps;
 use std::alloc::Global;
 use std::sync::ledger::Ledger;
 
-/// Runs a goal's code on each line, and prints what it matched. All of its memory is kept from line to line.
+/// Runs a goal's code on each line, and prints what it matched. All of its memory is kept from line
+/// to line.
 #[derive(Drop)]
 pub struct MatchJob {
     job: Job,

@@ -1,6 +1,7 @@
 //! The two texts of a line's piece.
 
-ghost use Rattle.std.specs.Prelude.{◌≡◌, ◌++◌, ℕ, [], if◌then◌else◌, not, ◌&&◌, codes, string_bytes};
+ghost use Rattle.std.specs.Prelude.{◌≡◌, ◌++◌, ℕ, [], if◌then◌else◌, not, ◌&&◌, codes};
+ghost use Rattle.std.specs.Prelude.{string_bytes};
 ghost use Rattle.std.specs.Prelude.{option_map, IfOk, OnOk};
 ghost use Rattle.std.specs.Fmt.{decimal};
 ghost use Rattle.std.specs.Option.{option_copied};
@@ -55,7 +56,8 @@ impl Texts {
         program: &Program,
     ) -> Result<bool, NoMemory>
         ensures { IfOk result (λ fits. Printed fits
-            (answer style line.now (option_map (trees_in program.now) (option_copied found.entry))) self.new.answer) }
+            (answer style line.now (option_map (trees_in program.now) (option_copied found.entry)))
+            self.new.answer) }
     {
         match self.answer.fill(style, line, found, program) {
             Ok(()) => Ok(true),
@@ -68,7 +70,8 @@ impl Texts {
 
     /// Says that a line has no answer, and why.
     pub(crate) fn fault(&mut self, place: Place<'_>, text: &str) -> Result<Mark, NoMemory>
-        ensures { (cost : ℕ) → IfOk result (λ mark. IsMade mark self.new.answer (string_bytes self.new.told)
+        ensures { (cost : ℕ) →
+            IfOk result (λ mark. IsMade mark self.new.answer (string_bytes self.new.told)
             (unanswered (line_fault place.entry.file.now place.entry.number text.now) cost)) }
     {
         self.told = line_fault(self.alloc, place.file, place.number, text)?;
@@ -128,8 +131,10 @@ impl Texts {
         hit: bool,
         steps: u64,
     ) -> Result<Mark, NoMemory>
-        ensures { (cost : ℕ) → IfOk result (λ mark. IsMade mark self.new.answer (string_bytes self.new.told)
-            (said settings place.entry.file.now place.entry.number line.now fits self.old.answer hit steps cost)) }
+        ensures { (cost : ℕ) →
+            IfOk result (λ mark. IsMade mark self.new.answer (string_bytes self.new.told)
+            (said settings place.entry.file.now place.entry.number line.now fits self.old.answer hit
+            steps cost)) }
     {
         if !fits {
             return self.fault(place, "answer too long");

@@ -39,7 +39,8 @@ fn load_roots<F: Files>(
     folders: &LibPath,
     roots: &Roots,
 ) -> Result<PackageSet, Unready>
-    ensures gives { F.tells → Leads set_seen result (load (world (F.tree files.old) folders.now) roots.now) }
+    ensures gives { F.tells → Leads set_seen result
+        (load (world (F.tree files.old) folders.now) roots.now) }
     ensures many { IfOk result (λ set. length (set_seen set).roots ≡ length roots.now) }
     ensures cause { HasCause result (moment F.rest F.taken F.faults F.failed_opens files.old)
         (moment F.rest F.taken F.faults F.failed_opens files.new) }
@@ -53,7 +54,8 @@ fn load_roots<F: Files>(
     }
 }
 
-/// The pattern over the packages of its roots, which may grow by its imports; or the line of the first fault.
+/// The pattern over the packages of its roots, which may grow by its imports; or the line of the
+/// first fault.
 fn load_goal<F: Files>(
     alloc: Global,
     files: &mut F,
@@ -128,19 +130,23 @@ pub fn prepare_rules<F: Files>(
 
 /// What a command with a pattern runs, or the line of the first fault.
 ///
-/// All of loading comes first, then what is too large, then what the check finds; in each pass the rules come before
-/// the pattern. What is ready can be compiled as it is, and each name of the pattern stands for a rule of its packages.
+/// All of loading comes first, then what is too large, then what the check finds; in each pass the
+/// rules come before the pattern. What is ready can be compiled as it is, and each name of the
+/// pattern stands for a rule of its packages.
 pub fn prepare<F: Files>(
     alloc: Global,
     files: &mut F,
     request: &PatternRequest<'_>,
 ) -> Result<Prepared, Unready>
     ensures prepares { F.tells → (asked : List (List ℕ)) → (r : OrLine Ready)
-        → IsPrepared (F.tree files.old) (request_seen request.now) asked r → Prepares ready_seen result r }
+        → IsPrepared (F.tree files.old) (request_seen request.now) asked r →
+        Prepares ready_seen result r }
     ensures asked { F.tells → (asked : List (List ℕ)) → (r : OrLine Ready)
-        → IsPrepared (F.tree files.old) (request_seen request.now) asked r → IfErr result (λ u. IsAsked u asked) }
+        → IsPrepared (F.tree files.old) (request_seen request.now) asked r →
+        IfErr result (λ u. IsAsked u asked) }
     ensures whole { IfOk result (λ p. IsWhole (bodies_of p.rules) (core_of (peg_of p.goal))) }
-    ensures root { IfOk result (λ p. (label : List ℕ) × IsCapture (bodies_of p.rules) label (core_of (peg_of p.goal))) }
+    ensures root { IfOk result (λ p. (label : List ℕ) ×
+        IsCapture (bodies_of p.rules) label (core_of (peg_of p.goal))) }
     ensures names { IfOk result (λ p. Resolves (expr_of p.expr) (set_seen p.set)) }
     ensures cause { HasCause result (moment F.rest F.taken F.faults F.failed_opens files.old)
         (moment F.rest F.taken F.faults F.failed_opens files.new) }

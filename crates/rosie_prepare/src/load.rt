@@ -41,8 +41,8 @@ fn load_text(alloc: Global, kind: &LoadKind) -> Result<String, NoMemory>
     }
 }
 
-/// The line of a fault of loading: its file and byte place, and what is wrong; of a file that is missing or can't be
-/// read, its name alone.
+/// The line of a fault of loading: its file and byte place, and what is wrong; of a file that is
+/// missing or can't be read, its name alone.
 pub fn load_line(alloc: Global, fault: &LoadFault) -> Result<String, NoMemory>
     ensures { IfOk result (λ line. string_bytes line ≡ L.load_line fault.now) }
 {

@@ -1,5 +1,6 @@
 // The lines of faults of rules, and of the pattern.
-ghost use Rattle.std.specs.Prelude.{◌≡◌, ◌++◌, ◌∷◌, IfOk, OnOk, Some, chars, encode_utf8_all, flat_map, string_bytes};
+ghost use Rattle.std.specs.Prelude.{◌≡◌, ◌++◌, ◌∷◌, IfOk, OnOk, Some, chars, encode_utf8_all};
+ghost use Rattle.std.specs.Prelude.{flat_map, string_bytes};
 ghost use Rattle.std.specs.Option.{option_map};
 ghost use Rattle.rosie_prepare.specs.Lines as L;
 ghost use Rattle.rpl_check.specs.Answers as C;
@@ -48,7 +49,8 @@ fn rule_line(
     rule: Option<u32>,
     text: &str,
 ) -> Result<String, NoMemory>
-    ensures { IfOk result (λ line. string_bytes line ≡ L.rule_line (set_seen set.now) rule text.now) }
+    ensures { IfOk result (λ line. string_bytes line
+        ≡ L.rule_line (set_seen set.now) rule text.now) }
 {
     match rule {
         None => pattern_line(alloc, text),
@@ -62,7 +64,8 @@ fn rule_line(
 /// Adds the names of rules, with a space before each.
 fn push_names(set: &PackageSet, rules: &[u32], out: &mut String) -> Result<(), NoMemory>
     ensures { OnOk result (string_bytes out.new
-        ≡ string_bytes out.old ++ flat_map (λ s. 32 ∷ L.rule_name (set_seen set.now) (Some s)) rules.now) }
+        ≡ string_bytes out.old ++ flat_map (λ s. 32 ∷ L.rule_name (set_seen set.now) (Some s))
+        rules.now) }
 {
     for rule in rules {
         out.push_str(" ")?;
@@ -73,7 +76,8 @@ fn push_names(set: &PackageSet, rules: &[u32], out: &mut String) -> Result<(), N
 
 /// The names of rules, one space apart.
 fn rule_names(alloc: Global, set: &PackageSet, rules: &[u32]) -> Result<String, NoMemory>
-    ensures { IfOk result (λ names. string_bytes names ≡ L.rule_names (set_seen set.now) rules.now) }
+    ensures { IfOk result (λ names. string_bytes names
+        ≡ L.rule_names (set_seen set.now) rules.now) }
 {
     let mut out = String::new(alloc);
     if let [first, rest @ ..] = rules {
@@ -105,7 +109,8 @@ fn behind_line(
     rule: Option<u32>,
     cause: &str,
 ) -> Result<String, NoMemory>
-    ensures { IfOk result (λ line. string_bytes line ≡ L.behind_line (set_seen set.now) rule cause.now) }
+    ensures { IfOk result (λ line. string_bytes line
+        ≡ L.behind_line (set_seen set.now) rule cause.now) }
 {
     let name = rule_name(set, rule);
     let text = format!(in alloc; "look-behind in {name}: {cause}")?;
@@ -114,7 +119,8 @@ fn behind_line(
 
 /// The line of rules that call themselves before a character is taken.
 fn recursion_line(alloc: Global, set: &PackageSet, rules: &[u32]) -> Result<String, NoMemory>
-    ensures { IfOk result (λ line. string_bytes line ≡ L.recursion_line (set_seen set.now) rules.now) }
+    ensures { IfOk result (λ line. string_bytes line
+        ≡ L.recursion_line (set_seen set.now) rules.now) }
 {
     let names = rule_names(alloc, set, rules)?;
     let text = format!(in alloc; "left recursion in {names}")?;
@@ -123,7 +129,8 @@ fn recursion_line(alloc: Global, set: &PackageSet, rules: &[u32]) -> Result<Stri
 
 /// The line of a fault of expansion, which the rule table of this set, or a pattern over it, has.
 pub fn expand_line(alloc: Global, set: &PackageSet, fault: &ExpandFault) -> Result<String, NoMemory>
-    ensures { IfOk result (λ line. option_map (L.expand_line (set_seen set.now)) (E.fault_named fault.now)
+    ensures { IfOk result (λ line. option_map (L.expand_line (set_seen set.now))
+        (E.fault_named fault.now)
         ≡ Some (string_bytes line)) }
 {
     match fault {
@@ -134,7 +141,8 @@ pub fn expand_line(alloc: Global, set: &PackageSet, fault: &ExpandFault) -> Resu
 
 /// The line of a fault of the check, which the rule table of this set, or a pattern over it, has.
 pub fn check_line(alloc: Global, set: &PackageSet, fault: &CheckFault) -> Result<String, NoMemory>
-    ensures { IfOk result (λ line. option_map (L.check_line (set_seen set.now)) (C.fault_named fault.now)
+    ensures { IfOk result (λ line. option_map (L.check_line (set_seen set.now))
+        (C.fault_named fault.now)
         ≡ Some (string_bytes line)) }
 {
     match fault {

@@ -2,7 +2,8 @@
 ghost use Rattle.std.specs.Prelude.{◌≡◌, ◌<◌, ℕ, List, IfErr, IfOk, None, Some, length, true};
 ghost use Rattle.std.specs.Option.{option_map};
 ghost use Rattle.rosie_prepare.specs.Lines as L;
-ghost use Rattle.rosie_prepare.specs.Prepared.{OrLine, Passes, Ready, goal_in, ready, table_too_large, table_unsound};
+ghost use Rattle.rosie_prepare.specs.Prepared.{OrLine, Passes, Ready, goal_in, ready};
+ghost use Rattle.rosie_prepare.specs.Prepared.{table_too_large, table_unsound};
 ghost use Rattle.rosie_prepare.specs.Prepared.{too_large, unsound};
 ghost use Rattle.rosie_prepare.specs.Answers.{Prepares};
 ghost use Rattle.rosie_prepare.specs.Views.{ready_seen};
@@ -48,15 +49,18 @@ fn expand_rules(alloc: Global, set: &PackageSet) -> Result<Rules, Unready>
     }
 }
 
-/// The core of a pattern over the rule table of its set, unless it is too large: it calls rules of the table alone, and
-/// makes one tree of a whole match.
+/// The core of a pattern over the rule table of its set, unless it is too large: it calls rules of
+/// the table alone, and makes one tree of a whole match.
 fn expand_goal(alloc: Global, set: &PackageSet, rules: &Rules, expr: &Expr) -> Result<Peg, Unready>
     requires { rows_of (rules_of rules.now) ≡ table_of (set_seen set.now) }
     ensures exactly { Finds (option_map (L.expand_line (set_seen set.now))
         (size_fault None (goal_in (set_seen set.now) (expr_of expr.now)))) result }
-    ensures goal { IfOk result (λ goal. core_of goal ≡ goal_in (set_seen set.now) (expr_of expr.now)) }
-    ensures calls { IfOk result (λ goal. (r : ℕ) → calls (core_of goal) r ≡ true → r < length (rules_of rules.now)) }
-    ensures root { IfOk result (λ goal. (label : List ℕ) × IsCapture (bodies_in rules.now) label (core_of goal)) }
+    ensures goal { IfOk result (λ goal. core_of goal
+        ≡ goal_in (set_seen set.now) (expr_of expr.now)) }
+    ensures calls { IfOk result (λ goal. (r : ℕ) → calls (core_of goal) r ≡ true →
+        r < length (rules_of rules.now)) }
+    ensures root { IfOk result (λ goal. (label : List ℕ) ×
+        IsCapture (bodies_in rules.now) label (core_of goal)) }
 {
     match expand_pattern(alloc, set, rules, expr) {
         Ok(goal) => Ok(goal),
@@ -68,7 +72,8 @@ fn expand_goal(alloc: Global, set: &PackageSet, rules: &Rules, expr: &Expr) -> R
 fn check_rules(alloc: Global, set: &PackageSet, rules: Rules) -> Result<Checked, Unready>
     requires { IsInOrder (bodies_in rules) (blocks_in rules) }
     ensures exactly { (d : Facts (bodies_in rules))
-        × Finds (option_map (L.check_line (set_seen set.now)) (first_fault d (blocks_in rules))) result }
+        × Finds (option_map (L.check_line (set_seen set.now)) (first_fault d (blocks_in rules)))
+        result }
     ensures same { IfOk result (λ checked. checked ≡ rules_of rules) }
 {
     match check(alloc, rules) {
@@ -85,10 +90,12 @@ fn checked_core(
     goal: Peg,
 ) -> Result<CheckedPeg, Unready>
     requires { (r : ℕ) → calls (core_of goal) r ≡ true → r < length rules.now }
-    ensures exactly { (d : Facts (bodies_of rules.now)) × Finds (option_map (L.check_line (set_seen set.now))
+    ensures exactly { (d : Facts (bodies_of rules.now)) ×
+        Finds (option_map (L.check_line (set_seen set.now))
         (goal_fault d.empties d.halting (core_of goal))) result }
     ensures same { IfOk result (λ checked. peg_of checked ≡ goal) }
-    ensures whole { IfOk result (λ checked. IsWhole (bodies_of rules.now) (core_of (peg_of checked))) }
+    ensures whole { IfOk result (λ checked. IsWhole (bodies_of rules.now)
+        (core_of (peg_of checked))) }
 {
     match check_pattern(alloc, rules, goal) {
         Ok(checked) => Ok(checked),
@@ -99,7 +106,8 @@ fn checked_core(
 /// The rules of a set, unless one is too large or the check finds a fault.
 pub(crate) fn pass_rules(alloc: Global, set: PackageSet) -> Result<PreparedRules, Unready>
     ensures prepares { (r : OrLine Packages)
-        → Passes (set_seen set) (table_too_large (set_seen set)) (table_unsound (set_seen set)) (set_seen set) r
+        → Passes (set_seen set) (table_too_large (set_seen set)) (table_unsound (set_seen set))
+        (set_seen set) r
         → Prepares (λ p. set_seen p.set) result r }
     ensures table { IfOk result (λ p. rows_of p.rules ≡ table_of (set_seen p.set)) }
     ensures set { IfOk result (λ p. set_seen p.set ≡ set_seen set) }
@@ -110,11 +118,13 @@ pub(crate) fn pass_rules(alloc: Global, set: PackageSet) -> Result<PreparedRules
     Ok(PreparedRules { set, rules })
 }
 
-/// The rule table of a set and the core of a pattern over it, unless something is too large or the check finds a fault.
+/// The rule table of a set and the core of a pattern over it, unless something is too large or the
+/// check finds a fault.
 fn pass_both(alloc: Global, set: &PackageSet, expr: &Expr) -> Result<(Checked, CheckedPeg), Unready>
     ensures prepares { (r : OrLine Ready)
         → Passes (set_seen set.now) (too_large (set_seen set.now) (expr_of expr.now))
-        (unsound (set_seen set.now) (expr_of expr.now)) (ready (set_seen set.now) (expr_of expr.now)) r
+        (unsound (set_seen set.now) (expr_of expr.now))
+        (ready (set_seen set.now) (expr_of expr.now)) r
         → Prepares (both_seen (set_seen set.now) (expr_of expr.now)) result r }
     ensures whole { IfOk result (λ both. IsWhole (bodies_of both.0) (core_of (peg_of both.1))) }
     ensures root { IfOk result (λ both. (label : List ℕ)
@@ -131,11 +141,13 @@ fn pass_both(alloc: Global, set: &PackageSet, expr: &Expr) -> Result<(Checked, C
 /// A pattern over a set, unless something is too large or the check finds a fault.
 pub(crate) fn pass_goal(alloc: Global, set: PackageSet, expr: Expr) -> Result<Prepared, Unready>
     ensures prepares { (r : OrLine Ready)
-        → Passes (set_seen set) (too_large (set_seen set) (expr_of expr)) (unsound (set_seen set) (expr_of expr))
+        → Passes (set_seen set) (too_large (set_seen set) (expr_of expr))
+        (unsound (set_seen set) (expr_of expr))
         (ready (set_seen set) (expr_of expr)) r
         → Prepares ready_seen result r }
     ensures whole { IfOk result (λ p. IsWhole (bodies_of p.rules) (core_of (peg_of p.goal))) }
-    ensures root { IfOk result (λ p. (label : List ℕ) × IsCapture (bodies_of p.rules) label (core_of (peg_of p.goal))) }
+    ensures root { IfOk result (λ p. (label : List ℕ) ×
+        IsCapture (bodies_of p.rules) label (core_of (peg_of p.goal))) }
     ensures set { IfOk result (λ p. set_seen p.set ≡ set_seen set) }
     ensures expr { IfOk result (λ p. expr_of p.expr ≡ expr_of expr) }
     ensures own { IfErr result IsOwn }

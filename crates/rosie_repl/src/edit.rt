@@ -49,8 +49,9 @@ fn by_sign<'a>(sign: &str, rest: &'a str) -> Option<Edit<'a>>
     }
 }
 
-/// The command of a line, with any number below 2^64 for a text's; None exactly where the line has none of the six
-/// forms. A text, a pattern or a line may be empty, and is all that stands after the space.
+/// The command of a line, with any number below 2^64 for a text's; None exactly where the line has
+/// none of the six forms. A text, a pattern or a line may be empty, and is all that stands after
+/// the space.
 pub fn read_edit(line: &str) -> Option<Edit<'_>>
     ensures { some_seen result ≡ S.edit_of line.now }
 {

@@ -54,7 +54,8 @@ impl State {
 
     /// The text with this index, from 0; None exactly where there is none.
     pub fn text(&self, index: usize) -> Option<&str>
-        ensures { option_map chars (option_copied result) ≡ slice_get (session_of self.now).now.texts index }
+        ensures { option_map chars (option_copied result)
+            ≡ slice_get (session_of self.now).now.texts index }
     {
         match self.texts.get(index) {
             Some(text) => Some(text.as_str()),
@@ -129,8 +130,9 @@ impl State {
         Ok(true)
     }
 
-    /// Makes a change, and tells whether it is one: `false`, with nothing changed, exactly where the number is no
-    /// text's, or the command is `Try` or `Undo`. After it ran out of memory nothing is changed either.
+    /// Makes a change, and tells whether it is one: `false`, with nothing changed, exactly where
+    /// the number is no text's, or the command is `Try` or `Undo`. After it ran out of memory
+    /// nothing is changed either.
     pub fn change(&mut self, edit: &Edit<'_>) -> Result<bool, NoMemory>
         ensures { Changes (session_of self.old) (session_of self.new)
             (S.changed (in_chars (edit_seen edit.now)) (session_of self.old)) result }
@@ -145,10 +147,11 @@ impl State {
         }
     }
 
-    /// Goes back to what was kept before the last change; `false`, with nothing changed, exactly where there was none.
-    /// It takes no memory.
+    /// Goes back to what was kept before the last change; `false`, with nothing changed, exactly
+    /// where there was none. It takes no memory.
     pub fn undo(&mut self) -> bool
-        ensures { GoesOn (session_of self.old) (session_of self.new) (S.undone (session_of self.old)) result }
+        ensures { GoesOn (session_of self.old) (session_of self.new)
+            (S.undone (session_of self.old)) result }
     {
         match self.past.pop() {
             None => false,

@@ -1,11 +1,13 @@
 // The run over the inputs in turn.
-ghost use Rattle.std.specs.Prelude.{◌≡◌, ◌+◌, ◌-◌, ◌^◌, ◌<◌, ◌≤◌, ℕ, List, [], Err, true, false, length, codes};
+ghost use Rattle.std.specs.Prelude.{◌≡◌, ◌+◌, ◌-◌, ◌^◌, ◌<◌, ◌≤◌, ℕ, List, [], Err, true, false};
+ghost use Rattle.std.specs.Prelude.{length, codes};
 ghost use Rattle.std.specs.Prelude.{encode_utf8_all, IfOk};
 ghost use Rattle.std.specs.Str.{bytes_eq};
 ghost use Rattle.rosie_io.specs.Answering.{Keeps};
 ghost use Rattle.rosie_io.specs.Opening.{file_of};
 ghost use Rattle.rosie_run.specs.Runs.{FilesCause, SourcesCause, WritesCause, Runs, GoesOn};
-ghost use Rattle.rosie_run.specs.Inputs.{is_standard, file_pieces, one_pieces, left_after, inputs_pieces};
+ghost use Rattle.rosie_run.specs.Inputs.{is_standard, file_pieces, one_pieces, left_after};
+ghost use Rattle.rosie_run.specs.Inputs.{inputs_pieces};
 ghost use Rattle.rosie_run.specs.Inputs.{AreTold, reads_standard, names_of};
 ghost use Rattle.rosie_run.specs.Lines.{input_pieces};
 ghost use Rattle.rosie_run.specs.Outputs.{shown, telling};
@@ -52,7 +54,8 @@ pub fn run_source<J: LineJob, S: Source, O: Sink, E: Sink, L: Ledger>(
     ensures keeps { Keeps reader.old reader.new }
     ensures same { J.makes job.new ≡ J.makes job.old }
     ensures runs { S.tells → Runs result (telling O.Sink E.Sink)
-        (input_pieces (J.makes job.old) (record { whole = reader.old.whole; most = reader.old.most }) file.now
+        (input_pieces (J.makes job.old)
+        (record { whole = reader.old.whole; most = reader.old.most }) file.now
         (S.rest source.old))
         (InNamed file.now reader.old.whole (moment_of S.Source source.old)
         (moment_of S.Source source.new))
@@ -61,7 +64,8 @@ pub fn run_source<J: LineJob, S: Source, O: Sink, E: Sink, L: Ledger>(
     ensures rest { S.tells → GoesOn result (S.rest source.new ≡ []) }
     ensures cause { FilesCause result (moment_of S.Source source.old)
         (moment_of S.Source source.new) }
-    ensures sinks { WritesCause result (O.faults out.old) (O.faults out.new) (E.faults err.old) (E.faults err.new) }
+    ensures sinks { WritesCause result (O.faults out.old) (O.faults out.new) (E.faults err.old)
+        (E.faults err.new) }
     ensures taken { S.taken source.new < 2 ^ 64 - 1 → S.taken source.old ≤ S.taken source.new }
     ensures tree { S.tree source.new ≡ S.tree source.old }
     ensures opens { S.failed_opens source.new ≡ S.failed_opens source.old }
@@ -85,14 +89,17 @@ fn run_file<J: LineJob, F: Files, O: Sink, E: Sink, L: Ledger>(
     steps: &mut Steps<L>,
 ) -> Result<Tally, Ended>
     ensures runs { F.tells → Runs result (telling O.Sink E.Sink)
-        (file_pieces (J.makes job.old) (record { whole = reader.old.whole; most = reader.old.most }) path.now
+        (file_pieces (J.makes job.old) (record { whole = reader.old.whole; most = reader.old.most })
+        path.now
         (file_of path.now (F.tree files.old)))
         (InFileNamed path.now (F.tree files.old) reader.old.whole
         (moment_of F.Source files.old) (moment_of F.Source files.new))
         (shown O.Sink E.Sink out.old err.old steps.old)
         (shown O.Sink E.Sink out.new err.new steps.new) }
-    ensures cause { FilesCause result (moment_of F.Source files.old) (moment_of F.Source files.new) }
-    ensures sinks { WritesCause result (O.faults out.old) (O.faults out.new) (E.faults err.old) (E.faults err.new) }
+    ensures cause { FilesCause result (moment_of F.Source files.old)
+        (moment_of F.Source files.new) }
+    ensures sinks { WritesCause result (O.faults out.old) (O.faults out.new) (E.faults err.old)
+        (E.faults err.new) }
     ensures taken { F.taken files.new < 2 ^ 64 - 1 → F.taken files.old ≤ F.taken files.new }
     ensures closed { IfOk result (λ _. F.is_open files.new ≡ false) }
     ensures tree { F.tree files.new ≡ F.tree files.old }
@@ -131,7 +138,8 @@ fn run_one<J: LineJob, F: Files, I: Source, O: Sink, E: Sink, L: Ledger>(
     err: &mut E,
     steps: &mut Steps<L>,
 ) -> Result<Tally, Ended>
-    ensures runs { (is_standard name.now ≡ false → F.tells) → (is_standard name.now ≡ true → I.tells)
+    ensures runs { (is_standard name.now ≡ false → F.tells) →
+        (is_standard name.now ≡ true → I.tells)
         → (read.old ≡ true → I.rest input.old ≡ []) → Runs result
         (telling O.Sink E.Sink)
         (one_pieces (J.makes job.old) (record { whole = reader.old.whole; most = reader.old.most })
@@ -141,11 +149,14 @@ fn run_one<J: LineJob, F: Files, I: Source, O: Sink, E: Sink, L: Ledger>(
         (moment_of F.Source files.old) (moment_of F.Source files.new))
         (shown O.Sink E.Sink out.old err.old steps.old)
         (shown O.Sink E.Sink out.new err.new steps.new) }
-    ensures rest { (is_standard name.now ≡ true → I.tells) → (read.old ≡ true → I.rest input.old ≡ []) → GoesOn result
+    ensures rest { (is_standard name.now ≡ true → I.tells) →
+        (read.old ≡ true → I.rest input.old ≡ []) → GoesOn result
         (I.rest input.new ≡ left_after name.now (I.rest input.old)) }
-    ensures cause { SourcesCause result (moment_of I.Source input.old) (moment_of I.Source input.new)
+    ensures cause { SourcesCause result (moment_of I.Source input.old)
+        (moment_of I.Source input.new)
         (moment_of F.Source files.old) (moment_of F.Source files.new) }
-    ensures sinks { WritesCause result (O.faults out.old) (O.faults out.new) (E.faults err.old) (E.faults err.new) }
+    ensures sinks { WritesCause result (O.faults out.old) (O.faults out.new) (E.faults err.old)
+        (E.faults err.new) }
     ensures input_taken { I.taken input.new < 2 ^ 64 - 1 → I.taken input.old ≤ I.taken input.new }
     ensures files_taken { F.taken files.new < 2 ^ 64 - 1 → F.taken files.old ≤ F.taken files.new }
     ensures tree { F.tree files.new ≡ F.tree files.old }
@@ -185,7 +196,8 @@ pub fn run_inputs<J: LineJob, F: Files, I: Source, O: Sink, E: Sink, L: Ledger>(
 ) -> Result<Tally, Ended>
     requires { reading.most ≤ 2 ^ 30 }
     ensures same { J.makes job.new ≡ J.makes job.old }
-    ensures runs { AreTold (names_of encode_utf8_all names.now) F.tells I.tells → Runs result (telling O.Sink E.Sink)
+    ensures runs { AreTold (names_of encode_utf8_all names.now) F.tells I.tells →
+        Runs result (telling O.Sink E.Sink)
         (inputs_pieces (J.makes job.old) reading (F.tree files.old) (I.rest input.old)
         (names_of encode_utf8_all names.now))
         (InInputs (names_of encode_utf8_all names.now) (λ front. length
@@ -199,12 +211,14 @@ pub fn run_inputs<J: LineJob, F: Files, I: Source, O: Sink, E: Sink, L: Ledger>(
         (shown O.Sink E.Sink out.new err.new steps.new) }
     ensures rest { AreTold (names_of encode_utf8_all names.now) F.tells I.tells → GoesOn result
         (reads_standard (names_of encode_utf8_all names.now) ≡ true → I.rest input.new ≡ []) }
-    ensures unread { reads_standard (names_of encode_utf8_all names.now) ≡ false → input.new ≡ input.old }
+    ensures unread { reads_standard (names_of encode_utf8_all names.now) ≡ false →
+        input.new ≡ input.old }
     ensures cause { SourcesCause result (moment_of I.Source input.old)
         (moment_of I.Source input.new)
         (moment_of F.Source files.old)
         (moment_of F.Source files.new) }
-    ensures sinks { WritesCause result (O.faults out.old) (O.faults out.new) (E.faults err.old) (E.faults err.new) }
+    ensures sinks { WritesCause result (O.faults out.old) (O.faults out.new) (E.faults err.old)
+        (E.faults err.new) }
     ensures tree { F.tree files.new ≡ F.tree files.old }
 {
     let Ok(mut reader) = LineReader::new(alloc, reading.whole, reading.most) else {

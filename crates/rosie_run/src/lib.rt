@@ -1,10 +1,11 @@
-//! The run of any command: its pieces are written in turn, and it ends with the status that they come to, or breaks
-//! off.
+//! The run of any command: its pieces are written in turn, and it ends with the status that they
+//! come to, or breaks off.
 //!
-//! A command is a text ([`say`]) or a job for each line of its inputs ([`LineJob`], [`run_inputs`]). A job makes texts
-//! and never sees an output; the run reads the inputs, writes the pieces, flushes before it waits, and says with each
-//! answer which pieces are written and where reading stood. [`finish`] is the end of every run.
-//! `specs/Headline.antt` says what an answer tells of the report, whatever the command.
+//! A command is a text ([`say`]) or a job for each line of its inputs ([`LineJob`],
+//! [`run_inputs`]). A job makes texts and never sees an output; the run reads the inputs, writes
+//! the pieces, flushes before it waits, and says with each answer which pieces are written and
+//! where reading stood. [`finish`] is the end of every run. `specs/Headline.antt` says what an
+//! answer tells of the report, whatever the command.
 #![tactic(auto)]
 
 mod ended;

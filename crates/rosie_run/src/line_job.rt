@@ -8,7 +8,8 @@ use crate::{Mark, NoMemory};
 use rpl_machine::Steps;
 use std::sync::ledger::Ledger;
 
-/// What a command does on each line. It makes the texts of the line's piece and writes nothing: the run does.
+/// What a command does on each line. It makes the texts of the line's piece and writes nothing: the
+/// run does.
 pub trait LineJob {
     /// What it makes of a line of text: of the input's name, the line's number and its text.
     ghost makes: { Self → List ℕ → ℕ → List ℕ → Piece };
@@ -18,8 +19,8 @@ pub trait LineJob {
 
     ghost err_text: { Self → List ℕ };
 
-    /// Makes the piece of a line. Where `is_ascii` says that all its bytes are ASCII, none is looked at for that; it
-    /// need not say so.
+    /// Makes the piece of a line. Where `is_ascii` says that all its bytes are ASCII, none is
+    /// looked at for that; it need not say so.
     fn answer<L: Ledger>(
         &mut self,
         file: &str,
@@ -33,7 +34,8 @@ pub trait LineJob {
         ensures same { makes self.new ≡ makes self.old }
         ensures made { IfOk result (λ mark. IsMade mark (out_text self.new) (err_text self.new)
             (makes self.old file.now number line.now)) }
-        ensures steps { OnOk result (steps.new ≡ steps.old + (makes self.old file.now number line.now).cost) };
+        ensures steps { OnOk result (steps.new ≡ steps.old
+            + (makes self.old file.now number line.now).cost) };
 
     /// The text for `out` that it made last.
     fn out(&self) -> &[u8]

@@ -1,5 +1,6 @@
 // The run over the lines of one input.
-ghost use Rattle.std.specs.Prelude.{◌≡◌, ◌+◌, ◌-◌, ◌^◌, ◌<◌, ◌≤◌, ℕ, List, [], Err, true, false, length, IfOk, IfErr};
+ghost use Rattle.std.specs.Prelude.{◌≡◌, ◌+◌, ◌-◌, ◌^◌, ◌<◌, ◌≤◌, ℕ, List, [], Err, true, false};
+ghost use Rattle.std.specs.Prelude.{length, IfOk, IfErr};
 ghost use Rattle.std.specs.Prelude.{OnOk};
 ghost use Rattle.rosie_io.specs.Answering.{Keeps};
 ghost use Rattle.rosie_io.specs.Appending.{Appends};
@@ -8,8 +9,10 @@ ghost use Rattle.rosie_io.specs.Gathering.{left, Reads};
 ghost use Rattle.rosie_run.specs.Lines.{input_pieces, line_fault};
 ghost use Rattle.rosie_run.specs.Outputs.{shown, telling};
 ghost use Rattle.rosie_run.specs.Closing.{OutFirst};
-ghost use Rattle.rosie_run.specs.inside.Causes.{BothCause, SinksCause, SourceCause, SpentCause, IsOfReading};
-ghost use Rattle.rosie_run.specs.inside.Passing.{MakesLine, CountsLine, StopsLine, RunsInput, ComesOf, SaysFault};
+ghost use Rattle.rosie_run.specs.inside.Causes.{BothCause, SinksCause, SourceCause, SpentCause};
+ghost use Rattle.rosie_run.specs.inside.Causes.{IsOfReading};
+ghost use Rattle.rosie_run.specs.inside.Passing.{MakesLine, CountsLine, StopsLine, RunsInput};
+ghost use Rattle.rosie_run.specs.inside.Passing.{ComesOf, SaysFault};
 ghost use Rattle.rosie_run.specs.inside.Passing.{made_out, made_err, made_mark};
 
 use crate::line_job::LineJob;
@@ -51,17 +54,21 @@ fn make_line<J: LineJob, S: Source, L: Ledger>(
     ensures same { J.makes job.new ≡ J.makes job.old }
     ensures makes { S.tells → MakesLine result (J.makes job.old)
         (record { whole = reader.old.whole; most = reader.old.most }) file.now reader.old reader.new
-        (left reader.old.held (S.rest source.old)) (left reader.new.held (S.rest source.new)) (J.out_text job.new)
+        (left reader.old.held (S.rest source.old)) (left reader.new.held (S.rest source.new))
+        (J.out_text job.new)
         (J.err_text job.new) steps.old steps.new }
     ensures numbers { CountsLine result reader.old reader.new }
     ensures fits { reader.new.number ≤ 2 ^ 48 }
     ensures keeps { Keeps reader.old reader.new }
-    ensures stops { StopsLine result S.tells reader.old reader.new (S.rest source.old) (S.rest source.new) }
+    ensures stops { StopsLine result S.tells reader.old reader.new (S.rest source.old)
+        (S.rest source.new) }
     ensures of_reading { IfErr result IsOfReading }
     ensures cause { SourceCause result (S.faults source.old) (S.faults source.new) }
-    ensures reads { Reads S.tells reader.old.held reader.new.held (S.rest source.old) (S.rest source.new)
+    ensures reads { Reads S.tells reader.old.held reader.new.held (S.rest source.old)
+        (S.rest source.new)
         (S.taken source.old) (S.taken source.new) }
-    ensures at_end { S.tells → reader.old.held.ended ≡ false → reader.new.held.ended ≡ true → S.rest source.new ≡ [] }
+    ensures at_end { S.tells → reader.old.held.ended ≡ false → reader.new.held.ended ≡ true →
+        S.rest source.new ≡ [] }
     ensures ended { reader.old.held.ended ≡ true → source.new ≡ source.old }
     ensures tree { S.tree source.new ≡ S.tree source.old }
     ensures opens { S.failed_opens source.new ≡ S.failed_opens source.old }
@@ -81,7 +88,8 @@ fn make_of<J: LineJob, L: Ledger>(
 ) -> Result<Option<Made>, Trouble>
     requires { length reader.now.text ≤ 2 ^ 30 }
     ensures same { J.makes job.new ≡ J.makes job.old }
-    ensures comes { ComesOf result found (J.makes job.old) file.now reader.now.number reader.now.text
+    ensures comes { ComesOf result found (J.makes job.old) file.now reader.now.number
+        reader.now.text
         (J.out_text job.new) (J.err_text job.new) steps.old steps.new }
 {
     match found {
@@ -111,7 +119,8 @@ fn fault_of(alloc: Global, file: &str, number: u64, why: &str) -> Result<Option<
     }
 }
 
-/// Writes what was made of a line. Where there is some of it, that is pending until both outputs are flushed.
+/// Writes what was made of a line. Where there is some of it, that is pending until both outputs
+/// are flushed.
 fn write_made<J: LineJob, O: Sink, E: Sink>(
     job: &J,
     made: Made,
@@ -126,11 +135,14 @@ fn write_made<J: LineJob, O: Sink, E: Sink>(
         (made_err made (J.err_text job.now)) }
     ensures number { O.counts → OnOk result (O.number out.new ≡ capped
         (O.number out.old + length (made_out made (J.out_text job.now)))) }
-    ensures order { O.counts → E.tells → OutFirst (E.written err.old) (E.written err.new) (O.flushed out.new)
+    ensures order { O.counts → E.tells → OutFirst (E.written err.old) (E.written err.new)
+        (O.flushed out.new)
         (O.number out.new) }
-    ensures pending { pending.new ≡ false → (pending.old ≡ false) × (made_out made (J.out_text job.now) ≡ [])
+    ensures pending { pending.new ≡ false → (pending.old ≡ false) ×
+        (made_out made (J.out_text job.now) ≡ [])
         × (made_err made (J.err_text job.now) ≡ []) }
-    ensures cause { BothCause result (O.faults out.old) (O.faults out.new) (E.faults err.old) (E.faults err.new) }
+    ensures cause { BothCause result (O.faults out.old) (O.faults out.new) (E.faults err.old)
+        (E.faults err.new) }
 {
     match made {
         Made::Answer(mark) => {
@@ -164,14 +176,16 @@ pub(crate) fn run_input<J: LineJob, S: Source, O: Sink, E: Sink, L: Ledger>(
 ) -> Result<Tally, Trouble>
     ensures same { J.makes job.new ≡ J.makes job.old }
     ensures runs { S.tells → RunsInput result (telling O.Sink E.Sink)
-        (input_pieces (J.makes job.old) (record { whole = reader.old.whole; most = reader.old.most })
+        (input_pieces (J.makes job.old)
+        (record { whole = reader.old.whole; most = reader.old.most })
         file.now (S.rest source.old)) reader.old.whole
         (S.rest source.old) (S.rest source.new)
         (shown O.Sink E.Sink out.old err.old steps.old)
         (shown O.Sink E.Sink out.new err.new steps.new) }
     ensures keeps { Keeps reader.old reader.new }
     ensures cause { SourceCause result (S.faults source.old) (S.faults source.new) }
-    ensures sinks { SinksCause result (O.faults out.old) (O.faults out.new) (E.faults err.old) (E.faults err.new) }
+    ensures sinks { SinksCause result (O.faults out.old) (O.faults out.new) (E.faults err.old)
+        (E.faults err.new) }
     ensures spent { SpentCause result (S.taken source.old) (S.taken source.new) }
     ensures taken { S.taken source.new < 2 ^ 64 - 1 → S.taken source.old ≤ S.taken source.new }
     ensures tree { S.tree source.new ≡ S.tree source.old }

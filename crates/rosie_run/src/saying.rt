@@ -24,7 +24,8 @@ pub fn say<O: Sink, E: Sink>(
         (shown O.Sink E.Sink out.new err.new n) }
     ensures stops { IfOk result (λ tally. tally.stop ≡ is_stop mark) }
     ensures no_cut { IfErr result IsNoCut }
-    ensures sinks { WritesCause result (O.faults out.old) (O.faults out.new) (E.faults err.old) (E.faults err.new) }
+    ensures sinks { WritesCause result (O.faults out.old) (O.faults out.new) (E.faults err.old)
+        (E.faults err.new) }
 {
     match write_both(out, err, out_text, err_text) {
         Ok(()) => Ok(Tally::new().with(mark)),

@@ -23,8 +23,8 @@ fn flush<S: Sink>(sink: &mut S) -> Result<(), WriteFault>
     }
 }
 
-/// Writes the two texts of a piece. `out` is flushed before anything is written on `err`, so that whoever sees both on
-/// one screen, or in one pipe, has them in this order.
+/// Writes the two texts of a piece. `out` is flushed before anything is written on `err`, so that
+/// whoever sees both on one screen, or in one pipe, has them in this order.
 pub fn write_both<O: Sink, E: Sink>(
     out: &mut O,
     err: &mut E,
@@ -33,10 +33,13 @@ pub fn write_both<O: Sink, E: Sink>(
 ) -> Result<(), WriteFault>
     ensures out { O.tells → Appends result (O.written out.old) (O.written out.new) out_text.now }
     ensures err { E.tells → Appends result (E.written err.old) (E.written err.new) err_text.now }
-    ensures number { O.counts → OnOk result (O.number out.new ≡ capped (O.number out.old + length out_text.now)) }
-    ensures order { O.counts → E.tells → OutFirst (E.written err.old) (E.written err.new) (O.flushed out.new)
+    ensures number { O.counts → OnOk result (O.number out.new
+        ≡ capped (O.number out.old + length out_text.now)) }
+    ensures order { O.counts → E.tells → OutFirst (E.written err.old) (E.written err.new)
+        (O.flushed out.new)
         (O.number out.new) }
-    ensures cause { BothCause result (O.faults out.old) (O.faults out.new) (E.faults err.old) (E.faults err.new) }
+    ensures cause { BothCause result (O.faults out.old) (O.faults out.new) (E.faults err.old)
+        (E.faults err.new) }
 {
     match write_all(out, out_text) {
         Ok(()) => write_behind(out, err, err_text),
@@ -44,14 +47,17 @@ pub fn write_both<O: Sink, E: Sink>(
     }
 }
 
-/// Writes a text on `err`, after what stands on `out`: that is flushed before, where there is a text.
+/// Writes a text on `err`, after what stands on `out`: that is flushed before, where there is a
+/// text.
 fn write_behind<O: Sink, E: Sink>(out: &mut O, err: &mut E, text: &[u8]) -> Result<(), WriteFault>
     ensures out { O.tells → O.written out.new ≡ O.written out.old }
     ensures err { E.tells → Appends result (E.written err.old) (E.written err.new) text.now }
     ensures number { O.counts → O.number out.new ≡ O.number out.old }
-    ensures order { O.counts → E.tells → OutFirst (E.written err.old) (E.written err.new) (O.flushed out.new)
+    ensures order { O.counts → E.tells → OutFirst (E.written err.old) (E.written err.new)
+        (O.flushed out.new)
         (O.number out.new) }
-    ensures cause { BothCause result (O.faults out.old) (O.faults out.new) (E.faults err.old) (E.faults err.new) }
+    ensures cause { BothCause result (O.faults out.old) (O.faults out.new) (E.faults err.old)
+        (E.faults err.new) }
 {
     if text.is_empty() {
         return Ok(());
@@ -69,7 +75,8 @@ pub fn flush_both<O: Sink, E: Sink>(out: &mut O, err: &mut E) -> Result<(), Writ
     ensures out_number { O.counts → O.number out.new ≡ O.number out.old }
     ensures out_flushed { O.counts → OnOk result (O.flushed out.new ≡ O.number out.new) }
     ensures err_flushed { E.counts → OnOk result (E.flushed err.new ≡ E.number err.new) }
-    ensures cause { BothCause result (O.faults out.old) (O.faults out.new) (E.faults err.old) (E.faults err.new) }
+    ensures cause { BothCause result (O.faults out.old) (O.faults out.new) (E.faults err.old)
+        (E.faults err.new) }
 {
     match flush(out) {
         Ok(()) => flush(err),
@@ -100,9 +107,11 @@ pub(crate) fn close_with<O: Sink, E: Sink>(
     ensures out_number { O.counts → O.number out.new ≡ O.number out.old }
     ensures out_flushed { O.counts → OnOk result (O.flushed out.new ≡ O.number out.new) }
     ensures err_flushed { E.counts → OnOk result (E.flushed err.new ≡ E.number err.new) }
-    ensures order { O.counts → E.tells → OutFirst (E.written err.old) (E.written err.new) (O.flushed out.new)
+    ensures order { O.counts → E.tells → OutFirst (E.written err.old) (E.written err.new)
+        (O.flushed out.new)
         (O.number out.new) }
-    ensures cause { BothCause result (O.faults out.old) (O.faults out.new) (E.faults err.old) (E.faults err.new) }
+    ensures cause { BothCause result (O.faults out.old) (O.faults out.new) (E.faults err.old)
+        (E.faults err.new) }
 {
     match flush(out) {
         Ok(()) => write_last(err, text.as_bytes()),
@@ -125,7 +134,8 @@ pub(crate) fn flush_before_wait<O: Sink, E: Sink>(
     ensures err_flushed { E.counts → OnOk result (ready ≡ false → pending.old ≡ true
         → E.flushed err.new ≡ E.number err.new) }
     ensures stays { ready ≡ true → pending.new ≡ pending.old }
-    ensures cause { BothCause result (O.faults out.old) (O.faults out.new) (E.faults err.old) (E.faults err.new) }
+    ensures cause { BothCause result (O.faults out.old) (O.faults out.new) (E.faults err.old)
+        (E.faults err.new) }
 {
     if !*pending || ready {
         return Ok(());

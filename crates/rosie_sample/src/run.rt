@@ -72,7 +72,8 @@ fn run_line<J: LineJob, O: Sink, E: Sink, L: Ledger>(
         (texts O.written O.number E.written out.old err.old steps.old)
         (texts O.written O.number E.written out.new err.new steps.new) }
     ensures no_cut { IfErr result IsNoCut }
-    ensures sinks { WritesCause result (O.faults out.old) (O.faults out.new) (E.faults err.old) (E.faults err.new) }
+    ensures sinks { WritesCause result (O.faults out.old) (O.faults out.new) (E.faults err.old)
+        (E.faults err.new) }
 {
     match job.answer("-", number, line, false, steps) {
         Ok(mark) => say(out, err, job.out(), job.err(), mark),
@@ -89,7 +90,8 @@ fn run_lines<O: Sink, E: Sink, L: Ledger>(
     err: &mut E,
     steps: &mut Steps<L>,
 ) -> Result<Counts, Ended>
-    ensures runs { Runs (tallied result) (record { out = O.tells; err = E.tells; counts = O.counts })
+    ensures runs { Runs (tallied result) (record
+        { out = O.tells; err = E.tells; counts = O.counts })
         (line_pieces (makes_of (matcher_of job.old)) sample.old.number lines) Nowhere
         (texts O.written O.number E.written out.old err.old steps.old)
         (texts O.written O.number E.written out.new err.new steps.new) }
@@ -117,7 +119,8 @@ impl SampleRun {
 
     /// The run of a job on so many lines of the sample of a seed.
     pub fn new(alloc: Global, job: MatchJob, seed: u32, lines: u32) -> SampleRun
-        ensures { sampled_of result ≡ record { maker = matcher_of job; seed = seed; lines = lines } }
+        ensures { sampled_of result ≡ record
+            { maker = matcher_of job; seed = seed; lines = lines } }
     {
         SampleRun {
             job,
@@ -135,7 +138,8 @@ impl SampleRun {
         steps: &mut Steps<L>,
     ) -> Result<Tally, Ended>
         ensures runs { Runs result (record { out = O.tells; err = E.tells; counts = O.counts })
-            (sample_pieces (makes_of (matcher_of self.old.job)) self.old.sample.number self.old.lines) Nowhere
+            (sample_pieces (makes_of (matcher_of self.old.job)) self.old.sample.number
+            self.old.lines) Nowhere
             (texts O.written O.number E.written out.old err.old steps.old)
             (texts O.written O.number E.written out.new err.new steps.new) }
         ensures no_cut { IfErr result IsNoCut }

@@ -19,7 +19,8 @@ pub fn pattern() -> &'static str
     "date level"
 }
 
-/// What is said at the end: the number of lines, of those that match, and of the bytes that are written of them.
+/// What is said at the end: the number of lines, of those that match, and of the bytes that are
+/// written of them.
 pub(crate) fn counts_text(
     alloc: Global,
     lines: u32,

@@ -58,8 +58,10 @@ pub(crate) fn load_texts<F: Files>(
     state: &State,
     files: &mut F,
 ) -> Result<(), Unready>
-    ensures judges { F.tells → (w : Loading) → IsLoading (F.tree files.old) folders.now w → (before after : Session)
-        → Judges result (judged before after (w.texts (session_of state.now).now.texts)) before after }
+    ensures judges { F.tells → (w : Loading) → IsLoading (F.tree files.old) folders.now w →
+        (before after : Session)
+        → Judges result (judged before after (w.texts (session_of state.now).now.texts)) before
+        after }
     ensures cause { HasCause result (moment_of F.Source files.old) (moment_of F.Source files.new) }
     ensures taken { NotFewer (F.taken files.old) (F.taken files.new) }
     ensures tree { F.tree files.new ≡ F.tree files.old }
@@ -74,7 +76,8 @@ pub(crate) fn load_texts<F: Files>(
 /// Compiles a goal that is ready, for which alone its rules are kept. Its code may be too long.
 fn compile_ready(alloc: Global, ready: Prepared) -> Result<Job, CompileFault>
     requires { IsWhole (bodies_of ready.rules) (core_of (peg_of ready.goal)) }
-    ensures job { IfOk result (λ job. IsJobOf (bodies_of ready.rules) (core_of (peg_of ready.goal)) (job_of job)) }
+    ensures job { IfOk result (λ job. IsJobOf (bodies_of ready.rules) (core_of (peg_of ready.goal))
+        (job_of job)) }
     ensures too_long { IfErr result (λ e. e ≡ CompileFault.CodeTooLong
         → HasLongCode (bodies_of ready.rules) (core_of (peg_of ready.goal))) }
 {
@@ -84,7 +87,8 @@ fn compile_ready(alloc: Global, ready: Prepared) -> Result<Job, CompileFault>
 /// The job of a goal that is ready, unless its code is too long.
 fn make_job(alloc: Global, ready: Prepared) -> Result<MatchJob, Unready>
     requires { IsWhole (bodies_of ready.rules) (core_of (peg_of ready.goal)) }
-    ensures gives { (answer : OrLine Ran) → Compiles (Ok (ready_seen ready)) answer → GivesJob result answer }
+    ensures gives { (answer : OrLine Ran) → Compiles (Ok (ready_seen ready)) answer →
+        GivesJob result answer }
     ensures own { IfErr result IsOwn }
 {
     match compile_ready(alloc, ready) {
@@ -113,7 +117,8 @@ pub(crate) fn load_goal<F: Files>(
     ensures gives { F.tells → (w : Loading) → IsLoading (F.tree files.old) folders.now w
         → GivesJob result (w.goal (session_of state.now).now.texts (chars pattern.now)).answer }
     ensures asked { F.tells → (w : Loading) → IsLoading (F.tree files.old) folders.now w
-        → IfErr result (λ u. IsAsked u (w.goal (session_of state.now).now.texts (chars pattern.now)).asked) }
+        → IfErr result (λ u. IsAsked u
+        (w.goal (session_of state.now).now.texts (chars pattern.now)).asked) }
     ensures cause { HasCause result (moment_of F.Source files.old) (moment_of F.Source files.new) }
     ensures taken { NotFewer (F.taken files.old) (F.taken files.new) }
     ensures tree { F.tree files.new ≡ F.tree files.old }

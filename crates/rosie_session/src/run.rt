@@ -1,5 +1,6 @@
 // The run of a session, from line to line.
-ghost use Rattle.std.specs.Prelude.{◌≡◌, ◌+◌, ◌-◌, ◌^◌, ◌<◌, ◌≤◌, List, [], true, false, length, IfErr, IfOk, OnOk};
+ghost use Rattle.std.specs.Prelude.{◌≡◌, ◌+◌, ◌-◌, ◌^◌, ◌<◌, ◌≤◌, List, [], true, false, length};
+ghost use Rattle.std.specs.Prelude.{IfErr, IfOk, OnOk};
 ghost use Rattle.rosie_io.specs.Answering.{Keeps};
 ghost use Rattle.rosie_io.specs.Appending.{Appends};
 ghost use Rattle.rosie_io.specs.Counts.{capped};
@@ -46,18 +47,23 @@ fn next_turn<F: Files, I: Source, L: Ledger>(
     requires lines { reader.old.whole ≡ false }
     requires most { reader.old.most ≡ 1048576 }
     ensures makes { F.tells → I.tells → (w : Loading) → IsLoading (F.tree files.old) folders.now w
-        → Makes result w reader.old.number (session_of state.old) (session_of state.new) reader.new.held.ended
-        (left reader.old.held (I.rest input.old)) (left reader.new.held (I.rest input.new)) steps.old steps.new }
+        → Makes result w reader.old.number (session_of state.old) (session_of state.new)
+        reader.new.held.ended
+        (left reader.old.held (I.rest input.old)) (left reader.new.held (I.rest input.new))
+        steps.old steps.new }
     ensures numbers { Counts result reader.old reader.new }
     ensures fits { reader.new.number ≤ 2 ^ 48 }
     ensures keeps { Keeps reader.old reader.new }
-    ensures stops { Stops result I.tells reader.old reader.new (I.rest input.old) (I.rest input.new) }
+    ensures stops { Stops result I.tells reader.old reader.new (I.rest input.old)
+        (I.rest input.new) }
     ensures of_reading { IfErr result IsOfReading }
     ensures cause { InputCause result (I.faults input.old) (I.faults input.new) }
     ensures files { FilesBy result (moment_of F.Source files.old) (moment_of F.Source files.new) }
-    ensures reads { Reads I.tells reader.old.held reader.new.held (I.rest input.old) (I.rest input.new)
+    ensures reads { Reads I.tells reader.old.held reader.new.held (I.rest input.old)
+        (I.rest input.new)
         (I.taken input.old) (I.taken input.new) }
-    ensures at_end { I.tells → reader.old.held.ended ≡ false → reader.new.held.ended ≡ true → I.rest input.new ≡ [] }
+    ensures at_end { I.tells → reader.old.held.ended ≡ false → reader.new.held.ended ≡ true →
+        I.rest input.new ≡ [] }
     ensures ended { reader.old.held.ended ≡ true → input.new ≡ input.old }
     ensures opens { I.failed_opens input.new ≡ I.failed_opens input.old }
     ensures tree { F.tree files.new ≡ F.tree files.old }
@@ -85,13 +91,17 @@ fn next_turn<F: Files, I: Source, L: Ledger>(
 
 /// Writes what is said, `out` before `err`.
 fn write_reply<O: Sink, E: Sink>(reply: &Reply, out: &mut O, err: &mut E) -> Result<(), WriteFault>
-    ensures out { O.tells → Appends result (O.written out.old) (O.written out.new) reply.now.out.items }
-    ensures err { E.tells → Appends result (E.written err.old) (E.written err.new) reply.now.err.items }
+    ensures out { O.tells → Appends result (O.written out.old) (O.written out.new)
+        reply.now.out.items }
+    ensures err { E.tells → Appends result (E.written err.old) (E.written err.new)
+        reply.now.err.items }
     ensures number { O.counts
         → OnOk result (O.number out.new ≡ capped (O.number out.old + length reply.now.out.items)) }
-    ensures order { O.counts → E.tells → OutFirst (E.written err.old) (E.written err.new) (O.flushed out.new)
+    ensures order { O.counts → E.tells → OutFirst (E.written err.old) (E.written err.new)
+        (O.flushed out.new)
         (O.number out.new) }
-    ensures cause { BothCause result (O.faults out.old) (O.faults out.new) (E.faults err.old) (E.faults err.new) }
+    ensures cause { BothCause result (O.faults out.old) (O.faults out.new) (E.faults err.old)
+        (E.faults err.new) }
 {
     write_both(out, err, reply.out.as_slice(), reply.err.as_slice())
 }
@@ -101,9 +111,12 @@ fn flush_reply<O: Sink, E: Sink>(ready: bool, out: &mut O, err: &mut E) -> Resul
     ensures out { O.tells → O.written out.new ≡ O.written out.old }
     ensures err { E.tells → E.written err.new ≡ E.written err.old }
     ensures number { O.counts → O.number out.new ≡ O.number out.old }
-    ensures out_flushed { O.counts → OnOk result (ready ≡ false → O.flushed out.new ≡ O.number out.new) }
-    ensures err_flushed { E.counts → OnOk result (ready ≡ false → E.flushed err.new ≡ E.number err.new) }
-    ensures cause { BothCause result (O.faults out.old) (O.faults out.new) (E.faults err.old) (E.faults err.new) }
+    ensures out_flushed { O.counts → OnOk result (ready ≡ false →
+        O.flushed out.new ≡ O.number out.new) }
+    ensures err_flushed { E.counts → OnOk result (ready ≡ false →
+        E.flushed err.new ≡ E.number err.new) }
+    ensures cause { BothCause result (O.faults out.old) (O.faults out.new) (E.faults err.old)
+        (E.faults err.new) }
 {
     if ready {
         return Ok(());
@@ -130,7 +143,8 @@ fn run_lines<F: Files, I: Source, O: Sink, E: Sink, L: Ledger>(
     ensures spent { SpentCause result (I.taken input.old) (I.taken input.new) }
     ensures files { FilesBy result (moment_of F.Source files.old) (moment_of F.Source files.new) }
     ensures rest { I.tells → IfOk result (λ _. I.rest input.new ≡ []) }
-    ensures sinks { SinksCause result (O.faults out.old) (O.faults out.new) (E.faults err.old) (E.faults err.new) }
+    ensures sinks { SinksCause result (O.faults out.old) (O.faults out.new) (E.faults err.old)
+        (E.faults err.new) }
     ensures opens { I.failed_opens input.new ≡ I.failed_opens input.old }
     ensures tree { F.tree files.new ≡ F.tree files.old }
 {
@@ -155,11 +169,11 @@ fn run_lines<F: Files, I: Source, O: Sink, E: Sink, L: Ledger>(
     }
 }
 
-/// Runs a session: each line of the input is a command, and is answered before the next is waited for. Imports are
-/// looked for in the folders.
+/// Runs a session: each line of the input is a command, and is answered before the next is waited
+/// for. Imports are looked for in the folders.
 ///
-/// What is written is what `specs/Replay.antt` says, over the loading of the files; where reading or writing ends the
-/// session, or memory runs out, it is a front of that.
+/// What is written is what `specs/Replay.antt` says, over the loading of the files; where reading
+/// or writing ends the session, or memory runs out, it is a front of that.
 pub fn run_session<F: Files, I: Source, O: Sink, E: Sink, L: Ledger>(
     alloc: Global,
     folders: &LibPath,
@@ -184,7 +198,8 @@ pub fn run_session<F: Files, I: Source, O: Sink, E: Sink, L: Ledger>(
         (moment_of I.Source input.new)
         (moment_of F.Source files.old)
         (moment_of F.Source files.new) }
-    ensures sinks { WritesCause result (O.faults out.old) (O.faults out.new) (E.faults err.old) (E.faults err.new) }
+    ensures sinks { WritesCause result (O.faults out.old) (O.faults out.new) (E.faults err.old)
+        (E.faults err.new) }
     ensures tree { F.tree files.new ≡ F.tree files.old }
 {
     match run_lines(alloc, folders, files, input, out, err, steps) {

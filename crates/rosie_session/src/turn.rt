@@ -1,5 +1,6 @@
 // What is said to a line of text.
-ghost use Rattle.std.specs.Prelude.{◌≡◌, ◌+◌, ◌≤◌, ◌^◌, ℕ, List, Some, IfErr, IfOk, OnOk, chars, length};
+ghost use Rattle.std.specs.Prelude.{◌≡◌, ◌+◌, ◌≤◌, ◌^◌, ℕ, List, Some, IfErr, IfOk, OnOk, chars};
+ghost use Rattle.std.specs.Prelude.{length};
 ghost use Rattle.rosie_io.specs.Loading.{NotFewer};
 ghost use Rattle.rosie_jobs.specs.Jobs.{matcher_of};
 ghost use Rattle.rosie_jobs.specs.Lines.{Job};
@@ -13,7 +14,8 @@ ghost use Rattle.rosie_repl.specs.States.{session_of};
 ghost use Rattle.rosie_run.specs.Report.{Piece};
 ghost use Rattle.rosie_run.specs.Sources.{moment_of};
 ghost use Rattle.rosie_session.specs.Loading.{IsLoading, Loading};
-ghost use Rattle.rosie_session.specs.Replay.{change_turn, edit_turn, job_piece, loaded, or_no, plain, try_turn};
+ghost use Rattle.rosie_session.specs.Replay.{change_turn, edit_turn, job_piece, loaded, or_no};
+ghost use Rattle.rosie_session.specs.Replay.{plain, try_turn};
 ghost use Rattle.rosie_session.specs.Replay.{undo_turn};
 ghost use Rattle.rosie_session.specs.inside.Turning.{IsReply, Judges, Leaves, Says, StepsBy, Turns};
 
@@ -38,8 +40,10 @@ fn load_change<F: Files>(
     edit: &Edit<'_>,
     files: &mut F,
 ) -> Result<(), Unready>
-    ensures judges { F.tells → (w : Loading) → IsLoading (F.tree files.old) folders.now w → (before : Session)
-        → Judges result (loaded w (in_chars (edit_seen edit.now)) before (session_of state.now)) before
+    ensures judges { F.tells → (w : Loading) → IsLoading (F.tree files.old) folders.now w →
+        (before : Session)
+        → Judges result (loaded w (in_chars (edit_seen edit.now)) before (session_of state.now))
+        before
         (session_of state.now) }
     ensures cause { HasCause result (moment_of F.Source files.old) (moment_of F.Source files.new) }
     ensures taken { NotFewer (F.taken files.old) (F.taken files.new) }
@@ -62,9 +66,11 @@ fn judge<F: Files>(
     edit: &Edit<'_>,
     files: &mut F,
 ) -> Result<Reply, SessionEnd>
-    ensures turns { F.tells → (w : Loading) → IsLoading (F.tree files.old) folders.now w → (before : Session)
+    ensures turns { F.tells → (w : Loading) → IsLoading (F.tree files.old) folders.now w →
+        (before : Session)
         → S.changed (in_chars (edit_seen edit.now)) before ≡ Some (session_of state.old)
-        → Turns result (loaded w (in_chars (edit_seen edit.now)) before (session_of state.old)) (session_of state.new) }
+        → Turns result (loaded w (in_chars (edit_seen edit.now)) before (session_of state.old))
+        (session_of state.new) }
     ensures leaves { Leaves F.Source result files.old files.new }
 {
     match load_change(alloc, folders, state, edit, files) {
@@ -122,7 +128,8 @@ fn copy_of(alloc: Global, bytes: &[u8]) -> Result<Vec<u8>, NoMemory>
 
 /// The text for `out` of a line that was tried: that it doesn't match is reported.
 fn told(alloc: Global, mark: Mark, text: &[u8]) -> Result<Vec<u8>, NoMemory>
-    ensures { IfOk result (λ told. (p : Piece) → p.out ≡ text.now → told.items ≡ (or_no mark p).out) }
+    ensures { IfOk result (λ told. (p : Piece) → p.out ≡ text.now →
+        told.items ≡ (or_no mark p).out) }
 {
     match mark {
         Mark::Miss => {
@@ -173,10 +180,12 @@ fn try_with<F: Files, L: Ledger>(
 ) -> Result<Reply, SessionEnd>
     requires { length line.now ≤ 2 ^ 30 }
     ensures turns { F.tells → (w : Loading) → IsLoading (F.tree files.old) folders.now w
-        → Turns result (try_turn w number (session_of state.now) (Some (chars pattern.now)) line.now)
+        → Turns result (try_turn w number (session_of state.now) (Some (chars pattern.now))
+        line.now)
         (session_of state.now) }
     ensures steps { F.tells → (w : Loading) → IsLoading (F.tree files.old) folders.now w
-        → StepsBy result (try_turn w number (session_of state.now) (Some (chars pattern.now)) line.now)
+        → StepsBy result (try_turn w number (session_of state.now) (Some (chars pattern.now))
+        line.now)
         steps.old steps.new }
     ensures leaves { Leaves F.Source result files.old files.new }
 {
@@ -202,10 +211,12 @@ fn try_line<F: Files, L: Ledger>(
 ) -> Result<Reply, SessionEnd>
     requires { length line.now ≤ 2 ^ 30 }
     ensures turns { F.tells → (w : Loading) → IsLoading (F.tree files.old) folders.now w
-        → Turns result (try_turn w number (session_of state.now) (session_of state.now).now.pattern line.now)
+        → Turns result (try_turn w number (session_of state.now) (session_of state.now).now.pattern
+        line.now)
         (session_of state.now) }
     ensures steps { F.tells → (w : Loading) → IsLoading (F.tree files.old) folders.now w
-        → StepsBy result (try_turn w number (session_of state.now) (session_of state.now).now.pattern line.now)
+        → StepsBy result (try_turn w number (session_of state.now)
+        (session_of state.now).now.pattern line.now)
         steps.old steps.new }
     ensures leaves { Leaves F.Source result files.old files.new }
 {
@@ -227,9 +238,11 @@ fn obey<F: Files, L: Ledger>(
 ) -> Result<Reply, SessionEnd>
     requires { (line : List ℕ) → edit_seen edit.now ≡ Try line → length line ≤ 2 ^ 30 }
     ensures turns { F.tells → (w : Loading) → IsLoading (F.tree files.old) folders.now w
-        → Turns result (edit_turn w number (session_of state.old) (Some (edit_seen edit.now))) (session_of state.new) }
+        → Turns result (edit_turn w number (session_of state.old) (Some (edit_seen edit.now)))
+        (session_of state.new) }
     ensures steps { F.tells → (w : Loading) → IsLoading (F.tree files.old) folders.now w
-        → StepsBy result (edit_turn w number (session_of state.old) (Some (edit_seen edit.now))) steps.old steps.new }
+        → StepsBy result (edit_turn w number (session_of state.old) (Some (edit_seen edit.now)))
+        steps.old steps.new }
     ensures leaves { Leaves F.Source result files.old files.new }
 {
     match *edit {
@@ -251,9 +264,11 @@ pub(crate) fn answer<F: Files, L: Ledger>(
 ) -> Result<Reply, SessionEnd>
     requires { length line.now ≤ 2 ^ 30 }
     ensures turns { F.tells → (w : Loading) → IsLoading (F.tree files.old) folders.now w
-        → Turns result (edit_turn w number (session_of state.old) (edit_of line.now)) (session_of state.new) }
+        → Turns result (edit_turn w number (session_of state.old) (edit_of line.now))
+        (session_of state.new) }
     ensures steps { F.tells → (w : Loading) → IsLoading (F.tree files.old) folders.now w
-        → StepsBy result (edit_turn w number (session_of state.old) (edit_of line.now)) steps.old steps.new }
+        → StepsBy result (edit_turn w number (session_of state.old) (edit_of line.now)) steps.old
+        steps.new }
     ensures leaves { Leaves F.Source result files.old files.new }
 {
     match read_edit(line) {

@@ -27,8 +27,8 @@ fn goal_of(alloc: Global, target: Target) -> Result<Peg, NoMemory>
     Ok(Peg::Capture(root, Box::new(alloc, call)?))
 }
 
-/// The goal that a rule of the table is tried by, which can be compiled as it is: a match of it is one tree, and the
-/// check finds nothing wrong with a call.
+/// The goal that a rule of the table is tried by, which can be compiled as it is: a match of it is
+/// one tree, and the check finds nothing wrong with a call.
 pub(crate) fn checked_goal(
     alloc: Global,
     rules: &Checked,

@@ -1,5 +1,6 @@
 // From a file to its tests, each with what it is tried with.
-ghost use Rattle.std.specs.Prelude.{◌≡◌, ◌<◌, ◌≤◌, ◌∷◌, [], ℕ, List, Ok, IfErr, IfOk, encode_utf8_all};
+ghost use Rattle.std.specs.Prelude.{◌≡◌, ◌<◌, ◌≤◌, ◌∷◌, [], ℕ, List, Ok, IfErr, IfOk};
+ghost use Rattle.std.specs.Prelude.{encode_utf8_all};
 ghost use Rattle.std.specs.Prelude.{false, length};
 ghost use Rattle.std.specs.List.{All};
 ghost use Rattle.rosie_io.specs.Loading.{NotFewer};
@@ -40,7 +41,8 @@ fn one_root(alloc: Global, file: &Chars) -> Result<Roots, NoMemory>
 /// The tests that the comments of the file's text say, or the line of the first bad one.
 fn tests_in(alloc: Global, file: &Chars, text: &str) -> Result<Tests, Unready>
     ensures tests { IfOk result (HasTests text.now) }
-    ensures short { IfOk result (λ tests. All (λ t. length (encode_utf8_all t.text) ≤ length text.now) tests) }
+    ensures short { IfOk result (λ tests. All (λ t. length (encode_utf8_all t.text)
+        ≤ length text.now) tests) }
     ensures bad { IfErr result (IsBadTest file.now text.now) }
 {
     match read_tests(alloc, text) {
@@ -66,7 +68,8 @@ fn suite_over(
     requires rows { rows_of ready.rules ≡ table_of (set_seen ready.set) }
     requires root { 0 < length (set_seen ready.set).roots }
     requires short { length text.now ≤ 1048576 }
-    ensures prepares { (r : OrLine S.Suite) → S.ComesAgain (set_seen ready.set) file budget (Ok text.now) r
+    ensures prepares { (r : OrLine S.Suite) → S.ComesAgain (set_seen ready.set) file budget
+        (Ok text.now) r
         → Prepares suite_of result r }
     ensures own { IfErr result IsOwn }
 {
@@ -91,9 +94,10 @@ fn suite_over(
 
 /// The tests of a file, each with what it is tried with; or the line of the first fault.
 ///
-/// The file is loaded as the one root, over these folders, and read once more for its test comments. Each test is tried
-/// with the rule of its name in the file's own module. `budget` is how many steps of the machine a test may take; where
-/// it isn't given, it is a million, and a thousand for each character of the text.
+/// The file is loaded as the one root, over these folders, and read once more for its test
+/// comments. Each test is tried with the rule of its name in the file's own module. `budget` is how
+/// many steps of the machine a test may take; where it isn't given, it is a million, and a thousand
+/// for each character of the text.
 pub fn load_suite<F: Files>(
     alloc: Global,
     files: &mut F,
@@ -102,9 +106,11 @@ pub fn load_suite<F: Files>(
     budget: Option<u64>,
 ) -> Result<Suite, Unready>
     ensures prepares { F.tells → (asked : List (List ℕ)) → (r : OrLine S.Suite)
-        → S.IsSuite (F.tree files.old) folders.now file budget asked r → Prepares suite_of result r }
+        → S.IsSuite (F.tree files.old) folders.now file budget asked r →
+        Prepares suite_of result r }
     ensures asked { F.tells → (asked : List (List ℕ)) → (r : OrLine S.Suite)
-        → S.IsSuite (F.tree files.old) folders.now file budget asked r → IfErr result (λ u. IsAsked u asked) }
+        → S.IsSuite (F.tree files.old) folders.now file budget asked r →
+        IfErr result (λ u. IsAsked u asked) }
     ensures due { IfOk result (λ suite. SuitePays (bench_of suite) (trials_of suite)) }
     ensures cause { HasCause result (moment F.rest F.taken F.faults F.failed_opens files.old)
         (moment F.rest F.taken F.faults F.failed_opens files.new) }

@@ -1,5 +1,6 @@
 // The second reading of the file.
-ghost use Rattle.std.specs.Prelude.{◌≡◌, ◌≤◌, ◌∷◌, [], IfErr, IfOk, encode_utf8_all, false, length, string_bytes};
+ghost use Rattle.std.specs.Prelude.{◌≡◌, ◌≤◌, ◌∷◌, [], IfErr, IfOk, encode_utf8_all, false, length};
+ghost use Rattle.std.specs.Prelude.{string_bytes};
 ghost use Rattle.rosie_prepare.specs.Lines.{load_line};
 ghost use Rattle.rosie_io.specs.Loading.{NotFewer};
 ghost use Rattle.rosie_io.specs.Opening.{file_of};

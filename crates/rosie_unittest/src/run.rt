@@ -5,7 +5,8 @@ ghost use Rattle.rosie_run.specs.Runs.{WritesCause, Runs, IsNoCut};
 ghost use Rattle.rosie_run.specs.Where.{Nowhere};
 ghost use Rattle.rpl_core.specs.Table.{bodies_of};
 ghost use Rattle.rosie_unittest.specs.Trials as T;
-ghost use Rattle.rosie_unittest.specs.inside.Ready.{IsBound, IsReady, IsReadyJob, IsReadyTrial, IsText};
+ghost use Rattle.rosie_unittest.specs.inside.Ready.{IsBound, IsReady, IsReadyJob, IsReadyTrial};
+ghost use Rattle.rosie_unittest.specs.inside.Ready.{IsText};
 
 use crate::subject::{Compiled, Subject, Subjects};
 use crate::suite::Suite;
@@ -37,7 +38,8 @@ impl Suite {
     ) -> Result<Verdict, NoMemory>
         requires ready { ∥ IsReadyJob (job_of (bodies_of self.now.rules) compiled.now) ∥₁ }
         requires text { IsText test.now.text }
-        ensures verdict { IfOk result (λ verdict. verdict ≡ T.verdict_of (bench_of self.now) test.now
+        ensures verdict { IfOk result (λ verdict. verdict
+            ≡ T.verdict_of (bench_of self.now) test.now
             (T.Runs (job_of (bodies_of self.now.rules) compiled.now))) }
         ensures steps { OnOk result (steps.new ≡ steps.old + T.cost_of (bench_of self.now) test.now
             (T.Runs (job_of (bodies_of self.now.rules) compiled.now))) }
@@ -68,7 +70,8 @@ impl Suite {
     ) -> Result<Verdict, NoMemory>
         requires ready { ∥ IsReady (subject_of (bodies_of self.now.rules) subject.now) ∥₁ }
         requires text { IsText test.now.text }
-        ensures verdict { IfOk result (λ verdict. verdict ≡ T.verdict_of (bench_of self.now) test.now
+        ensures verdict { IfOk result (λ verdict. verdict
+            ≡ T.verdict_of (bench_of self.now) test.now
             (subject_of (bodies_of self.now.rules) subject.now)) }
         ensures steps { OnOk result (steps.new ≡ steps.old + T.cost_of (bench_of self.now) test.now
             (subject_of (bodies_of self.now.rules) subject.now)) }
@@ -92,19 +95,21 @@ impl Suite {
         requires bound { IsBound (bodies_of self.now.rules) trial.now.target }
         requires ready { ∥ IsReadyTrial (trial_of (bodies_of self.now.rules) trial.now) ∥₁ }
         requires sound { AreSound (bodies_of self.now.rules) subjects.old.entries.items }
-        ensures sound { OnOk result (AreSound (bodies_of self.now.rules) subjects.new.entries.items) }
+        ensures sound { OnOk result (AreSound (bodies_of self.now.rules)
+            subjects.new.entries.items) }
         ensures verdict { IfOk result (λ verdict. verdict ≡ T.verdict_in (bench_of self.now)
             (trial_of (bodies_of self.now.rules) trial.now)) }
-        ensures steps { OnOk result (steps.new ≡ steps.old + T.cost_of (bench_of self.now) trial.now.test
+        ensures steps { OnOk result (steps.new ≡ steps.old + T.cost_of (bench_of self.now)
+            trial.now.test
             (subject_for (bodies_of self.now.rules) trial.now.target)) }
     {
         let place = subjects.place_for(alloc, &self.rules, trial.target)?;
         self.try_subject(&trial.test, &subjects.entries[place].subject, tester, steps)
     }
 
-    /// Tries the tests in turn, and writes the line of each that isn't met, and the counts at the end. A code that is
-    /// too long ends the run. Each rule is compiled when the first of its tests is tried, and what was compiled is let
-    /// go of where it is longer in all than one code may be.
+    /// Tries the tests in turn, and writes the line of each that isn't met, and the counts at the
+    /// end. A code that is too long ends the run. Each rule is compiled when the first of its tests
+    /// is tried, and what was compiled is let go of where it is longer in all than one code may be.
     pub fn run<O: Sink, E: Sink, L: Ledger>(
         &self,
         alloc: Global,

@@ -45,7 +45,8 @@ pub(crate) struct Entry {
 /// What the tests of a target are tried with.
 fn subject_of(alloc: Global, rules: &Checked, target: Option<Target>) -> Result<Subject, NoMemory>
     requires { IsBound (bodies_of rules.now) target }
-    ensures subject { IfOk result (λ s. subject_of (bodies_of rules.now) s ≡ subject_for (bodies_of rules.now) target) }
+    ensures subject { IfOk result (λ s. subject_of (bodies_of rules.now) s
+        ≡ subject_for (bodies_of rules.now) target) }
     ensures ready { IfOk result (λ s. ∥ IsReady (subject_of (bodies_of rules.now) s) ∥₁) }
 {
     let Some(target) = target else {
@@ -77,13 +78,14 @@ fn note_of(target: Option<Target>) -> usize {
     }
 }
 
-/// What tests were tried with that may be asked for again. A rule's code may be far longer than its tests, so it is
-/// kept for the tests to come; and all are let go of where they are longer than the longest code may be, since a file
-/// has many rules.
+/// What tests were tried with that may be asked for again. A rule's code may be far longer than its
+/// tests, so it is kept for the tests to come; and all are let go of where they are longer than the
+/// longest code may be, since a file has many rules.
 #[derive(Drop)]
 pub(crate) struct Subjects {
     pub(crate) entries: Vec<Entry>,
-    /// Where to look for the entry of a target, by its rule. Only the entry itself says whether it is that.
+    /// Where to look for the entry of a target, by its rule. Only the entry itself says whether it
+    /// is that.
     notes: Vec<usize>,
     /// The number of instructions of all entries.
     length: usize,
@@ -115,7 +117,8 @@ impl Subjects {
 
     /// Lets go of all entries, where they are too long.
     fn make_room(&mut self)
-        ensures { (R : List Core) → AreSound R self.old.entries.items → AreSound R self.new.entries.items }
+        ensures { (R : List Core) → AreSound R self.old.entries.items →
+            AreSound R self.new.entries.items }
     {
         if self.length > MAX_KEPT {
             self.entries.clear();

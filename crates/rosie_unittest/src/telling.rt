@@ -89,7 +89,8 @@ impl Suite {
         err: &mut E,
     ) -> Result<Tally, Ended>
         ensures runs { (n : ℕ) → Runs result (telling O.Sink E.Sink)
-            (T.counts_piece (bench_of self.now).file (length (trials_of self.now)) unmet ∷ []) Nowhere
+            (T.counts_piece (bench_of self.now).file (length (trials_of self.now)) unmet ∷ [])
+            Nowhere
             (shown O.Sink E.Sink out.old err.old n)
             (shown O.Sink E.Sink out.new err.new n) }
         ensures no_cut { IfErr result IsNoCut }

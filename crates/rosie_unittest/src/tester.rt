@@ -45,7 +45,8 @@ fn fits(
     program: &Program,
 ) -> Result<bool, NoMemory>
     ensures { IfOk result (λ fits. fits
-        ≡ not (nat_lt max_answer_bytes (length (answer Json text.now (Some (trees_in program.now forest.now)))))) }
+        ≡ not (nat_lt max_answer_bytes
+        (length (answer Json text.now (Some (trees_in program.now forest.now)))))) }
 {
     match kept.fill(Style::Json, text, Some(forest), program) {
         Ok(()) => Ok(true),

@@ -22,8 +22,8 @@ use std::alloc::Global;
 #[derive(Drop)]
 pub(crate) struct Trial {
     pub(crate) test: Test,
-    /// The rule that it is tried with. There is none where no statement of the file binds its name, or the name is that
-    /// of a hidden rule.
+    /// The rule that it is tried with. There is none where no statement of the file binds its name,
+    /// or the name is that of a hidden rule.
     pub(crate) target: Option<Target>,
 }
 
@@ -38,7 +38,8 @@ fn with_text(test: Test) -> Test
     test
 }
 
-/// Checks the goal of a target, where there is one. The goal is small and isn't kept: it is made anew for its code.
+/// Checks the goal of a target, where there is one. The goal is small and isn't kept: it is made
+/// anew for its code.
 fn check_goal(alloc: Global, rules: &Checked, target: Option<Target>) -> Result<(), NoMemory>
     requires { IsBound (bodies_of rules.now) target }
     ensures { IfOk result (λ _. ∥ IsReady (subject_for (bodies_of rules.now) target) ∥₁) }
@@ -63,7 +64,8 @@ pub(crate) fn trials_of(
     ensures trials { IfOk result (λ ts. (due : List T.Trial)
         → AreTrials (bodies_of rules.now) (own (set_seen set.now) number) tests due
         → due ≡ map (trial_of (bodies_of rules.now)) ts.items) }
-    ensures ready { IfOk result (λ ts. ∥ AreReady (map (trial_of (bodies_of rules.now)) ts.items) ∥₁) }
+    ensures ready { IfOk result (λ ts. ∥ AreReady (map (trial_of (bodies_of rules.now)) ts.items)
+        ∥₁) }
     ensures bound { IfOk result (λ ts. ∥ AreBound (bodies_of rules.now) ts.items ∥₁) }
 {
     let mut trials = Vec::new(alloc);

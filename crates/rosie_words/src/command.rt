@@ -8,7 +8,8 @@ use rpl_text::Chars;
 /// A command, with its arguments.
 #[derive(Debug, Drop)]
 pub enum What {
-    /// Matches each line from its start. With a code file there is no pattern, and `pattern` is empty.
+    /// Matches each line from its start. With a code file there is no pattern, and `pattern` is
+    /// empty.
     Match { pattern: Chars, inputs: Paths },
     /// Searches each line.
     Grep { pattern: Chars, inputs: Paths },

@@ -9,8 +9,9 @@ use thiserror::Error;
 
 /// The first fault of the words of a command line.
 ///
-/// Faults of single words come first, in the order of the words; then those of the whole, in the order of the variants
-/// from `NoCommand` on, and at last a `BadValue` of an argument. `fault_line` is what is printed of it.
+/// Faults of single words come first, in the order of the words; then those of the whole, in the
+/// order of the variants from `NoCommand` on, and at last a `BadValue` of an argument. `fault_line`
+/// is what is printed of it.
 #[derive(Debug, Drop, Error)]
 pub enum UsageFault {
     /// There is no memory for the reading.

@@ -1,7 +1,9 @@
-//! The words of the command line: each list of words is one command with its options, or has one first fault.
+//! The words of the command line: each list of words is one command with its options, or has one
+//! first fault.
 //!
-//! [`read_words`] is the reading, for the top call. It promises the whole of it: which command, and of the
-//! faults the first, exactly where it is due. [`usage`] and [`fault_line`] are what a fault prints.
+//! [`read_words`] is the reading, for the top call. It promises the whole of it: which command, and
+//! of the faults the first, exactly where it is due. [`usage`] and [`fault_line`] are what a fault
+//! prints.
 #![tactic(auto)]
 
 mod command;

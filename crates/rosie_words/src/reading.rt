@@ -1,11 +1,13 @@
 //! The reading of the command line.
 
-ghost use Rattle.std.specs.Prelude.{◌≡◌, ◌≢◌, ◌++◌, [], ◌∷◌, List, map, OnOk, IfOk, IfErr, Some, None, Ok, Err};
+ghost use Rattle.std.specs.Prelude.{◌≡◌, ◌≢◌, ◌++◌, [], ◌∷◌, List, map, OnOk, IfOk, IfErr, Some};
+ghost use Rattle.std.specs.Prelude.{None, Ok, Err};
 ghost use Rattle.rosie_words.specs.Table.{Word};
 ghost use Rattle.rosie_words.specs.Roles.{role, fault, value_fault, given, option_in, argument_in};
 ghost use Rattle.rosie_words.specs.Reading.{words_of, reading};
 ghost use Rattle.rosie_words.specs.Seen.{front_of, role_of, IsFair, half_of, text};
-ghost use Rattle.rosie_words.specs.Taken.{Adds, Takes, Starts, seen, stray_word, chosen_from, finished};
+ghost use Rattle.rosie_words.specs.Taken.{Adds, Takes, Starts, seen, stray_word, chosen_from};
+ghost use Rattle.rosie_words.specs.Taken.{finished};
 ghost use Rattle.rosie_words.specs.declared.fault.UsageFault.TheVariants as E;
 
 use crate::NoMemory;
@@ -44,7 +46,8 @@ fn choose(
     options: &[Given<'_>],
     arguments: &[&str],
 ) -> Result<Command, UsageFault>
-    ensures ok { IfOk result (λ c. chosen_from values (map seen options.now) (map text arguments.now) ≡ Ok c) }
+    ensures ok { IfOk result (λ c. chosen_from values (map seen options.now)
+        (map text arguments.now) ≡ Ok c) }
     ensures fault { IfErr result (λ e. e ≢ E.NoMemory →
         chosen_from values (map seen options.now) (map text arguments.now) ≡ Err e) }
 {
@@ -93,7 +96,8 @@ impl<'a> Reader<'a> {
         value: &str,
     ) -> Result<(), UsageFault>
         ensures sound { OnOk result (value_fault option value.now ≡ None) }
-        ensures ok { OnOk result (Adds self.old self.new (given option word.now value.now ∷ []) []) }
+        ensures ok { OnOk result (Adds self.old self.new (given option word.now value.now ∷ [])
+            []) }
         ensures fault { IfErr result (λ e. e ≢ E.NoMemory → value_fault option value.now ≡ Some e) }
     {
         self.values.set(alloc, option, value)?;
@@ -107,7 +111,8 @@ impl<'a> Reader<'a> {
         ensures sound { OnOk result (fault (role_of role.entry) word.now ≡ None) }
         ensures ok { OnOk result (Adds self.old self.new (option_in (role_of role.entry) word.now)
             (argument_in (role_of role.entry) word.now)) }
-        ensures fault { IfErr result (λ e. e ≢ E.NoMemory → fault (role_of role.entry) word.now ≡ Some e) }
+        ensures fault { IfErr result (λ e. e ≢ E.NoMemory →
+            fault (role_of role.entry) word.now ≡ Some e) }
     {
         match role {
             Role::EndOfOptions | Role::Waiting(_) => Ok(()),
@@ -161,7 +166,8 @@ impl<'a> Reader<'a> {
 /// ```
 pub fn read_words(alloc: Global, words: &[String]) -> Result<Command, UsageFault>
     ensures ok { IfOk result (λ command. reading (words_of words.now) ≡ Ok command) }
-    ensures fault { IfErr result (λ fault. fault ≢ E.NoMemory → reading (words_of words.now) ≡ Err fault) }
+    ensures fault { IfErr result (λ fault. fault ≢ E.NoMemory →
+        reading (words_of words.now) ≡ Err fault) }
 {
     let mut reader = Reader::new(alloc)?;
     for word in words {

@@ -1,7 +1,8 @@
 //! The role of each word, given by the words before it.
 
 ghost use Rattle.std.specs.Prelude.{◌≡◌};
-ghost use Rattle.rosie_words.specs.Roles.{is_option, is_long, name_of, value_of, option_role, role, next};
+ghost use Rattle.rosie_words.specs.Roles.{is_option, is_long, name_of, value_of, option_role, role};
+ghost use Rattle.rosie_words.specs.Roles.{next};
 ghost use Rattle.rosie_words.specs.Seen.{front_of, role_of, half_of, IsFair};
 ghost use Rattle.rosie_words.specs.Table.{option_named};
 
@@ -69,7 +70,8 @@ fn halves(word: &str) -> (&str, Option<&str>)
 
 /// The role of an option's word.
 fn option_role(word: &str) -> Role<'_>
-    ensures value { role_of result ≡ option_role (option_named (name_of word.now)) (value_of word.now) }
+    ensures value { role_of result ≡ option_role (option_named (name_of word.now))
+        (value_of word.now) }
     ensures fair { IsFair result }
 {
     let (name, value) = halves(word);

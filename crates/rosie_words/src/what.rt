@@ -1,7 +1,8 @@
 //! The command and its arguments.
 
 ghost use Rattle.std.specs.Prelude.{◌≡◌, ◌≢◌, map, Some, None, IfOk, IfErr, Ok, Err, chars};
-ghost use Rattle.rosie_words.specs.Arguments.{none, only, pattern_inputs_of, sample_of, sample, what};
+ghost use Rattle.rosie_words.specs.Arguments.{none, only, pattern_inputs_of, sample_of, sample};
+ghost use Rattle.rosie_words.specs.Arguments.{what};
 ghost use Rattle.rosie_words.specs.Values.{number_in};
 ghost use Rattle.rosie_words.specs.Seen.{text, pattern_inputs_seen};
 ghost use Rattle.rosie_words.specs.declared.fault.UsageFault.TheVariants as E;
@@ -65,8 +66,10 @@ struct PatternInputs {
 
 /// The pattern and the input files.
 fn pattern_inputs_of(alloc: Global, arguments: &[&str]) -> Result<PatternInputs, UsageFault>
-    ensures ok { IfOk result (λ s. pattern_inputs_of (map text arguments.now) ≡ Ok (pattern_inputs_seen s)) }
-    ensures fault { IfErr result (λ e. e ≢ E.NoMemory → pattern_inputs_of (map text arguments.now) ≡ Err e) }
+    ensures ok { IfOk result (λ s. pattern_inputs_of (map text arguments.now)
+        ≡ Ok (pattern_inputs_seen s)) }
+    ensures fault { IfErr result (λ e. e ≢ E.NoMemory → pattern_inputs_of (map text arguments.now)
+        ≡ Err e) }
 {
     match arguments {
         [] => Err(UsageFault::MissingArgument),
@@ -120,7 +123,8 @@ pub(crate) fn what(
     arguments: &[&str],
 ) -> Result<What, UsageFault>
     ensures ok { IfOk result (λ w. what command has_code (map text arguments.now) ≡ Ok w) }
-    ensures fault { IfErr result (λ e. e ≢ E.NoMemory → what command has_code (map text arguments.now) ≡ Err e) }
+    ensures fault { IfErr result (λ e. e ≢ E.NoMemory →
+        what command has_code (map text arguments.now) ≡ Err e) }
 {
     match command {
         CommandName::Match => {

@@ -25,7 +25,8 @@ fn cause_of(body: &Peg) -> Option<BehindCause>
     }
 }
 
-/// What is wrong with the first bad look-behind of the pattern, an outer one before those inside it.
+/// What is wrong with the first bad look-behind of the pattern, an outer one before those inside
+/// it.
 #[cycle(cause)]
 pub(crate) fn first_cause(peg: &Peg) -> Option<BehindCause>
     ensures { some_cause result ≡ C.first_cause (core_of peg.now) }

@@ -23,8 +23,8 @@ use rpl_core::{Peg, Rules};
 use std::alloc::Global;
 use std::marker::Model;
 
-/// A table of rules without faults, with the marks of the rules that may be empty and of those that may halt. Contracts
-/// see the rules.
+/// A table of rules without faults, with the marks of the rules that may be empty and of those that
+/// may halt. Contracts see the rules.
 #[derive(Drop)]
 pub struct Checked {
     rules: Rules,
@@ -47,7 +47,8 @@ impl Model for Checked {
 
     ghost view = { λ a. rules_of a.rules };
 
-    ghost invariant = { λ a. IsAccepted (bodies_in a.rules) (marked a.empties.items) (marked a.halting.items) };
+    ghost invariant = { λ a. IsAccepted (bodies_in a.rules) (marked a.empties.items)
+        (marked a.halting.items) };
 }
 
 impl Checked {
@@ -61,9 +62,9 @@ impl Checked {
 
 /// The table, if it has no fault; else its first.
 ///
-/// Blocks, and rules outside blocks, are taken in the order of the table. Of each the look-behinds of all its rules
-/// come first, then left recursion, then empty loops, then halts under predicates. It needs a table in order, as every
-/// expansion is.
+/// Blocks, and rules outside blocks, are taken in the order of the table. Of each the look-behinds
+/// of all its rules come first, then left recursion, then empty loops, then halts under predicates.
+/// It needs a table in order, as every expansion is.
 ///
 /// # Examples
 ///
@@ -75,7 +76,8 @@ impl Checked {
 /// ```
 pub fn check(alloc: Global, rules: Rules) -> Result<Checked, CheckFault>
     requires { IsInOrder (bodies_in rules) (blocks_in rules) }
-    ensures exactly { (d : Facts (bodies_in rules)) × Answers (first_fault d (blocks_in rules)) result }
+    ensures exactly { (d : Facts (bodies_in rules)) ×
+        Answers (first_fault d (blocks_in rules)) result }
     ensures same { IfOk result (λ c. c ≡ rules_of rules) }
 {
     let empties = work_out(alloc, &rules, Fact::MayBeEmpty)?;
@@ -107,7 +109,8 @@ impl CheckedPeg {
 
 /// The first fault of a pattern: a look-behind, an empty loop, or a halt under a predicate.
 fn check_goal(peg: &Peg, empties: &[bool], halting: &[bool]) -> Result<(), CheckFault>
-    ensures exactly { Answers (goal_fault (marked empties.now) (marked halting.now) (core_of peg.now)) result }
+    ensures exactly { Answers (goal_fault (marked empties.now) (marked halting.now)
+        (core_of peg.now)) result }
     ensures memory { IfErr result (λ e. is_some (fault_named e) ≡ true) }
 {
     if let Some(cause) = first_cause(peg) {
@@ -122,8 +125,9 @@ fn check_goal(peg: &Peg, empties: &[bool], halting: &[bool]) -> Result<(), Check
     Ok(())
 }
 
-/// The pattern, if it has no fault; else its first. A pattern without faults means something on every text, and so
-/// does its code. It needs each call to be one of a rule of the table, and never answers that memory runs out.
+/// The pattern, if it has no fault; else its first. A pattern without faults means something on
+/// every text, and so does its code. It needs each call to be one of a rule of the table, and never
+/// answers that memory runs out.
 pub fn check_pattern(_alloc: Global, checked: &Checked, peg: Peg) -> Result<CheckedPeg, CheckFault>
     requires { (r : ℕ) → calls (core_of peg) r ≡ true → r < length checked.now }
     ensures exactly { (d : Facts (bodies_of checked.now))

@@ -111,7 +111,8 @@ fn holds(peg: &Peg, fact: Fact, marks: &[bool]) -> bool
 
 /// The body of the rule with this number passes the test of the fact, if there is such a rule.
 pub(crate) fn rule_holds(rules: &Rules, number: u32, fact: Fact, marks: &[bool]) -> bool
-    ensures { result ≡ passes (test_of fact (marked marks.now)) (slice_get (bodies_in rules.now) number) }
+    ensures { result ≡ passes (test_of fact (marked marks.now))
+        (slice_get (bodies_in rules.now) number) }
 {
     match rules.get(number) {
         Some(rule) => holds(&rule.body, fact, marks),

@@ -15,8 +15,8 @@ pub enum BehindCause {
     TooLong,
 }
 
-/// Why a table of rules or a pattern is refused. A rule is its number in the table; where there is none it is the
-/// pattern.
+/// Why a table of rules or a pattern is refused. A rule is its number in the table; where there is
+/// none it is the pattern.
 #[derive(Debug, Drop, Error)]
 pub enum CheckFault {
     /// Memory ran out.
@@ -28,7 +28,8 @@ pub enum CheckFault {
         rule: Option<u32>,
         cause: BehindCause,
     },
-    /// The rules of a block that may call themselves again before a character is taken, all of them in order.
+    /// The rules of a block that may call themselves again before a character is taken, all of them
+    /// in order.
     #[error("left recursion")]
     LeftRecursion {
         rules: Vec<u32>,

@@ -1,7 +1,7 @@
 // The order in which rules of a block come to have a fact, each after those by which it has it.
 //
-// Only the time hangs on it: a rule is marked where it passes, whatever order it is looked at in. So a body is walked
-// once for its gates, and once more in its turn.
+// Only the time hangs on it: a rule is marked where it passes, whatever order it is looked at in.
+// So a body is walked once for its gates, and once more in its turn.
 ghost use Rattle.std.specs.Prelude.{◌≤◌};
 
 use crate::NoMemory;
@@ -17,7 +17,8 @@ enum Port {
     Waits,
 }
 
-/// The gates of a block's patterns. The first are those of its rules, and each other stands after the one above it.
+/// The gates of a block's patterns. The first are those of its rules, and each other stands after
+/// the one above it.
 #[derive(Drop)]
 struct Gates {
     start: u32,
@@ -195,7 +196,8 @@ fn rule_port(
     }
 }
 
-/// One below the gate opened: it may open, and those above it. A rule's gate that opens joins the list.
+/// One below the gate opened: it may open, and those above it. A rule's gate that opens joins the
+/// list.
 fn open(
     above: &[usize],
     needs: &mut [usize],

@@ -31,7 +31,8 @@ fn cause_at(rules: &Rules, number: u32) -> Option<BehindCause>
 
 /// The rule repeats something that may be empty.
 fn has_loop_at(rules: &Rules, number: u32, empties: &[bool]) -> bool
-    ensures { result ≡ passes (has_empty_loop (marked empties.now)) (slice_get (bodies_in rules.now) number) }
+    ensures { result ≡ passes (has_empty_loop (marked empties.now))
+        (slice_get (bodies_in rules.now) number) }
 {
     match rules.get(number) {
         Some(rule) => has_empty_loop(&rule.body, empties),
@@ -41,7 +42,8 @@ fn has_loop_at(rules: &Rules, number: u32, empties: &[bool]) -> bool
 
 /// The rule has a predicate that may halt.
 fn has_halt_at(rules: &Rules, number: u32, halting: &[bool]) -> bool
-    ensures { result ≡ passes (has_halt_inside (marked halting.now)) (slice_get (bodies_in rules.now) number) }
+    ensures { result ≡ passes (has_halt_inside (marked halting.now))
+        (slice_get (bodies_in rules.now) number) }
 {
     match rules.get(number) {
         Some(rule) => !predicates_stay(&rule.body, halting),
@@ -93,7 +95,8 @@ fn check_behinds(rules: &Rules, start: u32, end: u32) -> Result<(), CheckFault>
     Ok(())
 }
 
-/// No rule of the block reaches itself before a character. A rule outside blocks calls only earlier ones.
+/// No rule of the block reaches itself before a character. A rule outside blocks calls only earlier
+/// ones.
 fn check_recursion(
     alloc: Global,
     rules: &Rules,
@@ -127,7 +130,8 @@ fn check_recursion(
 /// No rule of the block has an empty loop.
 fn check_loops(rules: &Rules, start: u32, end: u32, empties: &[bool]) -> Result<(), CheckFault>
     requires { start ≤ end }
-    ensures { Answers (first_from (loop_at (marked empties.now) (bodies_in rules.now)) start (end - start)) result }
+    ensures { Answers (first_from (loop_at (marked empties.now) (bodies_in rules.now)) start
+        (end - start)) result }
 {
     for number in start..end {
         check_loop(rules, number, empties)?;
@@ -138,7 +142,8 @@ fn check_loops(rules: &Rules, start: u32, end: u32, empties: &[bool]) -> Result<
 /// No rule of the block has a halt under a predicate.
 fn check_halts(rules: &Rules, start: u32, end: u32, halting: &[bool]) -> Result<(), CheckFault>
     requires { start ≤ end }
-    ensures { Answers (first_from (halt_at (marked halting.now) (bodies_in rules.now)) start (end - start)) result }
+    ensures { Answers (first_from (halt_at (marked halting.now) (bodies_in rules.now)) start
+        (end - start)) result }
 {
     for number in start..end {
         check_halt(rules, number, halting)?;
@@ -160,7 +165,8 @@ fn check_group(
     requires earlier { CallsBefore (bodies_in rules.now) start }
     requires calls { CallsBefore (bodies_in rules.now) end }
     ensures { OverReach (bodies_in rules.now) (marked empties.now) (λ reach.
-        Answers (group_fault (marked empties.now) (marked halting.now) reach (bodies_in rules.now) start end) result) }
+        Answers (group_fault (marked empties.now) (marked halting.now) reach (bodies_in rules.now)
+        start end) result) }
 {
     check_behinds(rules, start, end)?;
     check_recursion(alloc, rules, start, end, empties)?;
@@ -177,7 +183,8 @@ pub(crate) fn check_table(
 ) -> Result<(), CheckFault>
     requires { IsInOrder (bodies_in rules.now) (blocks_in rules.now) }
     ensures { OverReach (bodies_in rules.now) (marked empties.now) (λ reach. Answers
-        (table_fault (marked empties.now) (marked halting.now) reach (bodies_in rules.now) (blocks_in rules.now))
+        (table_fault (marked empties.now) (marked halting.now) reach (bodies_in rules.now)
+        (blocks_in rules.now))
         result) }
 {
     let mut start = 0;

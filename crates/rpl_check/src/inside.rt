@@ -37,8 +37,8 @@ fn any_has_empty_loop(parts: &[Peg], empties: &[bool]) -> bool
     false
 }
 
-/// No predicate in the pattern may halt, where just the marked rules may. A body that may not halt has no predicate
-/// that may, so none is looked at twice.
+/// No predicate in the pattern may halt, where just the marked rules may. A body that may not halt
+/// has no predicate that may, so none is looked at twice.
 #[cycle(stay)]
 pub(crate) fn predicates_stay(peg: &Peg, halting: &[bool]) -> bool
     ensures { result ≡ S.predicates_stay (marked halting.now) (core_of peg.now) }

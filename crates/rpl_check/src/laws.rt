@@ -1,7 +1,8 @@
 // What holds of the static facts alone.
 ghost use Rattle.rpl_check.specs.Laws.{FactsLaw, OneFactsLaw};
 
-/// Each table whose calls stay in it has static facts, so that the contracts of this crate speak of something.
+/// Each table whose calls stay in it has static facts, so that the contracts of this crate speak of
+/// something.
 pub fn facts_law()
     ensures { FactsLaw }
 {}

@@ -1,9 +1,11 @@
-//! The check of patterns before they run: whatever passes means something on every line, and the rest is refused.
+//! The check of patterns before they run: whatever passes means something on every line, and the
+//! rest is refused.
 //!
-//! `check` takes a whole table of rules and `check_pattern` a pattern over it. Each names exactly the first fault that
-//! is due, in a stated order: a look-behind without a fixed bound, left recursion, a repetition of what may be empty,
-//! or a halt under a predicate. That a pattern that passes has an outcome on every text is a clause of `check_pattern`,
-//! so whoever compiles it needs no further premise. `specs/Facts.antt` and `specs/Faults.antt` define what is due.
+//! `check` takes a whole table of rules and `check_pattern` a pattern over it. Each names exactly
+//! the first fault that is due, in a stated order: a look-behind without a fixed bound, left
+//! recursion, a repetition of what may be empty, or a halt under a predicate. That a pattern that
+//! passes has an outcome on every text is a clause of `check_pattern`, so whoever compiles it needs
+//! no further premise. `specs/Facts.antt` and `specs/Faults.antt` define what is due.
 #![tactic(auto)]
 
 mod behinds;

@@ -1,7 +1,9 @@
-// Rules that are on no ring because every call of theirs is of a lower rank, where no call of the block is of a higher
-// one. The ranks are the numbers of strongly connected components, by Kosaraju's two passes (Sharir 1981).
+// Rules that are on no ring because every call of theirs is of a lower rank, where no call of the
+// block is of a higher one. The ranks are the numbers of strongly connected components, by
+// Kosaraju's two passes (Sharir 1981).
 //
-// Only the time hangs on the ranks: `falls` tests them, and where they don't pass no rule is marked by them.
+// Only the time hangs on the ranks: `falls` tests them, and where they don't pass no rule is marked
+// by them.
 ghost use Rattle.std.specs.Prelude.{◌≡◌, ◌+◌, ◌-◌, ◌<◌, ◌≤◌, ℕ, IfOk, true};
 ghost use Rattle.rpl_check.specs.Facts.{calls_at};
 ghost use Rattle.rpl_check.specs.inside.Ranks.{Falls, rank_of};
@@ -37,8 +39,8 @@ fn add_callee(calls: &mut [Vec<u32>], those: &[u32], place: u32) -> Result<(), N
     Ok(())
 }
 
-/// A walk up from callee to caller: which places were met, those on the way and how many of their callers were tried,
-/// and those that were left, each after all that were first met from it.
+/// A walk up from callee to caller: which places were met, those on the way and how many of their
+/// callers were tried, and those that were left, each after all that were first met from it.
 #[derive(Drop)]
 struct Walk {
     met: Vec<bool>,
@@ -149,7 +151,8 @@ fn give_each(
     Ok(())
 }
 
-/// The ranks of places by their callers: those of one ring have one rank, and each other calls lower ones alone.
+/// The ranks of places by their callers: those of one ring have one rank, and each other calls
+/// lower ones alone.
 pub(crate) fn ranks(alloc: Global, callers: &[Vec<u32>]) -> Result<Vec<u32>, NoMemory> {
     let calls = calls_of(alloc, callers)?;
     let order = left_in_order(alloc, callers)?;
@@ -214,7 +217,8 @@ impl Block<'_> {
         requires inside { place < self.now.end - self.now.start }
         ensures { IfOk result (λ b. b ≡ true → (t : ℕ) →
             calls_at (empty_in self.now) (table_of self.now) (self.now.start + place) t ≡ true →
-            rank_of self.now.start ranks.now t ≤ rank_of self.now.start ranks.now (self.now.start + place)) }
+            rank_of self.now.start ranks.now t
+            ≤ rank_of self.now.start ranks.now (self.now.start + place)) }
     {
         let highest = self.highest_call(alloc, ranks, place)?;
         Ok(highest <= self.rank(ranks, self.start + place))
@@ -244,7 +248,8 @@ impl Block<'_> {
     ) -> Result<(), NoMemory>
         requires block { Stands self.now }
         requires inside { place < self.now.end - self.now.start }
-        requires falls { Falls (table_of self.now) (empty_in self.now) self.now.start self.now.end ranks.now }
+        requires falls { Falls (table_of self.now) (empty_in self.now) self.now.start self.now.end
+            ranks.now }
         requires long { IsLong self.now clean.old }
         requires clean { AreClean (table_of self.now) (empty_in self.now) self.now.start clean.old }
         ensures long { IsLong self.now clean.new }
@@ -260,7 +265,8 @@ impl Block<'_> {
         Ok(())
     }
 
-    /// Marks each rule of the block that calls only rules of lower ranks, if no call is of a higher one.
+    /// Marks each rule of the block that calls only rules of lower ranks, if no call is of a higher
+    /// one.
     pub(crate) fn mark_alone(
         &self,
         alloc: Global,

@@ -1,12 +1,15 @@
 // Which rules of a block reach themselves before a character is taken.
-ghost use Rattle.std.specs.Prelude.{◌≡◌, ℕ, ◌-◌, ◌<◌, ◌≤◌, ◌^◌, Bool, false, true, nat_eq, length, IfOk, OnOk, ◌+◌};
+ghost use Rattle.std.specs.Prelude.{◌≡◌, ℕ, ◌-◌, ◌<◌, ◌≤◌, ◌^◌, Bool, false, true, nat_eq, length};
+ghost use Rattle.std.specs.Prelude.{IfOk, OnOk, ◌+◌};
 ghost use Rattle.rpl_core.specs.View.{core_of, cores};
 ghost use Rattle.rpl_compile_laws.specs.Static as E;
-ghost use Rattle.rpl_check.specs.Facts.{Follows, IsLeast, any_calls_here, calls_at, calls_here, front_calls_here};
+ghost use Rattle.rpl_check.specs.Facts.{Follows, IsLeast, any_calls_here, calls_at, calls_here};
+ghost use Rattle.rpl_check.specs.Facts.{front_calls_here};
 ghost use Rattle.rpl_check.specs.Blocks as B;
 ghost use Rattle.rpl_core.specs.inside.Marks.{marked};
 ghost use Rattle.rpl_check.specs.inside.Rounds.{OverReach};
-ghost use Rattle.rpl_check.specs.inside.Search.{AreClean, AreLeft, AreReached, Finds, Lists, ReachRule, marked_from};
+ghost use Rattle.rpl_check.specs.inside.Search.{AreClean, AreLeft, AreReached, Finds, Lists};
+ghost use Rattle.rpl_check.specs.inside.Search.{ReachRule, marked_from};
 ghost use Rattle.rpl_check.specs.inside.Search.{clean_all, clean_core, clean_each, within_or_none};
 
 use crate::NoMemory;
@@ -26,10 +29,12 @@ fn is_clean(clean: &[bool], start: u32, rule: u32) -> bool
     }
 }
 
-/// Whether the pattern may be empty, where each rule that it may call before a character is clean; else nothing.
+/// Whether the pattern may be empty, where each rule that it may call before a character is clean;
+/// else nothing.
 #[cycle(front)]
 fn clean_front(peg: &Peg, empties: &[bool], clean: &[bool], start: u32) -> Option<bool>
-    ensures { result ≡ clean_core (marked empties.now) (marked_from start clean.now) (core_of peg.now) }
+    ensures { result ≡ clean_core (marked empties.now) (marked_from start clean.now)
+        (core_of peg.now) }
 {
     match peg {
         Peg::Set(_) | Peg::Halt => Some(false),
@@ -62,7 +67,8 @@ fn stays(body: Option<bool>) -> Option<bool>
 /// That of parts in turn.
 #[cycle(front)]
 fn clean_front_in_turn(parts: &[Peg], empties: &[bool], clean: &[bool], start: u32) -> Option<bool>
-    ensures { result ≡ clean_all (marked empties.now) (marked_from start clean.now) (cores parts.now) }
+    ensures { result ≡ clean_all (marked empties.now) (marked_from start clean.now)
+        (cores parts.now) }
 {
     for part in parts {
         match clean_front(part, empties, clean, start) {
@@ -77,7 +83,8 @@ fn clean_front_in_turn(parts: &[Peg], empties: &[bool], clean: &[bool], start: u
 /// That of a choice of the parts.
 #[cycle(front)]
 fn clean_front_of_each(parts: &[Peg], empties: &[bool], clean: &[bool], start: u32) -> Option<bool>
-    ensures { result ≡ clean_each (marked empties.now) (marked_from start clean.now) (cores parts.now) }
+    ensures { result ≡ clean_each (marked empties.now) (marked_from start clean.now)
+        (cores parts.now) }
 {
     let mut any = false;
     for part in parts {
@@ -89,7 +96,8 @@ fn clean_front_of_each(parts: &[Peg], empties: &[bool], clean: &[bool], start: u
     Some(any)
 }
 
-/// The rules of a block that were found, and those of them whose bodies weren't looked at. The block begins at `start`.
+/// The rules of a block that were found, and those of them whose bodies weren't looked at. The
+/// block begins at `start`.
 #[derive(Drop)]
 struct BlockSearch {
     start: u32,
@@ -117,7 +125,8 @@ impl BlockSearch {
 /// Finds the rules that the pattern may call before a character, and tells whether it may be empty.
 #[cycle(find)]
 fn find_calls(search: &mut BlockSearch, peg: &Peg, empties: &[bool]) -> Result<bool, NoMemory>
-    ensures finds { OnOk result (Finds (calls_here (marked empties.now) (core_of peg.now)) search.old search.new) }
+    ensures finds { OnOk result (Finds (calls_here (marked empties.now) (core_of peg.now))
+        search.old search.new) }
     ensures empty { IfOk result (λ b. b ≡ E.may_be_empty (marked empties.now) (core_of peg.now)) }
 {
     match peg {
@@ -158,7 +167,8 @@ fn find_front_calls(
 ) -> Result<bool, NoMemory>
     ensures finds { OnOk result
         (Finds (front_calls_here (marked empties.now) (cores parts.now)) search.old search.new) }
-    ensures empty { IfOk result (λ b. b ≡ E.all_may_be_empty (marked empties.now) (cores parts.now)) }
+    ensures empty { IfOk result (λ b. b ≡ E.all_may_be_empty (marked empties.now)
+        (cores parts.now)) }
 {
     for part in parts {
         if !find_calls(search, part, empties)? {
@@ -175,8 +185,10 @@ fn find_all_calls(
     parts: &[Peg],
     empties: &[bool],
 ) -> Result<bool, NoMemory>
-    ensures finds { OnOk result (Finds (any_calls_here (marked empties.now) (cores parts.now)) search.old search.new) }
-    ensures empty { IfOk result (λ b. b ≡ E.any_may_be_empty (marked empties.now) (cores parts.now)) }
+    ensures finds { OnOk result (Finds (any_calls_here (marked empties.now) (cores parts.now))
+        search.old search.new) }
+    ensures empty { IfOk result (λ b. b ≡ E.any_may_be_empty (marked empties.now)
+        (cores parts.now)) }
 {
     let mut any = false;
     for part in parts {
@@ -226,8 +238,10 @@ fn list_calls(list: &mut Vec<u32>, peg: &Peg, empties: &[bool]) -> Result<bool, 
 #[cycle(list)]
 fn list_front_calls(list: &mut Vec<u32>, parts: &[Peg], empties: &[bool]) -> Result<bool, NoMemory>
     ensures lists { OnOk result
-        (Lists (front_calls_here (marked empties.now) (cores parts.now)) list.old.items list.new.items) }
-    ensures empty { IfOk result (λ b. b ≡ E.all_may_be_empty (marked empties.now) (cores parts.now)) }
+        (Lists (front_calls_here (marked empties.now) (cores parts.now)) list.old.items
+        list.new.items) }
+    ensures empty { IfOk result (λ b. b ≡ E.all_may_be_empty (marked empties.now)
+        (cores parts.now)) }
 {
     for part in parts {
         if !list_calls(list, part, empties)? {
@@ -241,8 +255,10 @@ fn list_front_calls(list: &mut Vec<u32>, parts: &[Peg], empties: &[bool]) -> Res
 #[cycle(list)]
 fn list_all_calls(list: &mut Vec<u32>, parts: &[Peg], empties: &[bool]) -> Result<bool, NoMemory>
     ensures lists { OnOk result
-        (Lists (any_calls_here (marked empties.now) (cores parts.now)) list.old.items list.new.items) }
-    ensures empty { IfOk result (λ b. b ≡ E.any_may_be_empty (marked empties.now) (cores parts.now)) }
+        (Lists (any_calls_here (marked empties.now) (cores parts.now)) list.old.items
+        list.new.items) }
+    ensures empty { IfOk result (λ b. b ≡ E.any_may_be_empty (marked empties.now)
+        (cores parts.now)) }
 {
     let mut any = false;
     for part in parts {
@@ -252,8 +268,8 @@ fn list_all_calls(list: &mut Vec<u32>, parts: &[Peg], empties: &[bool]) -> Resul
     Ok(any)
 }
 
-/// Which rules of a block wait for which: for each place the places of those that call it, and how many calls of each
-/// are to come.
+/// Which rules of a block wait for which: for each place the places of those that call it, and how
+/// many calls of each are to come.
 #[derive(Drop)]
 struct Turns {
     callers: Vec<Vec<u32>>,
@@ -263,7 +279,8 @@ struct Turns {
 impl Turns {
     /// No rule waits.
     fn new(alloc: Global, count: u32) -> Result<Turns, NoMemory>
-        ensures { IfOk result (λ t. (length t.callers.items ≡ count) × (length t.needs.items ≡ count)) }
+        ensures { IfOk result (λ t. (length t.callers.items ≡ count) ×
+            (length t.needs.items ≡ count)) }
     {
         let mut callers = Vec::new(alloc);
         for _ in 0..count {
@@ -287,7 +304,8 @@ impl Turns {
         Ok(())
     }
 
-    /// Lists places so that each stands after those that it calls, as far as there is such an order.
+    /// Lists places so that each stands after those that it calls, as far as there is such an
+    /// order.
     fn order(&mut self, alloc: Global) -> Result<Vec<u32>, NoMemory> {
         let mut order = Vec::new(alloc);
         let mut place: u32 = 0;
@@ -335,7 +353,8 @@ fn release(
     Ok(())
 }
 
-/// A block of the table: its rules from `start` on and before `end`, and which rules of the table may be empty.
+/// A block of the table: its rules from `start` on and before `end`, and which rules of the table
+/// may be empty.
 #[derive(Clone, Copy)]
 pub(crate) struct Block<'a> {
     pub(crate) rules: &'a Rules,
@@ -350,7 +369,8 @@ impl Block<'_> {
     /// Finds the calls of the rule with this number, if there is one.
     fn find_calls_of(&self, search: &mut BlockSearch, number: u32) -> Result<(), NoMemory>
         ensures { OnOk result
-            (Finds (calls_at (empty_in self.now) (table_of self.now) number) search.old search.new) }
+            (Finds (calls_at (empty_in self.now) (table_of self.now) number) search.old
+            search.new) }
     {
         if let Some(rule) = self.rules.get(number) {
             find_calls(search, &rule.body, self.empties)?;
@@ -373,17 +393,20 @@ impl Block<'_> {
         }
     }
 
-    /// Marks a rule that the rule `number` reaches, if it calls one that reaches `number`: such a rule reaches itself.
-    /// Those that don't reach `number`, as far as is known, are `away`.
+    /// Marks a rule that the rule `number` reaches, if it calls one that reaches `number`: such a
+    /// rule reaches itself. Those that don't reach `number`, as far as is known, are `away`.
     fn mark_caller(&self, number: u32, rule: u32, away: &mut [bool], left: &mut [bool])
         requires block { Stands self.now }
         requires within { (self.now.start ≤ rule) × (rule < self.now.end) }
         requires away_long { IsLong self.now away.old }
         requires left_long { IsLong self.now left.old }
-        requires reached { OverReach (table_of self.now) (empty_in self.now) (λ reach. reach number rule ≡ true) }
-        requires away { ReachRule (table_of self.now) (empty_in self.now) self.now.start number away.old }
+        requires reached { OverReach (table_of self.now) (empty_in self.now)
+            (λ reach. reach number rule ≡ true) }
+        requires away { ReachRule (table_of self.now) (empty_in self.now) self.now.start number
+            away.old }
         requires left { AreLeft (table_of self.now) (empty_in self.now) self.now.start left.old }
-        ensures away { ReachRule (table_of self.now) (empty_in self.now) self.now.start number away.new }
+        ensures away { ReachRule (table_of self.now) (empty_in self.now) self.now.start number
+            away.new }
         ensures left { AreLeft (table_of self.now) (empty_in self.now) self.now.start left.new }
     {
         if self.calls_clean(rule, away) {
@@ -399,9 +422,11 @@ impl Block<'_> {
         requires block { Stands self.now }
         requires away_long { IsLong self.now away.old }
         requires left_long { IsLong self.now left.old }
-        requires looked { AreReached (table_of self.now) (empty_in self.now) number self.now.start self.now.end
+        requires looked { AreReached (table_of self.now) (empty_in self.now) number self.now.start
+            self.now.end
             looked.now }
-        requires away { ReachRule (table_of self.now) (empty_in self.now) self.now.start number away.old }
+        requires away { ReachRule (table_of self.now) (empty_in self.now) self.now.start number
+            away.old }
         requires left { AreLeft (table_of self.now) (empty_in self.now) self.now.start left.old }
         ensures { AreLeft (table_of self.now) (empty_in self.now) self.now.start left.new }
     {
@@ -412,8 +437,9 @@ impl Block<'_> {
         }
     }
 
-    /// Marks rules that reach themselves, where `number` does: of those that it reaches, each that calls it or calls
-    /// another that was marked, the last that was looked at first. So a ring of rules is marked whole.
+    /// Marks rules that reach themselves, where `number` does: of those that it reaches, each that
+    /// calls it or calls another that was marked, the last that was looked at first. So a ring of
+    /// rules is marked whole.
     fn mark_ring(
         &self,
         alloc: Global,
@@ -423,8 +449,10 @@ impl Block<'_> {
     ) -> Result<(), NoMemory>
         requires block { Stands self.now }
         requires within { (self.now.start ≤ number) × (number < self.now.end) }
-        requires itself { OverReach (table_of self.now) (empty_in self.now) (λ reach. reach number number ≡ true) }
-        requires looked { AreReached (table_of self.now) (empty_in self.now) number self.now.start self.now.end
+        requires itself { OverReach (table_of self.now) (empty_in self.now)
+            (λ reach. reach number number ≡ true) }
+        requires looked { AreReached (table_of self.now) (empty_in self.now) number self.now.start
+            self.now.end
             looked.now }
         requires long { IsLong self.now left.old }
         requires left { AreLeft (table_of self.now) (empty_in self.now) self.now.start left.old }
@@ -436,8 +464,8 @@ impl Block<'_> {
         Ok(())
     }
 
-    /// The rule reaches itself before a character: its calls are followed through the block. Where it does, others that
-    /// are found to reach themselves on the way are marked.
+    /// The rule reaches itself before a character: its calls are followed through the block. Where
+    /// it does, others that are found to reach themselves on the way are marked.
     fn reaches_itself(
         &self,
         alloc: Global,
@@ -470,7 +498,8 @@ impl Block<'_> {
         Ok(true)
     }
 
-    /// Marks the rule at this place of the block, if it calls only marked rules and earlier blocks before a character.
+    /// Marks the rule at this place of the block, if it calls only marked rules and earlier blocks
+    /// before a character.
     fn mark_if_clean(&self, place: u32, clean: &mut [bool])
         requires block { Stands self.now }
         requires long { IsLong self.now clean.old }
@@ -486,8 +515,8 @@ impl Block<'_> {
         }
     }
 
-    /// Marks rules of a block that don't reach themselves, without a search: those of the list in turn. Where each
-    /// stands after those that it calls, all of the list are marked.
+    /// Marks rules of a block that don't reach themselves, without a search: those of the list in
+    /// turn. Where each stands after those that it calls, all of the list are marked.
     fn mark_in_turn(&self, order: &[u32], clean: &mut [bool])
         requires block { Stands self.now }
         requires long { IsLong self.now clean.old }
@@ -505,7 +534,8 @@ impl Block<'_> {
         requires block { Stands self.now }
         requires inside { place < self.now.end - self.now.start }
         ensures { OnOk result
-            (Lists (calls_at (empty_in self.now) (table_of self.now) (self.now.start + place)) list.old.items
+            (Lists (calls_at (empty_in self.now) (table_of self.now) (self.now.start + place))
+            list.old.items
             list.new.items) }
     {
         if let Some(rule) = self.rules.get(self.start + place) {
@@ -540,7 +570,8 @@ impl Block<'_> {
         Ok(turns)
     }
 
-    /// A list of such marks. Where the order has all rules, none is on a ring, and no ranks are asked for.
+    /// A list of such marks. Where the order has all rules, none is on a ring, and no ranks are
+    /// asked for.
     fn clean_rules(&self, alloc: Global) -> Result<Vec<bool>, NoMemory>
         requires { Stands self.now }
         ensures long { IfOk result (λ v. IsLong self.now v.items) }
@@ -559,7 +590,8 @@ impl Block<'_> {
         Ok(clean)
     }
 
-    /// The rule reaches itself before a character. One that is clean doesn't, and one that is marked does.
+    /// The rule reaches itself before a character. One that is clean doesn't, and one that is
+    /// marked does.
     fn is_left_recursive(
         &self,
         alloc: Global,
@@ -587,7 +619,8 @@ impl Block<'_> {
         self.reaches_itself(alloc, number, left)
     }
 
-    /// Lists the rules of a block that reach themselves, where the clean ones are marked, and marks them.
+    /// Lists the rules of a block that reach themselves, where the clean ones are marked, and marks
+    /// them.
     fn list_selves(
         &self,
         alloc: Global,
@@ -600,7 +633,8 @@ impl Block<'_> {
         requires left_long { IsLong self.now left.old }
         requires left { AreLeft (table_of self.now) (empty_in self.now) self.now.start left.old }
         ensures { OverReach (table_of self.now) (empty_in self.now) (λ reach.
-            IfOk result (λ v. v.items ≡ B.selves reach self.now.start (self.now.end - self.now.start))) }
+            IfOk result (λ v. v.items ≡ B.selves reach self.now.start
+            (self.now.end - self.now.start))) }
     {
         let mut list = Vec::new(alloc);
         for number in self.start..self.end {
@@ -615,7 +649,8 @@ impl Block<'_> {
     pub(crate) fn selves(&self, alloc: Global) -> Result<Vec<u32>, NoMemory>
         requires { Stands self.now }
         ensures { OverReach (table_of self.now) (empty_in self.now) (λ reach.
-            IfOk result (λ v. v.items ≡ B.selves reach self.now.start (self.now.end - self.now.start))) }
+            IfOk result (λ v. v.items ≡ B.selves reach self.now.start
+            (self.now.end - self.now.start))) }
     {
         let clean = self.clean_rules(alloc)?;
         let mut left = vec![in alloc; false; (self.end - self.start) as usize]?;

@@ -4,7 +4,8 @@ ghost use Rattle.rpl_core.specs.Listed.{blocks_in, bodies_in, rules_of};
 ghost use Rattle.rpl_check.specs.Facts.{IsLeast, Solves, passes};
 ghost use Rattle.rpl_core.specs.inside.Marks.{count, marked};
 ghost use Rattle.rpl_core.specs.Order.{IsInOrder, block_at};
-ghost use Rattle.rpl_check.specs.inside.Rounds.{AreKnown, CallsBefore, Grows, IsSettled, IsUnder, test_of};
+ghost use Rattle.rpl_check.specs.inside.Rounds.{AreKnown, CallsBefore, Grows, IsSettled, IsUnder};
+ghost use Rattle.rpl_check.specs.inside.Rounds.{test_of};
 
 use crate::NoMemory;
 use crate::facts::{Fact, rule_holds};
@@ -16,7 +17,8 @@ use std::alloc::Global;
 fn is_new(rules: &Rules, number: u32, fact: Fact, marks: &[bool]) -> bool
     requires { number < length marks.now }
     ensures new { result ≡ true → (marked marks.now number ≡ false)
-        × (passes (test_of fact (marked marks.now)) (slice_get (bodies_in rules.now) number) ≡ true) }
+        × (passes (test_of fact (marked marks.now)) (slice_get (bodies_in rules.now) number)
+        ≡ true) }
     ensures old { result ≡ false →
         passes (test_of fact (marked marks.now)) (slice_get (bodies_in rules.now) number) ≡ true →
         marked marks.now number ≡ true }
@@ -82,7 +84,8 @@ fn mark_in_turn(rules: &Rules, start: u32, end: u32, order: &[u32], fact: Fact, 
     }
 }
 
-/// Marks rules of a block that have the fact, each after those by which it has it. A rule alone needs no order.
+/// Marks rules of a block that have the fact, each after those by which it has it. A rule alone
+/// needs no order.
 fn mark_most(
     alloc: Global,
     rules: &Rules,
@@ -104,8 +107,8 @@ fn mark_most(
     Ok(())
 }
 
-/// Marks the rules of a block that have the fact: in turn, and then by rounds until one marks nothing, as the first
-/// does.
+/// Marks the rules of a block that have the fact: in turn, and then by rounds until one marks
+/// nothing, as the first does.
 fn close(
     alloc: Global,
     rules: &Rules,
@@ -129,7 +132,8 @@ fn close_all(alloc: Global, rules: &Rules, fact: Fact, marks: &mut [bool]) -> Re
     requires order { IsInOrder (bodies_in rules.now) (blocks_in rules.now) }
     requires long { length marks.old ≡ length (rules_of rules.now) }
     requires none { (r : ℕ) → marked marks.old r ≡ false }
-    ensures { OnOk result (IsLeast (Solves (test_of fact) (bodies_in rules.now)) (marked marks.new)) }
+    ensures { OnOk result (IsLeast (Solves (test_of fact) (bodies_in rules.now))
+        (marked marks.new)) }
 {
     let mut start = 0;
     for number in 0..rules.len() as u32 {
@@ -145,7 +149,8 @@ fn close_all(alloc: Global, rules: &Rules, fact: Fact, marks: &mut [bool]) -> Re
 /// The marks of all rules that have the fact.
 pub(crate) fn work_out(alloc: Global, rules: &Rules, fact: Fact) -> Result<Vec<bool>, NoMemory>
     requires { IsInOrder (bodies_in rules.now) (blocks_in rules.now) }
-    ensures { IfOk result (λ marks. IsLeast (Solves (test_of fact) (bodies_in rules.now)) (marked marks.items)) }
+    ensures { IfOk result (λ marks. IsLeast (Solves (test_of fact) (bodies_in rules.now))
+        (marked marks.items)) }
 {
     let mut marks = vec![in alloc; false; rules.len()]?;
     close_all(alloc, rules, fact, &mut marks)?;

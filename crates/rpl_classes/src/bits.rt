@@ -29,7 +29,8 @@ pub(crate) fn bits_in(range: ClassRange, start: u32) -> u64
     }
 }
 
-/// The bits of the 64 members from `start` on. It looks at no range after the first that starts after them.
+/// The bits of the 64 members from `start` on. It looks at no range after the first that starts
+/// after them.
 pub(crate) fn bitmap(class: &Class, start: u32) -> u64
     requires { start ≤ 64 }
     ensures { IsBitmap start class.now.ranges.items result }

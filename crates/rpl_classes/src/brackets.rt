@@ -1,5 +1,6 @@
 // Brackets: classes, compounds and lists.
-ghost use Rattle.std.specs.Prelude.{◌≡◌, ◌+◌, ◌≤◌, slice_range, false, chars, if◌then◌else◌, MatchOption, IfOk};
+ghost use Rattle.std.specs.Prelude.{◌≡◌, ◌+◌, ◌≤◌, slice_range, false, chars, if◌then◌else◌};
+ghost use Rattle.std.specs.Prelude.{MatchOption, IfOk};
 ghost use Rattle.rpl_text.specs.Places.{index, IsPlace};
 ghost use Rattle.rpl_classes.specs.Symbols.{symbols_from};
 ghost use Rattle.rpl_classes.specs.Algebra.{others};
@@ -34,7 +35,8 @@ struct ClassText {
 fn name_at(text: &str, start: usize) -> Option<(usize, usize)>
     requires { IsPlace (chars text.now) start }
     ensures { let t = chars text.now in
-        MatchOption result (is_name (symbols_from t start) ≡ false) (λ r. NameFound t start r.0 r.1) }
+        MatchOption result (is_name (symbols_from t start) ≡ false)
+        (λ r. NameFound t start r.0 r.1) }
 {
     let end = skip_word(text, start);
     if end == start {
@@ -69,7 +71,8 @@ fn part(text: &str, from: usize, to: usize) -> &str
     requires from { IsPlace (chars text.now) from }
     requires to { IsPlace (chars text.now) to }
     requires order { from ≤ to }
-    ensures { let t = chars text.now in chars result.now ≡ slice_range t (index t from) (index t to) }
+    ensures { let t = chars text.now in chars result.now
+        ≡ slice_range t (index t from) (index t to) }
 {
     Text::new(text).slice(from, to)
 }
@@ -83,7 +86,8 @@ fn class_set(
     found: ClassText,
 ) -> Result<Set, SetFault>
     requires { ClassFound (chars text.now) inside found.negated found.start found.end found.next }
-    ensures { Gives (chars text.now) (with_place result found.next) (class at (symbols_from (chars text.now) inside)) }
+    ensures { Gives (chars text.now) (with_place result found.next)
+        (class at (symbols_from (chars text.now) inside)) }
 {
     match Set::named(alloc, part(text, found.start, found.end)) {
         Ok(set) => {
@@ -120,7 +124,8 @@ pub(crate) enum Begun {
 /// What stands after a bracket's `[` and `^`: a list, or a compound up to its first member.
 fn content_at(alloc: Global, text: &str, negated: bool, place: usize) -> Result<Begun, SetFault>
     requires { IsPlace (chars text.now) place }
-    ensures value { let t = chars text.now in Begins t place (signed negated (content (symbols_from t place))) result }
+    ensures value { let t = chars text.now in Begins t place
+        (signed negated (content (symbols_from t place))) result }
     ensures mark { IfOk result (IsMarked negated) }
 {
     let start = skip_blanks(text, place);
@@ -134,7 +139,8 @@ fn content_at(alloc: Global, text: &str, negated: bool, place: usize) -> Result<
 /// The bracket at a place, up to its first member where it is a compound.
 pub(crate) fn begin_at(alloc: Global, text: &str, place: usize) -> Result<Begun, SetFault>
     requires { IsPlace (chars text.now) place }
-    ensures { let t = chars text.now in Begins t (place + 1) (reading (symbols_from t place)) result }
+    ensures { let t = chars text.now in Begins t (place + 1) (reading (symbols_from t place))
+        result }
 {
     let Some(inside) = accept(text, place, '[') else {
         return Err(SetFault::BadSet { at: place });

@@ -24,7 +24,8 @@ pub(crate) enum NamedClass {
 impl NamedClass {
     /// The class with this name.
     pub(crate) fn from_name(name: &str) -> Option<NamedClass>
-        ensures { MatchOption result ((k : NamedClass) → name_of k ≢ name.now) (λ k. name_of k ≡ name.now) }
+        ensures { MatchOption result ((k : NamedClass) →
+            name_of k ≢ name.now) (λ k. name_of k ≡ name.now) }
     {
         match name {
             "alpha" => Some(NamedClass::Alpha),

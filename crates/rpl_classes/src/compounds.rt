@@ -7,7 +7,8 @@ ghost use Rattle.rpl_classes.specs.Norm.{norm};
 ghost use Rattle.rpl_classes.specs.Symbols.{symbols_from};
 ghost use Rattle.rpl_classes.specs.inside.Scanned.{AcceptsTwice};
 ghost use Rattle.rpl_classes.specs.inside.Operators.{OperatorAt};
-ghost use Rattle.rpl_classes.specs.inside.Stack.{left_set, joined_by, opened, framed, resume, Steps};
+ghost use Rattle.rpl_classes.specs.inside.Stack.{left_set, joined_by, opened, framed, resume};
+ghost use Rattle.rpl_classes.specs.inside.Stack.{Steps};
 ghost use Rattle.rpl_classes.specs.inside.Stack.{GoesBehind, GivesSet};
 
 use crate::NoMemory;
@@ -163,7 +164,8 @@ fn step_from(
     at: usize,
 ) -> Result<Step, SetFault>
     requires { IsPlace (chars text.now) at }
-    ensures { let t = chars text.now in Steps t at (framed compound (Ok (set, symbols_from t at))) result }
+    ensures { let t = chars text.now in Steps t at (framed compound (Ok (set, symbols_from t at)))
+        result }
 {
     let Open {
         negated,
@@ -205,8 +207,8 @@ pub(crate) enum Next {
     End(Set),
 }
 
-/// What follows a bracket whose set and end these are, in the last of the open compounds. Those that end here are
-/// closed.
+/// What follows a bracket whose set and end these are, in the last of the open compounds. Those
+/// that end here are closed.
 fn go_on(
     alloc: Global,
     text: &str,
@@ -215,7 +217,8 @@ fn go_on(
     end: usize,
 ) -> Result<Next, SetFault>
     requires { IsPlace (chars text.now) end }
-    ensures { let t = chars text.now in let whole = resume stack.old.items (Ok (set, symbols_from t end)) in
+    ensures { let t = chars text.now in let whole = resume stack.old.items
+        (Ok (set, symbols_from t end)) in
         GoesBehind t end whole stack.new.items result }
 {
     let mut set = set;

@@ -1,7 +1,8 @@
 // What holds of all sets and of all brackets.
 ghost use Rattle.rpl_classes.specs.Laws.{OneList, ReadsInItsOwnWords};
 
-/// Sets with the same members are the same list, and that list is sorted and joined, and holds only characters.
+/// Sets with the same members are the same list, and that list is sorted and joined, and holds only
+/// characters.
 pub fn one_list()
     ensures { OneList }
 {}

@@ -3,8 +3,9 @@
 //! For the parser, which reads brackets, and for all that carry sets down to the machine, which
 //! asks `Set::has` once a character. A set is seen as its list of ranges, which rise, don't touch
 //! and hold no surrogates, so sets with the same members are the same list. Each call promises
-//! exactly its members, `Set::named` those of a class of the POSIX C locale or of a name of Unicode,
-//! and `read_bracket` the set or the first fault with its place; besides, only memory can run out.
+//! exactly its members, `Set::named` those of a class of the POSIX C locale or of a name of
+//! Unicode, and `read_bracket` the set or the first fault with its place; besides, only memory can
+//! run out.
 #![tactic(auto)]
 
 mod bits;

@@ -94,7 +94,8 @@ fn list_step(text: &str, at: usize, is_first: bool) -> Result<(Option<char>, usi
 /// Any other list at a place, with its `]`: its characters one by one.
 fn each_at(alloc: Global, text: &str, place: usize) -> Result<(Set, usize), SetFault>
     requires { IsPlace (chars text.now) place }
-    ensures value { Gives (chars text.now) result (changed norm (each true (symbols_from (chars text.now) place))) }
+    ensures value { Gives (chars text.now) result
+        (changed norm (each true (symbols_from (chars text.now) place))) }
     ensures place { Ends (chars text.now) place result }
 {
     let mut ranges = Vec::new(alloc);

@@ -1,5 +1,7 @@
-// A set of characters: its ranges, which its copies share, and two masks for the test of an ASCII character.
-ghost use Rattle.std.specs.Prelude.{◌≡◌, ℕ, ◌≤◌, ◌||◌, ◌&&◌, ◌↔◌, [], ◌∷◌, ◌++◌, not, nat_eq, nat_le, IfOk};
+// A set of characters: its ranges, which its copies share, and two masks for the test of an ASCII
+// character.
+ghost use Rattle.std.specs.Prelude.{◌≡◌, ℕ, ◌≤◌, ◌||◌, ◌&&◌, ◌↔◌, [], ◌∷◌, ◌++◌, not, nat_eq};
+ghost use Rattle.std.specs.Prelude.{nat_le, IfOk};
 ghost use Rattle.std.specs.Prelude.{IfSome, OnOk, IsTrue, chars, true, false};
 ghost use Rattle.std.specs.Option.{option_map};
 ghost use Rattle.regex_class.specs.Ranges.{in_ranges};
@@ -8,7 +10,8 @@ ghost use Rattle.rpl_unicode.specs.Named.{members};
 ghost use Rattle.rpl_unicode.specs.Folding.{folds_with};
 ghost use Rattle.rpl_classes.specs.Sets.{IsNormal, HasJust};
 ghost use Rattle.rpl_classes.specs.Norm.{norm};
-ghost use Rattle.rpl_classes.specs.Algebra.{both, others, without, set_of, other_case, widened, folded};
+ghost use Rattle.rpl_classes.specs.Algebra.{both, others, without, set_of, other_case, widened};
+ghost use Rattle.rpl_classes.specs.Algebra.{folded};
 ghost use Rattle.rpl_classes.specs.Classes.{test_named, set_named};
 ghost use Rattle.rpl_classes.specs.Faults.{IsNamed};
 
@@ -33,8 +36,8 @@ enum Ranges {
 
 /// A set of characters.
 ///
-/// Contracts see it as its list of ranges, in numbers of characters with both ends. The ranges of a set and of its
-/// copies stand in memory once, where they are several.
+/// Contracts see it as its list of ranges, in numbers of characters with both ends. The ranges of a
+/// set and of its copies stand in memory once, where they are several.
 #[derive(Debug, Drop)]
 pub struct Set {
     ranges: Ranges,
@@ -110,7 +113,8 @@ fn unicode_set(alloc: Global, name: &str) -> Result<Set, SetFault>
 /// Adds one number, where the test says so.
 fn push_where(ranges: &mut Vec<ClassRange>, number: u32, test: bool) -> Result<(), NoMemory>
     ensures { OnOk result ((c : ℕ) →
-        in_ranges ranges.new.items c ≡ (in_ranges ranges.old.items c || (test && nat_eq c number))) }
+        in_ranges ranges.new.items c
+        ≡ (in_ranges ranges.old.items c || (test && nat_eq c number))) }
 {
     if test {
         ranges.push((number, number))?;
@@ -121,7 +125,8 @@ fn push_where(ranges: &mut Vec<ClassRange>, number: u32, test: bool) -> Result<(
 /// The ranges of a class, and the other case of each ASCII letter in it.
 fn with_cases(alloc: Global, class: &Class) -> Result<Vec<ClassRange>, NoMemory>
     ensures { let own = class.now.ranges.items in
-        IfOk result (λ v. (c : ℕ) → in_ranges v.items c ≡ (in_ranges own c || in_ranges own (other_case c))) }
+        IfOk result (λ v. (c : ℕ) →
+        in_ranges v.items c ≡ (in_ranges own c || in_ranges own (other_case c))) }
 {
     let mut ranges = Vec::from_slice(alloc, &class.ranges)?;
     for k in 0..26 {
@@ -192,9 +197,10 @@ impl Set {
         Set::from_ranges(alloc, &[(low, high)])
     }
 
-    /// The characters that a name stands for: a class of the POSIX C locale by its own name, spelled exactly so, or
-    /// else a binary property, a general category or a script of Unicode by its long or short name, in any case and
-    /// with any `_`. UnknownClass, with the place 0, exactly where the name stands for neither.
+    /// The characters that a name stands for: a class of the POSIX C locale by its own name,
+    /// spelled exactly so, or else a binary property, a general category or a script of Unicode by
+    /// its long or short name, in any case and with any `_`. UnknownClass, with the place 0,
+    /// exactly where the name stands for neither.
     pub fn named(alloc: Global, name: &str) -> Result<Set, SetFault>
         ensures value { IsNamed (set_named (chars name.now)) result }
         ensures normal { IfOk result IsNormal }
@@ -210,7 +216,8 @@ impl Set {
     pub fn union(&self, alloc: Global, other: &Set) -> Result<Set, NoMemory>
         ensures ranges { IfOk result (λ s. s ≡ norm (self.now ++ other.now)) }
         ensures normal { IfOk result IsNormal }
-        ensures members { IfOk result (λ s. HasJust s (λ c. in_ranges self.now c || in_ranges other.now c)) }
+        ensures members { IfOk result (λ s. HasJust s
+            (λ c. in_ranges self.now c || in_ranges other.now c)) }
     {
         let mut ranges = Vec::from_slice(alloc, self.as_slice())?;
         ranges.extend_from_slice(other.as_slice())?;
@@ -231,7 +238,8 @@ impl Set {
     pub fn without(&self, alloc: Global, other: &Set) -> Result<Set, NoMemory>
         ensures ranges { IfOk result (λ s. s ≡ without self.now other.now) }
         ensures normal { IfOk result IsNormal }
-        ensures members { IfOk result (λ s. HasJust s (λ c. in_ranges self.now c && not (in_ranges other.now c))) }
+        ensures members { IfOk result (λ s. HasJust s
+            (λ c. in_ranges self.now c && not (in_ranges other.now c))) }
     {
         let own = self.class(alloc)?;
         let others = other.class(alloc)?;
@@ -242,7 +250,8 @@ impl Set {
     pub fn both(&self, alloc: Global, other: &Set) -> Result<Set, NoMemory>
         ensures ranges { IfOk result (λ s. s ≡ both self.now other.now) }
         ensures normal { IfOk result IsNormal }
-        ensures members { IfOk result (λ s. HasJust s (λ c. in_ranges self.now c && in_ranges other.now c)) }
+        ensures members { IfOk result (λ s. HasJust s
+            (λ c. in_ranges self.now c && in_ranges other.now c)) }
     {
         let own = self.class(alloc)?;
         let others = other.class(alloc)?;
@@ -261,8 +270,8 @@ impl Set {
         sealed(alloc, Class::new(ranges)?)
     }
 
-    /// The set with all characters that share a simple folding with one in it, in any script. One character stands
-    /// for one: foldings to several characters are left out.
+    /// The set with all characters that share a simple folding with one in it, in any script. One
+    /// character stands for one: foldings to several characters are left out.
     pub fn fold(&self, alloc: Global) -> Result<Set, NoMemory>
         ensures ranges { IfOk result (λ s. s ≡ folded self.now) }
         ensures normal { IfOk result IsNormal }
@@ -319,7 +328,8 @@ impl Set {
 
     /// The ASCII characters that are in this set and not in the other, as the bits of two words.
     pub fn ascii_without(&self, other: &Set) -> [u64; 2]
-        ensures { (c : ℕ) → IsMarked result c → (in_ranges self.now c ≡ true) × (in_ranges other.now c ≡ false) }
+        ensures { (c : ℕ) → IsMarked result c → (in_ranges self.now c ≡ true) ×
+            (in_ranges other.now c ≡ false) }
     {
         [
             but(self.masks[0], other.masks[0]),

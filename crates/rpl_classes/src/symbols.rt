@@ -75,7 +75,8 @@ fn is_blank(symbol: Symbol) -> bool
 /// The place after the spaces and tabs from a place on.
 pub(crate) fn skip_blanks(text: &str, place: usize) -> usize
     requires { IsPlace (chars text.now) place }
-    ensures { Skipped (chars text.now) place (past_blanks (symbols_from (chars text.now) place)) result }
+    ensures { Skipped (chars text.now) place (past_blanks (symbols_from (chars text.now) place))
+        result }
 {
     let mut at = place;
     loop {

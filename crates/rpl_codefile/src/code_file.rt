@@ -16,8 +16,8 @@ use rpl_intern::Draft;
 use rpl_safe::is_safe;
 use std::alloc::Global;
 
-/// The one spelling of the program's code: it has each set and each text that the code uses once, in the order of
-/// their first uses, whatever tables the program has.
+/// The one spelling of the program's code: it has each set and each text that the code uses once,
+/// in the order of their first uses, whatever tables the program has.
 pub fn write_code(alloc: Global, program: &Program) -> Result<Bytes, NoMemory>
     requires some { 0 < length (code_of program.now) }
     requires limit { length (code_of program.now) ≤ 1048576 }
@@ -59,8 +59,8 @@ fn read_spelled(alloc: Global, bytes: &[u8]) -> Result<Program, CodeFault>
     }
 }
 
-/// The program of a code file. `NotCode` exactly where the bytes are the spelling of no code; `NotSafe` exactly where
-/// they are that of a code that isn't safe.
+/// The program of a code file. `NotCode` exactly where the bytes are the spelling of no code;
+/// `NotSafe` exactly where they are that of a code that isn't safe.
 ///
 /// # Examples
 ///

@@ -1,5 +1,7 @@
-// A program's code with numbers of its own, each set and each text once and in the order of their first uses.
-ghost use Rattle.std.specs.Prelude.{◌≡◌, [], ◌∷◌, ◌<◌, ◌≤◌, OnOk, IfOk, length, slice_index_or, true};
+// A program's code with numbers of its own, each set and each text once and in the order of their
+// first uses.
+ghost use Rattle.std.specs.Prelude.{◌≡◌, [], ◌∷◌, ◌<◌, ◌≤◌, OnOk, IfOk, length, slice_index_or};
+ghost use Rattle.std.specs.Prelude.{true};
 ghost use Rattle.rpl_core.specs.Numbers.{in_range, instr_of};
 ghost use Rattle.rpl_core.specs.Program.{code_of, instructions, labels_of, sets_of};
 ghost use Rattle.rpl_intern.specs.Written.{Adds};

@@ -1,10 +1,10 @@
-//! Code files: the spelling of a program's code as bytes, so that a pattern is compiled once and carried to where no
-//! packages are.
+//! Code files: the spelling of a program's code as bytes, so that a pattern is compiled once and
+//! carried to where no packages are.
 //!
-//! `write_code` gives a code's one spelling; `read_code` gives back the program, and refuses bytes that spell
-//! nothing, and code that isn't safe, exactly. So a file from a stranger can do nothing but match. Reading takes memory
-//! linear in the file, and time too, but for the order in which ranges, sets and texts are brought: a logarithm more,
-//! whatever the file holds.
+//! `write_code` gives a code's one spelling; `read_code` gives back the program, and refuses bytes
+//! that spell nothing, and code that isn't safe, exactly. So a file from a stranger can do nothing
+//! but match. Reading takes memory linear in the file, and time too, but for the order in which
+//! ranges, sets and texts are brought: a logarithm more, whatever the file holds.
 #![tactic(auto)]
 
 mod code_file;

@@ -1,9 +1,10 @@
-// Reading from left to right. What is no spelling may be read too: whoever reads writes what was read once more, and
-// compares.
+// Reading from left to right. What is no spelling may be read too: whoever reads writes what was
+// read once more, and compares.
 ghost use Rattle.std.specs.Prelude.{◌≡◌};
 ghost use Rattle.std.specs.Int.{w32, w64};
 ghost use Rattle.rpl_codefile.specs.Spelling.{file_of};
-ghost use Rattle.rpl_codefile.specs.inside.Reading.{Gives, bare, file_at, instr_at, items_at, number_at, one_at};
+ghost use Rattle.rpl_codefile.specs.inside.Reading.{Gives, bare, file_at, instr_at, items_at};
+ghost use Rattle.rpl_codefile.specs.inside.Reading.{number_at, one_at};
 ghost use Rattle.rpl_codefile.specs.inside.Reading.{range_at, set_at, text_at, two_at, with_number};
 
 use crate::fault::CodeFault;

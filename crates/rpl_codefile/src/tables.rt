@@ -1,7 +1,8 @@
-// Whether the tables of a file have just what its code uses, each once and in the order of the first uses. Nothing is
-// found by a hash, which a stranger's file could be made to defeat.
+// Whether the tables of a file have just what its code uses, each once and in the order of the
+// first uses. Nothing is found by a hash, which a stranger's file could be made to defeat.
 ghost use Rattle.std.specs.Prelude.{◌≡◌, ◌↔◌, IsTrue, IfOk, Some, length};
-ghost use Rattle.rpl_codefile.specs.inside.Tables.{Apart, AreParts, IsOrdered, come, number_in, set_number};
+ghost use Rattle.rpl_codefile.specs.inside.Tables.{Apart, AreParts, IsOrdered, come, number_in};
+ghost use Rattle.rpl_codefile.specs.inside.Tables.{set_number};
 ghost use Rattle.rpl_codefile.specs.inside.Tables.{text_number, with_next};
 
 use regex_class::ClassRange;
@@ -59,7 +60,8 @@ fn with_next(came: u64, number: Option<u32>) -> Option<u64>
     }
 }
 
-/// How many entries of the table the code uses, where it uses each for the first time after all before it.
+/// How many entries of the table the code uses, where it uses each for the first time after all
+/// before it.
 fn count_used(table: Table, code: &[Instr]) -> Option<u64>
     ensures { result ≡ come (number_in table) 0 code.now }
 {
@@ -106,8 +108,8 @@ fn are_texts_apart(alloc: Global, texts: &[Chars]) -> Result<bool, NoMemory>
     Ok(true)
 }
 
-/// The code has one or more instructions and not too many, its numbers are in range, and it uses each set and each
-/// text, for the first time in their order.
+/// The code has one or more instructions and not too many, its numbers are in range, and it uses
+/// each set and each text, for the first time in their order.
 fn is_ordered(code: &Instrs, sets: &Sets, texts: &Labels) -> bool
     ensures { IsTrue result ↔ IsOrdered code.now sets.now texts.now }
 {

@@ -1,7 +1,8 @@
 // The spelling of each part of a file, and of the whole.
 ghost use Rattle.std.specs.Prelude.{◌≡◌, [], ◌∷◌, ◌++◌, ◌<◌, ◌^◌, OnOk, IfOk, chars, length};
 ghost use Rattle.std.specs.List.{All, flat_map};
-ghost use Rattle.rpl_codefile.specs.Spelling.{FitsFile, FitsSet, FitsText, Short, ShortRange, counted, file_of, instr};
+ghost use Rattle.rpl_codefile.specs.Spelling.{FitsFile, FitsSet, FitsText, Short, ShortRange};
+ghost use Rattle.rpl_codefile.specs.Spelling.{counted, file_of, instr};
 ghost use Rattle.rpl_codefile.specs.Spelling.{magic, number, range, set, spelling, text};
 
 use rosie_io::Bytes;
@@ -86,7 +87,8 @@ fn put_ranges(out: &mut Bytes, ranges: &[(u32, u32)]) -> Result<(), NoMemory>
     Ok(())
 }
 
-/// Adds a set: the number of its ranges, of which no set has more than there are characters, and each.
+/// Adds a set: the number of its ranges, of which no set has more than there are characters, and
+/// each.
 fn put_set(out: &mut Bytes, item: &Set) -> Result<(), NoMemory>
     ensures fits { OnOk result (FitsSet item.now) }
     ensures bytes { OnOk result (out.new ≡ out.old ++ set item.now) }

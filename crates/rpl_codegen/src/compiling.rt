@@ -14,11 +14,12 @@ use rpl_check::{Checked, CheckedPeg};
 use rpl_core::Program;
 use std::alloc::Global;
 
-/// The code of a goal that was checked over this table of rules: the goal's own code, `finish`, and each rule that it
-/// reaches in the order of the table. Equal sets, and equal texts, are kept once, in the order of their first uses.
+/// The code of a goal that was checked over this table of rules: the goal's own code, `finish`, and
+/// each rule that it reaches in the order of the table. Equal sets, and equal texts, are kept once,
+/// in the order of their first uses.
 ///
-/// The code does on every text what the goal means, with no further premise: a check has shown that this is never
-/// open.
+/// The code does on every text what the goal means, with no further premise: a check has shown that
+/// this is never open.
 ///
 /// # Examples
 ///
@@ -29,7 +30,8 @@ use std::alloc::Global;
 /// ```
 pub fn compile(alloc: Global, checked: &Checked, goal: &CheckedPeg) -> Result<Program, CompileFault>
     requires { IsWhole (bodies_of checked.now) (core_of (peg_of goal.now)) }
-    ensures code { IfOk result (λ p. IsCode (bodies_of checked.now) (core_of (peg_of goal.now)) (instructions p)) }
+    ensures code { IfOk result (λ p. IsCode (bodies_of checked.now) (core_of (peg_of goal.now))
+        (instructions p)) }
     ensures meant { IfOk result (λ p.
         DoesAsMeant (bodies_of checked.now) (core_of (peg_of goal.now)) (instructions p)) }
     ensures safe { IfOk result (λ p.

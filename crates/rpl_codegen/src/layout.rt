@@ -43,7 +43,8 @@ impl Layout {
         ensures layout { IfOk result (λ l.
             LaysOut (has reached.now) (bodies_of (rules_of rules.now)) (core_of goal.now) l) }
         ensures nodes { OnOk result (measured.new.nodes.items ≡ measured.old.nodes.items
-            ++ (nodes_in (core_of goal.now) ++ bodies_nodes (has reached.now) (bodies_of (rules_of rules.now)) 0)) }
+            ++ (nodes_in (core_of goal.now)
+            ++ bodies_nodes (has reached.now) (bodies_of (rules_of rules.now)) 0)) }
     {
         let mut starts = Starts::new(alloc);
         let shape = measure(alloc, measured, goal)?;
@@ -83,7 +84,8 @@ fn rule_size(
     rules: &Rules,
     number: u32,
 ) -> Result<u32, NoMemory>
-    ensures size { IfOk result (λ n. n ≡ min 1048577 (body_len (slice_get (bodies_of (rules_of rules.now)) number))) }
+    ensures size { IfOk result (λ n. n ≡ min 1048577
+        (body_len (slice_get (bodies_of (rules_of rules.now)) number))) }
     ensures nodes { OnOk result (measured.new.nodes.items ≡ measured.old.nodes.items
         ++ rule_nodes true (slice_get (bodies_of (rules_of rules.now)) number)) }
 {

@@ -1,14 +1,16 @@
-// What is known of a pattern, and of each pattern in it, before any code is written: how many instructions it has,
-// and the head that is tested before it.
+// What is known of a pattern, and of each pattern in it, before any code is written: how many
+// instructions it has, and the head that is tested before it.
 ghost use Rattle.std.specs.Option.{option_copied};
-ghost use Rattle.std.specs.Prelude.{◌≡◌, ◌+◌, ◌-◌, ◌*◌, ◌<◌, ◌≤◌, [], ◌++◌, IfOk, OnOk, None, Some, drop, false};
+ghost use Rattle.std.specs.Prelude.{◌≡◌, ◌+◌, ◌-◌, ◌*◌, ◌<◌, ◌≤◌, [], ◌++◌, IfOk, OnOk, None, Some};
+ghost use Rattle.std.specs.Prelude.{drop, false};
 ghost use Rattle.std.specs.Prelude.{if◌then◌else◌, length, min, option_map, take};
 ghost use Rattle.rpl_classes.specs.Norm.{norm};
 ghost use Rattle.rpl_core.specs.Head as H;
 ghost use Rattle.rpl_core.specs.View.{core_of, cores};
 ghost use Rattle.rpl_codegen.specs.inside.Gathered.{Gathers};
 ghost use Rattle.rpl_codegen.specs.inside.Nodes.{behind_nodes, choice_nodes, inner_nodes, nodes_in};
-ghost use Rattle.rpl_codegen.specs.inside.Nodes.{numbered_nodes, part_nodes, parts_nodes, tested_nodes};
+ghost use Rattle.rpl_codegen.specs.inside.Nodes.{numbered_nodes, part_nodes, parts_nodes};
+ghost use Rattle.rpl_codegen.specs.inside.Nodes.{tested_nodes};
 ghost use Rattle.rpl_codegen.specs.inside.Sizes.{len, len_all, len_first};
 
 use crate::NoMemory;
@@ -30,7 +32,8 @@ pub(crate) fn capped(a: u32, b: u32) -> u32
     (a + b).min(MAX_CODE + 1)
 }
 
-/// The number of instructions of a look-behind whose body has `size`, or the first number past the limit.
+/// The number of instructions of a look-behind whose body has `size`, or the first number past the
+/// limit.
 pub(crate) fn behind_size(size: u32, least: u32, most: u32) -> u32
     requires { size ≤ 1048577 }
     ensures { result ≡ min 1048577 ((most + 1 - least) * (size + 3) + 1) }
@@ -39,8 +42,9 @@ pub(crate) fn behind_size(size: u32, least: u32, most: u32) -> u32
     (lengths * (size as u64 + 3) + 1).min(MAX_CODE as u64 + 1) as u32
 }
 
-/// The number of instructions of a pattern, or the first number past the limit; its number among the parts of a
-/// sequence, if it is one; and its head, if others follow it in a choice and it has one.
+/// The number of instructions of a pattern, or the first number past the limit; its number among
+/// the parts of a sequence, if it is one; and its head, if others follow it in a choice and it has
+/// one.
 #[derive(Drop)]
 pub(crate) struct Node {
     size: u32,
@@ -101,8 +105,8 @@ impl Nodes {
     }
 }
 
-/// What is gathered while patterns are measured: their nodes, and the ranges of those heads that are part of a
-/// greater one.
+/// What is gathered while patterns are measured: their nodes, and the ranges of those heads that
+/// are part of a greater one.
 #[derive(Drop)]
 pub(crate) struct Measured {
     pub(crate) nodes: Vec<Node>,
@@ -121,8 +125,8 @@ impl Measured {
     }
 }
 
-/// The number of instructions of a pattern, or the first number past the limit, and whether it has a head. Both are
-/// had in one walk, since each level needs both of the one below.
+/// The number of instructions of a pattern, or the first number past the limit, and whether it has
+/// a head. Both are had in one walk, since each level needs both of the one below.
 #[derive(Clone, Copy)]
 pub(crate) struct Shape {
     pub(crate) size: u32,
@@ -140,14 +144,16 @@ fn headless(size: u32) -> Shape
     }
 }
 
-/// Adds the nodes of the pattern and of all patterns in it. The ranges of its head are added, if it has one; else
-/// there may be more ranges of no use.
+/// Adds the nodes of the pattern and of all patterns in it. The ranges of its head are added, if it
+/// has one; else there may be more ranges of no use.
 #[cycle(measure)]
 pub(crate) fn measure(alloc: Global, measured: &mut Measured, peg: &Peg) -> Result<Shape, NoMemory>
-    ensures nodes { OnOk result (measured.new.nodes.items ≡ measured.old.nodes.items ++ nodes_in (core_of peg.now)) }
+    ensures nodes { OnOk result (measured.new.nodes.items ≡ measured.old.nodes.items
+        ++ nodes_in (core_of peg.now)) }
     ensures size { IfOk result (λ s. s.size ≡ min 1048577 (len (core_of peg.now))) }
     ensures head { IfOk result (λ s.
-        Gathers measured.old.ranges.items measured.new.ranges.items (H.head (core_of peg.now)) s.has_head) }
+        Gathers measured.old.ranges.items measured.new.ranges.items (H.head (core_of peg.now))
+        s.has_head) }
 {
     let place = measured.nodes.len();
     measured.nodes.push(Node {
@@ -178,7 +184,8 @@ fn measure_part(
         ++ part_nodes (len (core_of part.now)) (numbered_nodes number (core_of part.now))) }
     ensures size { IfOk result (λ s. s.size ≡ min 1048577 (len (core_of part.now))) }
     ensures head { IfOk result (λ s.
-        Gathers measured.old.ranges.items measured.new.ranges.items (H.head (core_of part.now)) s.has_head) }
+        Gathers measured.old.ranges.items measured.new.ranges.items (H.head (core_of part.now))
+        s.has_head) }
 {
     let place = measured.nodes.len();
     measured.nodes.push(Node {
@@ -206,7 +213,8 @@ fn measure_tried(alloc: Global, measured: &mut Measured, part: &Peg) -> Result<S
         ≡ measured.old.nodes.items ++ tested_nodes (core_of part.now)) }
     ensures size { IfOk result (λ s. s.size ≡ min 1048577 (len (core_of part.now))) }
     ensures head { IfOk result (λ s.
-        Gathers measured.old.ranges.items measured.new.ranges.items (H.head (core_of part.now)) s.has_head) }
+        Gathers measured.old.ranges.items measured.new.ranges.items (H.head (core_of part.now))
+        s.has_head) }
 {
     let place = measured.nodes.len();
     let start = measured.ranges.len();
@@ -225,8 +233,8 @@ fn measure_tried(alloc: Global, measured: &mut Measured, part: &Peg) -> Result<S
     Ok(shape)
 }
 
-/// Puts the normal form of the ranges from `start` on in their place, and gives the set that they are; no set and no
-/// ranges, if no head was found.
+/// Puts the normal form of the ranges from `start` on in their place, and gives the set that they
+/// are; no set and no ranges, if no head was found.
 fn join(
     alloc: Global,
     ranges: &mut Vec<ClassRange>,
@@ -234,9 +242,11 @@ fn join(
     found: bool,
 ) -> Result<Option<Set>, NoMemory>
     requires { start ≤ length ranges.old.items }
-    ensures set { IfOk result (λ h. h ≡ (if found then Some (norm (drop start ranges.old.items)) else None)) }
+    ensures set { IfOk result (λ h. h ≡ (if found then Some (norm (drop start ranges.old.items))
+        else None)) }
     ensures ranges { OnOk result (ranges.new.items
-        ≡ take start ranges.old.items ++ (if found then norm (drop start ranges.old.items) else [])) }
+        ≡ take start ranges.old.items
+        ++ (if found then norm (drop start ranges.old.items) else [])) }
 {
     if !found {
         ranges.truncate(start);
@@ -251,10 +261,12 @@ fn join(
 /// Adds the nodes of the patterns in this one, and its ranges.
 #[cycle(measure)]
 fn measure_inner(alloc: Global, measured: &mut Measured, peg: &Peg) -> Result<Shape, NoMemory>
-    ensures nodes { OnOk result (measured.new.nodes.items ≡ measured.old.nodes.items ++ inner_nodes (core_of peg.now)) }
+    ensures nodes { OnOk result (measured.new.nodes.items ≡ measured.old.nodes.items
+        ++ inner_nodes (core_of peg.now)) }
     ensures size { IfOk result (λ s. s.size ≡ min 1048577 (len (core_of peg.now))) }
     ensures head { IfOk result (λ s.
-        Gathers measured.old.ranges.items measured.new.ranges.items (H.head (core_of peg.now)) s.has_head) }
+        Gathers measured.old.ranges.items measured.new.ranges.items (H.head (core_of peg.now))
+        s.has_head) }
 {
     match peg {
         Peg::Set(set) => {
@@ -308,8 +320,10 @@ fn measure_behind(
     body: &Peg,
 ) -> Result<Shape, NoMemory>
     ensures nodes { OnOk result (measured.new.nodes.items
-        ≡ measured.old.nodes.items ++ behind_nodes (most + 1 - least) (nodes_in (core_of body.now))) }
-    ensures size { IfOk result (λ s. s.size ≡ min 1048577 ((most + 1 - least) * (len (core_of body.now) + 3) + 1)) }
+        ≡ measured.old.nodes.items
+        ++ behind_nodes (most + 1 - least) (nodes_in (core_of body.now))) }
+    ensures size { IfOk result (λ s. s.size ≡ min 1048577
+        ((most + 1 - least) * (len (core_of body.now) + 3) + 1)) }
     ensures head { IfOk result (λ s.
         Gathers measured.old.ranges.items measured.new.ranges.items None s.has_head) }
 {
@@ -327,7 +341,8 @@ fn measure_all(alloc: Global, measured: &mut Measured, parts: &[Peg]) -> Result<
         ≡ measured.old.nodes.items ++ parts_nodes 0 (cores parts.now)) }
     ensures size { IfOk result (λ s. s.size ≡ min 1048577 (len_all (cores parts.now))) }
     ensures head { IfOk result (λ s.
-        Gathers measured.old.ranges.items measured.new.ranges.items (H.first_head (cores parts.now)) s.has_head) }
+        Gathers measured.old.ranges.items measured.new.ranges.items (H.first_head (cores parts.now))
+        s.has_head) }
 {
     if parts.is_empty() {
         return Ok(headless(0));

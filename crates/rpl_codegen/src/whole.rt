@@ -1,5 +1,6 @@
 // The code of a goal.
-ghost use Rattle.std.specs.Prelude.{◌≡◌, ◌≤◌, ◌+◌, [], ◌++◌, IfErr, IfOk, OnOk, length, slice_get, true};
+ghost use Rattle.std.specs.Prelude.{◌≡◌, ◌≤◌, ◌+◌, [], ◌++◌, IfErr, IfOk, OnOk, length, slice_get};
+ghost use Rattle.std.specs.Prelude.{true};
 ghost use Rattle.rpl_core.specs.Listed.{rules_of};
 ghost use Rattle.rpl_core.specs.Marked.{CallsAreRules, has};
 ghost use Rattle.rpl_core.specs.Numbers.{AreInRange};
@@ -8,7 +9,8 @@ ghost use Rattle.rpl_core.specs.Programs.{IsCode, bodies, program};
 ghost use Rattle.rpl_core.specs.Table.{bodies_of};
 ghost use Rattle.rpl_core.specs.View.{core_of};
 ghost use Rattle.rpl_codegen.specs.Compiled.{HasLongCode};
-ghost use Rattle.rpl_codegen.specs.inside.Laid.{LaysOut, bodies_len, bodies_nodes, body_len, rule_code, rule_nodes};
+ghost use Rattle.rpl_codegen.specs.inside.Laid.{LaysOut, bodies_len, bodies_nodes, body_len};
+ghost use Rattle.rpl_codegen.specs.inside.Laid.{rule_code, rule_nodes};
 ghost use Rattle.rpl_codegen.specs.inside.Nodes.{nodes_in};
 ghost use Rattle.rpl_codegen.specs.inside.Taken.{Begins, Takes, left};
 ghost use Rattle.rpl_intern.specs.Uses.{KeepsOnce, labels_in, sets_in};
@@ -46,15 +48,17 @@ impl From<NoMemory> for CompileFault {
     }
 }
 
-/// The code of the goal over the table of rules: the goal's own code, `finish`, and each rule that it reaches in the
-/// order of the table. Equal sets, and equal texts, are kept once, in the order of their first uses.
+/// The code of the goal over the table of rules: the goal's own code, `finish`, and each rule that
+/// it reaches in the order of the table. Equal sets, and equal texts, are kept once, in the order
+/// of their first uses.
 pub(crate) fn compile_goal(
     alloc: Global,
     rules: &Rules,
     goal: &Peg,
 ) -> Result<Program, CompileFault>
     requires { CallsAreRules (bodies_of (rules_of rules.now)) (core_of goal.now) }
-    ensures code { IfOk result (λ p. IsCode (bodies_of (rules_of rules.now)) (core_of goal.now) (instructions p)) }
+    ensures code { IfOk result (λ p. IsCode (bodies_of (rules_of rules.now)) (core_of goal.now)
+        (instructions p)) }
     ensures fits { IfOk result (λ p. length (code_of p) ≤ 1048576) }
     ensures sets { IfOk result (λ p. KeepsOnce (sets_in (instructions p)) (sets_of p)) }
     ensures labels { IfOk result (λ p. KeepsOnce (labels_in (instructions p)) (labels_of p)) }
@@ -96,10 +100,12 @@ fn emit_whole(
     reached: &BTreeSet<u32>,
 ) -> Result<(), NoMemory>
     requires empty { draft.old.code ≡ [] }
-    requires layout { LaysOut (has reached.now) (bodies_of (rules_of rules.now)) (core_of goal.now) layout.now }
+    requires layout { LaysOut (has reached.now) (bodies_of (rules_of rules.now)) (core_of goal.now)
+        layout.now }
     requires room { layout.now.end ≤ 1048576 }
     requires nodes { left nodes.old
-        ≡ nodes_in (core_of goal.now) ++ bodies_nodes (has reached.now) (bodies_of (rules_of rules.now)) 0 }
+        ≡ nodes_in (core_of goal.now)
+        ++ bodies_nodes (has reached.now) (bodies_of (rules_of rules.now)) 0 }
     ensures { OnOk result (Adds draft.old draft.new
         (program (has reached.now) (bodies_of (rules_of rules.now)) (core_of goal.now))) }
 {
@@ -116,8 +122,10 @@ fn emit_rules(
     rules: &Rules,
     reached: &BTreeSet<u32>,
 ) -> Result<(), NoMemory>
-    requires room { length draft.old.code + bodies_len (has reached.now) (bodies_of (rules_of rules.now)) 0 ≤ 1048576 }
-    requires nodes { Begins (left nodes.old) (bodies_nodes (has reached.now) (bodies_of (rules_of rules.now)) 0) }
+    requires room { length draft.old.code + bodies_len (has reached.now)
+        (bodies_of (rules_of rules.now)) 0 ≤ 1048576 }
+    requires nodes { Begins (left nodes.old) (bodies_nodes (has reached.now)
+        (bodies_of (rules_of rules.now)) 0) }
     ensures { OnOk result (Writes draft.old draft.new
         (bodies (has reached.now) (address_of layout.now) (bodies_of (rules_of rules.now)) 0)) }
 {
@@ -138,10 +146,13 @@ fn emit_rule(
     rules: &Rules,
     number: u32,
 ) -> Result<(), NoMemory>
-    requires room { length draft.old.code + body_len (slice_get (bodies_of (rules_of rules.now)) number) ≤ 1048576 }
-    requires nodes { Begins (left nodes.old) (rule_nodes true (slice_get (bodies_of (rules_of rules.now)) number)) }
+    requires room { length draft.old.code + body_len
+        (slice_get (bodies_of (rules_of rules.now)) number) ≤ 1048576 }
+    requires nodes { Begins (left nodes.old) (rule_nodes true
+        (slice_get (bodies_of (rules_of rules.now)) number)) }
     ensures code { OnOk result (Writes draft.old draft.new
-        (rule_code true (address_of layout.now) (slice_get (bodies_of (rules_of rules.now)) number))) }
+        (rule_code true (address_of layout.now)
+        (slice_get (bodies_of (rules_of rules.now)) number))) }
     ensures nodes { OnOk result (Takes nodes.old nodes.new
         (rule_nodes true (slice_get (bodies_of (rules_of rules.now)) number))) }
 {

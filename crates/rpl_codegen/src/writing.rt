@@ -1,5 +1,5 @@
-// The code of each kind of pattern. Sizes are known before, so that each jump is written with its address. Each
-// writer takes the nodes of the pattern that it writes, and of all patterns in it.
+// The code of each kind of pattern. Sizes are known before, so that each jump is written with its
+// address. Each writer takes the nodes of the pattern that it writes, and of all patterns in it.
 ghost use Rattle.std.specs.Prelude.{◌≡◌, ◌<◌, ◌+◌, ◌-◌, ◌*◌, ◌≤◌, OnOk, length};
 ghost use Rattle.rpl_core.specs.Code as C;
 ghost use Rattle.rpl_core.specs.Head as H;
@@ -8,7 +8,8 @@ ghost use Rattle.rpl_codegen.specs.inside.Sizes.{len, many_len, not_len, tried_l
 ghost use Rattle.rpl_codegen.specs.inside.Nodes.{behind_nodes, inner_nodes, nodes_in, tested_nodes};
 ghost use Rattle.rpl_codegen.specs.inside.Taken.{Begins, Takes, head_at, left};
 ghost use Rattle.rpl_intern.specs.Written.{Adds};
-ghost use Rattle.rpl_codegen.specs.inside.Written.{GoesOn, Tries, Writes, capture_code, code_in, test_code};
+ghost use Rattle.rpl_codegen.specs.inside.Written.{GoesOn, Tries, Writes, capture_code, code_in};
+ghost use Rattle.rpl_codegen.specs.inside.Written.{test_code};
 
 use crate::NoMemory;
 use crate::head::lone_set;
@@ -70,7 +71,8 @@ fn emit_inner(
     }
 }
 
-/// Writes the parts in turn up to `end`. Each next node is of the next part that makes code: the others have none.
+/// Writes the parts in turn up to `end`. Each next node is of the next part that makes code: the
+/// others have none.
 #[cycle(emit)]
 fn emit_all(
     draft: &mut Draft,
@@ -82,8 +84,10 @@ fn emit_all(
     requires room { length draft.old.code + len (core_of (Peg.Seq parts.now)) ≤ 1048576 }
     requires nodes { Begins (left nodes.old) (inner_nodes (core_of (Peg.Seq parts.now))) }
     requires end { end ≡ length draft.old.code + len (core_of (Peg.Seq parts.now)) }
-    ensures code { OnOk result (Writes draft.old draft.new (code_in layout.now (Peg.Seq parts.now))) }
-    ensures nodes { OnOk result (Takes nodes.old nodes.new (inner_nodes (core_of (Peg.Seq parts.now)))) }
+    ensures code { OnOk result (Writes draft.old draft.new
+        (code_in layout.now (Peg.Seq parts.now))) }
+    ensures nodes { OnOk result (Takes nodes.old nodes.new
+        (inner_nodes (core_of (Peg.Seq parts.now)))) }
 {
     let parts = parts.as_slice();
     while draft.next() < end {
@@ -110,8 +114,10 @@ fn emit_first(
     requires room { length draft.old.code + len (core_of (Peg.Choice parts.now)) ≤ 1048576 }
     requires nodes { Begins (left nodes.old) (inner_nodes (core_of (Peg.Choice parts.now))) }
     requires end { end ≡ length draft.old.code + len (core_of (Peg.Choice parts.now)) }
-    ensures code { OnOk result (Writes draft.old draft.new (code_in layout.now (Peg.Choice parts.now))) }
-    ensures nodes { OnOk result (Takes nodes.old nodes.new (inner_nodes (core_of (Peg.Choice parts.now)))) }
+    ensures code { OnOk result (Writes draft.old draft.new
+        (code_in layout.now (Peg.Choice parts.now))) }
+    ensures nodes { OnOk result (Takes nodes.old nodes.new
+        (inner_nodes (core_of (Peg.Choice parts.now)))) }
 {
     let parts = parts.as_slice();
     if parts.is_empty() {
@@ -133,7 +139,8 @@ fn emit_tried(
     part: &Peg,
     end: u32,
 ) -> Result<(), NoMemory>
-    requires room { length draft.old.code + tried_len (H.head (core_of part.now)) (len (core_of part.now))
+    requires room { length draft.old.code + tried_len (H.head (core_of part.now))
+        (len (core_of part.now))
         ≤ 1048576 }
     requires nodes { Begins (left nodes.old) (tested_nodes (core_of part.now)) }
     ensures goes_on { OnOk result (GoesOn draft.old draft.new end
@@ -172,7 +179,8 @@ fn emit_many(
     nodes: &mut Nodes,
     body: &Peg,
 ) -> Result<(), NoMemory>
-    requires room { length draft.old.code + many_len (H.lone_set (core_of body.now)) (len (core_of body.now))
+    requires room { length draft.old.code + many_len (H.lone_set (core_of body.now))
+        (len (core_of body.now))
         ≤ 1048576 }
     requires nodes { Begins (left nodes.old) (nodes_in (core_of body.now)) }
     ensures code { OnOk result (Writes draft.old draft.new
@@ -197,7 +205,8 @@ fn emit_not(
     nodes: &mut Nodes,
     body: &Peg,
 ) -> Result<(), NoMemory>
-    requires room { length draft.old.code + not_len (H.lone_set (core_of body.now)) (len (core_of body.now)) ≤ 1048576 }
+    requires room { length draft.old.code + not_len (H.lone_set (core_of body.now))
+        (len (core_of body.now)) ≤ 1048576 }
     requires nodes { Begins (left nodes.old) (nodes_in (core_of body.now)) }
     ensures code { OnOk result (Writes draft.old draft.new
         (C.not_code (H.lone_set (core_of body.now)) (code_in layout.now body.now))) }
@@ -224,7 +233,8 @@ fn emit_and(
 ) -> Result<(), NoMemory>
     requires room { length draft.old.code + (len (core_of body.now) + 3) ≤ 1048576 }
     requires nodes { Begins (left nodes.old) (nodes_in (core_of body.now)) }
-    ensures code { OnOk result (Writes draft.old draft.new (C.and_code (code_in layout.now body.now))) }
+    ensures code { OnOk result (Writes draft.old draft.new
+        (C.and_code (code_in layout.now body.now))) }
     ensures nodes { OnOk result (Takes nodes.old nodes.new (nodes_in (core_of body.now))) }
 {
     let fail = draft.next() + 1 + nodes.size() + 1;
@@ -234,8 +244,8 @@ fn emit_and(
     draft.put(Instr::Fail)
 }
 
-/// Writes a look-behind: each length in turn, for which the nodes of the body are taken anew, and then that none
-/// fits.
+/// Writes a look-behind: each length in turn, for which the nodes of the body are taken anew, and
+/// then that none fits.
 #[cycle(emit)]
 fn emit_behind(
     draft: &mut Draft,
@@ -246,9 +256,12 @@ fn emit_behind(
     body: &Peg,
     end: u32,
 ) -> Result<(), NoMemory>
-    requires room { length draft.old.code + ((most + 1 - least) * (len (core_of body.now) + 3) + 1) ≤ 1048576 }
-    requires nodes { Begins (left nodes.old) (behind_nodes (most + 1 - least) (nodes_in (core_of body.now))) }
-    requires end { end ≡ length draft.old.code + ((most + 1 - least) * (len (core_of body.now) + 3) + 1) }
+    requires room { length draft.old.code + ((most + 1 - least) * (len (core_of body.now) + 3) + 1)
+        ≤ 1048576 }
+    requires nodes { Begins (left nodes.old) (behind_nodes (most + 1 - least)
+        (nodes_in (core_of body.now))) }
+    requires end { end ≡ length draft.old.code
+        + ((most + 1 - least) * (len (core_of body.now) + 3) + 1) }
     ensures code { OnOk result (Writes draft.old draft.new
         (C.behind_code (code_in layout.now body.now) (most + 1 - least) least)) }
     ensures nodes { OnOk result (Takes nodes.old nodes.new
@@ -274,8 +287,10 @@ fn emit_length(
 ) -> Result<(), NoMemory>
     requires room { length draft.old.code + (len (core_of body.now) + 3) ≤ 1048576 }
     requires nodes { Begins (left nodes.old) (nodes_in (core_of body.now)) }
-    ensures goes_on { OnOk result (Tries draft.old draft.new (code_in layout.now body.now) end back) }
-    ensures long { OnOk result (length draft.new.code ≡ length draft.old.code + (len (core_of body.now) + 3)) }
+    ensures goes_on { OnOk result (Tries draft.old draft.new (code_in layout.now body.now) end
+        back) }
+    ensures long { OnOk result (length draft.new.code
+        ≡ length draft.old.code + (len (core_of body.now) + 3)) }
     ensures nodes { OnOk result (Takes nodes.old nodes.new (nodes_in (core_of body.now))) }
 {
     let next = draft.next() + 2 + nodes.size() + 1;
@@ -296,7 +311,8 @@ fn emit_capture(
 ) -> Result<(), NoMemory>
     requires room { length draft.old.code + (len (core_of body.now) + 2) ≤ 1048576 }
     requires nodes { Begins (left nodes.old) (nodes_in (core_of body.now)) }
-    ensures code { OnOk result (Writes draft.old draft.new (capture_code label.now (code_in layout.now body.now))) }
+    ensures code { OnOk result (Writes draft.old draft.new
+        (capture_code label.now (code_in layout.now body.now))) }
     ensures nodes { OnOk result (Takes nodes.old nodes.new (nodes_in (core_of body.now))) }
 {
     draft.put_open(layout.alloc(), label)?;

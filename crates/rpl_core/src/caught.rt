@@ -1,7 +1,7 @@
 // What a run captures.
 
-/// One capture of a run, in the order in which the machine made them: `specs/Forest.antt` says which list stands for
-/// which trees. Places are numbers of bytes from the line's start.
+/// One capture of a run, in the order in which the machine made them: `specs/Forest.antt` says
+/// which list stands for which trees. Places are numbers of bytes from the line's start.
 #[derive(Clone, Copy, Debug, PartialEq, Eq)]
 pub enum Caught {
     /// A tree of the type with this number begins.

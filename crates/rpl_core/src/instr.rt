@@ -5,8 +5,9 @@ ghost use Rattle.std.specs.Prelude.{◌≡◌, length};
 
 use rpl_list::List;
 
-/// An instruction, with its operands in the order in which they print: an address from 0, the number of a set, the
-/// number of a text, or a count of characters. `specs/Machine.antt` defines the step of each.
+/// An instruction, with its operands in the order in which they print: an address from 0, the
+/// number of a set, the number of a text, or a count of characters. `specs/Machine.antt` defines
+/// the step of each.
 #[derive(Clone, Copy)]
 pub enum Instr {
     /// Takes a character of the set, else fails.
@@ -27,7 +28,8 @@ pub enum Instr {
     Fail,
     /// Goes so many characters back, or fails.
     Back(u32),
-    /// Where this is the entry's place, takes it off, goes back to its captures and goes to the address; else fails.
+    /// Where this is the entry's place, takes it off, goes back to its captures and goes to the
+    /// address; else fails.
     Meet(u32),
     /// Pushes the next address and goes to the address.
     Call(u32),

@@ -6,7 +6,8 @@ pub fn depth_law()
     ensures { DepthLaw }
 {}
 
-/// A run that has ended ends the same way with any bound that lets it make its steps, and with no smaller one.
+/// A run that has ended ends the same way with any bound that lets it make its steps, and with no
+/// smaller one.
 pub fn run_law()
     ensures { RunLaw }
 {}

@@ -69,7 +69,8 @@ fn any_has_repetition(parts: &[Peg]) -> bool
     false
 }
 
-/// The greatest number of characters that a pattern without calls and repetitions takes, or 256 where it is greater.
+/// The greatest number of characters that a pattern without calls and repetitions takes, or 256
+/// where it is greater.
 #[cycle(greatest)]
 pub fn greatest_length(peg: &Peg) -> u32
     ensures { result ≡ min 256 (L.greatest (core_of peg.now)) }
@@ -108,7 +109,8 @@ fn greatest_of(parts: &[Peg]) -> u32
     most
 }
 
-/// The least number of characters that a pattern without calls and repetitions takes, or 65,536 where it is greater.
+/// The least number of characters that a pattern without calls and repetitions takes, or 65,536
+/// where it is greater.
 #[cycle(least)]
 pub fn least_length(peg: &Peg) -> u32
     ensures { result ≡ min 65536 (L.least (core_of peg.now)) }

@@ -1,9 +1,9 @@
-//! What a pattern means, what the machine does, and the code that joins them, as definitions (`specs/`), and the
-//! types that hold patterns, rules and code. Every other crate of patterns stands on these: expansion makes a `Peg`,
-//! the compiler a `Program`, and the machine runs it. The types promise that rules have distinct names and that
-//! every number in a program is in range; [`reached_rules`] finds just the rules that a goal
-//! reaches, and [`reached`] marks them; the laws say what holds of the definitions alone.
-//! docs/MEANING.md tells the definitions in plain words.
+//! What a pattern means, what the machine does, and the code that joins them, as definitions
+//! (`specs/`), and the types that hold patterns, rules and code. Every other crate of patterns
+//! stands on these: expansion makes a `Peg`, the compiler a `Program`, and the machine runs it. The
+//! types promise that rules have distinct names and that every number in a program is in range;
+//! [`reached_rules`] finds just the rules that a goal reaches, and [`reached`] marks them; the laws
+//! say what holds of the definitions alone. docs/MEANING.md tells the definitions in plain words.
 #![tactic(auto)]
 
 mod caught;

@@ -1,5 +1,6 @@
 // Whether tables stand in order, and patterns call rules of their table.
-ghost use Rattle.std.specs.Prelude.{◌≡◌, ℕ, ◌<◌, ◌≤◌, ◌↔◌, IsTrue, None, true, nat_lt, length, slice_get};
+ghost use Rattle.std.specs.Prelude.{◌≡◌, ℕ, ◌<◌, ◌≤◌, ◌↔◌, IsTrue, None, true, nat_lt, length};
+ghost use Rattle.std.specs.Prelude.{slice_get};
 ghost use Rattle.rpl_core.specs.Listed.{blocks_in, bodies_in, rules_of};
 ghost use Rattle.rpl_core.specs.Programs.{calls};
 ghost use Rattle.rpl_core.specs.View.{core_of, cores};
@@ -98,8 +99,8 @@ fn body_calls_only(rules: &Rules, number: u32) -> bool
     }
 }
 
-/// An earlier rule is in the block of this one, where all blocks of earlier rules are below `next`: none is, where this
-/// one isn't.
+/// An earlier rule is in the block of this one, where all blocks of earlier rules are below `next`:
+/// none is, where this one isn't.
 fn has_mate(rules: &Rules, number: u32, next: u64) -> bool
     requires { S.AreBelow (blocks_in rules.now) number next }
     ensures { result ≡ S.has_mate (blocks_in rules.now) number number }
@@ -158,9 +159,10 @@ fn above(rules: &Rules, number: u32, next: u64) -> u64
     }
 }
 
-/// The table stands in order: the rules of a block stand side by side, and each rule calls only earlier rules and
-/// those of its block. A caller that knows this of its table needn't ask. Blocks are best numbered in order: one whose
-/// number isn't above those before has its first rule compared with all earlier rules.
+/// The table stands in order: the rules of a block stand side by side, and each rule calls only
+/// earlier rules and those of its block. A caller that knows this of its table needn't ask. Blocks
+/// are best numbered in order: one whose number isn't above those before has its first rule
+/// compared with all earlier rules.
 pub fn is_in_order(rules: &Rules) -> bool
     ensures { IsTrue result ↔ IsInOrder (bodies_in rules.now) (blocks_in rules.now) }
 {
@@ -205,7 +207,8 @@ fn all_call_within(parts: &[Peg], count: usize) -> bool
 
 /// The pattern calls rules of the table alone.
 pub fn calls_are_rules(rules: &Rules, peg: &Peg) -> bool
-    ensures { IsTrue result ↔ ((r : ℕ) → calls (core_of peg.now) r ≡ true → r < length (rules_of rules.now)) }
+    ensures { IsTrue result ↔ ((r : ℕ) → calls (core_of peg.now) r ≡ true →
+        r < length (rules_of rules.now)) }
 {
     calls_within(peg, rules.len())
 }

@@ -1,6 +1,7 @@
 // Patterns without names: the cores of the definitions.
 ghost use Rattle.std.specs.Option.{option_copied};
-ghost use Rattle.std.specs.Prelude.{◌≡◌, List, [], ◌∷◌, ◌++◌, length, slice_get, OnOk, OnErr, IfOk, IfSome};
+ghost use Rattle.std.specs.Prelude.{◌≡◌, List, [], ◌∷◌, ◌++◌, length, slice_get, OnOk, OnErr, IfOk};
+ghost use Rattle.std.specs.Prelude.{IfSome};
 ghost use Rattle.rpl_core.specs.View.{core_of, cores, listed};
 
 use crate::NoMemory;
@@ -15,7 +16,8 @@ pub struct Pegs {
     items: Vec<Peg>,
 }
 
-/// A parsing expression whose names are gone: what `specs/Core.antt` defines and `specs/Meaning.antt` explains.
+/// A parsing expression whose names are gone: what `specs/Core.antt` defines and
+/// `specs/Meaning.antt` explains.
 #[cycle(peg)]
 #[derive(Drop)]
 pub enum Peg {

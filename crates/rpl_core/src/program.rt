@@ -14,8 +14,8 @@ pub type Sets = List<Set>;
 /// Texts in order, numbered from 0. Contracts see the list of their lists of characters.
 pub type Labels = List<Chars>;
 
-/// Code, with the sets and the texts that its instructions name by number. Each number is in range, and each
-/// address is that of an instruction.
+/// Code, with the sets and the texts that its instructions name by number. Each number is in range,
+/// and each address is that of an instruction.
 #[derive(Drop)]
 pub struct Program {
     code: Instrs,

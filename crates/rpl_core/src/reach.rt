@@ -84,7 +84,8 @@ pub fn reached_rules(alloc: Global, rules: &Rules, goal: &Peg) -> Result<BTreeSe
 /// Which rules of the table the goal reaches, in a list as long as the table.
 pub fn reached(alloc: Global, rules: &Rules, goal: &Peg) -> Result<Vec<bool>, NoMemory>
     requires { CallsAreRules (bodies_of (rules_of rules.now)) (core_of goal.now) }
-    ensures { IfOk result (λ marks. MarksReached (bodies_of (rules_of rules.now)) (core_of goal.now) marks.items) }
+    ensures { IfOk result (λ marks. MarksReached (bodies_of (rules_of rules.now)) (core_of goal.now)
+        marks.items) }
 {
     let found = reached_rules(alloc, rules, goal)?;
     let mut marks = Vec::new(alloc);

@@ -16,7 +16,8 @@ pub struct Rule {
     pub body: Peg,
 }
 
-/// The table of rules, in order. `Peg::Call` holds a place in it, from 0. No two rules have the same full name.
+/// The table of rules, in order. `Peg::Call` holds a place in it, from 0. No two rules have the
+/// same full name.
 #[derive(Drop)]
 pub struct Rules {
     items: Vec<Rule>,

@@ -60,9 +60,9 @@ impl AnswerText {
         &self.text
     }
 
-    /// Becomes the text of a line's outcome in a style: of the trees that were found, or of none. It is written in the
-    /// memory that there is where that is enough, and taken back as soon as it is too long. After a refusal it is as it
-    /// was.
+    /// Becomes the text of a line's outcome in a style: of the trees that were found, or of none.
+    /// It is written in the memory that there is where that is enough, and taken back as soon as it
+    /// is too long. After a refusal it is as it was.
     pub fn fill(
         &mut self,
         style: Style,
@@ -70,10 +70,13 @@ impl AnswerText {
         found: Option<&Forest>,
         program: &Program,
     ) -> Result<(), EncodeFault>
-        ensures text { OnOk result (self.new ≡ answer_text style line.now program.now (option_copied found.entry)) }
+        ensures text { OnOk result (self.new ≡ answer_text style line.now program.now
+            (option_copied found.entry)) }
         ensures fits { OnOk result
-            (length (answer_text style line.now program.now (option_copied found.entry)) ≤ max_answer_bytes) }
-        ensures too_long { IsTooLong result (answer_text style line.now program.now (option_copied found.entry)) }
+            (length (answer_text style line.now program.now (option_copied found.entry))
+            ≤ max_answer_bytes) }
+        ensures too_long { IsTooLong result (answer_text style line.now program.now
+            (option_copied found.entry)) }
         ensures err { OnErr result (self.new ≡ self.old) }
     {
         self.draft.text.clear();
@@ -105,10 +108,13 @@ pub fn encode(
     found: Option<&Forest>,
     program: &Program,
 ) -> Result<Bytes, EncodeFault>
-    ensures text { IfOk result (λ text. text ≡ answer_text style line.now program.now (option_copied found.entry)) }
+    ensures text { IfOk result (λ text. text ≡ answer_text style line.now program.now
+        (option_copied found.entry)) }
     ensures fits { OnOk result
-        (length (answer_text style line.now program.now (option_copied found.entry)) ≤ max_answer_bytes) }
-    ensures too_long { IsTooLong result (answer_text style line.now program.now (option_copied found.entry)) }
+        (length (answer_text style line.now program.now (option_copied found.entry))
+        ≤ max_answer_bytes) }
+    ensures too_long { IsTooLong result (answer_text style line.now program.now
+        (option_copied found.entry)) }
 {
     let mut answer = AnswerText::new(alloc);
     answer.fill(style, line, found, program)?;
@@ -145,7 +151,8 @@ impl Draft {
         ensures too_long { IsTooLong result
             (self.old.text.items ++ match_text style line.now program.now forest.now) }
         ensures text { OnOk result
-            (self.new.text.items ≡ self.old.text.items ++ (match_text style line.now program.now forest.now)) }
+            (self.new.text.items ≡ self.old.text.items
+            ++ (match_text style line.now program.now forest.now)) }
     {
         let bytes = line.as_bytes();
         match style {
@@ -177,9 +184,11 @@ fn put_hits(
     forest: &Forest,
     program: &Program,
 ) -> Result<(), EncodeFault>
-    ensures too_long { IsTooLong result (out.old.items ++ match_text Style.Matches line.now program.now forest.now) }
+    ensures too_long { IsTooLong result (out.old.items
+        ++ match_text Style.Matches line.now program.now forest.now) }
     ensures text { OnOk result
-        (out.new.items ≡ out.old.items ++ (match_text Style.Matches line.now program.now forest.now)) }
+        (out.new.items ≡ out.old.items
+        ++ (match_text Style.Matches line.now program.now forest.now)) }
 {
     if put_texts(out, true, line, forest, program)? {
         return Ok(());

@@ -1,8 +1,10 @@
 // The texts of the root, and of the nodes directly under it.
-ghost use Rattle.std.specs.Prelude.{◌≡◌, ◌<◌, ◌⊎◌, ◌++◌, [], ◌∷◌, slice_get, OnOk, IfOk, IfSome, IfNone};
+ghost use Rattle.std.specs.Prelude.{◌≡◌, ◌<◌, ◌⊎◌, ◌++◌, [], ◌∷◌, slice_get, OnOk, IfOk, IfSome};
+ghost use Rattle.std.specs.Prelude.{IfNone};
 ghost use Rattle.rpl_core.specs.Program.{labels_of};
 ghost use Rattle.rpl_encode.specs.Answer.{IsTooLong, below_root, line_by_line};
-ghost use Rattle.rpl_encode.specs.inside.Children.{below_of_first, is_some_text, is_printed, printed_texts};
+ghost use Rattle.rpl_encode.specs.inside.Children.{below_of_first, is_some_text, is_printed};
+ghost use Rattle.rpl_encode.specs.inside.Children.{printed_texts};
 ghost use Rattle.rpl_encode.specs.Labels.{match_text, trees_in};
 
 use crate::answer::MAX_ANSWER_BYTES;
@@ -40,8 +42,8 @@ pub(crate) fn put_root_text(
     }
 }
 
-/// Writes the texts of the nodes directly under the root, or only those of hits, each with a line feed. Tells whether
-/// there was one.
+/// Writes the texts of the nodes directly under the root, or only those of hits, each with a line
+/// feed. Tells whether there was one.
 pub(crate) fn put_texts(
     out: &mut Vec<u8>,
     only_hits: bool,
@@ -52,13 +54,16 @@ pub(crate) fn put_texts(
     ensures text { OnOk result
         (out.new.items
         ≡ out.old.items
-        ++ (line_by_line (printed_texts only_hits line.now (below_root (trees_in program.now forest.now))))) }
+        ++ (line_by_line (printed_texts only_hits line.now
+        (below_root (trees_in program.now forest.now))))) }
     ensures too_long { IsTooLong result
         (out.old.items
-        ++ line_by_line (printed_texts only_hits line.now (below_root (trees_in program.now forest.now)))) }
+        ++ line_by_line (printed_texts only_hits line.now
+        (below_root (trees_in program.now forest.now)))) }
     ensures found { IfOk result
         (λ some. some
-        ≡ is_some_text (printed_texts only_hits line.now (below_root (trees_in program.now forest.now)))) }
+        ≡ is_some_text (printed_texts only_hits line.now
+        (below_root (trees_in program.now forest.now)))) }
 {
     let count = forest.len();
     let mut left = below_first(forest);

@@ -1,5 +1,6 @@
 // What stands for the bytes of a line in strings of JSON.
-ghost use Rattle.std.specs.Prelude.{◌≡◌, ◌<◌, ◌≤◌, ◌+◌, ◌*◌, ◌++◌, length, drop, slice_range, vec_len, OnOk};
+ghost use Rattle.std.specs.Prelude.{◌≡◌, ◌<◌, ◌≤◌, ◌+◌, ◌*◌, ◌++◌, length, drop, slice_range};
+ghost use Rattle.std.specs.Prelude.{vec_len, OnOk};
 ghost use Rattle.std.specs.Char.{digit_char};
 ghost use Rattle.json.specs.Print.{escape, escape_byte, escape_letter};
 ghost use Rattle.rpl_print.specs.Quoted as Q;
@@ -21,17 +22,21 @@ pub(crate) enum Kind {
     Long,
 }
 
-/// The bytes of a line for which what stands for it is kept, at most. Parts of a short line are printed once for each
-/// node over them; for a long one that would take memory of many times its length.
+/// The bytes of a line for which what stands for it is kept, at most. Parts of a short line are
+/// printed once for each node over them; for a long one that would take memory of many times its
+/// length.
 const KEPT: usize = 4096;
 
-/// What stands for the parts of a line in strings of JSON, made ready once for all the parts of it that are printed.
+/// What stands for the parts of a line in strings of JSON, made ready once for all the parts of it
+/// that are printed.
 #[derive(Drop)]
 pub(crate) struct Escapes {
     kind: Kind,
-    /// It ends with what stands for a line that is kept. Its memory, and that of the places, serves the next line too.
+    /// It ends with what stands for a line that is kept. Its memory, and that of the places, serves
+    /// the next line too.
     string: Vec<u8>,
-    /// The place in the string where what stands for each byte of such a line begins, and where that for the last ends.
+    /// The place in the string where what stands for each byte of such a line begins, and where
+    /// that for the last ends.
     places: Vec<usize>,
 }
 
@@ -65,8 +70,8 @@ impl Escapes {
         Ok(())
     }
 
-    /// Adds what stands for the part of their line between two places. It is empty where the end is before the start,
-    /// and ends where the line does.
+    /// Adds what stands for the part of their line between two places. It is empty where the end is
+    /// before the start, and ends where the line does.
     pub(crate) fn put(
         &self,
         out: &mut Vec<u8>,
@@ -75,7 +80,8 @@ impl Escapes {
         end: usize,
     ) -> Result<(), NoMemory>
         requires { AreOf line.now self.now }
-        ensures { OnOk result (out.new.items ≡ out.old.items ++ escape (slice_range line.now start end)) }
+        ensures { OnOk result (out.new.items ≡ out.old.items
+            ++ escape (slice_range line.now start end)) }
     {
         match self.kind {
             Kind::Plain => out.extend_from_slice(part_of(line, start, end)),
@@ -99,7 +105,8 @@ fn lengthen<T: Copy>(list: &mut Vec<T>, count: usize, filler: T) -> Result<(), N
     list.resize(count, filler)
 }
 
-/// Writes what stands for the line at the end of the string, and where in it what stands for each byte begins.
+/// Writes what stands for the line at the end of the string, and where in it what stands for each
+/// byte begins.
 fn keep(string: &mut [u8], places: &mut [usize], line: &[u8])
     requires string { 6 * length line.now ≤ length string.old }
     requires places { length line.now < length places.old }
@@ -135,8 +142,9 @@ const CHUNK: usize = 64;
 
 const ROOM: usize = 6 * CHUNK;
 
-/// Adds what stands for these bytes in a string of JSON. They are taken a few at a time: a list that grows is slow
-/// where little is added at once, and in a line of JSON few bytes stand between two quotes.
+/// Adds what stands for these bytes in a string of JSON. They are taken a few at a time: a list
+/// that grows is slow where little is added at once, and in a line of JSON few bytes stand between
+/// two quotes.
 pub(crate) fn put_bytes(out: &mut Vec<u8>, bytes: &[u8]) -> Result<(), NoMemory>
     ensures { OnOk result (out.new.items ≡ out.old.items ++ escape bytes.now) }
 {
@@ -149,7 +157,8 @@ pub(crate) fn put_bytes(out: &mut Vec<u8>, bytes: &[u8]) -> Result<(), NoMemory>
     Ok(())
 }
 
-/// Adds what stands for a few bytes. Where one needs an escape, all is put together in a buffer, from its end.
+/// Adds what stands for a few bytes. Where one needs an escape, all is put together in a buffer,
+/// from its end.
 fn put_chunk(out: &mut Vec<u8>, bytes: &[u8]) -> Result<(), NoMemory>
     requires { length bytes.now ≤ 64 }
     ensures { OnOk result (out.new.items ≡ out.old.items ++ escape bytes.now) }

@@ -53,8 +53,8 @@ pub(crate) fn add_fronts(
     Ok(())
 }
 
-/// Writes the front of the object of a node, with a comma before it unless it is the first. It is copied where the type
-/// with this number is the one that was written, and else it is written anew.
+/// Writes the front of the object of a node, with a comma before it unless it is the first. It is
+/// copied where the type with this number is the one that was written, and else it is written anew.
 pub(crate) fn put_front(
     out: &mut Vec<u8>,
     fronts: &[Front],

@@ -1,5 +1,6 @@
 // What is written of one node.
-ghost use Rattle.std.specs.Prelude.{◌≡◌, ◌+◌, ◌≤◌, ◌++◌, ◌∷◌, length, drop, slice_range, OnOk, decimal, codes};
+ghost use Rattle.std.specs.Prelude.{◌≡◌, ◌+◌, ◌≤◌, ◌++◌, ◌∷◌, length, drop, slice_range, OnOk};
+ghost use Rattle.std.specs.Prelude.{decimal, codes};
 ghost use Rattle.std.specs.Str.{encode_utf8_all};
 ghost use Rattle.rpl_core.specs.Program.{labels_of};
 ghost use Rattle.json.specs.Print.{escape};
@@ -31,7 +32,8 @@ pub(crate) fn text_of<'a>(node: Node, line: &'a [u8], program: &'a Program) -> &
     }
 }
 
-/// The part of a line between two places. It is empty where the end is before the start, and ends where the line does.
+/// The part of a line between two places. It is empty where the end is before the start, and ends
+/// where the line does.
 pub(crate) fn part_of(line: &[u8], start: usize, end: usize) -> &[u8]
     ensures { result.now ≡ slice_range line.now start end }
 {
@@ -40,8 +42,8 @@ pub(crate) fn part_of(line: &[u8], start: usize, end: usize) -> &[u8]
     &line[start..end]
 }
 
-/// Writes the object of a node, with a comma before it unless it is the first, up to the first of the nodes below it or
-/// to its end.
+/// Writes the object of a node, with a comma before it unless it is the first, up to the first of
+/// the nodes below it or to its end.
 pub(crate) fn put_node(
     out: &mut Vec<u8>,
     node: Node,
@@ -54,7 +56,8 @@ pub(crate) fn put_node(
         (out.new.items
         ≡ out.old.items
         ++ (comma is_first
-        ++ (fields_at (labels_of source.entry.program.now) source.entry.line.now node ++ ending has_subs))) }
+        ++ (fields_at (labels_of source.entry.program.now) source.entry.line.now node
+        ++ ending has_subs))) }
 {
     let program = source.program;
     match node.note {
@@ -101,7 +104,8 @@ fn put_part(
     ensures { OnOk result
         (out.new.items
         ≡ out.old.items
-        ++ (escape (slice_range source.entry.line.now node.start node.end) ++ 34 ∷ ending has_subs)) }
+        ++ (escape (slice_range source.entry.line.now node.start node.end)
+        ++ 34 ∷ ending has_subs)) }
 {
     source
         .shared
@@ -127,7 +131,8 @@ fn put_ending(out: &mut Vec<u8>, has_subs: bool) -> Result<(), NoMemory>
 fn put_places(out: &mut Vec<u8>, start: usize, end: usize) -> Result<(), NoMemory>
     ensures { OnOk result
         (out.new.items
-        ≡ out.old.items ++ (decimal (start + 1) ++ (codes ",\"e\":" ++ (decimal (end + 1) ++ codes ",\"data\":\"")))) }
+        ≡ out.old.items ++ (decimal (start + 1)
+        ++ (codes ",\"e\":" ++ (decimal (end + 1) ++ codes ",\"data\":\"")))) }
 {
     if start == usize::MAX || end == usize::MAX {
         return put_far_places(out, start, end);
@@ -161,7 +166,8 @@ pub(crate) fn write_before(bytes: &[u8], buffer: &mut [u8], end: usize) -> usize
 fn put_far_places(out: &mut Vec<u8>, start: usize, end: usize) -> Result<(), NoMemory>
     ensures { OnOk result
         (out.new.items
-        ≡ out.old.items ++ (decimal (start + 1) ++ (codes ",\"e\":" ++ (decimal (end + 1) ++ codes ",\"data\":\"")))) }
+        ≡ out.old.items ++ (decimal (start + 1)
+        ++ (codes ",\"e\":" ++ (decimal (end + 1) ++ codes ",\"data\":\"")))) }
 {
     let mut buffer = Buffer::new();
     out.extend_from_slice(buffer.format(start as u128 + 1).as_bytes())?;

@@ -7,16 +7,16 @@ use crate::front::{Front, add_fronts};
 use rpl_core::{NoMemory, Program};
 use std::alloc::Global;
 
-/// What the objects of all nodes of a line share: the fronts of a program's types, and what stands for the parts of the
-/// line in strings of JSON.
+/// What the objects of all nodes of a line share: the fronts of a program's types, and what stands
+/// for the parts of the line in strings of JSON.
 #[derive(Drop)]
 pub(crate) struct SharedParts {
     pub(crate) fronts: Vec<Front>,
     pub(crate) escapes: Escapes,
 }
 
-/// What the objects of a line's nodes are written from: the line, what is prepared for it, and the program that it was
-/// matched with.
+/// What the objects of a line's nodes are written from: the line, what is prepared for it, and the
+/// program that it was matched with.
 #[derive(Clone, Copy)]
 pub(crate) struct Source<'a> {
     pub(crate) line: &'a [u8],

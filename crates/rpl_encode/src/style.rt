@@ -20,7 +20,8 @@ pub enum Style {
 }
 
 impl Style {
-    /// Whether the text of a match is the same whatever its trees are, so that they needn't be made.
+    /// Whether the text of a match is the same whatever its trees are, so that they needn't be
+    /// made.
     pub fn ignores_trees(self) -> bool
         ensures { IsTrue result ↔ IgnoresTrees self }
     {

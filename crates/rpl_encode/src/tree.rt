@@ -29,8 +29,8 @@ use crate::style::Style;
 use rpl_core::NoMemory;
 use rpl_tree::{Forest, Node};
 
-/// Writes the object of the first tree and a line feed, or nothing where there is no tree. `pending` is room for the
-/// work.
+/// Writes the object of the first tree and a line feed, or nothing where there is no tree.
+/// `pending` is room for the work.
 pub(crate) fn put_tree(
     out: &mut Vec<u8>,
     pending: &mut Vec<usize>,
@@ -39,9 +39,11 @@ pub(crate) fn put_tree(
 ) -> Result<(), EncodeFault>
     requires { AreOf source.line.now source.shared.now.escapes }
     ensures text { OnOk result (out.new.items
-        ≡ out.old.items ++ match_text Style.Json source.entry.line.now source.entry.program.now forest.now) }
+        ≡ out.old.items ++ match_text Style.Json source.entry.line.now source.entry.program.now
+        forest.now) }
     ensures too_long { IsTooLong result
-        (out.old.items ++ match_text Style.Json source.entry.line.now source.entry.program.now forest.now) }
+        (out.old.items ++ match_text Style.Json source.entry.line.now source.entry.program.now
+        forest.now) }
 {
     let Some(root) = forest.get(0) else {
         return Ok(());
@@ -73,16 +75,16 @@ fn open_list(pending: &mut Vec<usize>, count: usize) -> Result<(), NoMemory>
     Ok(())
 }
 
-/// Whether nodes are printed below this one: it has some, the next of which has the number `next` among `count`. A note
-/// has none.
+/// Whether nodes are printed below this one: it has some, the next of which has the number `next`
+/// among `count`. A note has none.
 fn has_subs(node: Node, below: usize, next: usize, count: usize) -> bool
     ensures { IsTrue result ↔ ((node.note ≡ None) × (0 < below) × (next < count)) }
 {
     node.note.is_none() && below > 0 && next < count
 }
 
-/// Writes the nodes from the second on, and closes the lists that are open. `lists` has the number of nodes that are
-/// still to come in each of them, the innermost last.
+/// Writes the nodes from the second on, and closes the lists that are open. `lists` has the number
+/// of nodes that are still to come in each of them, the innermost last.
 fn put_below(
     out: &mut Vec<u8>,
     lists: &mut Vec<usize>,

@@ -244,7 +244,8 @@ fn build_spaced(
     items: &[Expr],
 ) -> Result<Pegs, NoMemory>
     requires { Knows base.now }
-    ensures { IfOk result (λ ps. cores (listed ps) ≡ spaced_at base.now mode (exprs_all items.now)) }
+    ensures { IfOk result (λ ps. cores (listed ps)
+        ≡ spaced_at base.now mode (exprs_all items.now)) }
 {
     let mut parts = Pegs::new(alloc);
     for number in 0..items.len() {

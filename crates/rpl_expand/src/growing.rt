@@ -38,7 +38,8 @@ impl Growing {
     /// A table that begins with these rules.
     pub(crate) fn new(alloc: Global, rules: Rules) -> Result<Growing, NoMemory>
         ensures rules { IfOk result (λ t. t.rules ≡ rules) }
-        ensures knows { IfOk result (λ t. KnowsInners t.known.items (inners_of (rules_of t.rules))) }
+        ensures knows { IfOk result (λ t. KnowsInners t.known.items
+            (inners_of (rules_of t.rules))) }
     {
         let known = inners(alloc, &rules)?;
         Ok(Growing { rules, known })
@@ -50,7 +51,8 @@ impl Growing {
         requires new_name { IsNew rule.name (names_of (rules_of self.rules)) }
         requires knows { KnowsInners self.known.items (inners_of (rules_of self.rules)) }
         ensures rules { IfOk result (λ t. rules_of t.rules ≡ rules_of self.rules ++ rule ∷ []) }
-        ensures knows { IfOk result (λ t. KnowsInners t.known.items (inners_of (rules_of t.rules))) }
+        ensures knows { IfOk result (λ t. KnowsInners t.known.items
+            (inners_of (rules_of t.rules))) }
     {
         let Growing {
             mut rules,

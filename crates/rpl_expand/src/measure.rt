@@ -109,7 +109,8 @@ fn measure_raw(
     items: &[Expr],
 ) -> Count
     ensures { (c : Casing) (I : Inners) → KnowsInners known.now I
-        → Counts result (seen in_lookbehind I (seq_of (cores c (scope_seen scope.now I) (exprs_all items.now)))) }
+        → Counts result (seen in_lookbehind I
+        (seq_of (cores c (scope_seen scope.now I) (exprs_all items.now)))) }
 {
     match items {
         [item] => measure(scope, known, in_lookbehind, item),
@@ -129,7 +130,8 @@ fn measure_cooked(
     items: &[Expr],
 ) -> Count
     ensures { (c : Casing) (I : Inners) → KnowsInners known.now I
-        → Counts result (seen in_lookbehind I (seq_of (spaced c (scope_seen scope.now I) (exprs_all items.now)))) }
+        → Counts result (seen in_lookbehind I
+        (seq_of (spaced c (scope_seen scope.now I) (exprs_all items.now)))) }
 {
     match items {
         [item] => measure(scope, known, in_lookbehind, item),
@@ -149,7 +151,8 @@ fn measure_all(
     parts: &[Expr],
 ) -> Count
     ensures { (c : Casing) (I : Inners) → KnowsInners known.now I
-        → CountsAll result (seen_all in_lookbehind I (cores c (scope_seen scope.now I) (exprs_all parts.now))) }
+        → CountsAll result (seen_all in_lookbehind I
+        (cores c (scope_seen scope.now I) (exprs_all parts.now))) }
 {
     let mut sum = none();
     for part in parts {
@@ -167,7 +170,8 @@ fn measure_spaced(
     items: &[Expr],
 ) -> Count
     ensures { (c : Casing) (I : Inners) → KnowsInners known.now I
-        → CountsAll result (seen_all in_lookbehind I (spaced c (scope_seen scope.now I) (exprs_all items.now))) }
+        → CountsAll result (seen_all in_lookbehind I
+        (spaced c (scope_seen scope.now I) (exprs_all items.now))) }
 {
     let mut sum = none();
     let boundary = count_call(known, in_lookbehind, scope.boundary);

@@ -42,7 +42,8 @@ fn push_call(out: &mut String, rules: &Rules, rule: u32) -> Result<(), NoMemory>
 /// Adds a message.
 fn push_note(out: &mut String, text: &Chars) -> Result<(), NoMemory>
     ensures { OnOk result (string_bytes out.new
-        ≡ string_bytes out.old ++ in_brackets (codes "(note ") (Q.quoted (encode_utf8_all text.now))) }
+        ≡ string_bytes out.old ++ in_brackets
+        (codes "(note ") (Q.quoted (encode_utf8_all text.now))) }
 {
     out.push_str("(note ")?;
     push_quoted(out, text_of(text))?;
@@ -53,7 +54,8 @@ fn push_note(out: &mut String, text: &Chars) -> Result<(), NoMemory>
 #[cycle(print)]
 fn push_body(out: &mut String, rules: &Rules, head: &str, body: &Peg) -> Result<(), NoMemory>
     ensures { OnOk result (string_bytes out.new
-        ≡ string_bytes out.old ++ in_brackets head.now (printed (names_of (rules_of rules.now)) (core_of body.now))) }
+        ≡ string_bytes out.old ++ in_brackets head.now
+        (printed (names_of (rules_of rules.now)) (core_of body.now))) }
 {
     out.push_str(head)?;
     push_peg(out, rules, body)?;
@@ -96,7 +98,8 @@ fn push_behind(
 ) -> Result<(), NoMemory>
     ensures { OnOk result (string_bytes out.new
         ≡ string_bytes out.old ++ in_brackets (codes "(behind ")
-        (decimal least ++ 32 ∷ decimal most ++ 32 ∷ printed (names_of (rules_of rules.now)) (core_of body.now))) }
+        (decimal least ++ 32 ∷ decimal most ++ 32 ∷ printed (names_of (rules_of rules.now))
+        (core_of body.now))) }
 {
     out.push_str("(behind ")?;
     push_decimal(out, u64::from(least))?;
@@ -110,7 +113,8 @@ fn push_behind(
 fn push_capture(out: &mut String, rules: &Rules, name: &Chars, body: &Peg) -> Result<(), NoMemory>
     ensures { OnOk result (string_bytes out.new
         ≡ string_bytes out.old ++ in_brackets (codes "(capture ")
-        (encode_utf8_all name.now ++ 32 ∷ printed (names_of (rules_of rules.now)) (core_of body.now))) }
+        (encode_utf8_all name.now ++ 32 ∷ printed (names_of (rules_of rules.now))
+        (core_of body.now))) }
 {
     out.push_str("(capture ")?;
     push_text(out, name)?;
@@ -143,7 +147,8 @@ pub fn push_peg(out: &mut String, rules: &Rules, peg: &Peg) -> Result<(), NoMemo
 /// The printed text of a pattern over a table of rules, as `rosie expand` writes it: `(seq (set 61)
 /// (call ~))`. A call is printed by the rule's full name; one of no rule of the table has none.
 pub fn print_peg(alloc: Global, rules: &Rules, peg: &Peg) -> Result<Chars, NoMemory>
-    ensures { IfOk result (λ t. encode_utf8_all t ≡ printed (names_of (rules_of rules.now)) (core_of peg.now)) }
+    ensures { IfOk result (λ t. encode_utf8_all t ≡ printed (names_of (rules_of rules.now))
+        (core_of peg.now)) }
 {
     let mut out = String::new(alloc);
     push_peg(&mut out, rules, peg)?;

@@ -42,7 +42,8 @@ impl<'a> Scope<'a> {
 
     /// The rule that a name stands for makes a tree.
     pub(crate) fn captures(&self, name: &QName) -> bool
-        ensures { result ≡ makes_tree (T.resolved (set_seen self.now.set.now) self.now.at name.now) }
+        ensures { result ≡ makes_tree (T.resolved (set_seen self.now.set.now) self.now.at
+            name.now) }
     {
         match self.set.resolve(self.at, name) {
             Ok(target) => target.captures,

@@ -79,7 +79,8 @@ fn counts_under(captures: bool, of: Count) -> Count
 
 /// The expression is the name of a rule that makes a tree.
 fn has_root(scope: &Scope<'_>, e: &Expr) -> bool
-    ensures { result ≡ has_root (λ q. makes_tree (resolved (set_seen scope.now.set.now) scope.now.at q))
+    ensures { result ≡ has_root (λ q. makes_tree
+        (resolved (set_seen scope.now.set.now) scope.now.at q))
         (expr_of e.now) }
 {
     match e {
@@ -164,7 +165,8 @@ fn check_goal_size(
     e: &Expr,
 ) -> Result<(), ExpandFault>
     ensures { (I : Inners) → KnowsInners known.now I → Answers (size_fault None
-        (captured captures (codes "*") (core Plain (scope_seen scope.now I) (expr_of e.now)))) result }
+        (captured captures (codes "*") (core Plain (scope_seen scope.now I) (expr_of e.now))))
+        result }
 {
     let own = measure(scope, known, false, e);
     check_size(None, counts_under(captures, own))
@@ -184,7 +186,8 @@ pub fn expand_pattern(
         ≡ goal_of (set_seen set.now) (inners_of (rules_of rules.now)) (expr_of e.now)) }
     ensures calls { IsOver (bodies_of (rules_of rules.now))
         (scope_of (set_seen set.now) None (inners_of (rules_of rules.now)))
-        → IfOk result (λ p. (r : ℕ) → calls (core_of p) r ≡ true → r < length (rules_of rules.now)) }
+        → IfOk result (λ p. (r : ℕ) → calls (core_of p) r ≡ true →
+        r < length (rules_of rules.now)) }
     ensures root { let R = bodies_of (rules_of rules.now) in let p = set_seen set.now in
         MakeTrees R (captures_of p) (scope_of p None (inners_of (rules_of rules.now)))
         → IfOk result (λ q. (label : List ℕ) × IsCapture R label (core_of q)) }

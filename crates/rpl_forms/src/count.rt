@@ -46,7 +46,8 @@ pub fn node(of: Count) -> Count
 
 /// One core before others.
 fn front(first: Count, rest: Count) -> Count
-    ensures { (p : Core) (ps : Cores) → Counts first p → CountsAll rest ps → CountsAll result (C.Then p ps) }
+    ensures { (p : Core) (ps : Cores) → Counts first p → CountsAll rest ps →
+        CountsAll result (C.Then p ps) }
 {
     Count {
         size: (first.size + rest.size).min(MAX_SIZE + 1),
@@ -67,7 +68,8 @@ pub fn add(sum: Count, next: Count) -> Count
 
 /// A core so many times, before others.
 fn copies(number: u32, part: Count, rest: Count) -> Count
-    ensures { (p : Core) (ps : Cores) → Counts part p → CountsAll rest ps → CountsAll result (F.copies number p ps) }
+    ensures { (p : Core) (ps : Cores) → Counts part p → CountsAll rest ps →
+        CountsAll result (F.copies number p ps) }
 {
     if number == 0 {
         return rest;
@@ -146,7 +148,8 @@ pub fn repeat(of: Count, least: u32, most: Option<u32>) -> Count
 
 /// A cooked group so many times and more, with the boundary between its turns.
 fn cooked_endless(boundary: Count, of: Count, least: u32) -> Count
-    ensures { (b p : Core) → Counts boundary b → Counts of p → Counts result (F.cooked_endless b p least) }
+    ensures { (b p : Core) → Counts boundary b → Counts of p →
+        Counts result (F.cooked_endless b p least) }
 {
     let turn = pair(boundary, of);
     let many = node(turn);
@@ -162,7 +165,8 @@ fn cooked_endless(boundary: Count, of: Count, least: u32) -> Count
 
 /// One turn of a cooked group, some further ones, and up to some more.
 fn cooked_turns(boundary: Count, of: Count, further: u32, more: u32) -> Count
-    ensures { (b p : Core) → Counts boundary b → Counts of p → Counts result (F.cooked_turns b p further more) }
+    ensures { (b p : Core) → Counts boundary b → Counts of p →
+        Counts result (F.cooked_turns b p further more) }
 {
     let turn = pair(boundary, of);
     let last = copies(more, or_nothing(turn), none());
@@ -173,7 +177,8 @@ fn cooked_turns(boundary: Count, of: Count, further: u32, more: u32) -> Count
 
 /// A cooked group from `least` to `most` times.
 fn cooked_bounded(boundary: Count, of: Count, least: u32, most: u32) -> Count
-    ensures { (b p : Core) → Counts boundary b → Counts of p → Counts result (F.cooked_bounded b p least most) }
+    ensures { (b p : Core) → Counts boundary b → Counts of p →
+        Counts result (F.cooked_bounded b p least most) }
 {
     if least > 0 {
         return cooked_turns(boundary, of, least - 1, most.saturating_sub(least));
@@ -187,7 +192,8 @@ fn cooked_bounded(boundary: Count, of: Count, least: u32, most: u32) -> Count
 
 /// A cooked group from `least` to `most` times, or `least` times and more.
 pub fn cooked_repeat(boundary: Count, of: Count, least: u32, most: Option<u32>) -> Count
-    ensures { (b p : Core) → Counts boundary b → Counts of p → Counts result (F.cooked_repeat b p least most) }
+    ensures { (b p : Core) → Counts boundary b → Counts of p →
+        Counts result (F.cooked_repeat b p least most) }
 {
     match most {
         None => cooked_endless(boundary, of, least),
@@ -251,7 +257,8 @@ pub fn applied(
     kind: Option<Macro>,
     of: Count,
 ) -> Count
-    ensures { (I : Inners) (t : List ℕ) (p : Core) → KnowsInners known.now I → Counts of (seen in_lookbehind I p)
+    ensures { (I : Inners) (t : List ℕ) (p : Core) → KnowsInners known.now I →
+        Counts of (seen in_lookbehind I p)
         → Counts result (seen in_lookbehind I (macro_core kind t p)) }
 {
     match kind {

@@ -30,7 +30,8 @@ fn inner_of(known: &[Option<Inner>], rule: u32) -> Option<Inner>
 
 /// The counts of a call, or of what stands for it.
 pub fn count_call(known: &[Option<Inner>], in_lookbehind: bool, rule: u32) -> Count
-    ensures { (I : Inners) → KnowsInners known.now I → Counts result (seen in_lookbehind I (C.Call rule)) }
+    ensures { (I : Inners) → KnowsInners known.now I →
+        Counts result (seen in_lookbehind I (C.Call rule)) }
 {
     if !in_lookbehind {
         return leaf();
@@ -44,7 +45,8 @@ pub fn count_call(known: &[Option<Inner>], in_lookbehind: bool, rule: u32) -> Co
 /// The counts of a pattern, or of what stands for it.
 #[cycle(weigh)]
 fn weigh(known: &[Option<Inner>], in_lookbehind: bool, peg: &Peg) -> Count
-    ensures { (I : Inners) → KnowsInners known.now I → Counts result (seen in_lookbehind I (core_of peg.now)) }
+    ensures { (I : Inners) → KnowsInners known.now I →
+        Counts result (seen in_lookbehind I (core_of peg.now)) }
 {
     match peg {
         Peg::Set(_) | Peg::Note(_) | Peg::Start | Peg::End | Peg::Halt => leaf(),
@@ -83,7 +85,8 @@ fn weigh(known: &[Option<Inner>], in_lookbehind: bool, peg: &Peg) -> Count
 /// Those of some patterns together.
 #[cycle(weigh)]
 fn weigh_all(known: &[Option<Inner>], in_lookbehind: bool, parts: &[Peg]) -> Count
-    ensures { (I : Inners) → KnowsInners known.now I → CountsAll result (seen_all in_lookbehind I (cores parts.now)) }
+    ensures { (I : Inners) → KnowsInners known.now I →
+        CountsAll result (seen_all in_lookbehind I (cores parts.now)) }
 {
     let mut sum = none();
     for part in parts {
@@ -94,7 +97,8 @@ fn weigh_all(known: &[Option<Inner>], in_lookbehind: bool, parts: &[Peg]) -> Cou
 
 /// The rule that the pattern calls, where it is nothing but a call, or a node of one.
 fn called_alone(peg: &Peg) -> Option<u32>
-    ensures { IfSome result (λ r. (I : Inners) → inlined I (core_of peg.now) ≡ inlined I (C.Call r)) }
+    ensures { IfSome result (λ r. (I : Inners) →
+        inlined I (core_of peg.now) ≡ inlined I (C.Call r)) }
 {
     match peg {
         Peg::Call(rule) => Some(*rule),
@@ -141,7 +145,8 @@ fn next_inner(known: &[Option<Inner>], rule: &Rule) -> Option<Inner>
 /// Adds what is known of the next rule of a table.
 pub fn push_inner(known: &mut Vec<Option<Inner>>, rule: &Rule) -> Result<(), NoMemory>
     requires { length known.old.items < 0xffff_ffff }
-    ensures knows { OnOk result ((I : Inners) → KnowsInners known.old.items I → length known.old.items ≡ length I
+    ensures knows { OnOk result ((I : Inners) → KnowsInners known.old.items I →
+        length known.old.items ≡ length I
         → KnowsInners known.new.items (I ++ inner I rule.now.block (core_of rule.now.body) ∷ [])) }
     ensures as_many { OnOk result (length known.new.items ≡ length known.old.items + 1) }
 {
@@ -238,7 +243,8 @@ fn inline(
     peg: &Peg,
 ) -> Result<Peg, NoMemory>
     requires { KnowsInners known.now (inners_of (rules_of rules.now)) }
-    ensures { IfOk result (λ p. core_of p ≡ inlined (take limit (inners_of (rules_of rules.now))) (core_of peg.now)) }
+    ensures { IfOk result (λ p. core_of p ≡ inlined (take limit (inners_of (rules_of rules.now)))
+        (core_of peg.now)) }
 {
     match peg {
         Peg::Set(set) => Ok(Peg::Set(set.copy(alloc)?)),
@@ -269,7 +275,8 @@ pub fn call(
     rule: u32,
 ) -> Result<Peg, NoMemory>
     requires { KnowsInners known.now (inners_of (rules_of rules.now)) }
-    ensures { IfOk result (λ p. core_of p ≡ seen in_lookbehind (inners_of (rules_of rules.now)) (C.Call rule)) }
+    ensures { IfOk result (λ p. core_of p ≡ seen in_lookbehind (inners_of (rules_of rules.now))
+        (C.Call rule)) }
 {
     if !in_lookbehind {
         return Ok(Peg::Call(rule));

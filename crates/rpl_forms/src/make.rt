@@ -163,7 +163,8 @@ fn endless(alloc: Global, body: Peg, least: u32) -> Result<Peg, NoMemory>
 /// A pattern, or nothing, so many times more at the end.
 fn append_options(alloc: Global, parts: &mut Pegs, number: u32, part: Peg) -> Result<(), NoMemory>
     ensures { OnOk result (cores (listed parts.new)
-        ≡ F.joined (cores (listed parts.old)) (F.copies number (F.or_nothing (core_of part)) C.NoMore)) }
+        ≡ F.joined (cores (listed parts.old))
+        (F.copies number (F.or_nothing (core_of part)) C.NoMore)) }
 {
     let option = or_nothing(alloc, part)?;
     append_copies(alloc, parts, number, &option)
@@ -172,7 +173,8 @@ fn append_options(alloc: Global, parts: &mut Pegs, number: u32, part: Peg) -> Re
 /// So many times, and up to some more.
 fn bounded(alloc: Global, body: Peg, least: u32, more: u32) -> Result<Peg, NoMemory>
     ensures { IfOk result (λ p. core_of p
-        ≡ C.Seq (F.copies least (core_of body) (F.copies more (F.or_nothing (core_of body)) C.NoMore))) }
+        ≡ C.Seq (F.copies least (core_of body)
+        (F.copies more (F.or_nothing (core_of body)) C.NoMore))) }
 {
     let mut parts = Pegs::new(alloc);
     append_copies(alloc, &mut parts, least, &body)?;
@@ -211,7 +213,8 @@ fn with_copies(alloc: Global, first: Peg, number: u32, next: &Peg) -> Result<Peg
 
 /// A cooked group so many times and more, with the boundary between its turns.
 fn cooked_endless(alloc: Global, boundary: Peg, body: Peg, least: u32) -> Result<Peg, NoMemory>
-    ensures { IfOk result (λ p. core_of p ≡ F.cooked_endless (core_of boundary) (core_of body) least) }
+    ensures { IfOk result (λ p. core_of p ≡ F.cooked_endless (core_of boundary) (core_of body)
+        least) }
 {
     let turn = further_turn(alloc, boundary, &body)?;
     if least == 0 {
@@ -232,7 +235,8 @@ fn cooked_turns(
     further: u32,
     more: u32,
 ) -> Result<Peg, NoMemory>
-    ensures { IfOk result (λ p. core_of p ≡ F.cooked_turns (core_of boundary) (core_of body) further more) }
+    ensures { IfOk result (λ p. core_of p ≡ F.cooked_turns (core_of boundary) (core_of body) further
+        more) }
 {
     let turn = further_turn(alloc, boundary, &body)?;
     let mut parts = with_copies(alloc, body, further, &turn)?;
@@ -248,7 +252,8 @@ fn cooked_bounded(
     least: u32,
     most: u32,
 ) -> Result<Peg, NoMemory>
-    ensures { IfOk result (λ p. core_of p ≡ F.cooked_bounded (core_of boundary) (core_of body) least most) }
+    ensures { IfOk result (λ p. core_of p ≡ F.cooked_bounded (core_of boundary) (core_of body) least
+        most) }
 {
     if least > 0 {
         return cooked_turns(alloc, boundary, body, least - 1, most.saturating_sub(least));
@@ -263,7 +268,8 @@ fn cooked_bounded(
 /// A cooked group at most once, which has no boundary.
 pub fn cooked_once(alloc: Global, body: Peg, least: u32) -> Result<Peg, NoMemory>
     requires { least ≤ 1 }
-    ensures { IfOk result (λ p. (b : Core) → core_of p ≡ F.cooked_bounded b (core_of body) least 1) }
+    ensures { IfOk result (λ p. (b : Core) →
+        core_of p ≡ F.cooked_bounded b (core_of body) least 1) }
 {
     let mut parts = Pegs::new(alloc);
     append(&mut parts, body)?;
@@ -281,7 +287,8 @@ pub fn cooked_repeat(
     least: u32,
     most: Option<u32>,
 ) -> Result<Peg, NoMemory>
-    ensures { IfOk result (λ p. core_of p ≡ F.cooked_repeat (core_of boundary) (core_of body) least most) }
+    ensures { IfOk result (λ p. core_of p ≡ F.cooked_repeat (core_of boundary) (core_of body) least
+        most) }
 {
     match most {
         None => cooked_endless(alloc, boundary, body, least),
@@ -359,7 +366,8 @@ pub fn searched(
     body: Peg,
 ) -> Result<Peg, NoMemory>
     requires { keeps_text kind ≡ false }
-    ensures { IfOk result (λ q. (I : Inners) (t : List ℕ) (p : Core) → core_of body ≡ seen in_lookbehind I p
+    ensures { IfOk result (λ q. (I : Inners) (t : List ℕ) (p : Core) →
+        core_of body ≡ seen in_lookbehind I p
         → core_of q ≡ seen in_lookbehind I (F.macro_core kind t p)) }
 {
     match kind {
@@ -382,7 +390,8 @@ pub fn note(alloc: Global, in_lookbehind: bool, text: &Chars) -> Result<Peg, NoM
 
 /// The message of an argument. The characters of the argument aren't made.
 pub fn message(alloc: Global, in_lookbehind: bool, arg: &Expr) -> Result<Peg, NoMemory>
-    ensures { IfOk result (λ q. (I : Inners) → core_of q ≡ seen in_lookbehind I (C.Note (text_of (expr_of arg.now)))) }
+    ensures { IfOk result (λ q. (I : Inners) →
+        core_of q ≡ seen in_lookbehind I (C.Note (text_of (expr_of arg.now)))) }
 {
     match arg {
         Expr::Text(text) => note(alloc, in_lookbehind, text),

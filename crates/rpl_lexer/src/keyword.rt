@@ -20,7 +20,8 @@ pub enum Keyword {
 impl Keyword {
     /// The keyword that a name is, where it is one.
     pub(crate) fn from_name(name: &[u8]) -> Option<Keyword>
-        ensures { MatchOption result ((k : Keyword) → word_of k ≢ name.now) (λ k. word_of k ≡ name.now) }
+        ensures { MatchOption result ((k : Keyword) →
+            word_of k ≢ name.now) (λ k. word_of k ≡ name.now) }
     {
         match name {
             b"rpl" => Some(Keyword::Rpl),

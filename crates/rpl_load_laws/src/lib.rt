@@ -101,7 +101,8 @@ pub fn no_name_twice()
     ensures { NoNameTwice }
 {}
 
-/// None of them has a space, or a character that comes before it, so that their lines stand in the order of the names.
+/// None of them has a space, or a character that comes before it, so that their lines stand in the
+/// order of the names.
 pub fn no_name_has_a_space()
     ensures { NoNameHasASpace }
 {}

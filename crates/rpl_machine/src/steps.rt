@@ -4,8 +4,9 @@ ghost use Rattle.std.specs.Prelude.{◌≡◌, ◌+◌, ◌<◌};
 use std::marker::Model;
 use std::sync::ledger::{Blank, Book, Ledger, Share};
 
-/// How many steps the runs on this ledger have made. It takes no bytes, and nothing but `run` raises it: so a caller
-/// who was handed a `&mut Steps` shows by its count that the steps were made.
+/// How many steps the runs on this ledger have made. It takes no bytes, and nothing but `run`
+/// raises it: so a caller who was handed a `&mut Steps` shows by its count that the steps were
+/// made.
 #[derive(Drop)]
 pub struct Steps<L: Ledger> {
     book: Book<L>,

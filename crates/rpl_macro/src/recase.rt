@@ -29,7 +29,8 @@ fn lone(alloc: Global, c: char) -> Result<Expr, NoMemory>
 
 /// The class of two characters.
 fn pair(alloc: Global, first: u32, second: u32) -> Result<Expr, NoMemory>
-    ensures { IfOk result (λ e. expr_of e ≡ M.Class (norm ((first, first) ∷ (second, second) ∷ [])) false) }
+    ensures { IfOk result (λ e. expr_of e ≡ M.Class (norm ((first, first) ∷ (second, second) ∷ []))
+        false) }
 {
     let set = Set::from_ranges(alloc, &[(first, first), (second, second)])?;
     Ok(Expr::Class {
@@ -143,7 +144,8 @@ fn recase_all(alloc: Global, casing: Casing, parts: &[Expr]) -> Result<Exprs, No
 #[cycle(recase)]
 fn argument(alloc: Global, casing: Casing, name: &str, arg: &Expr) -> Result<Box<Expr>, NoMemory>
     ensures { IfOk result (λ b. expr_of b.value ≡
-        (if keeps_text (kind_of (chars name.now)) then expr_of arg.now else recased casing (expr_of arg.now))) }
+        (if keeps_text (kind_of (chars name.now)) then expr_of arg.now else recased casing
+        (expr_of arg.now))) }
 {
     if keeps_text(name) {
         let arg = arg.copy(alloc)?;

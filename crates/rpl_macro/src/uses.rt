@@ -32,7 +32,8 @@ pub fn check_use(name: &str, arg: &Expr) -> Option<MacroFault>
 
 /// Two items in turn.
 fn pair(alloc: Global, first: Expr, second: Expr) -> Result<Expr, NoMemory>
-    ensures { IfOk result (λ e. expr_of e ≡ M.Raw (M.Cons (expr_of first) (M.one (expr_of second)))) }
+    ensures { IfOk result (λ e. expr_of e
+        ≡ M.Raw (M.Cons (expr_of first) (M.one (expr_of second)))) }
 {
     let mut items = Exprs::new(alloc);
     items.push(first)?;
@@ -56,7 +57,8 @@ fn passed(alloc: Global, arg: &Expr) -> Result<Expr, NoMemory>
 
 /// The argument, marked as what was looked for, after what was passed over.
 fn hit(alloc: Global, before: Expr, arg: Expr) -> Result<Expr, NoMemory>
-    ensures { IfOk result (λ e. expr_of e ≡ M.Raw (M.Cons (expr_of before) (M.one (M.Marked Hit (expr_of arg))))) }
+    ensures { IfOk result (λ e. expr_of e
+        ≡ M.Raw (M.Cons (expr_of before) (M.one (M.Marked Hit (expr_of arg))))) }
 {
     let hit = Expr::Marked(Mark::Hit, Box::new(alloc, arg)?);
     pair(alloc, before, hit)

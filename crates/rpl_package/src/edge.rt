@@ -38,10 +38,10 @@ pub fn fault_of(alloc: Global, stop: Stop) -> LoadFault
 
 /// Loads the roots in order, each import once, found in the first of the folders that has its file.
 ///
-/// The roots without a package statement share one module, the top module; any other root is a module of its own, whose
-/// package name is then a prefix in the top module. The first fault of all is answered, in the order that
-/// `specs/Loading.antt` and `specs/Roots.antt` say, and `ReadFault` only where a read or an open failed. Every file is
-/// closed afterwards.
+/// The roots without a package statement share one module, the top module; any other root is a
+/// module of its own, whose package name is then a prefix in the top module. The first fault of all
+/// is answered, in the order that `specs/Loading.antt` and `specs/Roots.antt` say, and `ReadFault`
+/// only where a read or an open failed. Every file is closed afterwards.
 ///
 /// # Examples
 ///
@@ -57,7 +57,8 @@ pub fn load<F: Files>(
     path: &LibPath,
     roots: &Roots,
 ) -> Result<PackageSet, LoadFault>
-    ensures gives { F.tells → Answers set_seen result (load (world (F.tree files.old) path.now) roots.now) }
+    ensures gives { F.tells → Answers set_seen result
+        (load (world (F.tree files.old) path.now) roots.now) }
     ensures many { IfOk result (λ set. length (set_seen set).roots ≡ length roots.now) }
     ensures cause { IsCaused result (F.faults files.old) (F.faults files.new)
         (F.failed_opens files.old) (F.failed_opens files.new) }
@@ -72,11 +73,13 @@ pub fn load<F: Files>(
     }
 }
 
-/// Reads the text of a pattern, imports what it names by a prefix that the top module hasn't, and sees that all its
-/// names are bound and all its macros are used as they may be: the pattern's expression.
+/// Reads the text of a pattern, imports what it names by a prefix that the top module hasn't, and
+/// sees that all its names are bound and all its macros are used as they may be: the pattern's
+/// expression.
 ///
-/// After a refusal the set is as it was. The first fault is answered, in the order that `specs/Patterns.antt` says, and
-/// `ReadFault` only where a read or an open failed. Every file is closed afterwards.
+/// After a refusal the set is as it was. The first fault is answered, in the order that
+/// `specs/Patterns.antt` says, and `ReadFault` only where a read or an open failed. Every file is
+/// closed afterwards.
 ///
 /// # Examples
 ///
@@ -95,7 +98,8 @@ pub fn load_pattern<F: Files>(
     set: &mut PackageSet,
     goal: &Goal<'_>,
 ) -> Result<Expr, LoadFault>
-    ensures gives { F.tells → (r : Or ParsedExpr) → ReadsGoal goal.now.fixed goal.now.find goal.now.text.now r
+    ensures gives { F.tells → (r : Or ParsedExpr) →
+        ReadsGoal goal.now.fixed goal.now.find goal.now.text.now r
         → Answers (λ e. (expr_of e, set_seen set.new)) result
         (load_pattern (world (F.tree files.old) path.now) (set_seen set.old) r) }
     ensures right { IfOk result (λ e. HasNoFault (expr_of e) (set_seen set.new)) }

@@ -1,13 +1,14 @@
 //! Packages: a set of RPL texts, in which each import is loaded once, and what its names stand for.
 //!
-//! For the expansion and the commands. `load` reads the roots and all that they import, `load_pattern` a pattern and
-//! the packages that it names; a `PackageSet` then tells what any name of any rule stands for, which names there are,
-//! and the rule table. The first fault of all is answered, with its file and place, in the one order that `specs/`
-//! says; a read fault only where a read or an open failed. Every file is closed on every way out, and time is linear in
-//! the bytes that are read.
+//! For the expansion and the commands. `load` reads the roots and all that they import,
+//! `load_pattern` a pattern and the packages that it names; a `PackageSet` then tells what any name
+//! of any rule stands for, which names there are, and the rule table. The first fault of all is
+//! answered, with its file and place, in the one order that `specs/` says; a read fault only where
+//! a read or an open failed. Every file is closed on every way out, and time is linear in the bytes
+//! that are read.
 //!
-//! A set knows of itself, whatever the files are, that it came, by the steps of loading, of texts that were read
-//! (`specs/Built.antt`): the laws of all sets stand on that.
+//! A set knows of itself, whatever the files are, that it came, by the steps of loading, of texts
+//! that were read (`specs/Built.antt`): the laws of all sets stand on that.
 #![tactic(auto)]
 
 mod edge;

@@ -76,7 +76,8 @@ pub fn load_set<F: Files>(
     folders: &[Chars],
     roots: &[Root],
 ) -> Result<PackageSet, Stop>
-    ensures gives { F.tells → Walks set_seen result (load (world (F.tree files.old) folders.now) roots.now) }
+    ensures gives { F.tells → Walks set_seen result
+        (load (world (F.tree files.old) folders.now) roots.now) }
     ensures many { IfOk result (λ s. length (set_seen s).roots ≡ length roots.now) }
     ensures files { LeavesFiles F.Source result files.old files.new }
 {

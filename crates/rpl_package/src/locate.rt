@@ -35,7 +35,8 @@ fn file_in(alloc: Global, folder: &Chars, path: &Chars) -> Result<Chars, NoMemor
 
 /// What a file is read as, where it is there. It is closed afterwards.
 pub fn read_in<F: Files>(alloc: Global, files: &mut F, file: &Chars) -> Result<Option<Read>, Stop>
-    ensures found { F.tells → IfOk result (λ r. ReadsFile r (file_of (encode_utf8_all file.now) (F.tree files.old))) }
+    ensures found { F.tells →
+        IfOk result (λ r. ReadsFile r (file_of (encode_utf8_all file.now) (F.tree files.old))) }
     ensures quiet { IfErr result IsQuiet }
     ensures asks { Asks result (file.now ∷ []) }
     ensures files { LeavesFiles F.Source result files.old files.new }
@@ -59,7 +60,8 @@ pub fn locate<F: Files>(
     folders: &[Chars],
     path: &Chars,
 ) -> Result<Option<Located>, Stop>
-    ensures found { F.tells → IfOk result (λ l. Locates l (find (F.tree files.old) folders.now path.now)) }
+    ensures found { F.tells →
+        IfOk result (λ l. Locates l (find (F.tree files.old) folders.now path.now)) }
     ensures quiet { IfErr result IsQuiet }
     ensures asks { F.tells → Asks result (tried (F.tree files.old) folders.now path.now) }
     ensures files { LeavesFiles F.Source result files.old files.new }

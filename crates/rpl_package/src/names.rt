@@ -71,7 +71,8 @@ impl PackageSet {
         names: &mut Vec<Listed>,
         name: &QName,
     ) -> Result<(), NoMemory>
-        ensures { OnOk result (names.new.items ≡ names.old.items ++ listed (set_seen self.now) name.now) }
+        ensures { OnOk result (names.new.items ≡ names.old.items
+            ++ listed (set_seen self.now) name.now) }
     {
         if name.name.as_str() == "~" {
             return Ok(());
@@ -123,7 +124,8 @@ impl PackageSet {
         prefix: &str,
         number: usize,
     ) -> Result<(), NoMemory>
-        ensures { OnOk result (names.new.items ≡ names.old.items ++ flat_map (listed (set_seen self.now))
+        ensures { OnOk result (names.new.items ≡ names.old.items
+            ++ flat_map (listed (set_seen self.now))
             (names_of (Some (chars prefix.now)) (nth (set_seen self.now).stock.modules number))) }
     {
         match self.stock.modules.get(number) {
@@ -134,7 +136,8 @@ impl PackageSet {
 
     /// The names of the top module, and those of the modules under its prefixes.
     fn push_all(&self, alloc: Global, names: &mut Vec<Listed>, own: &Module) -> Result<(), NoMemory>
-        ensures { OnOk result (names.new.items ≡ names.old.items ++ flat_map (listed (set_seen self.now))
+        ensures { OnOk result (names.new.items ≡ names.old.items
+            ++ flat_map (listed (set_seen self.now))
             (known_in (set_seen self.now).stock.modules (Some (module_seen own.now)))) }
     {
         self.push_names(alloc, names, None, own)?;
@@ -147,10 +150,12 @@ impl PackageSet {
         Ok(())
     }
 
-    /// All that a pattern may name, in the order of the names' bytes: the names of the top module that count after
-    /// its last statement, and after each of its prefixes the names that an importer sees.
+    /// All that a pattern may name, in the order of the names' bytes: the names of the top module
+    /// that count after its last statement, and after each of its prefixes the names that an
+    /// importer sees.
     pub fn names(&self, alloc: Global) -> Result<Names, NoMemory>
-        ensures members { IfOk result (λ names. IsPermutation (all_listed (set_seen self.now)) names) }
+        ensures members { IfOk result (λ names. IsPermutation (all_listed (set_seen self.now))
+            names) }
         ensures order { IfOk result (λ names. IsSorted by_bytes names) }
     {
         let mut names = Vec::new(alloc);

@@ -10,7 +10,8 @@ ghost use Rattle.rpl_package.specs.Goals.{ReadsGoal, ReadsText, pattern_file, so
 ghost use Rattle.rpl_package.specs.Loading as L;
 ghost use Rattle.rpl_package.specs.Loading.{world};
 ghost use Rattle.rpl_package.specs.inside.Marks.{CutsTo};
-ghost use Rattle.rpl_package.specs.Patterns.{enter_pattern, goal_entered, pattern_fault, pattern_name, put_by};
+ghost use Rattle.rpl_package.specs.Patterns.{enter_pattern, goal_entered, pattern_fault};
+ghost use Rattle.rpl_package.specs.Patterns.{pattern_name, put_by};
 ghost use Rattle.rpl_package.specs.Patterns.{needed_import, needed_at};
 ghost use Rattle.rpl_package.specs.inside.Reading.{IsLoud};
 ghost use Rattle.rpl_package.specs.Stocks.{stock_seen};
@@ -142,9 +143,11 @@ fn put(
     number: usize,
 ) -> Result<(), Stop>
     ensures gives { Gives (λ _. stock_seen stock.new) result
-        (put_by file.now import.now number top (stock_seen stock.old) (nth (stock_seen stock.old).modules top)) }
+        (put_by file.now import.now number top (stock_seen stock.old)
+        (nth (stock_seen stock.old).modules top)) }
     ensures held { stock.new.held ≡ stock.old.held }
-    ensures kept { (a : L.Stock) → CutsTo top a (stock_seen stock.old) → CutsTo top a (stock_seen stock.new) }
+    ensures kept { (a : L.Stock) → CutsTo top a (stock_seen stock.old) →
+        CutsTo top a (stock_seen stock.new) }
 {
     match stock.modules.get_mut(top) {
         Some(own) => match add_prefix(alloc, own, file, import.at, &import.path, number) {
@@ -170,7 +173,8 @@ fn enter_name<F: Files>(
         Walks (λ _. stock_seen stock.new) result
         (pattern_name w importer.entry.file.now top name.now (stock_seen stock.old)) }
     ensures held { OnOk result (stock.new.held.items ≡ stock.old.held.items) }
-    ensures kept { (a : L.Stock) → CutsTo top a (stock_seen stock.old) → CutsTo top a (stock_seen stock.new) }
+    ensures kept { (a : L.Stock) → CutsTo top a (stock_seen stock.old) →
+        CutsTo top a (stock_seen stock.new) }
     ensures built { OnOk result (StaysBuilt top (stock_seen stock.old) (stock_seen stock.new)) }
     ensures files { LeavesFiles F.Source result files.old files.new }
 {
@@ -205,7 +209,8 @@ fn enter_names<F: Files>(
         (each_in_turn (pattern_name w importer.entry.file.now top) (map (λ q. q.now) all.now)
         (stock_seen stock.old)) }
     ensures held { OnOk result (stock.new.held.items ≡ []) }
-    ensures kept { (a : L.Stock) → CutsTo top a (stock_seen stock.old) → CutsTo top a (stock_seen stock.new) }
+    ensures kept { (a : L.Stock) → CutsTo top a (stock_seen stock.old) →
+        CutsTo top a (stock_seen stock.new) }
     ensures built { OnOk result (StaysBuilt top (stock_seen stock.old) (stock_seen stock.new)) }
     ensures files { LeavesFiles F.Source result files.old files.new }
 {
@@ -227,7 +232,8 @@ fn check_pattern(
     e: &Expr,
 ) -> Result<(), Stop>
     requires { map (λ q. q.now) all.now ≡ names (expr_of e.now) }
-    ensures { Checks result (pattern_fault file.now (expr_of e.now) (modules_seen stock.now.modules.items)
+    ensures { Checks result (pattern_fault file.now (expr_of e.now)
+        (modules_seen stock.now.modules.items)
         (nth (modules_seen stock.now.modules.items) top)) }
 {
     let Some(own) = stock.modules.get(top) else {
@@ -256,10 +262,12 @@ fn enter_expr<F: Files>(
     ensures gives { F.tells → let w = world (F.tree files.old) importer.entry.folders.now in
         Walks (λ _. stock_seen stock.new) result
         (enter_pattern w importer.entry.file.now top (stock_seen stock.old) (expr_of e.now)) }
-    ensures right { OnOk result (pattern_fault importer.entry.file.now (expr_of e.now) (stock_seen stock.new).modules
+    ensures right { OnOk result (pattern_fault importer.entry.file.now (expr_of e.now)
+        (stock_seen stock.new).modules
         (nth (stock_seen stock.new).modules top) ≡ None) }
     ensures held { OnOk result (stock.new.held.items ≡ []) }
-    ensures kept { (a : L.Stock) → CutsTo top a (stock_seen stock.old) → CutsTo top a (stock_seen stock.new) }
+    ensures kept { (a : L.Stock) → CutsTo top a (stock_seen stock.old) →
+        CutsTo top a (stock_seen stock.new) }
     ensures built { OnOk result (StaysBuilt top (stock_seen stock.old) (stock_seen stock.new)) }
     ensures files { LeavesFiles F.Source result files.old files.new }
 {
@@ -284,13 +292,16 @@ pub fn enter_pattern<F: Files>(
     goal: Goal<'_>,
 ) -> Result<Expr, Stop>
     requires { stock.old.held.items ≡ [] }
-    ensures gives { F.tells → (r : Or ParsedExpr) → ReadsGoal goal.entry.fixed goal.entry.find goal.entry.text.now r
+    ensures gives { F.tells → (r : Or ParsedExpr) →
+        ReadsGoal goal.entry.fixed goal.entry.find goal.entry.text.now r
         → Walks (λ e. (expr_of e, stock_seen stock.new)) result
         (goal_entered (world (F.tree files.old) folders.now) top (stock_seen stock.old) r) }
-    ensures right { IfOk result (λ e. pattern_fault pattern_file (expr_of e) (stock_seen stock.new).modules
+    ensures right { IfOk result (λ e. pattern_fault pattern_file (expr_of e)
+        (stock_seen stock.new).modules
         (nth (stock_seen stock.new).modules top) ≡ None) }
     ensures held { OnOk result (stock.new.held.items ≡ []) }
-    ensures kept { (a : L.Stock) → CutsTo top a (stock_seen stock.old) → CutsTo top a (stock_seen stock.new) }
+    ensures kept { (a : L.Stock) → CutsTo top a (stock_seen stock.old) →
+        CutsTo top a (stock_seen stock.new) }
     ensures built { OnOk result (StaysBuilt top (stock_seen stock.old) (stock_seen stock.new)) }
     ensures files { LeavesFiles F.Source result files.old files.new }
 {

@@ -30,7 +30,8 @@ pub enum Read {
 /// The stop for a text that has no tokens.
 #[tactic(auto, using(rpl_scope::proofs::Stops::told))]
 pub fn lex_stop(alloc: Global, file: &Chars, fault: LexFault) -> Stop
-    ensures fault { fault.kind ≢ LexOut → IsStop result (fault_at file.now fault.at (Lex fault.kind)) }
+    ensures fault { fault.kind ≢ LexOut → IsStop result
+        (fault_at file.now fault.at (Lex fault.kind)) }
     ensures memory { fault.kind ≡ LexOut → result ≡ OutOfMemory }
 {
     match fault.kind {
@@ -42,7 +43,8 @@ pub fn lex_stop(alloc: Global, file: &Chars, fault: LexFault) -> Stop
 /// The stop for a text that isn't read.
 #[tactic(auto, using(rpl_scope::proofs::Stops::told))]
 pub fn parse_stop(alloc: Global, file: &Chars, fault: ParseFault) -> Stop
-    ensures fault { fault.kind ≢ ParseOut → IsStop result (fault_at file.now fault.at (Parse fault.kind)) }
+    ensures fault { fault.kind ≢ ParseOut → IsStop result
+        (fault_at file.now fault.at (Parse fault.kind)) }
     ensures memory { fault.kind ≡ ParseOut → result ≡ OutOfMemory }
 {
     match fault.kind {
@@ -71,7 +73,8 @@ pub fn parse(alloc: Global, file: &Chars, text: &str) -> Result<ParsedModule, St
 #[tactic(auto, using(rpl_scope::proofs::Stops::told, crate::proofs::Causes::told_loud))]
 #[inline(never)]
 pub fn read_module(alloc: Global, file: &Chars, read: Read) -> Result<ParsedModule, Stop>
-    ensures gives { (bytes : List ℕ) → IsRead read bytes → Gives said result (module_text file.now bytes) }
+    ensures gives { (bytes : List ℕ) → IsRead read bytes →
+        Gives said result (module_text file.now bytes) }
     ensures loud { IfErr result IsLoud }
     ensures said { IfOk result (λ t. IsSaid (said t)) }
 {

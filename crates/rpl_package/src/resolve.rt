@@ -103,7 +103,8 @@ fn binds(entry: Option<Entry>) -> bool
 impl PackageSet {
     ghost use Rattle.std.specs.Prelude.{None, Some, chars, false, length};
     ghost use Rattle.rpl_package.specs.Sets.{set_seen};
-    ghost use Rattle.rpl_package.specs.Views.{row_found, rule_found, site_found, expr_found, head_found, head_seen};
+    ghost use Rattle.rpl_package.specs.Views.{row_found, rule_found, site_found, expr_found};
+    ghost use Rattle.rpl_package.specs.Views.{head_found, head_seen};
     ghost use Rattle.rpl_package.specs.Views.{spot_found, site_seen};
     ghost use Rattle.rpl_package.specs.Tables.{rows};
     ghost use Rattle.rpl_package.specs.Targets as T;
@@ -134,7 +135,8 @@ impl PackageSet {
 
     /// The rule of a row.
     fn rule_of(&self, row: &Row) -> Option<&Rule>
-        ensures { rule_found result ≡ T.rule_in (set_seen self.now).stock.modules row.now.from row.now.place }
+        ensures { rule_found result ≡ T.rule_in (set_seen self.now).stock.modules row.now.from
+            row.now.place }
     {
         rule_in(&self.stock.modules, row.from, row.place)
     }
@@ -151,7 +153,8 @@ impl PackageSet {
 
     /// Where the statement of a rule stands.
     fn rule_site(&self, rule: u32) -> Option<Site>
-        ensures { site_found result ≡ T.rule_site (set_seen self.now) (T.row_at (set_seen self.now) rule) }
+        ensures { site_found result ≡ T.rule_site (set_seen self.now)
+            (T.row_at (set_seen self.now) rule) }
     {
         let row = self.row(rule)?;
         let made = self.rule_of(row)?;
@@ -187,7 +190,8 @@ impl PackageSet {
         }
     }
 
-    /// The expression of a rule's statement; None exactly where there is no such rule, or no statement made it.
+    /// The expression of a rule's statement; None exactly where there is no such rule, or no
+    /// statement made it.
     pub fn body(&self, rule: u32) -> Option<&Expr>
         ensures { expr_found result ≡ T.body (set_seen self.now) rule }
     {
@@ -196,8 +200,8 @@ impl PackageSet {
         Some(&made.body)
     }
 
-    /// The file and the byte place of a rule's statement; None exactly where there is no such rule, or no statement
-    /// made it.
+    /// The file and the byte place of a rule's statement; None exactly where there is no such rule,
+    /// or no statement made it.
     pub fn spot(&self, rule: u32) -> Option<(&str, usize)>
         ensures { spot_found result ≡ T.spot (set_seen self.now) rule }
     {
@@ -210,7 +214,8 @@ impl PackageSet {
 
     /// What the mark of a boundary stands for at a place.
     fn mark_at(&self, site: Site) -> Result<Target, NameFault>
-        ensures { result ≡ T.resolved_at (set_seen self.now) T.boundary_mark (Some (site_seen site)) }
+        ensures { result ≡ T.resolved_at (set_seen self.now) T.boundary_mark
+            (Some (site_seen site)) }
     {
         match self.stock.modules.get(site.owner) {
             None => Err(NameFault::Unknown),
@@ -223,7 +228,8 @@ impl PackageSet {
 
     /// The boundary in force at a place.
     fn boundary_at(&self, site: Site) -> u32
-        ensures { result ≡ T.or_first (T.resolved_at (set_seen self.now) T.boundary_mark (Some (site_seen site))) }
+        ensures { result ≡ T.or_first (T.resolved_at (set_seen self.now) T.boundary_mark
+            (Some (site_seen site))) }
     {
         match self.mark_at(site) {
             Ok(target) => target.rule,
@@ -231,9 +237,9 @@ impl PackageSet {
         }
     }
 
-    /// The boundary in force at the statement of a rule, or, with None, for the pattern: that of the last statement
-    /// before it that gives its module one, or else the table's first rule. None exactly where there is no such rule,
-    /// or no statement made it.
+    /// The boundary in force at the statement of a rule, or, with None, for the pattern: that of
+    /// the last statement before it that gives its module one, or else the table's first rule. None
+    /// exactly where there is no such rule, or no statement made it.
     pub fn boundary(&self, rule: Option<u32>) -> Option<u32>
         ensures { result ≡ T.boundary (set_seen self.now) rule }
     {

@@ -58,7 +58,8 @@ fn marks_of(stock: &Stock, top: usize) -> Marks
 
 /// Keeps the first of the prefixes of the top module alone, as many as that.
 fn shorten(modules: &mut Vec<Module>, top: usize, count: usize)
-    ensures { modules_seen modules.new.items ≡ with_shortened top count (modules_seen modules.old.items) }
+    ensures { modules_seen modules.new.items
+        ≡ with_shortened top count (modules_seen modules.old.items) }
 {
     match modules.get_mut(top) {
         Some(own) => own.prefixes.truncate(count),
@@ -86,7 +87,8 @@ pub fn enter_goal<F: Files>(
     set: &mut PackageSet,
     goal: Goal<'_>,
 ) -> Result<Expr, Stop>
-    ensures gives { F.tells → (r : Or ParsedExpr) → ReadsGoal goal.entry.fixed goal.entry.find goal.entry.text.now r
+    ensures gives { F.tells → (r : Or ParsedExpr) →
+        ReadsGoal goal.entry.fixed goal.entry.find goal.entry.text.now r
         → Walks (λ e. (expr_of e, set_seen set.new)) result
         (load_pattern (world (F.tree files.old) folders.now) (set_seen set.old) r) }
     ensures right { IfOk result (λ e. HasNoFault (expr_of e) (set_seen set.new)) }

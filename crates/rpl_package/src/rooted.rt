@@ -1,11 +1,13 @@
 // The roots of a command, one after the other.
-ghost use Rattle.std.specs.Prelude.{◌≡◌, ◌<◌, ◌^◌, [], ◌∷◌, OnOk, IfOk, IfSome, Some, None, encode_utf8_all, length};
+ghost use Rattle.std.specs.Prelude.{◌≡◌, ◌<◌, ◌^◌, [], ◌∷◌, OnOk, IfOk, IfSome, Some, None};
+ghost use Rattle.std.specs.Prelude.{encode_utf8_all, length};
 ghost use Rattle.rpl_syntax.specs.Modules.{said};
 ghost use Rattle.rpl_package.specs.Asking.{Walks, and_then};
 ghost use Rattle.rpl_package.specs.Built.{Becomes, IsSaid};
 ghost use Rattle.rpl_scope.specs.Faults.{Gives};
 ghost use Rattle.rpl_package.specs.Loading.{world};
-ghost use Rattle.rpl_package.specs.Roots.{AreWithin, top_head, next, given_name, root_by, load_roots};
+ghost use Rattle.rpl_package.specs.Roots.{AreWithin, top_head, next, given_name, root_by};
+ghost use Rattle.rpl_package.specs.Roots.{load_roots};
 ghost use Rattle.rpl_package.specs.Roots.{named_root, root_text};
 ghost use Rattle.rpl_package.specs.Roots.{read_root, file_root, asked_root};
 ghost use Rattle.rpl_package.specs.Stocks.{state_seen};
@@ -38,7 +40,8 @@ pub type Roots = List<Root>;
 /// The folders in which imports are looked for, the first one first.
 pub type LibPath = List<Chars>;
 
-/// A root with a package statement: a module of its own, whose package name becomes a prefix of the top module.
+/// A root with a package statement: a module of its own, whose package name becomes a prefix of the
+/// top module.
 #[tactic(auto, using(rpl_scope::proofs::Stops::told, crate::proofs::Outcomes::may))]
 fn enter_named<F: Files>(
     alloc: Global,
@@ -107,7 +110,8 @@ pub fn enter_root<F: Files>(
     requires held { state.old.stock.held.items ≡ top_head ∷ [] }
     requires said { IsSaid (said text.now) }
     ensures gives { F.tells → Walks (λ n. (n, state_seen state.new.stock state.new.own)) result
-        (root_text (world (F.tree files.old) folders.now) file.now (said text.now) (said text.now).name
+        (root_text (world (F.tree files.old) folders.now) file.now (said text.now)
+        (said text.now).name
         (state_seen state.old.stock state.old.own)) }
     ensures held { OnOk result (state.new.stock.held.items ≡ state.old.stock.held.items) }
     ensures built { OnOk result (Becomes (top_head ∷ []) (state_seen state.old.stock state.old.own)
@@ -192,7 +196,8 @@ pub fn enter_file<F: Files>(
     requires held { state.old.stock.held.items ≡ top_head ∷ [] }
     ensures gives { F.tells → Walks (λ n. (n, state_seen state.new.stock state.new.own)) result
         (and_then (asked_root (world (F.tree files.old) folders.now) path.now)
-        (file_root (world (F.tree files.old) folders.now) path.now (state_seen state.old.stock state.old.own))) }
+        (file_root (world (F.tree files.old) folders.now) path.now
+        (state_seen state.old.stock state.old.own))) }
     ensures held { OnOk result (state.new.stock.held.items ≡ state.old.stock.held.items) }
     ensures built { OnOk result (Becomes (top_head ∷ []) (state_seen state.old.stock state.old.own)
         (state_seen state.new.stock state.new.own)) }
@@ -244,7 +249,8 @@ fn enter_one<F: Files>(
 ) -> Result<Option<usize>, Stop>
     requires held { state.old.stock.held.items ≡ top_head ∷ [] }
     ensures gives { F.tells → Walks (λ n. (n, state_seen state.new.stock state.new.own)) result
-        (root_by (world (F.tree files.old) folders.now) given root.now (state_seen state.old.stock state.old.own)) }
+        (root_by (world (F.tree files.old) folders.now) given root.now
+        (state_seen state.old.stock state.old.own)) }
     ensures held { OnOk result (state.new.stock.held.items ≡ state.old.stock.held.items) }
     ensures built { OnOk result (Becomes (top_head ∷ []) (state_seen state.old.stock state.old.own)
         (state_seen state.new.stock state.new.own)) }
@@ -270,14 +276,16 @@ pub fn enter_roots<F: Files>(
 ) -> Result<Vec<Option<usize>>, Stop>
     requires held { state.old.stock.held.items ≡ top_head ∷ [] }
     ensures gives { F.tells → Walks
-        (λ into. record { roots = into.items; state = state_seen state.new.stock state.new.own }) result
+        (λ into. record { roots = into.items; state = state_seen state.new.stock state.new.own })
+        result
         (load_roots (world (F.tree files.old) folders.now) roots.now
         (record { roots = []; state = state_seen state.old.stock state.old.own })) }
     ensures held { OnOk result (state.new.stock.held.items ≡ state.old.stock.held.items) }
     ensures built { OnOk result (Becomes (top_head ∷ []) (state_seen state.old.stock state.old.own)
         (state_seen state.new.stock state.new.own)) }
     ensures many { IfOk result (λ into. length into.items ≡ length roots.now) }
-    ensures within { IfOk result (λ into. AreWithin into.items (length state.new.stock.modules.items)) }
+    ensures within { IfOk result (λ into. AreWithin into.items
+        (length state.new.stock.modules.items)) }
     ensures files { LeavesFiles F.Source result files.old files.new }
 {
     let mut given = 0;

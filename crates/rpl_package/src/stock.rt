@@ -2,7 +2,8 @@
 ghost use Rattle.std.specs.Prelude.{◌≡◌, ◌++◌, ◌∷◌, [], OnErr, OnOk, IfOk, IfErr, length};
 ghost use Rattle.rpl_package.specs.inside.Kept.{Keeps};
 ghost use Rattle.rpl_package.specs.inside.Noted.{noted};
-ghost use Rattle.rpl_package.specs.Loading.{is_loading, is_held, is_taken, finished, empty_module, with_path};
+ghost use Rattle.rpl_package.specs.Loading.{is_loading, is_held, is_taken, finished, empty_module};
+ghost use Rattle.rpl_package.specs.Loading.{with_path};
 ghost use Rattle.rpl_package.specs.Stocks.{stock_seen};
 ghost use Rattle.rpl_scope.specs.Seen.{module_seen};
 ghost use Rattle.rpl_scope.specs.declared.fault.Stop.TheVariants.{Memory as OutOfMemory};
@@ -18,7 +19,8 @@ pub struct Head {
     pub label: Chars,
 }
 
-/// The modules that are loaded, in the order in which their loading finished, and those that are being loaded.
+/// The modules that are loaded, in the order in which their loading finished, and those that are
+/// being loaded.
 #[derive(Drop)]
 pub struct Stock {
     pub modules: Vec<Module>,
@@ -110,7 +112,8 @@ fn push_module(modules: &mut Vec<Module>, from: Module) -> Result<(), NoMemory>
 
 /// The number of the next module, noted under its path and its package name.
 fn note(alloc: Global, stock: &mut Stock, from: &Module) -> Result<usize, NoMemory>
-    ensures noted { OnOk result (stock_seen stock.new ≡ noted (stock_seen stock.old) (module_seen from.now)) }
+    ensures noted { OnOk result (stock_seen stock.new
+        ≡ noted (stock_seen stock.old) (module_seen from.now)) }
     ensures number { IfOk result (λ n. n ≡ length (stock_seen stock.old).modules) }
     ensures kept { Keeps (stock_seen stock.old) (stock_seen stock.new) }
     ensures modules { stock.new.modules ≡ stock.old.modules }
@@ -124,7 +127,8 @@ fn note(alloc: Global, stock: &mut Stock, from: &Module) -> Result<usize, NoMemo
 
 /// One module more, whose loading is finished: its number.
 pub fn finish(alloc: Global, stock: &mut Stock, from: Module) -> Result<usize, Stop>
-    ensures stock { OnOk result (stock_seen stock.new ≡ finished (stock_seen stock.old) (module_seen from)) }
+    ensures stock { OnOk result (stock_seen stock.new
+        ≡ finished (stock_seen stock.old) (module_seen from)) }
     ensures number { IfOk result (λ n. n ≡ length (stock_seen stock.old).modules) }
     ensures held { OnOk result (stock.new.held ≡ stock.old.held) }
     ensures kept { Keeps (stock_seen stock.old) (stock_seen stock.new) }

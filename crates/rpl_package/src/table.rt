@@ -2,15 +2,16 @@
 ghost use Rattle.std.specs.Prelude.{◌≡◌, ◌≤◌, ◌<◌, ◌+◌, ◌++◌, OnOk, IfOk, IfErr, length};
 ghost use Rattle.rpl_scope.specs.Seen.{module_seen, modules_seen, rule_seen, rules_seen};
 ghost use Rattle.rpl_scope.specs.declared.fault.Stop.TheVariants.{Memory as OutOfMemory};
-ghost use Rattle.rpl_package.specs.Tables.{begun_at, begun_in, full_name, in_block, row_of, rows_of};
+ghost use Rattle.rpl_package.specs.Tables.{begun_at, begun_in, full_name, in_block, row_of};
+ghost use Rattle.rpl_package.specs.Tables.{rows_of};
 ghost use Rattle.rpl_package.specs.inside.Numbering.{IsTable};
 
 use rpl_scope::{Module, NoMemory, Rule, Stop};
 use rpl_text::Chars;
 use std::alloc::Global;
 
-/// The most rules that statements may make: with the two built-in ones, all the numbers that a call can have. More are
-/// answered as out of memory, of which each has taken some.
+/// The most rules that statements may make: with the two built-in ones, all the numbers that a call
+/// can have. More are answered as out of memory, of which each has taken some.
 const MAX_ROWS: usize = 4_294_967_293;
 
 /// A rule of the table that a statement made.
@@ -95,7 +96,8 @@ fn row_of(
     })
 }
 
-/// The rows of the rules of a module, where so many blocks have begun before; and how many have then.
+/// The rows of the rules of a module, where so many blocks have begun before; and how many have
+/// then.
 fn push_rules(
     alloc: Global,
     rows: &mut Vec<Row>,

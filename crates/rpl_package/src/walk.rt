@@ -1,10 +1,12 @@
 // The walk over a text and all that it imports.
-ghost use Rattle.std.specs.Prelude.{◌≡◌, ◌<◌, ℕ, All, List, OnOk, IfOk, IfErr, Some, None, length, [], ◌∷◌, ◌++◌};
+ghost use Rattle.std.specs.Prelude.{◌≡◌, ◌<◌, ℕ, All, List, OnOk, IfOk, IfErr, Some, None, length};
+ghost use Rattle.std.specs.Prelude.{[], ◌∷◌, ◌++◌};
 ghost use Rattle.rpl_syntax.specs.Modules.{said};
 ghost use Rattle.rpl_package.specs.Asking.{Walks};
 ghost use Rattle.rpl_package.specs.Built.{Becomes, IsAsked, IsSaid, Loads, Makes, Reaches};
 ghost use Rattle.rpl_package.specs.inside.Kept.{Keeps};
-ghost use Rattle.rpl_package.specs.Loading.{world, walk, load_import, import_entry, import_entries, checks, own_text};
+ghost use Rattle.rpl_package.specs.Loading.{world, walk, load_import, import_entry, import_entries};
+ghost use Rattle.rpl_package.specs.Loading.{checks, own_text};
 ghost use Rattle.rpl_package.specs.Loading.{label_of, label_at, with_text};
 ghost use Rattle.rpl_package.specs.inside.Reading.{IsRead};
 ghost use Rattle.rpl_scope.specs.Seen.{module_seen};
@@ -62,7 +64,8 @@ pub fn load_import<F: Files>(
         stock.old.held.items importer.entry.file.now import.now (stock_seen stock.old)) }
     ensures held { OnOk result (stock.new.held.items ≡ stock.old.held.items) }
     ensures kept { Keeps (stock_seen stock.old) (stock_seen stock.new) }
-    ensures built { IfOk result (λ n. Reaches stock.old.held.items import.now.path (stock_seen stock.old)
+    ensures built { IfOk result (λ n. Reaches stock.old.held.items import.now.path
+        (stock_seen stock.old)
         (n, stock_seen stock.new)) }
     ensures files { LeavesFiles F.Source result files.old files.new }
 {
@@ -122,8 +125,10 @@ fn load_module<F: Files>(
     found: Located,
     depth: usize,
 ) -> Result<Module, Stop>
-    ensures gives { F.tells → (bytes : List ℕ) → IsRead found.read bytes → Walks (λ m. state_seen stock.new m) result
-        (walk (world (F.tree files.old) folders.now) depth (stock_seen stock.old) stock.old.held.items found.file
+    ensures gives { F.tells → (bytes : List ℕ) → IsRead found.read bytes →
+        Walks (λ m. state_seen stock.new m) result
+        (walk (world (F.tree files.old) folders.now) depth (stock_seen stock.old)
+        stock.old.held.items found.file
         path.now bytes) }
     ensures held { OnOk result (stock.new.held.items ≡ stock.old.held.items) }
     ensures kept { Keeps (stock_seen stock.old) (stock_seen stock.new) }
@@ -171,7 +176,8 @@ pub fn load_own<F: Files>(
     ensures gives { F.tells → let w = world (F.tree files.old) importer.entry.folders.now in
         Walks (λ m. state_seen stock.new m) result
         (own_text w (walk w depth)
-        (stock_seen stock.old) stock.old.held.items importer.entry.file.now path label (said text.now)) }
+        (stock_seen stock.old) stock.old.held.items importer.entry.file.now path label
+        (said text.now)) }
     ensures held { OnOk result (stock.new.held.items ≡ stock.old.held.items) }
     ensures kept { Keeps (stock_seen stock.old) (stock_seen stock.new) }
     ensures built { IfOk result (λ m. Makes stock.old.held.items path label (stock_seen stock.old)
@@ -207,7 +213,8 @@ pub fn load_text<F: Files>(
     ensures gives { F.tells → let w = world (F.tree files.old) importer.entry.folders.now in
         Walks (λ _. state_seen stock.new own.new) result
         (checks w (walk w depth)
-        stock.old.held.items importer.entry.file.now (said text.now) (state_seen stock.old own.old)) }
+        stock.old.held.items importer.entry.file.now (said text.now)
+        (state_seen stock.old own.old)) }
     ensures held { OnOk result (stock.new.held.items ≡ stock.old.held.items) }
     ensures kept { Keeps (stock_seen stock.old) (stock_seen stock.new) }
     ensures built { OnOk result (Becomes stock.old.held.items (state_seen stock.old own.old)

@@ -79,7 +79,8 @@ pub fn alone(alloc: Global, parts: Exprs) -> Result<Exprs, Refusal>
 
 /// The expression, with the quantifier after it if there is one.
 pub fn quantify(alloc: Global, body: Expr, tokens: &[Token]) -> Result<(Expr, &[Token]), Refusal>
-    ensures { Gives (λ x. (expr_of x.0, x.1.now)) result (Some (quantified (expr_of body) tokens.now)) }
+    ensures { Gives (λ x. (expr_of x.0, x.1.now)) result
+        (Some (quantified (expr_of body) tokens.now)) }
 {
     match tokens {
         [Token::Sign(Punct::Star), rest @ ..] => Ok((repeated(alloc, body, 0, None)?, rest)),

@@ -118,7 +118,8 @@ fn predicate<'a>(
     tokens: &'a [Token],
     depth: usize,
 ) -> Result<(Expr, &'a [Token]), Refusal>
-    ensures { Gives (λ x. (expr_of x.0, x.1.now)) result (and_then (read_item depth tokens.now) (signed sign)) }
+    ensures { Gives (λ x. (expr_of x.0, x.1.now)) result
+        (and_then (read_item depth tokens.now) (signed sign)) }
 {
     let (inner, rest) = item(alloc, tokens, depth)?;
     Ok((Expr::Prefix(sign, Box::new(alloc, inner)?), rest))

@@ -24,7 +24,8 @@ ghost use Rattle.rpl_parser.specs.declared.fault.ParseFault.{ParseFault};
 pub fn one_pattern()
     ensures either { (s : List ℕ) (ts : List Lexeme) →
         ((x : Expr) × IsPattern s ts x) ⊎ ((f : ParseFault) × IsPatternFault s ts f) }
-    ensures only { (s : List ℕ) (ts : List Lexeme) (x y : Expr) → IsPattern s ts x → IsPattern s ts y → x ≡ y }
+    ensures only { (s : List ℕ) (ts : List Lexeme) (x y : Expr) → IsPattern s ts x →
+        IsPattern s ts y → x ≡ y }
     ensures apart { (s : List ℕ) (ts : List Lexeme) (x : Expr) (f : ParseFault) →
         IsPattern s ts x → IsPatternFault s ts f → ⊥ }
     ensures first { (s : List ℕ) (ts : List Lexeme) (f g : ParseFault) →
@@ -34,7 +35,8 @@ pub fn one_pattern()
 /// A pattern is what its text is read as; and a text that isn't nested too deep is the pattern that
 /// it is read as.
 pub fn patterns_are_readings()
-    ensures read { (s : List ℕ) (ts : List Lexeme) (x : Expr) → IsCut s ts → IsPattern s ts x → IsReadAs s x }
+    ensures read { (s : List ℕ) (ts : List Lexeme) (x : Expr) → IsCut s ts → IsPattern s ts x →
+        IsReadAs s x }
     ensures pattern { (s : List ℕ) (ts : List Lexeme) (x : Expr) →
         IsCut s ts → too_deep s ground_level ts ≡ None → IsReadAs s x → IsPattern s ts x }
 {}
@@ -44,7 +46,8 @@ pub fn patterns_are_readings()
 pub fn printed_again()
     ensures { (s : List ℕ) (ts us : List Lexeme) (x : Expr) →
         IsUtf8 s → IsCut s ts → IsPattern s ts x → HasFewTokens x →
-        IsCut (encode_utf8_all (printed x)) us → too_deep (encode_utf8_all (printed x)) ground_level us ≡ None →
+        IsCut (encode_utf8_all (printed x)) us →
+        too_deep (encode_utf8_all (printed x)) ground_level us ≡ None →
         (y : Expr) × IsPattern (encode_utf8_all (printed x)) us y × (plain y ≡ plain (again x)) }
 {}
 
@@ -68,11 +71,15 @@ pub fn one_line()
 pub fn one_module()
     ensures either { (s : List ℕ) (ts : List Lexeme) →
         ((m : ParsedModule) × IsModule s ts m) ⊎ ((f : ParseFault) × IsModuleFault s ts f) }
-    ensures only { (s : List ℕ) (ts : List Lexeme) (m n : ParsedModule) → ReadsModule s ts m → ReadsModule s ts n
+    ensures only { (s : List ℕ) (ts : List Lexeme) (m n : ParsedModule) → ReadsModule s ts m →
+        ReadsModule s ts n
         → m ≡ n }
-    ensures reads { (s : List ℕ) (ts : List Lexeme) (m : ParsedModule) → IsModule s ts m → ReadsModule s ts m }
-    ensures read { (s : List ℕ) (ts : List Lexeme) (m : ParsedModule) → IsModule s ts m → module_of s ts ≡ Ok m }
-    ensures spelled { (s : List ℕ) (ts : List Lexeme) (m : ParsedModule) → module_of s ts ≡ Ok m → IsModule s ts m }
+    ensures reads { (s : List ℕ) (ts : List Lexeme) (m : ParsedModule) → IsModule s ts m →
+        ReadsModule s ts m }
+    ensures read { (s : List ℕ) (ts : List Lexeme) (m : ParsedModule) → IsModule s ts m →
+        module_of s ts ≡ Ok m }
+    ensures spelled { (s : List ℕ) (ts : List Lexeme) (m : ParsedModule) → module_of s ts ≡ Ok m →
+        IsModule s ts m }
     ensures refused { (s : List ℕ) (ts : List Lexeme) (f : ParseFault) →
         IsModuleFault s ts f → module_of s ts ≡ Err f }
     ensures faulty { (s : List ℕ) (ts : List Lexeme) (f : ParseFault) →

@@ -89,7 +89,8 @@ impl Depth {
         requires stands { IsToken text.now token }
         requires level { self.old.level < 1000 }
         requires base { self.old.base < 1000 }
-        ensures { OnOk result (level_of self.new ≡ level_after text.now token colon (level_of self.old)) }
+        ensures { OnOk result (level_of self.new
+            ≡ level_after text.now token colon (level_of self.old)) }
     {
         match token.kind {
             TokenKind::Name if colon => self.raise(),
@@ -128,7 +129,8 @@ fn is_colon_token(text: &str, token: Token) -> bool
 fn reach(text: &str, token: Token, before: u64, behind: u64) -> u64
     requires stands { IsToken text.now token }
     requires before { before < 1000 }
-    ensures { (b u : Level) → b.level ≡ before → u.level ≡ behind → result ≡ reach_by token.kind text.now token b u }
+    ensures { (b u : Level) → b.level ≡ before → u.level ≡ behind →
+        result ≡ reach_by token.kind text.now token b u }
 {
     match token.kind {
         TokenKind::Bracket => before + nesting_of(text, token) as u64,

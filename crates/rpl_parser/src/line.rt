@@ -60,7 +60,8 @@ fn path<'a>(
 
 /// The name after a `/`, and what follows it.
 fn past_name(tokens: &[Token]) -> Option<(&Chars, &[Token])>
-    ensures some { IfSome result (λ x. (at : ℕ) × (tokens.now ≡ T.Sign Slash ∷ T.Name x.0.now at ∷ x.1.now)) }
+    ensures some { IfSome result (λ x. (at : ℕ) ×
+        (tokens.now ≡ T.Sign Slash ∷ T.Name x.0.now at ∷ x.1.now)) }
     ensures none { IfNone result (is_path_end tokens.now ≡ true) }
 {
     match tokens {

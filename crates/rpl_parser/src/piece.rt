@@ -94,7 +94,8 @@ impl Role {
 fn front_len(text: &str, first: Token, tokens: &[Token]) -> usize
     requires first { IsToken text.now first }
     requires stands { AllStand text.now tokens.now }
-    ensures value { result ≡ front (token_by first.kind text.now first) (tokens_of text.now tokens.now) }
+    ensures value { result ≡ front (token_by first.kind text.now first)
+        (tokens_of text.now tokens.now) }
     ensures inside { result ≤ length tokens.now }
 {
     let mut before = Role::of(text, first);

@@ -74,7 +74,8 @@ impl Walk {
     }
 
     fn version(&mut self, version: Numbered) -> Result<(), Refusal>
-        ensures { Gives (λ _. walk_of self.new) result (versioned (walk_of self.old) self.old.stage version) }
+        ensures { Gives (λ _. walk_of self.new) result
+            (versioned (walk_of self.old) self.old.stage version) }
     {
         match self.stage {
             Stage::Begun => {
@@ -87,7 +88,8 @@ impl Walk {
     }
 
     fn package(&mut self, name: QName) -> Result<(), Refusal>
-        ensures { Gives (λ _. walk_of self.new) result (packaged (walk_of self.old) self.old.stage name) }
+        ensures { Gives (λ _. walk_of self.new) result
+            (packaged (walk_of self.old) self.old.stage name) }
     {
         match self.stage {
             Stage::Begun | Stage::Versioned => {
@@ -100,7 +102,8 @@ impl Walk {
     }
 
     fn import(&mut self, imports: Imports) -> Result<(), Refusal>
-        ensures { Gives (λ _. walk_of self.new) result (imported (walk_of self.old) self.old.stage imports) }
+        ensures { Gives (λ _. walk_of self.new) result
+            (imported (walk_of self.old) self.old.stage imports) }
     {
         match self.stage {
             Stage::Ruled | Stage::InBlock | Stage::BehindIn => Err(Refusal::Syntax),
@@ -113,14 +116,16 @@ impl Walk {
     }
 
     fn bind_in_block(&mut self, rule: Binding) -> Result<(), Refusal>
-        ensures { Gives (λ _. walk_of self.new) result (Some (inside (walk_of self.old) (rule_of rule))) }
+        ensures { Gives (λ _. walk_of self.new) result
+            (Some (inside (walk_of self.old) (rule_of rule))) }
     {
         self.rules.push(rule)?;
         Ok(())
     }
 
     fn bind_outside(&mut self, rule: Binding) -> Result<(), Refusal>
-        ensures { Gives (λ _. walk_of self.new) result (Some (ruled (walk_of self.old) (rule_of rule))) }
+        ensures { Gives (λ _. walk_of self.new) result
+            (Some (ruled (walk_of self.old) (rule_of rule))) }
     {
         self.items.push(Item::Binding(rule))?;
         self.stage = Stage::Ruled;
@@ -128,7 +133,8 @@ impl Walk {
     }
 
     fn bind(&mut self, rule: Binding) -> Result<(), Refusal>
-        ensures { Gives (λ _. walk_of self.new) result (bound (walk_of self.old) self.old.stage (rule_of rule)) }
+        ensures { Gives (λ _. walk_of self.new) result
+            (bound (walk_of self.old) self.old.stage (rule_of rule)) }
     {
         match self.stage {
             Stage::InBlock | Stage::BehindIn if rule.local => Err(Refusal::Syntax),
@@ -140,7 +146,8 @@ impl Walk {
     }
 
     fn open(&mut self, alloc: Global, closes: bool) -> Result<(), Refusal>
-        ensures { Gives (λ _. walk_of self.new) result (opened (walk_of self.old) self.old.stage closes) }
+        ensures { Gives (λ _. walk_of self.new) result
+            (opened (walk_of self.old) self.old.stage closes) }
     {
         match self.stage {
             Stage::InBlock | Stage::BehindIn => Err(Refusal::Syntax),
@@ -200,7 +207,8 @@ impl Walk {
     ) -> Result<(), Refusal>
         requires { AllStand text.now rest.now }
         ensures { Gives (λ _. walk_of self.new) result
-            (place (walk_of self.old) at (closes_later (tokens_of text.now rest.now)) (line_seen line)) }
+            (place (walk_of self.old) at (closes_later (tokens_of text.now rest.now))
+            (line_seen line)) }
     {
         match line {
             Line::Version { major, minor } => self.version(Numbered { at, major, minor }),

@@ -1,8 +1,9 @@
 //! The words that answers, cores, programs and traces print alike.
 //!
-//! For whatever writes text that a user reads or keeps: a text as a JSON string, a set of characters by its ranges, a
-//! number, a text as it is. Each call adds exactly its word's bytes after those that there are. Strings of JSON are
-//! those of `serde_json`: the writer under it writes each that needs an escape, and one that needs none is copied.
+//! For whatever writes text that a user reads or keeps: a text as a JSON string, a set of
+//! characters by its ranges, a number, a text as it is. Each call adds exactly its word's bytes
+//! after those that there are. Strings of JSON are those of `serde_json`: the writer under it
+//! writes each that needs an escape, and one that needs none is copied.
 #![tactic(auto)]
 
 mod sets;

@@ -1,5 +1,6 @@
 // Texts as strings of JSON.
-ghost use Rattle.std.specs.Prelude.{◌≡◌, ◌≤◌, ◌++◌, ◌∷◌, [], length, IsTrue, IfOk, OnOk, OnErr, string_bytes};
+ghost use Rattle.std.specs.Prelude.{◌≡◌, ◌≤◌, ◌++◌, ◌∷◌, [], length, IsTrue, IfOk, OnOk, OnErr};
+ghost use Rattle.std.specs.Prelude.{string_bytes};
 ghost use Rattle.rpl_print.specs.Quoted as Q;
 
 use json::Writer;
@@ -37,8 +38,8 @@ pub fn push_quoted(out: &mut String, text: &str) -> Result<(), NoMemory>
 /// How many bytes are looked at together.
 const CHUNK: usize = 32;
 
-/// Whether no byte of a text needs an escape, so that it stands for itself between the quotes. It looks at all of them,
-/// many in one instruction.
+/// Whether no byte of a text needs an escape, so that it stands for itself between the quotes. It
+/// looks at all of them, many in one instruction.
 pub fn is_plain(text: &[u8]) -> bool
     ensures exact { result ≡ Q.is_plain text.now }
     ensures itself { IsTrue result → Q.quoted text.now ≡ 34 ∷ (text.now ++ 34 ∷ []) }
@@ -53,7 +54,8 @@ pub fn is_plain(text: &[u8]) -> bool
     is_all & is_plain_short(rest)
 }
 
-/// Whether no byte of a short text needs an escape. Spaces are plain, and make it as long as a chunk.
+/// Whether no byte of a short text needs an escape. Spaces are plain, and make it as long as a
+/// chunk.
 #[inline]
 fn is_plain_short(text: &[u8]) -> bool
     requires { length text.now ≤ CHUNK }
@@ -64,8 +66,8 @@ fn is_plain_short(text: &[u8]) -> bool
     are_plain(&chunk)
 }
 
-/// Whether no byte needs an escape, byte by byte. Where the caller knows how many there are, this is a few
-/// instructions.
+/// Whether no byte needs an escape, byte by byte. Where the caller knows how many there are, this
+/// is a few instructions.
 #[inline(always)]
 fn are_plain(bytes: &[u8]) -> bool
     ensures { result ≡ Q.is_plain bytes.now }

@@ -1,5 +1,6 @@
 // Numbers, and texts as they are.
-ghost use Rattle.std.specs.Prelude.{◌≡◌, ◌<◌, ◌≤◌, ◌++◌, OnErr, OnOk, decimal, drop, false, string_bytes};
+ghost use Rattle.std.specs.Prelude.{◌≡◌, ◌<◌, ◌≤◌, ◌++◌, OnErr, OnOk, decimal, drop, false};
+ghost use Rattle.std.specs.Prelude.{string_bytes};
 ghost use Rattle.std.specs.Fmt.{digit_glyph};
 ghost use Rattle.std.specs.Str.{encode_utf8_all};
 ghost use Rattle.rpl_print.specs.Sets.{hexadecimal};
@@ -17,7 +18,8 @@ pub fn text_of(text: &Chars) -> &str
 
 /// Adds a text as it is.
 pub fn push_text(out: &mut String, text: &Chars) -> Result<(), NoMemory>
-    ensures ok { OnOk result (string_bytes out.new ≡ string_bytes out.old ++ encode_utf8_all text.now) }
+    ensures ok { OnOk result (string_bytes out.new ≡ string_bytes out.old
+        ++ encode_utf8_all text.now) }
     ensures err { OnErr result (string_bytes out.new ≡ string_bytes out.old) }
 {
     out.push_str(text_of(text))

@@ -15,8 +15,9 @@ use rpl_classes::Set;
 use rpl_core::{Peg, Rules};
 use std::alloc::{AllocError, Global};
 
-/// The outcome of a pattern at a place of the text, the number of a character, with the work that it takes;
-/// `depth` is how many further turns and calls may stand one in the other. Work counts to `u64::MAX` at most.
+/// The outcome of a pattern at a place of the text, the number of a character, with the work that
+/// it takes; `depth` is how many further turns and calls may stand one in the other. Work counts to
+/// `u64::MAX` at most.
 pub fn evaluate(
     alloc: Global,
     depth: u32,
@@ -25,7 +26,8 @@ pub fn evaluate(
     e: &Peg,
     place: usize,
 ) -> Result<Outcome, AllocError>
-    ensures { IfOk result (IsOutcome (M.peg depth (bodies_in rules.now) text.now (core_of e.now) place)) }
+    ensures { IfOk result (IsOutcome (M.peg depth (bodies_in rules.now) text.now (core_of e.now)
+        place)) }
 {
     let over = Over { alloc, rules, text };
     evaluate_core(&over, depth, e, place)
@@ -54,7 +56,8 @@ fn one_char(set: &Set, text: &[char], place: usize) -> Outcome
 #[cycle(evaluate)]
 fn evaluate_core(over: &Over<'_>, depth: u32, e: &Peg, place: usize) -> Result<Outcome, AllocError>
     ensures { IfOk result
-        (IsOutcome (core_at depth (bodies_in over.now.rules.now) over.now.text.now (core_of e.now) place)) }
+        (IsOutcome (core_at depth (bodies_in over.now.rules.now) over.now.text.now (core_of e.now)
+        place)) }
 {
     match e {
         Peg::Set(set) => Ok(one_char(set, over.text, place)),
@@ -106,7 +109,8 @@ fn evaluate_turns(
     place: usize,
 ) -> Result<Outcome, AllocError>
     ensures { IfOk result
-        (IsOutcome (core_at depth (bodies_in over.now.rules.now) over.now.text.now (C.Many (core_of body.now)) place)) }
+        (IsOutcome (core_at depth (bodies_in over.now.rules.now) over.now.text.now
+        (C.Many (core_of body.now)) place)) }
 {
     match evaluate_core(over, depth, body, place)? {
         Outcome::Open => Ok(Outcome::Open),
@@ -139,7 +143,8 @@ fn evaluate_call(
     place: usize,
 ) -> Result<Outcome, AllocError>
     ensures { IfOk result
-        (IsOutcome (core_at depth (bodies_in over.now.rules.now) over.now.text.now (C.Call rule) place)) }
+        (IsOutcome (core_at depth (bodies_in over.now.rules.now) over.now.text.now (C.Call rule)
+        place)) }
 {
     match over.rules.get(rule) {
         None => Ok(Outcome::Open),
@@ -163,7 +168,8 @@ fn evaluate_all(
     place: usize,
 ) -> Result<Outcome, AllocError>
     ensures { IfOk result (IsOutcome
-        (all_at depth (bodies_in over.now.rules.now) over.now.text.now (cores (drop from parts.now)) place)) }
+        (all_at depth (bodies_in over.now.rules.now) over.now.text.now (cores (drop from parts.now))
+        place)) }
 {
     if from >= parts.len() {
         return Ok(Outcome::At {
@@ -197,7 +203,8 @@ fn evaluate_first(
     place: usize,
 ) -> Result<Outcome, AllocError>
     ensures { IfOk result (IsOutcome
-        (first_at depth (bodies_in over.now.rules.now) over.now.text.now (cores (drop from ways.now)) place)) }
+        (first_at depth (bodies_in over.now.rules.now) over.now.text.now
+        (cores (drop from ways.now)) place)) }
 {
     if from >= ways.len() {
         return Ok(Outcome::Fail { work: 1 });
@@ -237,7 +244,8 @@ fn evaluate_lengths(
 ) -> Result<Outcome, AllocError>
     requires { length + count < 2 ^ 64 }
     ensures { IfOk result (IsOutcome (M.lengths count length
-        (core_at depth (bodies_in over.now.rules.now) over.now.text.now (core_of body.now)) place)) }
+        (core_at depth (bodies_in over.now.rules.now) over.now.text.now (core_of body.now))
+        place)) }
 {
     if count == 0 {
         return Ok(Outcome::Fail { work: 0 });

@@ -34,7 +34,8 @@ pub fn tree(
     end: usize,
     subs: Forest,
 ) -> Result<Forest, AllocError>
-    ensures { IfOk result (λ f. forest_of f ≡ F.Tree label.now start end (forest_of subs) F.NoTree) }
+    ensures { IfOk result (λ f. forest_of f ≡ F.Tree label.now start end (forest_of subs)
+        F.NoTree) }
 {
     Ok(Forest::Tree {
         label: label.copy(alloc)?,

@@ -1,6 +1,8 @@
 // The machine's steps on a list of characters, one at a time.
-ghost use Rattle.std.specs.Prelude.{if◌then◌else◌, ◌≡◌, ◌<◌, ◌≤◌, ◌+◌, ◌^◌, nat_eq, nat_lt, true, OnOk, IfOk};
-ghost use Rattle.std.specs.Prelude.{Some, None, [], ◌∷◌, ◌++◌, length, take, map, reverse, slice_get, slice_index_or};
+ghost use Rattle.std.specs.Prelude.{if◌then◌else◌, ◌≡◌, ◌<◌, ◌≤◌, ◌+◌, ◌^◌, nat_eq, nat_lt, true};
+ghost use Rattle.std.specs.Prelude.{OnOk, IfOk};
+ghost use Rattle.std.specs.Prelude.{Some, None, [], ◌∷◌, ◌++◌, length, take, map, reverse};
+ghost use Rattle.std.specs.Prelude.{slice_get, slice_index_or};
 ghost use Rattle.rpl_core.specs.Core.{fits};
 ghost use Rattle.rpl_core.specs.Forest.{Finish, begins, finishes};
 ghost use Rattle.rpl_core.specs.Machine as M;
@@ -78,7 +80,8 @@ fn holds(program: &Program, set: u32, c: char) -> bool
 /// The place after the character at the place, if that is in the set with this number.
 fn next(program: &Program, set: u32, text: &[char], place: usize) -> Option<usize>
     ensures { result ≡
-        (if fits (slice_get text.now place) (slice_index_or (sets_of program.now) set []) then Some (place + 1)
+        (if fits (slice_get text.now place) (slice_index_or (sets_of program.now) set []) then Some
+        (place + 1)
         else None) }
 {
     if place < text.len() && holds(program, set, text[place]) {
@@ -161,7 +164,8 @@ impl Machine {
 
     /// Goes on at the address and the place.
     fn go(&mut self, address: usize, place: usize)
-        ensures { state_of self.new ≡ M.Going address place (stack_of self.old) (captures_of self.old) }
+        ensures { state_of self.new ≡ M.Going address place (stack_of self.old)
+            (captures_of self.old) }
     {
         self.stage = Stage::Going { address, place };
     }
@@ -204,7 +208,8 @@ impl Machine {
     /// Adds a capture and goes on at the address and the place.
     fn note(&mut self, one: Caught, address: usize, place: usize) -> Result<(), AllocError>
         ensures { OnOk result (state_of self.new ≡
-            M.Going address place (stack_of self.old) (captures_of self.old ++ caught_of one ∷ [])) }
+            M.Going address place (stack_of self.old) (captures_of self.old
+            ++ caught_of one ∷ [])) }
     {
         self.caught.push(one)?;
         self.stage = Stage::Going { address, place };
@@ -223,7 +228,8 @@ impl Machine {
 
     /// Goes back to the first so many captures, and on at the address and the place.
     fn back_to(&mut self, captures: usize, address: usize, place: usize)
-        ensures { state_of self.new ≡ M.Going address place (stack_of self.old) (take captures (captures_of self.old)) }
+        ensures { state_of self.new ≡ M.Going address place (stack_of self.old)
+            (take captures (captures_of self.old)) }
     {
         self.caught.truncate(captures);
         self.stage = Stage::Going { address, place };
@@ -278,9 +284,11 @@ impl Machine {
 
     /// The step of `partialcommit`.
     fn partial_commit(&mut self, to: usize, place: usize) -> Result<(), AllocError>
-        ensures { OnOk result (state_of self.new ≡ M.on_retry (stack_of self.old) (captures_of self.old)
+        ensures { OnOk result (state_of self.new
+            ≡ M.on_retry (stack_of self.old) (captures_of self.old)
             (λ a j n rest.
-            M.Going to place (M.Retry a place (length (captures_of self.old)) ∷ rest) (captures_of self.old))) }
+            M.Going to place (M.Retry a place (length (captures_of self.old)) ∷ rest)
+            (captures_of self.old))) }
     {
         match self.stack.pop() {
             None => {
@@ -334,7 +342,8 @@ impl Machine {
     fn halt(&mut self, address: usize, place: usize) -> Result<(), AllocError>
         ensures { OnOk result (state_of self.new ≡
             (if nat_lt (finishes (captures_of self.old)) (begins (captures_of self.old))
-            then M.Going address place (stack_of self.old) (captures_of self.old ++ Finish place ∷ [])
+            then M.Going address place (stack_of self.old) (captures_of self.old
+            ++ Finish place ∷ [])
             else M.Ended place (captures_of self.old))) }
     {
         if count_finishes(&self.caught) < count_begins(&self.caught) {
@@ -410,7 +419,8 @@ impl Machine {
 
     /// One step; a run that is over stays.
     fn step(&mut self, alloc: Global, program: &Program, text: &[char]) -> Result<(), AllocError>
-        ensures { OnOk result (state_of self.new ≡ M.step (instructions program.now) text.now (state_of self.old)) }
+        ensures { OnOk result (state_of self.new ≡ M.step (instructions program.now) text.now
+            (state_of self.old)) }
     {
         match self.stage {
             Stage::Ended { .. } => {}

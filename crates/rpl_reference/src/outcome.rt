@@ -8,8 +8,8 @@ use crate::forest::{Forest, joined, tree};
 use rpl_text::Chars;
 use std::alloc::{AllocError, Global};
 
-/// An outcome with its work. `At` and `HaltAt` have the place after the match and the trees; `Open` says that the
-/// depth didn't suffice.
+/// An outcome with its work. `At` and `HaltAt` have the place after the match and the trees; `Open`
+/// says that the depth didn't suffice.
 #[derive(Drop)]
 pub enum Outcome {
     Open,
@@ -67,7 +67,8 @@ pub fn more(work: u64, o: Outcome) -> Outcome
 
 /// The outcome with trees before its own, for more work.
 pub fn prefixed(alloc: Global, work: u64, before: Forest, o: Outcome) -> Result<Outcome, AllocError>
-    ensures { IfOk result (λ r. outcome_of r ≡ capped (M.prefixed work (forest_of before) (outcome_of o))) }
+    ensures { IfOk result (λ r. outcome_of r
+        ≡ capped (M.prefixed work (forest_of before) (outcome_of o))) }
 {
     match o {
         Outcome::Open => Ok(Outcome::Open),

@@ -34,8 +34,8 @@ impl MarkSearch {
         }
     }
 
-    /// Marks where a run goes on, the last address first, since the list of entries of the first may be told by it;
-    /// false where it can't.
+    /// Marks where a run goes on, the last address first, since the list of entries of the first
+    /// may be told by it; false where it can't.
     fn put_all(&mut self, next: Next) -> Result<bool, NoMemory>
         ensures { PutsAll (given_of next) self.old self.new result }
     {
@@ -53,9 +53,9 @@ impl MarkSearch {
     }
 }
 
-/// The mark of each address of the program that a run may come to; None where there is an address without an
-/// instruction or with two shapes, or an instruction that lacks what it needs, so that the code isn't safe. Each
-/// address is looked at once.
+/// The mark of each address of the program that a run may come to; None where there is an address
+/// without an instruction or with two shapes, or an instruction that lacks what it needs, so that
+/// the code isn't safe. Each address is looked at once.
 pub(crate) fn find_marks(
     alloc: Global,
     program: &Program,

@@ -2,9 +2,10 @@
 ghost use Rattle.std.specs.Prelude.{◌≡◌, ◌↔◌, IsTrue};
 ghost use Rattle.rpl_safe.specs.inside.Marks.{is_done_mark, last_of, marks_at};
 
-/// The shape of an address: its frame, the last entry that was left there, and how many trees are open. An entry
-/// bears the address from which a failure goes on, and the shape of that address is that of the stack below the
-/// entry: so the address alone stands for the whole list of entries, and equal lists are one number.
+/// The shape of an address: its frame, the last entry that was left there, and how many trees are
+/// open. An entry bears the address from which a failure goes on, and the shape of that address is
+/// that of the stack below the entry: so the address alone stands for the whole list of entries,
+/// and equal lists are one number.
 #[derive(Clone, Copy)]
 pub(crate) struct Mark {
     pub(crate) frame: u32,
@@ -17,7 +18,8 @@ pub(crate) struct Mark {
 pub(crate) enum Next {
     /// It needs what isn't there.
     Lacks,
-    /// The run goes on at no address that could be told here: it fails, comes back from a call, or ends.
+    /// The run goes on at no address that could be told here: it fails, comes back from a call, or
+    /// ends.
     Nowhere,
     To(u32, Mark),
     ToBoth(u32, Mark, u32, Mark),
@@ -84,7 +86,8 @@ pub(crate) fn mark_at(marks: &[Option<Mark>], address: u32) -> Option<Mark>
     }
 }
 
-/// The mark of the last entry's address: the shape without that entry, and how many trees were open when it was left.
+/// The mark of the last entry's address: the shape without that entry, and how many trees were open
+/// when it was left.
 pub(crate) fn last_mark(marks: &[Option<Mark>], last: Option<u32>) -> Option<Mark>
     ensures { result ≡ last_of (marks_at marks.now) last }
 {

@@ -3,7 +3,8 @@ ghost use Rattle.std.specs.Prelude.{◌≡◌, ℕ, ◌<◌, ◌&&◌, nat_eq, L
 ghost use Rattle.regex_class.specs.Ranges.{Range};
 ghost use Rattle.rpl_core.specs.Numbers.{instr_of};
 ghost use Rattle.rpl_safe.specs.Safe.{one_less, only};
-ghost use Rattle.rpl_safe.specs.inside.Marks.{given_of, is_done_mark, last_of, marks_at, next_mark, to, with_last};
+ghost use Rattle.rpl_safe.specs.inside.Marks.{given_of, is_done_mark, last_of, marks_at, next_mark};
+ghost use Rattle.rpl_safe.specs.inside.Marks.{to, with_last};
 
 use crate::marks::{Mark, Next, last_mark};
 use rpl_core::Instr;
@@ -11,7 +12,8 @@ use rpl_core::Instr;
 /// On at `target` without the last entry.
 fn commit(marks: &[Option<Mark>], target: u32, mark: Mark) -> Next
     ensures { given_of result
-        ≡ with_last (last_of (marks_at marks.now) mark.last) (λ k. to target (record mark { last = k.last })) }
+        ≡ with_last (last_of (marks_at marks.now) mark.last)
+        (λ k. to target (record mark { last = k.last })) }
 {
     match last_mark(marks, mark.last) {
         Some(entry) => Next::To(target, mark.with_last(entry.last)),
@@ -40,7 +42,8 @@ fn commit_partly(marks: &[Option<Mark>], target: u32, mark: Mark) -> Next
 /// On at `target` as the stack was when the last entry was left.
 fn commit_back(marks: &[Option<Mark>], target: u32, mark: Mark) -> Next
     ensures { given_of result
-        ≡ with_last (last_of (marks_at marks.now) mark.last) (λ k. to target (record k { frame = mark.frame })) }
+        ≡ with_last (last_of (marks_at marks.now) mark.last)
+        (λ k. to target (record k { frame = mark.frame })) }
 {
     match last_mark(marks, mark.last) {
         Some(entry) => Next::To(
@@ -85,12 +88,14 @@ fn close(behind: u32, mark: Mark) -> Next
     Next::To(behind, mark.with_trees(mark.trees - 1))
 }
 
-/// Where the instruction at the address lets a run go on that comes to it with the shape of this mark.
+/// Where the instruction at the address lets a run go on that comes to it with the shape of this
+/// mark.
 pub(crate) fn goes_on(marks: &[Option<Mark>], instr: Instr, address: u32, mark: Mark) -> Next
     requires low { address < 1048576 }
     requires trees { mark.trees < 1048576 }
     ensures { (sets : List (List Range)) (texts : List (List ℕ))
-        → given_of result ≡ next_mark (marks_at marks.now) (instr_of sets texts instr) address mark }
+        → given_of result ≡ next_mark (marks_at marks.now) (instr_of sets texts instr) address
+        mark }
 {
     let behind = address + 1;
     match instr {

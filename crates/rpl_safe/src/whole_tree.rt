@@ -3,8 +3,10 @@ ghost use Rattle.std.specs.Prelude.{◌≡◌, ℕ, ◌<◌, ◌≤◌, List, le
 ghost use Rattle.regex_class.specs.Ranges.{Range};
 ghost use Rattle.rpl_core.specs.Numbers.{instr_of};
 ghost use Rattle.rpl_core.specs.Program.{code_of, instructions};
-ghost use Rattle.rpl_safe.specs.inside.Marks.{AllPass, Answers, Complete, avoids, call_in, called_by, ends};
-ghost use Rattle.rpl_safe.specs.inside.Marks.{finishes_in, given_of, head_of, inside_test, is_call, is_finish, is_open};
+ghost use Rattle.rpl_safe.specs.inside.Marks.{AllPass, Answers, Complete, avoids, call_in};
+ghost use Rattle.rpl_safe.specs.inside.Marks.{called_by, ends};
+ghost use Rattle.rpl_safe.specs.inside.Marks.{finishes_in, given_of, head_of, inside_test, is_call};
+ghost use Rattle.rpl_safe.specs.inside.Marks.{is_finish, is_open};
 ghost use Rattle.rpl_safe.specs.inside.Marks.{marks_at, opens_in, tree_test};
 
 use crate::marks::{Mark, Next, mark_at};
@@ -69,8 +71,9 @@ fn avoids(called: u32, next: Next) -> bool
     }
 }
 
-/// The address is as the tree wants it: nothing but the tree is in the frame that is one, nothing but the call and
-/// the end in that which calls it, and no other way leads to the tree's first address.
+/// The address is as the tree wants it: nothing but the tree is in the frame that is one, nothing
+/// but the call and the end in that which calls it, and no other way leads to the tree's first
+/// address.
 fn passes(
     marks: &[Option<Mark>],
     called: Option<u32>,
@@ -97,7 +100,8 @@ fn passes(
 /// The instruction at the address.
 fn instr_at(code: &[Instr], address: u32) -> Option<Instr>
     ensures { (sets : List (List Range)) (texts : List (List ℕ))
-        → option_map (instr_of sets texts) result ≡ slice_get (map (instr_of sets texts) code.now) address }
+        → option_map (instr_of sets texts) result ≡ slice_get (map (instr_of sets texts) code.now)
+        address }
 {
     match code.get(address as usize) {
         Some(instr) => Some(*instr),
@@ -168,7 +172,8 @@ fn called_by(instr: Instr) -> Option<u32>
     }
 }
 
-/// What the first frame does: it is a tree, or calls the address of one; None where it does neither.
+/// What the first frame does: it is a tree, or calls the address of one; None where it does
+/// neither.
 pub(crate) fn head(program: &Program) -> Option<Option<u32>>
     ensures { result ≡ head_of (instructions program.now) }
 {

@@ -17,7 +17,8 @@ pub struct Use<'a> {
 /// Puts the names of an expression at the end, from left to right.
 #[cycle(names)]
 pub fn push_names<'a>(e: &'a Expr, all: &mut Vec<&'a QName>) -> Result<(), NoMemory>
-    ensures { OnOk result (map (λ q. q.now) all.new.items ≡ map (λ q. q.now) all.old.items ++ names (expr_of e.now)) }
+    ensures { OnOk result (map (λ q. q.now) all.new.items ≡ map (λ q. q.now) all.old.items
+        ++ names (expr_of e.now)) }
 {
     match e {
         Expr::Name(q) => {
@@ -52,7 +53,8 @@ fn push_all_names<'a>(es: &'a [Expr], all: &mut Vec<&'a QName>) -> Result<(), No
 /// Puts the uses of macros in an expression at the end, from left to right.
 #[cycle(uses)]
 pub fn push_uses<'a>(e: &'a Expr, all: &mut Vec<Use<'a>>) -> Result<(), NoMemory>
-    ensures { OnOk result (map use_seen all.new.items ≡ map use_seen all.old.items ++ uses (expr_of e.now)) }
+    ensures { OnOk result (map use_seen all.new.items ≡ map use_seen all.old.items
+        ++ uses (expr_of e.now)) }
 {
     match e {
         Expr::Cooked(items) => push_all_uses(items.as_slice(), all),
@@ -74,7 +76,8 @@ pub fn push_uses<'a>(e: &'a Expr, all: &mut Vec<Use<'a>>) -> Result<(), NoMemory
 
 #[cycle(uses)]
 fn push_all_uses<'a>(es: &'a [Expr], all: &mut Vec<Use<'a>>) -> Result<(), NoMemory>
-    ensures { OnOk result (map use_seen all.new.items ≡ map use_seen all.old.items ++ uses_all (exprs_all es.now)) }
+    ensures { OnOk result (map use_seen all.new.items ≡ map use_seen all.old.items
+        ++ uses_all (exprs_all es.now)) }
 {
     for e in es {
         push_uses(e, all)?;

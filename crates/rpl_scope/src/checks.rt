@@ -1,6 +1,7 @@
 // The first fault of names, and of macros.
 ghost use Rattle.std.specs.Prelude.{◌≡◌, map};
-ghost use Rattle.rpl_scope.specs.Bodies.{named_fault, names_fault, macros_fault, used_fault, written};
+ghost use Rattle.rpl_scope.specs.Bodies.{named_fault, names_fault, macros_fault, used_fault};
+ghost use Rattle.rpl_scope.specs.Bodies.{written};
 ghost use Rattle.rpl_scope.specs.Faults.{Checks};
 ghost use Rattle.rpl_scope.specs.Seen.{module_seen, modules_seen, use_seen};
 ghost use Rattle.std.specs.Prelude.{IfOk};
@@ -40,7 +41,8 @@ fn check_name(
     start: usize,
     name: &QName,
 ) -> Result<(), Stop>
-    ensures { Checks result (named_fault file.now (modules_seen modules.now) (module_seen own.now) start name.now) }
+    ensures { Checks result (named_fault file.now (modules_seen modules.now) (module_seen own.now)
+        start name.now) }
 {
     match find(modules, own, start, name) {
         Found::To(_) => Ok(()),
@@ -68,7 +70,8 @@ pub fn check_names(
     start: usize,
     names: &[&QName],
 ) -> Result<(), Stop>
-    ensures { Checks result (names_fault file.now (modules_seen modules.now) (module_seen own.now) start
+    ensures { Checks result (names_fault file.now (modules_seen modules.now) (module_seen own.now)
+        start
         (map (λ q. q.now) names.now)) }
 {
     for name in names {

@@ -38,7 +38,8 @@ fn duplicate(alloc: Global, file: &Chars, rule: Rule) -> Stop
 /// The rule and its name at the end of the module, unless it has that name already.
 #[tactic(auto, using(crate::proofs::Stops::told))]
 pub fn enter(alloc: Global, own: &mut Module, file: &Chars, rule: Rule) -> Result<(), Stop>
-    ensures { Gives (λ _. module_seen own.new) result (enter file.now (rule_seen rule) (module_seen own.old)) }
+    ensures { Gives (λ _. module_seen own.new) result
+        (enter file.now (rule_seen rule) (module_seen own.old)) }
 {
     if own.names.get(&rule.name).is_some() {
         return Err(duplicate(alloc, file, rule));

@@ -1,7 +1,9 @@
 // What the imports of a text bring into its module.
-ghost use Rattle.std.specs.Prelude.{◌≡◌, ◌≤◌, ◌++◌, length, IfOk, OnErr, OnOk, IfErr, None, [], chars};
+ghost use Rattle.std.specs.Prelude.{◌≡◌, ◌≤◌, ◌++◌, length, IfOk, OnErr, OnOk, IfErr, None, []};
+ghost use Rattle.std.specs.Prelude.{chars};
 ghost use Rattle.rpl_scope.specs.Faults.{Gives, in_turn};
-ghost use Rattle.rpl_scope.specs.Imports.{last_part, add_prefix, with_prefix, add_name, numbered, rules_at, take_in};
+ghost use Rattle.rpl_scope.specs.Imports.{last_part, add_prefix, with_prefix, add_name, numbered};
+ghost use Rattle.rpl_scope.specs.Imports.{rules_at, take_in};
 ghost use Rattle.rpl_scope.specs.Imports.{is_same};
 ghost use Rattle.rpl_scope.specs.Packages.{nth, first_of};
 ghost use Rattle.rpl_scope.specs.declared.fault.Stop.TheVariants.{Memory as OutOfMemory};
@@ -146,7 +148,8 @@ fn add_names(
     rules: &[Rule],
 ) -> Result<(), Stop>
     ensures { Gives (λ _. module_seen own.new) result
-        (in_turn (add_name file.now at number) (numbered 0 (rules_seen rules.now)) (module_seen own.old)) }
+        (in_turn (add_name file.now at number) (numbered 0 (rules_seen rules.now))
+        (module_seen own.old)) }
 {
     let mut place = 0;
     for rule in rules {

@@ -1,9 +1,10 @@
 //! Scopes: what the names of RPL texts stand for, statement by statement.
 //!
-//! For `rpl_package`, which reads the texts and finds the imports. A module is a list of rules with its names and its
-//! prefixes; what a name stands for where it is written is said once, by `bound` in `specs/Packages.antt`. Statements
-//! and imports enter a module in the order of a text, or are refused for their first fault, at its place
-//! (`specs/Statements.antt`, `specs/Imports.antt`). No file is read, and besides only memory can run out.
+//! For `rpl_package`, which reads the texts and finds the imports. A module is a list of rules with
+//! its names and its prefixes; what a name stands for where it is written is said once, by `bound`
+//! in `specs/Packages.antt`. Statements and imports enter a module in the order of a text, or are
+//! refused for their first fault, at its place (`specs/Statements.antt`, `specs/Imports.antt`). No
+//! file is read, and besides only memory can run out.
 #![tactic(auto)]
 
 mod bodies;

@@ -64,7 +64,8 @@ impl<V: Copy> Named<V> {
         self.entries.len()
     }
 
-    /// The name with this number, from 0, and what stands under it; None exactly where there are no more than that.
+    /// The name with this number, from 0, and what stands under it; None exactly where there are no
+    /// more than that.
     pub fn at(&self, number: usize) -> Option<(&str, V)>
         ensures { pair_found result ≡ nth self.now number }
     {

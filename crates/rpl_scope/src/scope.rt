@@ -47,7 +47,8 @@ fn plain(start: usize, name: &str, entry: Option<Entry>) -> Found
 
 /// What a name without a prefix stands for in a module, in a statement with this start.
 pub fn find_plain(own: &Module, start: usize, name: &str) -> Found
-    ensures { result ≡ plain (chars name.now) start (first_of (chars name.now) (module_seen own.now).names) }
+    ensures { result ≡ plain (chars name.now) start
+        (first_of (chars name.now) (module_seen own.now).names) }
 {
     plain(start, name, own.names.get_text(name))
 }

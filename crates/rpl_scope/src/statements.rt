@@ -1,10 +1,12 @@
 // The statements of one text, in order.
-ghost use Rattle.std.specs.Prelude.{◌≡◌, ◌≤◌, ◌<◌, ◌^◌, ◌+◌, ◌++◌, length, map, OnOk, IfOk, true, false};
+ghost use Rattle.std.specs.Prelude.{◌≡◌, ◌≤◌, ◌<◌, ◌^◌, ◌+◌, ◌++◌, length, map, OnOk, IfOk, true};
+ghost use Rattle.std.specs.Prelude.{false};
 ghost use Rattle.rpl_syntax.specs.Modules as S;
 ghost use Rattle.rpl_scope.specs.Bodies.{names_fault, macros_fault};
 ghost use Rattle.rpl_scope.specs.Faults.{Gives, Checks, ◌orelse◌};
 ghost use Rattle.rpl_scope.specs.Seen.{module_seen, modules_seen, rule_seen, use_seen};
-ghost use Rattle.rpl_scope.specs.Statements.{rule_of, rules_of, block_rules, enter_all, enter, names_of, uses_of};
+ghost use Rattle.rpl_scope.specs.Statements.{rule_of, rules_of, block_rules, enter_all, enter};
+ghost use Rattle.rpl_scope.specs.Statements.{names_of, uses_of};
 ghost use Rattle.rpl_scope.specs.Statements.{bindings_of, bodies_fault, statement, statements};
 
 use crate::NoMemory;
@@ -26,7 +28,8 @@ fn rule_of(
     since: usize,
     hidden: bool,
 ) -> Result<Rule, NoMemory>
-    ensures { IfOk result (λ r. rule_seen r ≡ rule_of text start since hidden (S.rule_of binding.now)) }
+    ensures { IfOk result (λ r. rule_seen r
+        ≡ rule_of text start since hidden (S.rule_of binding.now)) }
 {
     Ok(Rule {
         name: binding.name.copy(alloc)?,
@@ -52,7 +55,8 @@ fn enter_half(
     bindings: &[Binding],
 ) -> Result<(), Stop>
     ensures { Gives (λ _. module_seen own.new) result
-        (enter_all file.now (block_rules text start hidden (S.rules_of bindings.now)) (module_seen own.old)) }
+        (enter_all file.now (block_rules text start hidden (S.rules_of bindings.now))
+        (module_seen own.old)) }
 {
     for binding in bindings {
         let rule = rule_of(alloc, binding, text, start, start, hidden)?;
@@ -85,7 +89,8 @@ fn gather_uses<'a>(bindings: &'a [Binding], all: &mut Vec<Use<'a>>) -> Result<()
     Ok(())
 }
 
-/// The names, and then the macros, of bindings in two halves that start where their module has so many rules.
+/// The names, and then the macros, of bindings in two halves that start where their module has so
+/// many rules.
 fn check_bodies(
     alloc: Global,
     file: &Chars,
@@ -146,7 +151,8 @@ fn check_item(
     start: usize,
     item: &Item,
 ) -> Result<(), Stop>
-    ensures { Checks result (bodies_fault file.now (modules_seen modules.now) start (bindings_of (S.entry_of item.now))
+    ensures { Checks result (bodies_fault file.now (modules_seen modules.now) start
+        (bindings_of (S.entry_of item.now))
         (module_seen own.now)) }
 {
     match item {
@@ -161,7 +167,8 @@ fn check_item(
     }
 }
 
-/// A statement of the text with this number: its rules are entered; then come its names, and then its macros.
+/// A statement of the text with this number: its rules are entered; then come its names, and then
+/// its macros.
 fn enter_item(
     alloc: Global,
     modules: &[Module],
@@ -171,7 +178,8 @@ fn enter_item(
     item: &Item,
 ) -> Result<(), Stop>
     ensures { Gives (λ _. module_seen own.new) result
-        (statement file.now text (modules_seen modules.now) (S.entry_of item.now) (module_seen own.old)) }
+        (statement file.now text (modules_seen modules.now) (S.entry_of item.now)
+        (module_seen own.old)) }
 {
     let start = rules_so_far(own);
     if let Err(stop) = enter_rules(alloc, own, file, text, start, item) {
@@ -194,7 +202,8 @@ pub fn enter_items(
     items: &[Item],
 ) -> Result<(), Stop>
     ensures { Gives (λ _. module_seen own.new) result
-        (statements file.now text (modules_seen modules.now) (S.entries_of items.now) (module_seen own.old)) }
+        (statements file.now text (modules_seen modules.now) (S.entries_of items.now)
+        (module_seen own.old)) }
 {
     for item in items {
         if let Err(stop) = enter_item(alloc, modules, own, file, text, item) {

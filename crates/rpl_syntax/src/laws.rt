@@ -50,6 +50,7 @@ pub fn printed_reads_back()
 /// the places of names and up to taking a raw group of one item as that item. So is what is printed
 /// of anything that can be written.
 pub fn printed_reads_as_itself()
-    ensures read { (s : List ℕ) (x : M.Expr) → IsUtf8 s → IsReadAs s x → HasFewTokens x → ReadsAsItself x }
+    ensures read { (s : List ℕ) (x : M.Expr) → IsUtf8 s → IsReadAs s x → HasFewTokens x →
+        ReadsAsItself x }
     ensures written { (x : M.Expr) → Good x → Writable x → HasFewTokens x → ReadsAsItself x }
 {}

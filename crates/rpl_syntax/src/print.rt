@@ -126,7 +126,8 @@ impl Printer {
     /// The items between these signs.
     #[cycle(print)]
     fn group(&mut self, opening: char, items: &Exprs, closing: char) -> Result<(), NoMemory>
-        ensures { OnOk result (self.new ≡ self.old ++ (opening ∷ items_printed (shown items.now) ++ closing ∷ [])) }
+        ensures { OnOk result (self.new ≡ self.old
+            ++ (opening ∷ items_printed (shown items.now) ++ closing ∷ [])) }
     {
         self.put(opening)?;
         self.items(items)?;

@@ -96,7 +96,8 @@ impl Printer {
     /// A control as `\xHH`.
     fn control(&mut self, c: u32) -> Result<(), NoMemory>
         requires { c < 128 }
-        ensures { OnOk result (self.new ≡ self.old ++ 92 ∷ 120 ∷ digit_char 97 (c / 16) ∷ digit_char 97 (c % 16) ∷ []) }
+        ensures { OnOk result (self.new ≡ self.old ++ 92 ∷ 120 ∷ digit_char 97 (c / 16) ∷ digit_char
+            97 (c % 16) ∷ []) }
     {
         self.escape('x')?;
         self.digit(b'a', c / 16)?;
@@ -229,7 +230,8 @@ impl Printer {
 
     /// Bounds of two numbers: `{n,m}`.
     fn between(&mut self, least: u32, most: u32) -> Result<(), NoMemory>
-        ensures { OnOk result (self.new ≡ self.old ++ 123 ∷ decimal least ++ 44 ∷ decimal most ++ 125 ∷ []) }
+        ensures { OnOk result (self.new ≡ self.old ++ 123 ∷ decimal least ++ 44 ∷ decimal most
+            ++ 125 ∷ []) }
     {
         self.put('{')?;
         self.decimal(least)?;

@@ -1,5 +1,6 @@
 // Escapes of quoted texts and brackets.
-ghost use Rattle.std.specs.Prelude.{◌≡◌, ◌+◌, ◌<◌, ◌≤◌, Some, IfSome, OnSome, slice_get, drop, length, chars};
+ghost use Rattle.std.specs.Prelude.{◌≡◌, ◌+◌, ◌<◌, ◌≤◌, Some, IfSome, OnSome, slice_get, drop};
+ghost use Rattle.std.specs.Prelude.{length, chars};
 ghost use Rattle.rpl_text.specs.Escapes.{hex, numbered, escape, shifted, escape_from};
 ghost use Rattle.rpl_text.specs.Places.{index};
 

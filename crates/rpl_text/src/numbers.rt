@@ -18,8 +18,8 @@ fn are_digits(word: &[u8]) -> bool
     !word.is_empty() && all_digits(word)
 }
 
-/// The number that digits spell, where 64 bits hold it. Each byte counts as its distance from `0`, and one before `0`
-/// as 0: that all are digits is the caller's to see.
+/// The number that digits spell, where 64 bits hold it. Each byte counts as its distance from `0`,
+/// and one before `0` as 0: that all are digits is the caller's to see.
 pub fn value_of_digits(digits: &[u8]) -> Option<u64>
     ensures { result ≡ narrow (value 0 digits.now) }
 {
@@ -31,8 +31,8 @@ pub fn value_of_digits(digits: &[u8]) -> Option<u64>
     Some(number)
 }
 
-/// The number that a word spells in decimal digits, with any leading zeros; None exactly where the word is empty, has
-/// another byte than a digit, or spells a number that 64 bits don't hold.
+/// The number that a word spells in decimal digits, with any leading zeros; None exactly where the
+/// word is empty, has another byte than a digit, or spells a number that 64 bits don't hold.
 pub fn read_number(word: &[u8]) -> Option<u64>
     ensures { result ≡ number_of word.now }
 {

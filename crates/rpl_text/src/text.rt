@@ -49,17 +49,21 @@ impl<'a> Text<'a> {
         step_in(self.line, place)
     }
 
-    /// The place after the marked characters that stand here, `most` at most: it is that of the first character that
-    /// isn't marked, or the end. Marked are the ASCII characters whose bits in the mask are set: the first word has the
-    /// bits of those from 0 to 63, the second of those from 64 to 127.
+    /// The place after the marked characters that stand here, `most` at most: it is that of the
+    /// first character that isn't marked, or the end. Marked are the ASCII characters whose bits in
+    /// the mask are set: the first word has the bits of those from 0 to 63, the second of those
+    /// from 64 to 127.
     pub fn pass(self, place: usize, most: usize, mask: [u64; 2]) -> usize
         requires { IsPlace (text_of self) place }
         ensures place { IsPlace (text_of self.entry) result }
         ensures forward { place ≤ result }
         ensures most { result ≤ place + most }
-        ensures number { let t = text_of self.entry in index t result + place ≡ index t place + result }
-        ensures marked { let t = text_of self.entry in AllMarked mask t (index t place) (index t result) }
-        ensures stops { let t = text_of self.entry in result < place + most → UnmarkedAt mask t (index t result) }
+        ensures number { let t = text_of self.entry in
+            index t result + place ≡ index t place + result }
+        ensures marked { let t = text_of self.entry in
+            AllMarked mask t (index t place) (index t result) }
+        ensures stops { let t = text_of self.entry in result < place + most →
+            UnmarkedAt mask t (index t result) }
     {
         pass_in(self.line, place, most, mask)
     }
@@ -87,7 +91,8 @@ impl<'a> Text<'a> {
         requires from { IsPlace (text_of self) from }
         requires to { IsPlace (text_of self) to }
         requires order { from ≤ to }
-        ensures { let t = text_of self.entry in chars result.now ≡ slice_range t (index t from) (index t to) }
+        ensures { let t = text_of self.entry in
+            chars result.now ≡ slice_range t (index t from) (index t to) }
     {
         slice_in(self.line, from, to)
     }

@@ -39,13 +39,15 @@ pub fn trace(
     requires { (t : List ℕ) → outcome (bodies_of checked.now) (core_of (peg_of goal.now)) t ≢ Open }
     ensures printed { let R = bodies_of checked.now in let g = core_of (peg_of goal.now) in
         let t = text_of text.entry in
-        IfOk result (λ x. encode_utf8_all x.printed ≡ P.printed (names_of checked.now) t 0 (S.trace R g t)) }
+        IfOk result (λ x. encode_utf8_all x.printed
+        ≡ P.printed (names_of checked.now) t 0 (S.trace R g t)) }
     ensures end { let R = bodies_of checked.now in let g = core_of (peg_of goal.now) in
         let t = text_of text.entry in IfOk result (λ x. x.end ≡ place_behind t (outcome R g t)) }
     ensures within { let R = bodies_of checked.now in let g = core_of (peg_of goal.now) in
         let t = text_of text.entry in OnOk result (work_of (outcome R g t) ≤ limit) }
     ensures refused { let R = bodies_of checked.now in let g = core_of (peg_of goal.now) in
-        let t = text_of text.entry in IfErr result (λ e. e ≡ X.TraceTooLong → limit < work_of (outcome R g t)) }
+        let t = text_of text.entry in
+        IfErr result (λ e. e ≡ X.TraceTooLong → limit < work_of (outcome R g t)) }
 {
     let rules = checked.rules();
     let mut tracer = Tracer::new(alloc, limit);

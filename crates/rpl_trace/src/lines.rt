@@ -76,7 +76,8 @@ impl<'a> Backwards<'a> {
         ensures ends { self.new.ends ≡ self.old.ends }
         ensures depth { self.new.depth ≡ self.old.depth - 1 }
         ensures lines { OnOk result (self.new.lines.items ≡ self.old.lines.items
-            ++ record { depth = self.old.depth - 1; kind = kind.entry; start = start; end = end } ∷ []) }
+            ++ record { depth = self.old.depth - 1; kind = kind.entry; start = start; end = end } ∷
+            []) }
     {
         let depth = self.depth.saturating_sub(1);
         self.depth = depth;

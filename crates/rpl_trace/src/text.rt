@@ -22,7 +22,8 @@ use std::alloc::Global;
 /// Adds a place, which counts from 1.
 fn push_place(out: &mut String, place: usize) -> Result<(), NoMemory>
     ensures { (t : List ℕ) → IsPlace t place
-        → OnOk result (string_bytes out.new ≡ string_bytes out.old ++ P.place_text t (index t place)) }
+        → OnOk result (string_bytes out.new ≡ string_bytes out.old
+        ++ P.place_text t (index t place)) }
 {
     let mut buffer = Buffer::new();
     out.push_str(buffer.format(place as u128 + 1))
@@ -31,7 +32,8 @@ fn push_place(out: &mut String, place: usize) -> Result<(), NoMemory>
 /// Adds how an evaluation ends.
 fn push_end(out: &mut String, end: End) -> Result<(), NoMemory>
     ensures { (t : List ℕ) → EndStands t end
-        → OnOk result (string_bytes out.new ≡ string_bytes out.old ++ P.ending_text t (end_seen t end)) }
+        → OnOk result (string_bytes out.new ≡ string_bytes out.old
+        ++ P.ending_text t (end_seen t end)) }
 {
     match end {
         End::Fails => out.push_str("fail"),
@@ -43,7 +45,8 @@ fn push_end(out: &mut String, end: End) -> Result<(), NoMemory>
 /// Adds the full name of a rule.
 fn push_name(out: &mut String, rules: &Rules, rule: u32) -> Result<(), NoMemory>
     ensures { OnOk result (string_bytes out.new
-        ≡ string_bytes out.old ++ encode_utf8_all (slice_index_or (names_of (rules_of rules.now)) rule [])) }
+        ≡ string_bytes out.old ++ encode_utf8_all
+        (slice_index_or (names_of (rules_of rules.now)) rule [])) }
 {
     match rules.get(rule) {
         Some(rule) => push_text(out, &rule.name),
@@ -54,7 +57,8 @@ fn push_name(out: &mut String, rules: &Rules, rule: u32) -> Result<(), NoMemory>
 /// Adds what a pattern is.
 fn push_peg(out: &mut String, rules: &Rules, peg: &Peg) -> Result<(), NoMemory>
     ensures { OnOk result (string_bytes out.new
-        ≡ string_bytes out.old ++ P.kind_text (names_of (rules_of rules.now)) (kind_of (core_of peg.now))) }
+        ≡ string_bytes out.old ++ P.kind_text (names_of (rules_of rules.now))
+        (kind_of (core_of peg.now))) }
 {
     match peg {
         Peg::Set(set) => {
@@ -93,7 +97,8 @@ fn push_peg(out: &mut String, rules: &Rules, peg: &Peg) -> Result<(), NoMemory>
 /// Adds what an evaluation is of.
 fn push_kind(out: &mut String, rules: &Rules, kind: Kind<'_>) -> Result<(), NoMemory>
     ensures { OnOk result (string_bytes out.new
-        ≡ string_bytes out.old ++ P.kind_text (names_of (rules_of rules.now)) (kind_seen kind.entry)) }
+        ≡ string_bytes out.old ++ P.kind_text (names_of (rules_of rules.now))
+        (kind_seen kind.entry)) }
 {
     match kind {
         Kind::Of(peg) => push_peg(out, rules, peg),
@@ -110,7 +115,8 @@ fn push_kind(out: &mut String, rules: &Rules, kind: Kind<'_>) -> Result<(), NoMe
 fn push_line(out: &mut String, rules: &Rules, line: Line<'_>) -> Result<(), NoMemory>
     ensures { (t : List ℕ) → LineStands t line.entry
         → OnOk result (string_bytes out.new
-        ≡ string_bytes out.old ++ row_text (names_of (rules_of rules.now)) t (row_seen t line.entry)) }
+        ≡ string_bytes out.old ++ row_text (names_of (rules_of rules.now)) t
+        (row_seen t line.entry)) }
 {
     push_decimal(out, line.depth as u64)?;
     out.push_str(" ")?;
@@ -130,7 +136,8 @@ pub(crate) fn printed(
 ) -> Result<String, NoMemory>
     ensures { (t : List ℕ) → LinesStand t (reverse lines.entry.items)
         → IfOk result (λ out. string_bytes out
-        ≡ rows_text (names_of (rules_of rules.now)) t (map (row_seen t) (reverse lines.entry.items))) }
+        ≡ rows_text (names_of (rules_of rules.now)) t
+        (map (row_seen t) (reverse lines.entry.items))) }
 {
     let mut out = String::new(alloc);
     while let Some(line) = lines.pop() {

@@ -139,7 +139,8 @@ impl<'a> Tracer<'a> {
 
     /// The innermost evaluation under way ends.
     fn close(&mut self, end: End) -> Result<End, NoMemory>
-        ensures { IfOk result (λ e. (e ≡ end) × (state_of self.new ≡ happened (V.Ends end) (state_of self.old))) }
+        ensures { IfOk result (λ e. (e ≡ end) ×
+            (state_of self.new ≡ happened (V.Ends end) (state_of self.old))) }
     {
         self.note(Event::Ends(end))?;
         Ok(end)
@@ -158,7 +159,8 @@ impl<'a> Tracer<'a> {
     /// What is inside it is an evaluation of the body at the place, and a task after that.
     fn nest(&mut self, task: Task<'a>, body: &'a Peg, place: usize) -> Result<End, NoMemory>
         ensures { IfOk result (λ e. (e ≡ E.At place)
-            × (state_of self.new ≡ due (T.Evaluate body.entry) (due task.entry (due T.Close (state_of self.old))))) }
+            × (state_of self.new ≡ due (T.Evaluate body.entry)
+            (due task.entry (due T.Close (state_of self.old))))) }
     {
         self.push(Task::Close)?;
         self.push(task)?;
@@ -170,7 +172,8 @@ impl<'a> Tracer<'a> {
     fn turn(&mut self, body: &'a Peg, place: usize) -> Result<End, NoMemory>
         ensures { IfOk result (λ e. (e ≡ E.At place)
             × (state_of self.new ≡ due (T.Evaluate body.entry)
-            (due (T.Turns body.entry place) (happened (V.Begins K.Turn place) (state_of self.old))))) }
+            (due (T.Turns body.entry place)
+            (happened (V.Begins K.Turn place) (state_of self.old))))) }
     {
         self.note(Event::Begins {
             kind: Kind::Turn,
@@ -183,7 +186,8 @@ impl<'a> Tracer<'a> {
 
     /// Inside the innermost evaluation under way are the ways of a choice at the place.
     fn choose(&mut self, parts: &'a [Peg], place: usize) -> Result<End, NoMemory>
-        ensures { IfOk result (λ e. Chooses parts.now place (state_of self.old) e (state_of self.new)) }
+        ensures { IfOk result (λ e. Chooses parts.now place (state_of self.old) e
+            (state_of self.new)) }
     {
         match parts {
             [] => self.close(End::Fails),
@@ -251,7 +255,8 @@ impl<'a> Tracer<'a> {
         requires place { IsPlace (text_of text) place }
         requires stands { Stands (text_of text) (state_of self.old) }
         ensures goes { Goes (bodies_of (rules_of rules.now)) (text_of text.entry)
-            (due (T.Evaluate peg.entry) (state_of self.old)) (E.At place) (state_of self.new) result }
+            (due (T.Evaluate peg.entry) (state_of self.old)) (E.At place) (state_of self.new)
+            result }
         ensures less { OnOk result (left (state_of self.new) + 1 ≤ left (state_of self.old)) }
     {
         let peg = alone(peg);
@@ -270,7 +275,8 @@ impl<'a> Tracer<'a> {
         requires place { IsPlace (text_of text) place }
         requires stands { Stands (text_of text) (state_of self.old) }
         ensures goes { Goes (bodies_of (rules_of rules.now)) (text_of text.entry)
-            (due (T.Parts parts.entry) (state_of self.old)) (E.At place) (state_of self.new) result }
+            (due (T.Parts parts.entry) (state_of self.old)) (E.At place) (state_of self.new)
+            result }
         ensures less { OnOk result (left (state_of self.new) ≤ left (state_of self.old)) }
     {
         match parts {
@@ -305,8 +311,10 @@ impl<'a> Tracer<'a> {
 
     /// A turn that began at the place has ended: it is one if it matched, and then comes the next.
     fn end_turn(&mut self, body: &'a Peg, place: usize, end: End) -> Result<End, TraceFault>
-        ensures goes { (R : List Core) (t : List ℕ) → IsPlace t place → EndStands t end → Stands t (state_of self.old)
-            → Goes R t (due (T.Turns body.entry place) (state_of self.old)) end (state_of self.new) result }
+        ensures goes { (R : List Core) (t : List ℕ) → IsPlace t place → EndStands t end →
+            Stands t (state_of self.old)
+            → Goes R t (due (T.Turns body.entry place) (state_of self.old)) end (state_of self.new)
+            result }
         ensures less { OnOk result (left (state_of self.new) ≤ left (state_of self.old)) }
     {
         match end {
@@ -410,12 +418,14 @@ impl<'a> Tracer<'a> {
         requires start { EndStands (text_of text) start }
         requires stands { Stands (text_of text) (state_of self.old) }
         ensures done { (o : Ending) (f : Evaluations)
-            → Comes (bodies_of (rules_of rules.now)) (text_of text.entry) o f (state_of self.old) start
+            → Comes (bodies_of (rules_of rules.now)) (text_of text.entry) o f (state_of self.old)
+            start
             → IfOk result (λ e. Done (text_of text.entry) o f (state_of self.new) e) }
         ensures stands { IfOk result (λ e. Stands (text_of text.entry) (state_of self.new)
             × EndStands (text_of text.entry) e) }
         ensures limit { OnOk result (self.new.limit ≡ self.old.limit) }
-        ensures refused { IfErr result (λ x. Refused (bodies_of (rules_of rules.now)) (text_of text.entry)
+        ensures refused { IfErr result (λ x. Refused (bodies_of (rules_of rules.now))
+            (text_of text.entry)
             (state_of self.old) start x) }
     {
         let mut end = start;

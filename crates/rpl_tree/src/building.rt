@@ -29,7 +29,8 @@ impl Building {
     }
 
     fn begin(&mut self, label: u32, place: usize) -> Result<(), NoMemory>
-        ensures { OnOk result (built self.new ≡ taken_in (built self.old) (Caught.Begin label place)) }
+        ensures { OnOk result (built self.new
+            ≡ taken_in (built self.old) (Caught.Begin label place)) }
     {
         self.open.push(self.nodes.len())?;
         self.nodes.push(Node::opened(label, place))?;
@@ -37,7 +38,8 @@ impl Building {
     }
 
     fn note(&mut self, text: u32, place: usize) -> Result<(), NoMemory>
-        ensures { OnOk result (built self.new ≡ taken_in (built self.old) (Caught.Note text place)) }
+        ensures { OnOk result (built self.new
+            ≡ taken_in (built self.old) (Caught.Note text place)) }
     {
         self.nodes.push(Node::noted(text, place))?;
         Ok(())

@@ -47,8 +47,8 @@ impl Forest {
         self.building.nodes.get(index).copied()
     }
 
-    /// Becomes the trees of these captures, in the memory that it has where that is enough. After a refusal it has no
-    /// trees: those that it had are gone.
+    /// Becomes the trees of these captures, in the memory that it has where that is enough. After a
+    /// refusal it has no trees: those that it had are gone.
     pub fn fill(&mut self, caught: &[Caught]) -> Result<(), NoMemory>
         ensures built { OnOk result (BuildsEach caught.now self.new) }
         ensures err { OnErr result (self.new ≡ []) }

@@ -16,9 +16,10 @@ fn letters(alloc: Global, name: &str) -> Result<Vec<char>, NoMemory>
     name.chars().collect(alloc)
 }
 
-/// The characters that a name stands for: a binary property, a general category or a script of Unicode, by its long or
-/// short name in any case, where spaces, `_`, `-` and a leading `is` don't count. The ranges rise, don't touch and hold
-/// no surrogates. UnknownClass exactly where the name stands for no set.
+/// The characters that a name stands for: a binary property, a general category or a script of
+/// Unicode, by its long or short name in any case, where spaces, `_`, `-` and a leading `is` don't
+/// count. The ranges rise, don't touch and hold no surrogates. UnknownClass exactly where the name
+/// stands for no set.
 pub fn class_ranges(alloc: Global, name: &str) -> Result<RangeList, ClassFault>
     ensures { IsClass (members (chars name.now)) result }
 {

@@ -79,8 +79,8 @@ pub(crate) fn class_of(alloc: Global, ranges: &[ClassRange]) -> Result<Class, No
     Class::new(parts)
 }
 
-/// The characters of the ranges, which come in any order and may overlap, in their one order: the ranges rise, don't
-/// touch and hold no surrogates. A range whose start is above its end is empty.
+/// The characters of the ranges, which come in any order and may overlap, in their one order: the
+/// ranges rise, don't touch and hold no surrogates. A range whose start is above its end is empty.
 pub fn characters(alloc: Global, ranges: &[ClassRange]) -> Result<RangeList, NoMemory>
     ensures { IfOk result (IsListOf (in_ranges ranges.now)) }
 {

@@ -33,8 +33,8 @@ fn push_part(line: &mut String, part: &Option<Chars>) -> Result<(), NoMemory>
     }
 }
 
-/// The line of a test that isn't met, as `rosie test` writes it: `FILE:LINE: NAME VERB PART TEXT`, without PART where
-/// none is asked for, and with TEXT as a string of JSON.
+/// The line of a test that isn't met, as `rosie test` writes it: `FILE:LINE: NAME VERB PART TEXT`,
+/// without PART where none is asked for, and with TEXT as a string of JSON.
 pub fn failed_line(alloc: Global, file: &str, test: &Test) -> Result<String, NoMemory>
     ensures { IfOk result (λ line. string_bytes line ≡ L.failed_line file.now test.now) }
 {

@@ -2,7 +2,8 @@
 ghost use Rattle.std.specs.Prelude.{◌≡◌, true, option_and_then};
 ghost use Rattle.std.specs.Option.{option_copied};
 ghost use Rattle.rpl_unittest.specs.Comments as S;
-ghost use Rattle.rpl_unittest.specs.inside.Words.{word_seen, words_seen, first_seen, part_seen, reading_by};
+ghost use Rattle.rpl_unittest.specs.inside.Words.{word_seen, words_seen, first_seen, part_seen};
+ghost use Rattle.rpl_unittest.specs.inside.Words.{reading_by};
 ghost use Rattle.rpl_unittest.specs.inside.Words.{text_in, fits, are_texts};
 
 use crate::test::Verb;

@@ -37,12 +37,14 @@ impl From<NoMemory> for TestFault {
 
 /// The tests of a text, or the first line whose test comment says none.
 ///
-/// A line is a test comment where its first characters but spaces and tabs are `--`, and the next word is `test`, with
-/// a space or a tab after it. What follows the dashes is `test`, perhaps `local`, a name, then `accepts` or `rejects`,
-/// or `includes` or `excludes` with a part, and one quoted text or more with commas between them.
+/// A line is a test comment where its first characters but spaces and tabs are `--`, and the next
+/// word is `test`, with a space or a tab after it. What follows the dashes is `test`, perhaps
+/// `local`, a name, then `accepts` or `rejects`, or `includes` or `excludes` with a part, and one
+/// quoted text or more with commas between them.
 pub fn read_tests(alloc: Global, text: &str) -> Result<Tests, TestFault>
     ensures tests { IfOk result (HasTests text.now) }
-    ensures short { IfOk result (λ tests. All (λ t. length (encode_utf8_all t.text) ≤ length text.now) tests) }
+    ensures short { IfOk result (λ tests. All (λ t. length (encode_utf8_all t.text)
+        ≤ length text.now) tests) }
     ensures bad { IfErr result (IsFault text.now) }
 {
     let mut tests = Tests::new(alloc);

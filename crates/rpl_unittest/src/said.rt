@@ -1,7 +1,8 @@
 // The tests that the words of a test comment give.
 ghost use Rattle.std.specs.Prelude.{◌≡◌, ◌++◌, map, IfOk, OnOk, option_map, chars};
 ghost use Rattle.rpl_unittest.specs.Comments as S;
-ghost use Rattle.rpl_unittest.specs.inside.Words.{words_seen, bytes_of, tests_said, test_for, texts_in, Adds, Tells};
+ghost use Rattle.rpl_unittest.specs.inside.Words.{words_seen, bytes_of, tests_said, test_for};
+ghost use Rattle.rpl_unittest.specs.inside.Words.{texts_in, Adds, Tells};
 
 use crate::question::{Question, are_texts, read_question, text_in};
 use crate::test::{Test, Tests};

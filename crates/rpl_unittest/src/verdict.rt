@@ -1,5 +1,6 @@
 // Verdicts: what was found, beside what a test asks.
-ghost use Rattle.std.specs.Prelude.{◌≡◌, ◌≤◌, ◌∷◌, ◌++◌, ℕ, List, [], Some, drop, length, option_map, slice_get};
+ghost use Rattle.std.specs.Prelude.{◌≡◌, ◌≤◌, ◌∷◌, ◌++◌, ℕ, List, [], Some, drop, length};
+ghost use Rattle.std.specs.Prelude.{option_map, slice_get};
 ghost use Rattle.std.specs.Prelude.{IfSome};
 ghost use Rattle.std.specs.Option.{option_copied};
 ghost use Rattle.std.specs.List.{list_any};
@@ -71,7 +72,8 @@ fn type_of(node: Node, program: &Program) -> &str
 
 /// There is such a node, and it has the type.
 fn is_here(forest: &Forest, index: usize, prefix: &str, part: &str, program: &Program) -> bool
-    ensures { result ≡ passes (has_part program.now prefix.now part.now) (slice_get forest.now index) }
+    ensures { result ≡ passes (has_part program.now prefix.now part.now)
+        (slice_get forest.now index) }
 {
     match forest.get(index) {
         Some(node) => is_type(prefix, part, type_of(node, program)),
@@ -123,7 +125,8 @@ fn judge_match(
     program: &Program,
 ) -> bool
     requires { AreOneTree forest.now }
-    ensures { result ≡ is_met verb prefix.now part.now text.now (Some (trees_in program.now forest.now)) }
+    ensures { result ≡ is_met verb prefix.now part.now text.now
+        (Some (trees_in program.now forest.now)) }
 {
     match verb {
         Verb::Accepts => is_whole(forest, text, program),
@@ -133,13 +136,15 @@ fn judge_match(
     }
 }
 
-/// Whether the test is met, by what was found on its text: the match tree, or nothing where the text isn't matched. The
-/// forest is that of one tree, whose labels are the program's; `prefix` is the name of the file's package, empty where
-/// it has none. A part without a dot stands for the node of that type and for that of the file's package.
+/// Whether the test is met, by what was found on its text: the match tree, or nothing where the
+/// text isn't matched. The forest is that of one tree, whose labels are the program's; `prefix` is
+/// the name of the file's package, empty where it has none. A part without a dot stands for the
+/// node of that type and for that of the file's package.
 pub fn judge(test: &Test, prefix: &str, found: Option<&Forest>, program: &Program) -> bool
     requires { IfSome (option_copied found) AreOneTree }
     ensures { let trees = option_map (trees_in program.now) (option_copied found.entry) in
-        result ≡ is_met test.now.verb prefix.now (part_of test.now.part) (encode_utf8_all test.now.text) trees }
+        result ≡ is_met test.now.verb prefix.now (part_of test.now.part)
+        (encode_utf8_all test.now.text) trees }
 {
     match found {
         None => matches!(test.verb, Verb::Rejects),

@@ -1,5 +1,5 @@
-// What comes of a goal: what the check and the compiler make of it, and how it ends on a line by its meaning and by
-// both machines.
+// What comes of a goal: what the check and the compiler make of it, and how it ends on a line by
+// its meaning and by both machines.
 ghost use Rattle.std.specs.Prelude.{◌≡◌, ◌<◌};
 
 use crate::tests::shown::{show_match, show_outcome, show_plain};
@@ -19,8 +19,8 @@ const BUDGET: u64 = 100_000;
 /// The turns and calls that may stand one in the other.
 const DEPTH: u32 = 40;
 
-/// An answer as text, and how much it took: work, or steps. Where it isn't found within the depth or the budget, it is
-/// `open`.
+/// An answer as text, and how much it took: work, or steps. Where it isn't found within the depth
+/// or the budget, it is `open`.
 #[derive(Drop)]
 pub(crate) struct Ending {
     pub(crate) shown: String,
@@ -59,8 +59,8 @@ pub(crate) fn meant(
     Ok(Ending { shown, cost })
 }
 
-/// What comes of a goal over a table: code, or that calls or blocks are out of order, or the first fault, or nothing
-/// where memory runs out or the code is too long.
+/// What comes of a goal over a table: code, or that calls or blocks are out of order, or the first
+/// fault, or nothing where memory runs out or the code is too long.
 #[derive(Drop)]
 pub(crate) enum Judged {
     Code(Program),

@@ -62,8 +62,8 @@ impl Verdicts {
     }
 }
 
-/// On four thousand made-up tables and patterns the check finds what the plain check finds, which tries all sets of
-/// rules.
+/// On four thousand made-up tables and patterns the check finds what the plain check finds, which
+/// tries all sets of rules.
 #[test]
 fn faults_are_those_of_the_plain_check(rt: HostRuntime) -> Result<(), Fail> {
     let mut random = generator();

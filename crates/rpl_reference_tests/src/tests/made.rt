@@ -1,9 +1,11 @@
-// Made-up goals, rules and texts. A pattern is made of templates, whose words stand after their parts: `S` stands for a
-// set, `P` for the pattern made last, and `C` for a call of a rule. What stands twice in a table is taken more often.
+// Made-up goals, rules and texts. A pattern is made of templates, whose words stand after their
+// parts: `S` stands for a set, `P` for the pattern made last, and `C` for a call of a rule. What
+// stands twice in a table is taken more often.
 //
-// What `make` makes has a meaning on every text: a repeated body begins with a set, so that each turn takes a
-// character, and so does a rule, so that calls end; no halt stands under a predicate, since where there are halts, all
-// predicates are leaves. In what `make_wild` makes anything may be wrong, the order of the table too.
+// What `make` makes has a meaning on every text: a repeated body begins with a set, so that each
+// turn takes a character, and so does a rule, so that calls end; no halt stands under a predicate,
+// since where there are halts, all predicates are leaves. In what `make_wild` makes anything may be
+// wrong, the order of the table too.
 use crate::tests::names::is_new;
 use rand::RngExt;
 use rand::seq::IndexedRandom;
@@ -107,8 +109,8 @@ static WILD: [&str; 14] = [
     "S P seq2 cap:x",
 ];
 
-/// The block of each of three rules, from 1, or 0 outside blocks. In the last two rows the rules of one block don't
-/// stand side by side.
+/// The block of each of three rules, from 1, or 0 outside blocks. In the last two rows the rules of
+/// one block don't stand side by side.
 static BLOCKS: [[u32; 3]; 8] = [
     [0, 0, 0],
     [1, 1, 1],
@@ -120,7 +122,8 @@ static BLOCKS: [[u32; 3]; 8] = [
     [1, 2, 1],
 ];
 
-/// The generator of the made-up goals: begun with a made-up number, so that each run makes the same.
+/// The generator of the made-up goals: begun with a made-up number, so that each run makes the
+/// same.
 pub(crate) fn generator() -> Pcg32 {
     Pcg32::new(20_261_127, 0)
 }

@@ -1,5 +1,5 @@
-// The check once more, slow and plain. Which rules may be empty, and which may halt, is the least set of rules, that
-// is, what all closed sets share: every set is tried.
+// The check once more, slow and plain. Which rules may be empty, and which may halt, is the least
+// set of rules, that is, what all closed sets share: every set is tried.
 use rpl_check::BehindCause;
 use rpl_core::{Peg, Rules};
 use std::alloc::{AllocError, Global};
@@ -10,7 +10,8 @@ const MOST: u32 = 3;
 /// Which rules of a table are in a set.
 type Marks = [bool; 3];
 
-/// What is wrong with a table or a pattern, if anything is. A rule is its number, or none for the pattern.
+/// What is wrong with a table or a pattern, if anything is. A rule is its number, or none for the
+/// pattern.
 #[derive(Clone, Copy, PartialEq, Eq)]
 pub(crate) enum Verdict {
     Unordered,
@@ -184,8 +185,8 @@ fn rules_with(alloc: Global, fact: Fact, rules: &Rules) -> Result<Marks, AllocEr
     Ok(least)
 }
 
-/// Does the rule reach itself before it has taken a character? What the rules that it reaches call so is marked too,
-/// three times over, which is enough for three rules.
+/// Does the rule reach itself before it has taken a character? What the rules that it reaches call
+/// so is marked too, three times over, which is enough for three rules.
 fn reaches_itself(rules: &Rules, empties: &Marks, number: u32) -> bool {
     let mut reached = [false; 3];
     if let Some(rule) = rules.get(number) {
@@ -203,7 +204,8 @@ fn reaches_itself(rules: &Rules, empties: &Marks, number: u32) -> bool {
     has(&reached, number)
 }
 
-/// What is wrong with the body of a look-behind. None that is made up is longer than 255 characters.
+/// What is wrong with the body of a look-behind. None that is made up is longer than 255
+/// characters.
 fn cause_of(alloc: Global, body: &Peg) -> Result<Option<BehindCause>, AllocError> {
     let mut repeats = false;
     for part in &all_in(alloc, body)? {
@@ -386,7 +388,8 @@ fn calls_back(alloc: Global, rules: &Rules, number: u32) -> Result<bool, AllocEr
     Ok(true)
 }
 
-/// Do the rules of each block stand side by side, and call only earlier rules and those of their block?
+/// Do the rules of each block stand side by side, and call only earlier rules and those of their
+/// block?
 fn is_in_order(alloc: Global, rules: &Rules) -> Result<bool, AllocError> {
     for number in 0..MOST {
         if !calls_back(alloc, rules, number)? {

@@ -1,5 +1,5 @@
-// Answers as text: the captures, and then the place. `<` begins a tree, `>` ends one, `!` is a note. Places are numbers
-// of characters.
+// Answers as text: the captures, and then the place. `<` begins a tree, `>` ends one, `!` is a
+// note. Places are numbers of characters.
 use rpl_core::{Caught, Program};
 use rpl_reference::{Forest, Outcome};
 use std::alloc::{AllocError, Global};
