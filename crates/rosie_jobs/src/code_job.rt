@@ -2,7 +2,7 @@
 
 ghost use Rattle.std.specs.Prelude.{◌≡◌, ℕ, List, string_bytes, IfOk};
 ghost use Rattle.rpl_core.specs.Forest.{Caught, flat};
-ghost use Rattle.rpl_core.specs.Program.{instructions};
+ghost use Rattle.rpl_core.specs.Program.{instructions, labels_of};
 ghost use Rattle.rpl_core.specs.Run as R;
 ghost use Rattle.rpl_safe.specs.Safe.{IsSafe};
 ghost use Rattle.rosie_jobs.specs.Written.{written};
@@ -24,6 +24,7 @@ pub struct CodeJob {
     line: LineRun,
     ghost trees: { (t : List ℕ) → (b n i : ℕ) → (cs : List Caught)
         → R.run (instructions program) t b ≡ R.Matched n i cs → cs ≡ flat (written cs) },
+    ghost fronts: { line.fronts ≡ labels_of program },
 }
 
 impl CodeJob {
@@ -35,7 +36,7 @@ impl CodeJob {
         requires { IsSafe (instructions program) }
         ensures { IfOk result (λ made. runner_of made ≡ Runs settings (instructions program)) }
     {
-        let line = LineRun::new(alloc, settings)?;
+        let line = LineRun::new(alloc, settings, &program)?;
         Ok(CodeJob { program, line })
     }
 }

@@ -6,7 +6,7 @@ ghost use Rattle.std.specs.Str.{IsAscii};
 ghost use Rattle.rosie_run.specs.Made.{IsMade};
 ghost use Rattle.rpl_core.specs.Forest as F;
 ghost use Rattle.rpl_core.specs.Meaning.{Outcome};
-ghost use Rattle.rpl_core.specs.Program.{instructions};
+ghost use Rattle.rpl_core.specs.Program.{instructions, labels_of};
 ghost use Rattle.rpl_encode.specs.Answer.{answer, IgnoresTrees};
 ghost use Rattle.rpl_encode.specs.Print.{placed};
 ghost use Rattle.rpl_text.specs.Places.{at};
@@ -19,7 +19,7 @@ use crate::settings::Settings;
 use crate::texts::Texts;
 use rosie_run::{Mark, NoMemory};
 use rpl_core::{Caught, Program};
-use rpl_encode::Style;
+use rpl_encode::{Fronts, Style};
 use rpl_machine::{Answer, RunFault, Scratch, Steps, run};
 use rpl_text::Text;
 use rpl_tree::Forest;
@@ -36,6 +36,7 @@ pub(crate) struct LineRun {
     pub(crate) settings: Settings,
     scratch: Scratch,
     forest: Forest,
+    pub(crate) fronts: Fronts,
     pub(crate) texts: Texts,
 }
 
@@ -76,26 +77,15 @@ fn make_trees(forest: &mut Forest, captures: &[Caught], style: Style) -> Result<
     forest.fill(captures)
 }
 
-/// Prints the answer of a run that matched with these captures. Whether it isn't too long.
-fn print_match(
-    texts: &mut Texts,
-    forest: &mut Forest,
-    captures: &[Caught],
-    style: Style,
-    line: &str,
-    program: &Program,
-) -> Result<bool, NoMemory>
-    ensures { IfOk result (λ fits. (f : F.Forest) → Catches captures.now program.now line.now f
-        → Printed fits (answer style line.now (Some (placed (at (chars line.now)) f)))
-        texts.new.answer) }
-{
-    make_trees(forest, captures, style)?;
-    texts.print(style, line, Some(forest), program)
-}
-
 impl LineRun {
-    pub(crate) fn new(alloc: Global, settings: Settings) -> Result<LineRun, NoMemory>
-        ensures { IfOk result (λ made. made.settings ≡ settings) }
+    /// Runs of this program.
+    pub(crate) fn new(
+        alloc: Global,
+        settings: Settings,
+        program: &Program,
+    ) -> Result<LineRun, NoMemory>
+        ensures settings { IfOk result (λ made. made.settings ≡ settings) }
+        ensures fronts { IfOk result (λ made. made.fronts ≡ labels_of program.now) }
     {
         let mut scratch = Scratch::new(alloc);
         scratch.reserve(ENTRIES)?;
@@ -103,8 +93,24 @@ impl LineRun {
             settings,
             scratch,
             forest: Forest::new(alloc),
+            fronts: Fronts::new(alloc, program)?,
             texts: Texts::new(alloc),
         })
+    }
+
+    /// Prints the answer of the run before, which matched. Whether it isn't too long.
+    fn print_match(&mut self, line: &str) -> Result<bool, NoMemory>
+        ensures settings { self.new.settings ≡ self.old.settings }
+        ensures fronts { self.new.fronts ≡ self.old.fronts }
+        ensures printed { let t = chars line.now in IfOk result (λ fits. (f : F.Forest)
+            → Catches self.old.scratch.captures self.old.fronts line.now f
+            → Printed fits (answer self.old.settings.style line.now (Some (placed (at t) f)))
+            self.new.texts.answer) }
+    {
+        let style = self.settings.style;
+        make_trees(&mut self.forest, self.scratch.captures(), style)?;
+        self.texts
+            .print(style, line, Some(&self.forest), &self.fronts)
     }
 
     /// Makes the piece of a line, whatever outcome the run shows.
@@ -118,7 +124,9 @@ impl LineRun {
     ) -> Result<Mark, NoMemory>
         requires fits { length line.now ≤ 2 ^ 30 }
         requires ascii { IsTrue is_ascii → IsAscii line.now }
+        requires fronts { self.old.fronts ≡ labels_of program.now }
         ensures same { self.new.settings ≡ self.old.settings }
+        ensures fronts { self.new.fronts ≡ self.old.fronts }
         ensures made { let a = ran self.old.settings (instructions program.now) line.now in
             (o : Outcome) → IsShown a o
             → IfOk result (λ mark. IsMade mark self.new.texts.answer
@@ -133,19 +141,11 @@ impl LineRun {
         match run(program, Text::new(line), budget, &mut self.scratch, steps) {
             Ok(answer) => match answer {
                 Answer::At { steps, .. } => {
-                    let captures = self.scratch.captures();
-                    let fits = print_match(
-                        &mut self.texts,
-                        &mut self.forest,
-                        captures,
-                        settings.style,
-                        line,
-                        program,
-                    )?;
+                    let fits = self.print_match(line)?;
                     self.texts.say(settings, place, line, fits, true, steps)
                 }
                 Answer::Fail { steps } => {
-                    let fits = self.texts.print(settings.style, line, None, program)?;
+                    let fits = self.texts.print(settings.style, line, None, &self.fronts)?;
                     self.texts.say(settings, place, line, fits, false, steps)
                 }
             },

@@ -1,6 +1,7 @@
 //! What `match` makes of a line.
 
 ghost use Rattle.std.specs.Prelude.{◌≡◌, string_bytes, IfOk};
+ghost use Rattle.rpl_core.specs.Program.{labels_of};
 
 use crate::job::Job;
 use crate::line_run::LineRun;
@@ -17,6 +18,7 @@ use std::sync::ledger::Ledger;
 pub struct MatchJob {
     job: Job,
     line: LineRun,
+    ghost fronts: { line.fronts ≡ labels_of job.program },
 }
 
 impl MatchJob {
@@ -29,7 +31,7 @@ impl MatchJob {
         ensures maker { IfOk result (λ made. matcher_of made ≡ Matches settings (job_of job)) }
         ensures due { IfOk result (λ made. Pays (matcher_of made)) }
     {
-        let line = LineRun::new(alloc, settings)?;
+        let line = LineRun::new(alloc, settings, job.program())?;
         Ok(MatchJob { job, line })
     }
 }

@@ -15,8 +15,7 @@ ghost use Rattle.rosie_jobs.specs.inside.Printed.{Printed};
 use crate::place::Place;
 use crate::settings::Settings;
 use rosie_run::{Mark, NoMemory, line_fault};
-use rpl_core::Program;
-use rpl_encode::{AnswerText, EncodeFault, Style};
+use rpl_encode::{AnswerText, EncodeFault, Fronts, Style};
 use rpl_tree::Forest;
 use std::alloc::{AllocError, Global};
 
@@ -53,13 +52,13 @@ impl Texts {
         style: Style,
         line: &str,
         found: Option<&Forest>,
-        program: &Program,
+        fronts: &Fronts,
     ) -> Result<bool, NoMemory>
         ensures { IfOk result (λ fits. Printed fits
-            (answer style line.now (option_map (trees_in program.now) (option_copied found.entry)))
+            (answer style line.now (option_map (trees_in fronts.now) (option_copied found.entry)))
             self.new.answer) }
     {
-        match self.answer.fill(style, line, found, program) {
+        match self.answer.fill(style, line, found, fronts) {
             Ok(()) => Ok(true),
             Err(fault) => match fault {
                 EncodeFault::AnswerTooLong => Ok(false),

@@ -12,7 +12,7 @@ ghost use Rattle.rosie_unittest.specs.inside.Ready.{AreOfTree, by_found};
 use crate::verdict::Verdict;
 use rosie_run::NoMemory;
 use rpl_core::Program;
-use rpl_encode::{AnswerText, EncodeFault, Style};
+use rpl_encode::{AnswerText, EncodeFault, Fronts, Style};
 use rpl_machine::Scratch;
 use rpl_print::text_of;
 use rpl_tree::Forest;
@@ -25,6 +25,7 @@ const ENTRIES: u64 = 65_536;
 /// What tests are run in. All of its memory is kept from test to test.
 #[derive(Drop)]
 pub(crate) struct Tester {
+    alloc: Global,
     pub(crate) scratch: Scratch,
     forest: Forest,
     answer: AnswerText,
@@ -39,16 +40,17 @@ fn met_or_not(met: bool) -> Verdict
 
 /// Whether the answer in JSON isn't too long.
 fn fits(
+    alloc: Global,
     kept: &mut AnswerText,
     text: &str,
     forest: &Forest,
     program: &Program,
 ) -> Result<bool, NoMemory>
-    ensures { IfOk result (λ fits. fits
-        ≡ not (nat_lt max_answer_bytes
-        (length (answer Json text.now (Some (trees_in program.now forest.now)))))) }
+    ensures { let trees = trees_in (labels_of program.now) forest.now in IfOk result (λ fits. fits
+        ≡ not (nat_lt max_answer_bytes (length (answer Json text.now (Some trees))))) }
 {
-    match kept.fill(Style::Json, text, Some(forest), program) {
+    let fronts = Fronts::new(alloc, program)?;
+    match kept.fill(Style::Json, text, Some(forest), &fronts) {
         Ok(()) => Ok(true),
         Err(fault) => match fault {
             EncodeFault::AnswerTooLong => Ok(false),
@@ -69,6 +71,7 @@ impl Tester {
         let mut scratch = Scratch::new(alloc);
         scratch.reserve(ENTRIES)?;
         Ok(Tester {
+            alloc,
             scratch,
             forest: Forest::new(alloc),
             answer: AnswerText::new(alloc),
@@ -89,7 +92,13 @@ impl Tester {
     {
         built_as_one_tree();
         self.forest.fill(self.scratch.captures())?;
-        if !fits(&mut self.answer, text_of(&test.text), &self.forest, program)? {
+        if !fits(
+            self.alloc,
+            &mut self.answer,
+            text_of(&test.text),
+            &self.forest,
+            program,
+        )? {
             return Ok(Verdict::LongAnswer);
         }
         Ok(met_or_not(judge(test, prefix, Some(&self.forest), program)))

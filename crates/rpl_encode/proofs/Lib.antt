@@ -1,4 +1,4 @@
-pub mod Notes
+pub mod Texts
 pub mod Escaping
 pub mod Nodes
 pub mod Walking

@@ -1,12 +1,15 @@
 // The text of an answer, whole.
 ghost use Rattle.std.specs.Prelude.{◌≡◌, ◌≤◌, ◌++◌, [], IfOk, OnErr, OnOk, length};
 ghost use Rattle.std.specs.Option.{option_copied};
+ghost use Rattle.rpl_core.specs.Program.{labels_of};
 ghost use Rattle.rpl_encode.specs.Answer.{IsTooLong, line_by_line, max_answer_bytes, none};
 ghost use Rattle.rpl_encode.specs.Labels.{answer_text, match_text};
 
 use crate::children::{put_line, put_root_text, put_texts};
+use crate::escapes::Escapes;
 use crate::fault::EncodeFault;
-use crate::shared_parts::{SharedParts, Source};
+use crate::front::Fronts;
+use crate::source::Source;
 use crate::style::Style;
 use crate::tree::put_tree;
 use rosie_io::Bytes;
@@ -31,7 +34,7 @@ struct Draft {
     text: Vec<u8>,
     /// How many nodes are still to come in each list of JSON that is open.
     pending: Vec<usize>,
-    shared: SharedParts,
+    escapes: Escapes,
 }
 
 impl Model for AnswerText {
@@ -60,28 +63,28 @@ impl AnswerText {
         &self.text
     }
 
-    /// Becomes the text of a line's outcome in a style: of the trees that were found, or of none.
-    /// It is written in the memory that there is where that is enough, and taken back as soon as it
-    /// is too long. After a refusal it is as it was.
+    /// Becomes the text of a line's outcome in a style: of the trees that were found, or of none,
+    /// whose types are numbered as these texts are. It is written in the memory that there is where
+    /// that is enough, and taken back as soon as it is too long. After a refusal it is as it was.
     pub fn fill(
         &mut self,
         style: Style,
         line: &str,
         found: Option<&Forest>,
-        program: &Program,
+        fronts: &Fronts,
     ) -> Result<(), EncodeFault>
-        ensures text { OnOk result (self.new ≡ answer_text style line.now program.now
+        ensures text { OnOk result (self.new ≡ answer_text style line.now fronts.now
             (option_copied found.entry)) }
         ensures fits { OnOk result
-            (length (answer_text style line.now program.now (option_copied found.entry))
+            (length (answer_text style line.now fronts.now (option_copied found.entry))
             ≤ max_answer_bytes) }
-        ensures too_long { IsTooLong result (answer_text style line.now program.now
+        ensures too_long { IsTooLong result (answer_text style line.now fronts.now
             (option_copied found.entry)) }
         ensures err { OnErr result (self.new ≡ self.old) }
     {
         self.draft.text.clear();
         match found {
-            Some(forest) => self.draft.put_match(style, line, forest, program)?,
+            Some(forest) => self.draft.put_match(style, line, forest, fronts)?,
             None => put_miss(&mut self.draft.text, style)?,
         }
         if self.draft.text.len() > MAX_ANSWER_BYTES {
@@ -108,16 +111,18 @@ pub fn encode(
     found: Option<&Forest>,
     program: &Program,
 ) -> Result<Bytes, EncodeFault>
-    ensures text { IfOk result (λ text. text ≡ answer_text style line.now program.now
+    ensures text { IfOk result
+        (λ text. text ≡ answer_text style line.now (labels_of program.now)
         (option_copied found.entry)) }
     ensures fits { OnOk result
-        (length (answer_text style line.now program.now (option_copied found.entry))
+        (length (answer_text style line.now (labels_of program.now) (option_copied found.entry))
         ≤ max_answer_bytes) }
-    ensures too_long { IsTooLong result (answer_text style line.now program.now
-        (option_copied found.entry)) }
+    ensures too_long { IsTooLong result
+        (answer_text style line.now (labels_of program.now) (option_copied found.entry)) }
 {
+    let fronts = Fronts::new(alloc, program)?;
     let mut answer = AnswerText::new(alloc);
-    answer.fill(style, line, found, program)?;
+    answer.fill(style, line, found, &fronts)?;
     Ok(Bytes::from_vec(answer.text))
 }
 
@@ -136,7 +141,7 @@ impl Draft {
         Draft {
             text: Vec::new(alloc),
             pending: Vec::new(alloc),
-            shared: SharedParts::new(alloc),
+            escapes: Escapes::new(alloc),
         }
     }
 
@@ -146,32 +151,32 @@ impl Draft {
         style: Style,
         line: &str,
         forest: &Forest,
-        program: &Program,
+        fronts: &Fronts,
     ) -> Result<(), EncodeFault>
         ensures too_long { IsTooLong result
-            (self.old.text.items ++ match_text style line.now program.now forest.now) }
+            (self.old.text.items ++ match_text style line.now fronts.now forest.now) }
         ensures text { OnOk result
             (self.new.text.items ≡ self.old.text.items
-            ++ (match_text style line.now program.now forest.now)) }
+            ++ (match_text style line.now fronts.now forest.now)) }
     {
         let bytes = line.as_bytes();
         match style {
             Style::Json => {
-                self.shared.fill(line, program)?;
+                self.escapes.fill(line)?;
                 let source = Source {
                     line: bytes,
-                    shared: &self.shared,
-                    program,
+                    escapes: &self.escapes,
+                    fronts,
                 };
                 put_tree(&mut self.text, &mut self.pending, forest, source)
             }
             Style::Line => Ok(put_line(&mut self.text, bytes)?),
-            Style::Matches => put_hits(&mut self.text, bytes, forest, program),
+            Style::Matches => put_hits(&mut self.text, bytes, forest, fronts),
             Style::Subs => {
-                put_texts(&mut self.text, false, bytes, forest, program)?;
+                put_texts(&mut self.text, false, bytes, forest, fronts)?;
                 Ok(())
             }
-            Style::Plain => Ok(put_root_text(&mut self.text, bytes, forest, program)?),
+            Style::Plain => Ok(put_root_text(&mut self.text, bytes, forest, fronts)?),
             Style::Bool => Ok(self.text.extend_from_slice(b"true\n")?),
         }
     }
@@ -182,16 +187,16 @@ fn put_hits(
     out: &mut Vec<u8>,
     line: &[u8],
     forest: &Forest,
-    program: &Program,
+    fronts: &Fronts,
 ) -> Result<(), EncodeFault>
     ensures too_long { IsTooLong result (out.old.items
-        ++ match_text Style.Matches line.now program.now forest.now) }
+        ++ match_text Style.Matches line.now fronts.now forest.now) }
     ensures text { OnOk result
         (out.new.items ≡ out.old.items
-        ++ (match_text Style.Matches line.now program.now forest.now)) }
+        ++ (match_text Style.Matches line.now fronts.now forest.now)) }
 {
-    if put_texts(out, true, line, forest, program)? {
+    if put_texts(out, true, line, forest, fronts)? {
         return Ok(());
     }
-    Ok(put_root_text(out, line, forest, program)?)
+    Ok(put_root_text(out, line, forest, fronts)?)
 }

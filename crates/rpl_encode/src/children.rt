@@ -1,7 +1,6 @@
 // The texts of the root, and of the nodes directly under it.
 ghost use Rattle.std.specs.Prelude.{◌≡◌, ◌<◌, ◌⊎◌, ◌++◌, [], ◌∷◌, slice_get, OnOk, IfOk, IfSome};
 ghost use Rattle.std.specs.Prelude.{IfNone};
-ghost use Rattle.rpl_core.specs.Program.{labels_of};
 ghost use Rattle.rpl_encode.specs.Answer.{IsTooLong, below_root, line_by_line};
 ghost use Rattle.rpl_encode.specs.inside.Children.{below_of_first, is_some_text, is_printed};
 ghost use Rattle.rpl_encode.specs.inside.Children.{printed_texts};
@@ -9,9 +8,10 @@ ghost use Rattle.rpl_encode.specs.Labels.{match_text, trees_in};
 
 use crate::answer::MAX_ANSWER_BYTES;
 use crate::fault::EncodeFault;
+use crate::front::Fronts;
 use crate::node_text::{label_of, text_of};
 use crate::style::Style;
-use rpl_core::{NoMemory, Program};
+use rpl_core::NoMemory;
 use rpl_tree::{Forest, Node};
 
 /// The type of the hits of a search.
@@ -30,14 +30,14 @@ pub(crate) fn put_root_text(
     out: &mut Vec<u8>,
     line: &[u8],
     forest: &Forest,
-    program: &Program,
+    fronts: &Fronts,
 ) -> Result<(), NoMemory>
     ensures { OnOk result
         (out.new.items
-        ≡ out.old.items ++ (match_text Style.Plain line.now program.now forest.now)) }
+        ≡ out.old.items ++ (match_text Style.Plain line.now fronts.now forest.now)) }
 {
     match forest.get(0) {
-        Some(root) => put_line(out, text_of(root, line, program)),
+        Some(root) => put_line(out, text_of(root, line, fronts)),
         None => Ok(()),
     }
 }
@@ -49,21 +49,21 @@ pub(crate) fn put_texts(
     only_hits: bool,
     line: &[u8],
     forest: &Forest,
-    program: &Program,
+    fronts: &Fronts,
 ) -> Result<bool, EncodeFault>
     ensures text { OnOk result
         (out.new.items
         ≡ out.old.items
         ++ (line_by_line (printed_texts only_hits line.now
-        (below_root (trees_in program.now forest.now))))) }
+        (below_root (trees_in fronts.now forest.now))))) }
     ensures too_long { IsTooLong result
         (out.old.items
         ++ line_by_line (printed_texts only_hits line.now
-        (below_root (trees_in program.now forest.now)))) }
+        (below_root (trees_in fronts.now forest.now)))) }
     ensures found { IfOk result
         (λ some. some
         ≡ is_some_text (printed_texts only_hits line.now
-        (below_root (trees_in program.now forest.now)))) }
+        (below_root (trees_in fronts.now forest.now)))) }
 {
     let count = forest.len();
     let mut left = below_first(forest);
@@ -73,8 +73,8 @@ pub(crate) fn put_texts(
         if out.len() > MAX_ANSWER_BYTES {
             return Err(EncodeFault::AnswerTooLong);
         }
-        if wants(only_hits, node, program) {
-            put_line(out, text_of(node, line, program))?;
+        if wants(only_hits, node, fronts) {
+            put_line(out, text_of(node, line, fronts))?;
             some = true;
         }
         let below = node.below.min(left - 1);
@@ -103,12 +103,12 @@ fn node_within(forest: &Forest, index: usize, left: usize) -> Option<Node>
 }
 
 /// Whether the text of a node is printed.
-fn wants(only_hits: bool, node: Node, program: &Program) -> bool
-    ensures { result ≡ is_printed (labels_of program.now) only_hits node }
+fn wants(only_hits: bool, node: Node, fronts: &Fronts) -> bool
+    ensures { result ≡ is_printed fronts.now only_hits node }
 {
     match node.note {
         _ if !only_hits => true,
         Some(_) => false,
-        None => label_of(program, node.label) == HIT,
+        None => label_of(fronts, node.label) == HIT,
     }
 }

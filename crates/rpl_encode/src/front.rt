@@ -1,12 +1,18 @@
-// The fronts of the objects of nodes.
+// The texts of a program, and the fronts of the objects of nodes.
 ghost use Rattle.std.specs.Prelude.{◌≡◌, ◌++◌, false, IfOk, OnOk, string_bytes};
+ghost use Rattle.std.specs.Prelude.{chars, option_map, slice_get};
+ghost use Rattle.std.specs.Option.{option_copied};
+ghost use Rattle.std.specs.Str.{encode_utf8_all};
 ghost use Rattle.json.specs.Print.{escape};
+ghost use Rattle.rpl_core.specs.Program.{labels_of};
+ghost use Rattle.rpl_encode.specs.Labels.{label_in};
 ghost use Rattle.rpl_encode.specs.inside.Fronts.{front};
 
 use crate::escapes::put_bytes;
 use rpl_core::{NoMemory, Program};
 use rpl_print::push_quoted;
-use std::alloc::Global;
+use std::alloc::{AllocError, Global};
+use std::marker::Model;
 
 /// The front of the objects of nodes of one type, which is written once.
 #[derive(Drop)]
@@ -38,40 +44,71 @@ impl Front {
     }
 }
 
-/// Adds the fronts of the texts of a program that have none yet.
-pub(crate) fn add_fronts(
-    alloc: Global,
-    fronts: &mut Vec<Front>,
-    program: &Program,
-) -> Result<(), NoMemory> {
-    for number in fronts.len() as u64..=u32::MAX as u64 {
-        match program.label(number as u32) {
-            Some(label) => fronts.push(Front::new(alloc, label)?)?,
-            None => return Ok(()),
-        }
-    }
-    Ok(())
+/// The texts of a program, each with the front of the objects of nodes of this type. Contracts see
+/// the list of the texts.
+#[derive(Drop)]
+pub struct Fronts {
+    list: Vec<Front>,
 }
 
-/// Writes the front of the object of a node, with a comma before it unless it is the first. It is
-/// copied where the type with this number is the one that was written, and else it is written anew.
+impl Model for Fronts {
+    ghost use Rattle.std.specs.Prelude.{List, ℕ, map, chars, string_bytes};
+
+    ghost Value = { List (List ℕ) };
+
+    ghost view = { λ f. map (λ front. chars (string_bytes front.label)) f.list.items };
+}
+
+impl Fronts {
+    /// Those of a program.
+    pub fn new(alloc: Global, program: &Program) -> Result<Fronts, NoMemory>
+        ensures { IfOk result (λ fronts. fronts ≡ labels_of program.now) }
+    {
+        let mut list = Vec::new(alloc);
+        let mut number = 0;
+        while number < u32::MAX {
+            let Some(label) = program.label(number) else {
+                return Ok(Fronts { list });
+            };
+            let front = Front::new(alloc, label)?;
+            list.push(front)?;
+            number += 1;
+        }
+        // No memory holds so many texts.
+        Err(AllocError)
+    }
+
+    /// The text with this number.
+    pub(crate) fn label(&self, number: u32) -> Option<&str>
+        ensures { option_map chars (option_copied result) ≡ slice_get self.now number }
+    {
+        match self.list.get(number as usize) {
+            Some(front) => Some(front.label.as_str()),
+            None => None,
+        }
+    }
+}
+
+/// Writes the front of the object of a node of the type with this number, with a comma before it
+/// unless it is the first.
 pub(crate) fn put_front(
     out: &mut Vec<u8>,
-    fronts: &[Front],
+    fronts: &Fronts,
     is_first: bool,
     number: u32,
-    label: &str,
 ) -> Result<(), NoMemory>
-    ensures { OnOk result (out.new.items ≡ out.old.items ++ front is_first label.now) }
+    ensures { OnOk result
+        (out.new.items ≡ out.old.items
+        ++ front is_first (encode_utf8_all (label_in fronts.now number))) }
 {
-    match fronts.get(number as usize) {
-        Some(known) if known.label.as_str() == label => {
-            out.extend_from_slice(known.bytes(is_first))
-        }
-        _ => put_new_front(out, is_first, label),
+    match fronts.list.get(number as usize) {
+        Some(known) => out.extend_from_slice(known.bytes(is_first)),
+        None => put_new_front(out, is_first, ""),
     }
 }
 
+/// Writes the front of the object of a node of this type, with a comma before it unless it is the
+/// first.
 pub(crate) fn put_new_front(out: &mut Vec<u8>, is_first: bool, label: &str) -> Result<(), NoMemory>
     ensures { OnOk result (out.new.items ≡ out.old.items ++ front is_first label.now) }
 {

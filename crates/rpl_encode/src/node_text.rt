@@ -2,32 +2,31 @@
 ghost use Rattle.std.specs.Prelude.{◌≡◌, ◌+◌, ◌≤◌, ◌++◌, ◌∷◌, length, drop, slice_range, OnOk};
 ghost use Rattle.std.specs.Prelude.{decimal, codes};
 ghost use Rattle.std.specs.Str.{encode_utf8_all};
-ghost use Rattle.rpl_core.specs.Program.{labels_of};
 ghost use Rattle.json.specs.Print.{escape};
 ghost use Rattle.rpl_encode.specs.Labels.{label_in};
 ghost use Rattle.rpl_encode.specs.Texts.{fields};
 ghost use Rattle.rpl_encode.specs.inside.Escapes.{AreOf};
 ghost use Rattle.rpl_encode.specs.inside.Walk.{text_at, fields_at, comma, ending};
 
-use crate::front::{put_escaped, put_front, put_new_front};
-use crate::shared_parts::Source;
+use crate::front::{Fronts, put_escaped, put_front, put_new_front};
+use crate::source::Source;
 use itoa::{Buffer, write_digits};
-use rpl_core::{NoMemory, Program};
+use rpl_core::NoMemory;
 use rpl_tree::Node;
 
 /// The text with this number.
-pub(crate) fn label_of(program: &Program, number: u32) -> &str
-    ensures { result.now ≡ encode_utf8_all (label_in (labels_of program.now) number) }
+pub(crate) fn label_of(fronts: &Fronts, number: u32) -> &str
+    ensures { result.now ≡ encode_utf8_all (label_in fronts.now number) }
 {
-    program.label(number).unwrap_or("")
+    fronts.label(number).unwrap_or("")
 }
 
 /// The text of a node: its part of the line, or what a note says.
-pub(crate) fn text_of<'a>(node: Node, line: &'a [u8], program: &'a Program) -> &'a [u8]
-    ensures { result.now ≡ text_at (labels_of program.now) line.now node }
+pub(crate) fn text_of<'a>(node: Node, line: &'a [u8], fronts: &'a Fronts) -> &'a [u8]
+    ensures { result.now ≡ text_at fronts.now line.now node }
 {
     match node.note {
-        Some(text) => label_of(program, text).as_bytes(),
+        Some(text) => label_of(fronts, text).as_bytes(),
         None => part_of(line, node.start, node.end),
     }
 }
@@ -51,23 +50,21 @@ pub(crate) fn put_node(
     has_subs: bool,
     source: Source<'_>,
 ) -> Result<(), NoMemory>
-    requires { AreOf source.line.now source.shared.now.escapes }
+    requires { AreOf source.line.now source.escapes.now }
     ensures { OnOk result
         (out.new.items
         ≡ out.old.items
         ++ (comma is_first
-        ++ (fields_at (labels_of source.entry.program.now) source.entry.line.now node
-        ++ ending has_subs))) }
+        ++ (fields_at (source.entry.fronts.now) source.entry.line.now node ++ ending has_subs))) }
 {
-    let program = source.program;
+    let fronts = source.fronts;
     match node.note {
         Some(text) => {
-            let text = label_of(program, text);
+            let text = label_of(fronts, text);
             put_message(out, is_first, has_subs, node.start, text)
         }
         None => {
-            let label = label_of(program, node.label);
-            put_front(out, &source.shared.fronts, is_first, node.label, label)?;
+            put_front(out, fronts, is_first, node.label)?;
             put_places(out, node.start, node.end)?;
             put_part(out, node, has_subs, source)
         }
@@ -100,17 +97,14 @@ fn put_part(
     has_subs: bool,
     source: Source<'_>,
 ) -> Result<(), NoMemory>
-    requires { AreOf source.line.now source.shared.now.escapes }
+    requires { AreOf source.line.now source.escapes.now }
     ensures { OnOk result
         (out.new.items
         ≡ out.old.items
         ++ (escape (slice_range source.entry.line.now node.start node.end)
         ++ 34 ∷ ending has_subs)) }
 {
-    source
-        .shared
-        .escapes
-        .put(out, source.line, node.start, node.end)?;
+    source.escapes.put(out, source.line, node.start, node.end)?;
     put_ending(out, has_subs)
 }
 

@@ -15,7 +15,6 @@ ghost use Rattle.std.specs.Prelude.{
   IsTrue,
   if◌then◌else◌,
 };
-ghost use Rattle.rpl_core.specs.Program.{labels_of};
 ghost use Rattle.rpl_encode.specs.Labels.{match_text};
 ghost use Rattle.rpl_encode.specs.Answer.{IsTooLong};
 ghost use Rattle.rpl_encode.specs.inside.Escapes.{AreOf};
@@ -24,7 +23,7 @@ ghost use Rattle.rpl_encode.specs.inside.Walk.{rest_of};
 use crate::answer::MAX_ANSWER_BYTES;
 use crate::fault::EncodeFault;
 use crate::node_text::put_node;
-use crate::shared_parts::Source;
+use crate::source::Source;
 use crate::style::Style;
 use rpl_core::NoMemory;
 use rpl_tree::{Forest, Node};
@@ -37,12 +36,12 @@ pub(crate) fn put_tree(
     forest: &Forest,
     source: Source<'_>,
 ) -> Result<(), EncodeFault>
-    requires { AreOf source.line.now source.shared.now.escapes }
+    requires { AreOf source.line.now source.escapes.now }
     ensures text { OnOk result (out.new.items
-        ≡ out.old.items ++ match_text Style.Json source.entry.line.now source.entry.program.now
+        ≡ out.old.items ++ match_text Style.Json source.entry.line.now source.entry.fronts.now
         forest.now) }
     ensures too_long { IsTooLong result
-        (out.old.items ++ match_text Style.Json source.entry.line.now source.entry.program.now
+        (out.old.items ++ match_text Style.Json source.entry.line.now source.entry.fronts.now
         forest.now) }
 {
     let Some(root) = forest.get(0) else {
@@ -91,15 +90,15 @@ fn put_below(
     forest: &Forest,
     source: Source<'_>,
 ) -> Result<(), EncodeFault>
-    requires { AreOf source.line.now source.shared.now.escapes }
+    requires { AreOf source.line.now source.escapes.now }
     ensures text { OnOk result
         (out.new.items
         ≡ out.old.items
-        ++ rest_of (labels_of source.entry.program.now) source.entry.line.now
+        ++ rest_of (source.entry.fronts.now) source.entry.line.now
         (drop 1 forest.now) (reverse lists.old.items) true) }
     ensures too_long { IsTooLong result
         (out.old.items
-        ++ rest_of (labels_of source.entry.program.now) source.entry.line.now
+        ++ rest_of (source.entry.fronts.now) source.entry.line.now
         (drop 1 forest.now) (reverse lists.old.items) true) }
 {
     let count = forest.len();

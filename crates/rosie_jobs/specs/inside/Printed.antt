@@ -3,10 +3,8 @@ use Rattle.std.specs.Prelude.{ℕ, ◌≡◌, ◌<◌, ◌≤◌, Bool, true, fa
 use Rattle.rpl_core.specs.Forest.{Forest, flat}
 use Rattle.rpl_core.specs.Instr.{Instr}
 use Rattle.rpl_core.specs.Meaning.{Outcome}
-use Rattle.rpl_core.specs.Program.{labels_of}
 use Rattle.rpl_core.specs.Run.{Answer, Matched, Failed, Unfinished, run}
 use Rattle.rpl_core.specs.declared.caught.Caught.{Caught}
-use Rattle.rpl_core.specs.declared.program.Program.{Program}
 use Rattle.rpl_encode.specs.Answer.{max_answer_bytes}
 use Rattle.rpl_encode.specs.Print.{found, print}
 use Rattle.rpl_machine.specs.Shown.{captures_of, CapturesIn}
@@ -18,10 +16,10 @@ abbrev pub Printed : Bool → List ℕ → List ℕ → Type 0
 Printed true text kept = (kept ≡ text) × (length text ≤ max_answer_bytes)
 Printed false text kept = max_answer_bytes < length text
 
--- the captures of a program are those of the trees, and stand in the line
-abbrev pub Catches : List Caught → Program → List ℕ → Forest → Type 0
-Catches captures program line f =
-    (captures_of (chars line) (labels_of program) captures ≡ flat f) × CapturesIn (chars line) captures
+-- under these texts the captures are those of the trees, and they stand in the line
+abbrev pub Catches : List Caught → List (List ℕ) → List ℕ → Forest → Type 0
+Catches captures texts line f =
+    (captures_of (chars line) texts captures ≡ flat f) × CapturesIn (chars line) captures
 
 -- the outcome is what a run within its budget shows: its trees, if it matched
 abbrev pub IsShown : Answer → Outcome → Type 0

@@ -1,6 +1,5 @@
 use Rattle.std.proofs.Common.{◌+◌, ◌-◌, [], ◌∷◌, ◌++◌, refl, sym, ap, ◌∙◌, arith, append_assoc, append-nil}
 use Rattle.std.specs.Prelude.{◌||◌, if◌then◌else◌}
-use Rattle.rpl_core.specs.Program.{labels_of}
 use Rattle.rpl_encode.specs.Answer.{line_by_line}
 use Rattle.rpl_encode.specs.inside.Children.{is_some_text, printed_texts}
 use Rattle.rpl_encode.specs.inside.Walk.{text_at}
@@ -11,7 +10,7 @@ use Rattle.rpl_encode.proofs.children.put_texts.Goals.{then-wants+in_ok-put_line
 
 pub loop-node-init : goal.loop-node-init
 loop-node-init c =
-    let labels = labels_of c.args.program.now in
+    let labels = c.args.fronts.now in
     let all = ap (texts_left labels c.args.line.now c.args.only_hits c.args.forest.now 1) c.below_first-left.ensures ∙ ap (printed_texts c.args.only_hits c.args.line.now) (first_below labels c.args.forest.now) in
     (ap (λ ts. c.args.out.now.items ++ (line_by_line ts)) all, ap is_some_text all)
 
@@ -20,7 +19,7 @@ overflow_add-index c = omega (arith, got_within c.args.forest.now c.loop-node.in
 
 pub loop-node-preserved : goal.loop-node-preserved
 loop-node-preserved c =
-    let labels = labels_of c.args.program.now in
+    let labels = c.args.fronts.now in
     let line = c.args.line.now in
     let nodes = c.args.forest.now in
     let now = texts_left labels line c.args.only_hits nodes c.saturating_add-index.result (c.loop-node.left - (1 + c.min-below.result)) in
@@ -42,10 +41,10 @@ loop-node-preserved c =
 
 pub returns-clause-text : goal.returns-clause-text
 returns-clause-text c =
-    let none = none_left (labels_of c.args.program.now) c.args.line.now c.args.only_hits c.args.forest.now c.loop-node.index c.loop-node.left c.in_default.ensures.none in
+    let none = none_left c.args.fronts.now c.args.line.now c.args.only_hits c.args.forest.now c.loop-node.index c.loop-node.left c.in_default.ensures.none in
     sym (append-nil c.loop-node.out.items) ∙ ap (λ ts. c.loop-node.out.items ++ (line_by_line ts)) (sym none) ∙ c.loop-node.invariant.0
 
 pub returns-clause-found : goal.returns-clause-found
 returns-clause-found c =
-    let none = none_left (labels_of c.args.program.now) c.args.line.now c.args.only_hits c.args.forest.now c.loop-node.index c.loop-node.left c.in_default.ensures.none in
+    let none = none_left c.args.fronts.now c.args.line.now c.args.only_hits c.args.forest.now c.loop-node.index c.loop-node.left c.in_default.ensures.none in
     sym (or_false c.loop-node.some) ∙ ap (λ ts. c.loop-node.some || is_some_text ts) (sym none) ∙ c.loop-node.invariant.1

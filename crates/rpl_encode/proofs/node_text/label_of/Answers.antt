@@ -3,7 +3,6 @@ use Rattle.std.specs.Prelude.{encode_utf8_all, chars, option_map, unwrap_or, sli
 use Rattle.std.specs.Option.{option_copied}
 use Rattle.std.proofs.lemmas.Str.{encodes-chars, chars-nil}
 use Rattle.std.proofs.lemmas.Option.{unwrap_or-slice_get}
-use Rattle.rpl_core.specs.Program.{labels_of}
 use denote.Ref.{Bor}
 use Rattle.rpl_encode.proofs.node_text.label_of.Goals as goal
 
@@ -14,5 +13,5 @@ chars_or (Some x) d = refl
 -- the characters of the answer are those of the label
 pub returns : goal.returns
 returns c =
-    let of_label = ap (λ x. chars x.now) c.unwrap_or.ensures ∙ chars_or c.label.result _ ∙ ap (λ o. unwrap_or o (chars [])) c.label.ensures ∙ ap (unwrap_or (slice_get (labels_of c.args.program.now) c.args.number)) chars-nil ∙ unwrap_or-slice_get (labels_of c.args.program.now) c.args.number [] in
+    let of_label = ap (λ x. chars x.now) c.unwrap_or.ensures ∙ chars_or c.label.result _ ∙ ap (λ o. unwrap_or o (chars [])) c.label.ensures ∙ ap (unwrap_or (slice_get c.args.fronts.now c.args.number)) chars-nil ∙ unwrap_or-slice_get c.args.fronts.now c.args.number [] in
     sym (encodes-chars c.unwrap_or.result.now c.unwrap_or.utf8) ∙ ap encode_utf8_all of_label

@@ -1,6 +1,6 @@
 use Rattle.std.proofs.lemmas.Result.{on_ok_weaker}
 use Rattle.std.specs.Prelude.{codes}
-use Rattle.rpl_encode.proofs.Notes.{note_whole}
+use Rattle.rpl_encode.proofs.Texts.{note_whole}
 use Rattle.rpl_encode.proofs.node_text.put_message.Goals as goal
 
 pub returns : goal.returns

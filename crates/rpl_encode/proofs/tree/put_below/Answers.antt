@@ -2,7 +2,6 @@ use Rattle.std.proofs.Common.{◌≡◌, ◌+◌, ◌-◌, ◌<◌, ◌⊎◌, �
 use Rattle.std.specs.Prelude.{false, reverse, slice_get, codes}
 use Rattle.std.proofs.lemmas.Bool.{false≢true}
 use Rattle.std.proofs.lemmas.List.{append-nil}
-use Rattle.rpl_core.specs.Program.{labels_of}
 use Rattle.rpl_encode.specs.inside.Walk.{rest_of}
 use Rattle.rpl_encode.proofs.Nodes.{got_within}
 use Rattle.rpl_encode.proofs.Walking.{stepped, reverse_last, leaf_step, subs_step, close_step, nearer, pending, one_if, popped}
@@ -11,7 +10,7 @@ use Rattle.rpl_encode.proofs.tree.put_below.Goals.{in_default-get-via-in-Some-ge
 
 pub loop-innermost-preserved-in_ok-open_list-in-Some-get : goal.loop-innermost-preserved-in_ok-open_list-in-Some-get
 loop-innermost-preserved-in_ok-open_list-in-Some-get c =
-    let labels = labels_of c.args.source.program.now in
+    let labels = c.args.source.fronts.now in
     let has = c.has_subs-has_subs.ensures.0 c.if-has_subs.true in
     let was = ap (λ o. pending o c.loop-innermost.lists.items) c.in-Some.is in
     let now = ap (λ q. c.min-below.result ∷ q) (ap reverse c.in_ok-open_list-in-Some-get.ensures.items ∙ reverse_last c.loop-innermost.lists.items (c.in-Some.left - 1 - c.min-below.result)) in
@@ -24,7 +23,7 @@ loop-innermost-smaller-else-has_subs c =
 
 pub loop-innermost-preserved-else-has_subs : goal.loop-innermost-preserved-else-has_subs
 loop-innermost-preserved-else-has_subs c =
-    let labels = labels_of c.args.source.program.now in
+    let labels = c.args.source.fronts.now in
     let was = ap (λ o. pending o c.loop-innermost.lists.items) c.in-Some.is in
     let has : (c.in-Some-get.node.note ≡ None) × (0 < c.min-below.result) × (c.loop-innermost.index + 1 < length c.args.forest.now) → ⊥ =
     λ h. false≢true (sym c.if-has_subs.false ∙ c.has_subs-has_subs.ensures.1 (h.0, h.1, omega (arith, h.2, c.len-count.ensures))) in
@@ -33,7 +32,7 @@ loop-innermost-preserved-else-has_subs c =
 
 pub loop-innermost-preserved : goal.loop-innermost-preserved
 loop-innermost-preserved c =
-    let labels = labels_of c.args.source.program.now in
+    let labels = c.args.source.fronts.now in
     let was = ap (λ o. pending o c.loop-innermost.lists.items) c.in-Some.is in
     let done : (c.in-Some.left ≡ 0) ⊎ (slice_get c.args.forest.now c.loop-innermost.index ≡ None) =
     elim c.in_default-get.branch [
@@ -47,5 +46,5 @@ loop-innermost-preserved c =
 pub returns-clause-text : goal.returns-clause-text
 returns-clause-text c =
     let none = ap (λ o. pending o c.loop-innermost.lists.items) c.in_default.is in
-    sym (ap (λ q. c.loop-innermost.out.items ++ rest_of (labels_of c.args.source.program.now) c.args.source.line.now (drop c.loop-innermost.index c.args.forest.now) q c.loop-innermost.is_first) none ∙ append-nil c.loop-innermost.out.items)
+    sym (ap (λ q. c.loop-innermost.out.items ++ rest_of c.args.source.fronts.now c.args.source.line.now (drop c.loop-innermost.index c.args.forest.now) q c.loop-innermost.is_first) none ∙ append-nil c.loop-innermost.out.items)
     ∙ c.loop-innermost.invariant

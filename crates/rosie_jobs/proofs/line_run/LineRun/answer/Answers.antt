@@ -6,7 +6,7 @@ use Rattle.rosie_jobs.proofs.line_run.LineRun.answer.Goals as goal
 pub returns-in_ok-fits-in-At-clause-made : goal.returns-in_ok-fits-in-At-clause-made
 returns-in_ok-fits-in-At-clause-made g c = λ o shown.
     let a = rw c.in-At.is at (c.in-Ok.ensures.answer (labels_of c.args.program.now)) in
-    let e = hit_ends c.args.self.now.settings (instructions c.args.program.now) o c.args.line.now c.utf8.line shown _ _ _ _ _ _ _ c.in_ok-fits-in-At.fits _ c.new.ensures c.budget_or-budget.ensures refl a.0 a.2 (rw c.captures-captures.ensures at c.in_ok-fits-in-At.ensures) in
+    let e = hit_ends c.args.self.now.settings (instructions c.args.program.now) o c.args.line.now c.utf8.line shown _ _ _ _ _ _ _ c.in_ok-fits-in-At.fits _ c.new.ensures c.budget_or-budget.ensures refl a.0 a.2 (rw c.requires.fronts at c.in_ok-fits-in-At.ensures.printed) in
     made_ok c.say.result _ _ _ _ (said_piece c.args.self.now.settings (instructions c.args.program.now) o c.args.place.file.now c.args.place.number c.args.line.now _ _ _ _ e) (c.say.ensures c.in-At.steps)
 
 pub returns-in_ok-fits-in-At-clause-steps : goal.returns-in_ok-fits-in-At-clause-steps
