@@ -11,6 +11,7 @@ pub mod Promised
 pub mod Calls
 pub mod SomeMarks
 pub mod SomeOrder
+pub mod Fitted
 pub mod SomePlan
 pub mod OnePlan
 pub mod Sampled

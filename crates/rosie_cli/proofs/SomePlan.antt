@@ -1,25 +1,35 @@
 -- The words come to something over each tree of files.
-use Rattle.std.proofs.Common.{ℕ, Bool, true, false, List, [], ◌∷◌, ◌++◌, refl}
+use Rattle.std.proofs.Common.{ℕ, Bool, true, false, List, [], ◌∷◌, ◌++◌, length, refl, inl, inr, ⊎_elim, arith}
 use Rattle.std.specs.Prelude.{◌≡◌, Ok, Err, Option, Some, None, codes, map, encode_utf8_all}
 use Rattle.std.specs.Cmp.Lexicographic.{slice_cmp}
-use Rattle.std.specs.List.{concat}
+use Rattle.std.specs.List.{All, concat}
 use Rattle.std.specs.Ordering.{is_lt, nat_cmp}
+use Rattle.std.proofs.lemmas.Bool.{cases_lt}
 use Rattle.std.proofs.lemmas.Cmp.{nat_list_cmp_total}
 use Rattle.std.proofs.lemmas.List.Sorted.{ranks_by}
 use Rattle.rosie_io.specs.Opening.{file_of}
 use Rattle.rosie_jobs.proofs.SomeLoading.{some_loading}
 use Rattle.rosie_jobs.specs.Lines.{Job}
 use Rattle.rosie_jobs.specs.declared.settings.Settings.{Settings}
-use Rattle.rosie_prepare.specs.Prepared.{Tree, PatternRequest, Ready, OrLine, bodies}
+use Rattle.rosie_prepare.specs.Lines.{compile_line}
+use Rattle.rosie_prepare.specs.Prepared.{IsPrepared, Tree, PatternRequest, Ready, OrLine, bodies}
 use Rattle.rosie_prepare.proofs.SomeAnswer.{some_answer, some_table}
 use Rattle.rosie_inspect.specs.Expansions as E
 use Rattle.rosie_inspect.specs.Expansions.{IsExpansion}
 use Rattle.rosie_inspect.specs.Names.{name_line, IsNamesText}
+use Rattle.rosie_session.proofs.Paying.{fit_prepared}
 use Rattle.rosie_unittest.proofs.Some.{some_suite}
 use Rattle.rosie_words.specs.declared.command.Command.{Command}
 use Rattle.rosie_words.specs.declared.command.What.{What}
 use Rattle.rosie_words.specs.declared.command.What.TheVariants as W
 use Rattle.rpl_classes.specs.Classes.{set_named}
+use Rattle.rpl_codefile.proofs.Fitting.{compiled_can_be_spelled}
+use Rattle.rpl_codefile.proofs.Making.{has_spelling_holds}
+use Rattle.rpl_codefile.specs.Compiled.{IsFit}
+use Rattle.rpl_core.specs.Core.{Core}
+use Rattle.rpl_core.specs.Instr.{Instr}
+use Rattle.rpl_core.specs.Marked.{CallsAreRules}
+use Rattle.rpl_core.specs.Programs.{IsCode}
 use Rattle.rpl_package.specs.Loading.{world}
 use Rattle.rpl_package.specs.Names.{all_listed}
 use Rattle.rpl_package.specs.Roots.{Packages, load}
@@ -28,15 +38,17 @@ use Rattle.rpl_package.specs.declared.rooted.Root.{Root}
 use Rattle.rpl_forms.specs.Rows.{Row}
 use Rattle.rosie_cli.specs.Classes.{class_plan}
 use Rattle.rosie_cli.specs.CodeFiles.{IsCodeLines, code_plan}
+use Rattle.rosie_cli.specs.Compiling.{Compiles, IsCompiled, IsWritten}
 use Rattle.rosie_cli.specs.Expanding.{Expands, IsExpanded, with_code}
-use Rattle.rosie_cli.specs.Laws.{SomePlan, writes_code}
+use Rattle.rosie_cli.specs.Laws.{IsWritable, SomePlan, WritesFor}
 use Rattle.rosie_cli.specs.Listing.{IsListed, Lists}
 use Rattle.rosie_cli.specs.Options.{settings_of}
 use Rattle.rosie_cli.specs.Planned.{input_names, job_with, matching, sample_request, sampling, tracing, request, plan_unless_long}
 use Rattle.rosie_cli.specs.Planned.{IsMatch, IsPlannedAs, IsRun, IsRunning}
-use Rattle.rosie_cli.specs.Plans.{Plan, Planned, refusal, whole_answer}
+use Rattle.rosie_cli.specs.Plans.{Plan, Planned, Writes, refusal, whole_answer}
 use Rattle.rosie_cli.specs.Testing.{IsTesting, tried}
 use Rattle.rosie_cli.specs.Words.{Refuse, Do}
+use Rattle.rosie_cli.proofs.Fitted.{ready_fit}
 use Rattle.rosie_cli.proofs.Replayed.{some_replayed}
 use Rattle.rosie_cli.proofs.SomeMarks.{some_code, some_marks}
 use Rattle.rosie_cli.proofs.SomeOrder.{some_order}
@@ -47,6 +59,30 @@ some_run run (Err line) = (refusal line, refl)
 some_run run (Ok r) =
     let c = some_code (bodies r.rules) r.goal in
     (plan_unless_long (run r.rules (job_with r c.0)) c.0, (c.0, c.1, refl))
+
+-- a code is too long, or it is spelled
+some_file : (R : List Core) (g : Core) (ins : List Instr) → IsCode R g ins → CallsAreRules R g → All IsFit R → IsFit g
+    → (p : Plan) × IsWritten ins p
+some_file R g ins is are rules goal = ⊎_elim
+    (λ long. (refusal compile_line, inl (long, refl)))
+    (λ fits.
+    let spelled = compiled_can_be_spelled R g ins is are rules goal (omega (arith, fits)) in
+    let bytes = (has_spelling_holds ins).0 spelled in
+    (Writes bytes.0, inr (bytes.0, bytes.1, refl)))
+    (cases_lt 1048576 (length ins))
+
+some_code_file : (w : PatternRequest) (tree : Tree) (asked : List (List ℕ)) (r : OrLine Ready) → IsWritable w tree
+    → IsPrepared tree w asked r → (p : Plan) × Compiles r p
+some_code_file w tree asked (Err line) fit is = (refusal line, refl)
+some_code_file w tree asked (Ok r) fit is =
+    let c = some_code (bodies r.rules) r.goal in
+    let whole = (fit_prepared tree w asked r is).whole in
+    let are : CallsAreRules (bodies r.rules) r.goal =
+    record { goal = whole.goal; rules = λ q d at k h. whole.rules q k d at h } in
+    let said = fit asked r is in
+    let can = ready_fit tree w asked r is said.0 said.1 in
+    let f = some_file (bodies r.rules) r.goal c.0 c.1 are can.0 can.1 in
+    (f.0, (c.0, c.1, f.1))
 
 some_expansion : (r : Ready) → (text : List ℕ) × IsExpansion r.rules r.expr r.goal text
 some_expansion r =
@@ -86,6 +122,12 @@ expanded_some w wants_code tree =
     let p = some_shown wants_code r.1 in
     (record { asked = r.0; plan = p.0 }, record { ready = r.1; prepares = r.2; expands = p.1 })
 
+compiled_some : (w : PatternRequest) (tree : Tree) → IsWritable w tree → (p : Planned) × IsCompiled w tree p
+compiled_some w tree fit =
+    let r = some_answer tree w in
+    let p = some_code_file w tree r.0 r.1 fit r.2 in
+    (record { asked = r.0; plan = p.0 }, record { ready = r.1; prepares = r.2; compiles = p.1 })
+
 listed_some : (roots : List Root) (folders : List (List ℕ)) (tree : Tree) → (p : Planned) × IsListed roots folders tree p
 listed_some roots folders tree =
     let t = some_table tree folders roots in
@@ -114,10 +156,9 @@ match_some c None pattern inputs tree = running_some (matching (settings_of c) i
 match_some c (Some path) pattern inputs tree =
     code_some (settings_of c) (encode_utf8_all path) (input_names inputs) tree
 
-what_some : (c : Command) (what : What) (tree : Tree) → writes_code what ≡ false
-    → (p : Planned) × IsPlannedAs c what tree p
+what_some : (c : Command) (what : What) (tree : Tree) → WritesFor c what tree → (p : Planned) × IsPlannedAs c what tree p
 what_some c (W.Match pattern inputs) tree e = match_some c c.code_file pattern inputs tree
-what_some c (W.Compile pattern) tree e = absurd (cc)
+what_some c (W.Compile pattern) tree e = compiled_some (request c pattern false) tree e
 what_some c (W.Grep pattern inputs) tree e = running_some (matching (settings_of c) inputs) (request c pattern true) tree
 what_some c (W.Test file) tree e = tested_some c.folders file c.budget tree
 what_some c (W.Class name) tree e = (record { asked = []; plan = class_plan name (set_named name) }, refl)

@@ -3,8 +3,9 @@
 ghost use Rattle.rosie_cli.specs.Laws.{HaveOneReport, OnePlan, PromiseLaw, RunsWhatIsCompiled};
 ghost use Rattle.rosie_cli.specs.Laws.{SafeLaw, SomePlan};
 
-/// Over each tree of files the words come to one plan alone; and they do come to one, unless they
-/// are of `compile`, where only a run shows it.
+/// Over each tree of files the words come to one plan alone; and they do come to one, those of
+/// `compile` where the texts of what is read are of characters, with fewer than 2^64 bytes, and its
+/// classes are sets.
 pub fn one_plan()
     ensures only { OnePlan }
     ensures some { SomePlan }
