@@ -53,6 +53,7 @@ impl<'a> Text<'a> {
     /// first character that isn't marked, or the end. Marked are the ASCII characters whose bits in
     /// the mask are set: the first word has the bits of those from 0 to 63, the second of those
     /// from 64 to 127.
+    #[inline(never)]
     pub fn pass(self, place: usize, most: usize, mask: [u64; 2]) -> usize
         requires { IsPlace (text_of self) place }
         ensures place { IsPlace (text_of self.entry) result }
