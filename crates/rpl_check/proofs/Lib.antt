@@ -11,6 +11,7 @@ pub mod Following
 pub mod Clean
 pub mod Alone
 pub mod Rings
+pub mod Rooted
 pub mod Selves
 pub mod Firsts
 pub mod Accepting

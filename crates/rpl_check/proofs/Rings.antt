@@ -1,7 +1,8 @@
 -- Rules of a ring: what a rule reaches, and what reaches it.
-use Rattle.std.proofs.Common.{◌≡◌, ℕ, zero, suc, ◌+◌, ◌-◌, ◌<◌, ◌≤◌, List, [], ◌∷◌, ◌++◌, length, get_or, sym, ap, ◌∙◌, subst, replicate, ⊎_elim, inl, inr, arith}
+use Rattle.std.proofs.Common.{◌≡◌, ℕ, zero, suc, ◌+◌, ◌-◌, ◌<◌, ◌≤◌, List, [], ◌∷◌, ◌++◌, length, get_or, sym, ap, ◌∙◌, subst, replicate, ⊎_elim, inl, inr, take, arith}
 use Rattle.std.proofs.lemmas.Bool.{cases_eq, cases_lt}
 use Rattle.std.proofs.lemmas.Bool.Decides.{nat_tests}
+use Rattle.std.proofs.Math.Seq.{take-append_seam}
 use Rattle.std.proofs.lemmas.List.{get_or_past, get_or-set_other, length-replicate, length-set}
 use Rattle.std.specs.Prelude.{Bool, true, false, ◌&&◌, ◌⊎◌, nat_eq, nat_lt, nat_le, slice_set}
 use Rattle.rpl_core.specs.Core.{Core}
@@ -15,8 +16,12 @@ use Rattle.rpl_check.specs.declared.recursion.BlockSearch.{BlockSearch}
 use Rattle.rpl_check.proofs.Following.{called_before, follow_ends, reach_from, Followed}
 
 -- a mark that is set, whatever it is
-set_either : (xs : List Bool) (k i : ℕ) (v : Bool) → (i ≡ k) ⊎ (marked (slice_set xs k v) i ≡ marked xs i)
+pub set_either : (xs : List Bool) (k i : ℕ) (v : Bool) → (i ≡ k) ⊎ (marked (slice_set xs k v) i ≡ marked xs i)
 set_either xs k i v = ⊎_elim (λ e. inl e) (λ ne. inr (get_or-set_other xs k i v false ne)) (cases_eq i k)
+
+-- what a list that fills its room was made
+pub taken : (n : ℕ) (new tail : List Bool) → n ≡ length new → new ≡ take n (new ++ tail)
+taken n new tail e = sym (ap (λ k. take k (new ++ tail)) e ∙ take-append_seam new tail)
 
 lt_off : (a b : ℕ) → nat_lt a b ≡ false → b ≤ a
 lt_off a b e = grind (arith, nat_tests)

@@ -4,3 +4,4 @@ pub mod Search
 pub mod Accepted
 pub mod Within
 pub mod Ranks
+pub mod Rings

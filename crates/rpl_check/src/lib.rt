@@ -18,6 +18,7 @@ mod inside;
 mod laws;
 mod ranks;
 mod recursion;
+mod roots;
 mod rounds;
 
 pub use checked::{Checked, CheckedPeg, check, check_pattern};

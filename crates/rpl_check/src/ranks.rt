@@ -2,8 +2,8 @@
 // block is of a higher one. The ranks are the numbers of strongly connected components, by
 // Kosaraju's two passes (Sharir 1981).
 //
-// Only the time hangs on the ranks: `falls` tests them, and where they don't pass no rule is marked
-// by them.
+// Only the time hangs on the components: `falls` tests the ranks, and where they don't pass no rule
+// is marked by them; what `roots.rt` makes of the roots holds whatever they are.
 ghost use Rattle.std.specs.Prelude.{◌≡◌, ◌+◌, ◌-◌, ◌<◌, ◌≤◌, ℕ, IfOk, true};
 ghost use Rattle.rpl_check.specs.Facts.{calls_at};
 ghost use Rattle.rpl_check.specs.inside.Ranks.{Falls, rank_of};
@@ -39,11 +39,13 @@ fn add_callee(calls: &mut [Vec<u32>], those: &[u32], place: u32) -> Result<(), N
     Ok(())
 }
 
-/// A walk up from callee to caller: which places were met, those on the way and how many of their
-/// callers were tried, and those that were left, each after all that were first met from it.
+/// A walk up from callee to caller: which places were met, and in which order, those on the way and
+/// how many of their callers were tried, and those that were left, each after all that were first
+/// met from it.
 #[derive(Drop)]
 struct Walk {
     met: Vec<bool>,
+    up: Vec<u32>,
     way: Vec<(u32, usize)>,
     left: Vec<u32>,
 }
@@ -54,6 +56,7 @@ impl Walk {
         let at = place as usize;
         if at < self.met.len() && !self.met[at] {
             self.met[at] = true;
+            self.up.push(place)?;
             self.way.push((place, 0))?;
         }
         Ok(())
@@ -86,14 +89,15 @@ impl Walk {
     }
 }
 
-/// All places, each left after all that were first met from it on the way up.
-fn left_in_order(alloc: Global, callers: &[Vec<u32>]) -> Result<Vec<u32>, NoMemory> {
+/// The walk over all places.
+fn walk_all(alloc: Global, callers: &[Vec<u32>]) -> Result<Walk, NoMemory> {
     let mut steps = callers.len();
     for those in callers {
         steps = steps.saturating_add(those.len());
     }
     let mut walk = Walk {
         met: vec![in alloc; false; callers.len()]?,
+        up: Vec::new(alloc),
         way: Vec::new(alloc),
         left: Vec::new(alloc),
     };
@@ -102,73 +106,74 @@ fn left_in_order(alloc: Global, callers: &[Vec<u32>]) -> Result<Vec<u32>, NoMemo
         walk.walk(callers, place, steps.saturating_add(1))?;
         place = place.saturating_add(1);
     }
-    let Walk { left, .. } = walk;
-    Ok(left)
+    Ok(walk)
 }
 
-/// Gives this rank to the place, if it has none yet, which then waits.
-fn give(ranks: &mut [u32], place: u32, rank: u32, waiting: &mut Vec<u32>) -> Result<(), NoMemory> {
-    let at = place as usize;
-    if at < ranks.len() && ranks[at] == 0 {
-        ranks[at] = rank;
-        waiting.push(place)?;
-    }
-    Ok(())
+/// The strongly connected components of the places of a block: for each place the rank and the root
+/// of its component; and all places in two orders. In `down` each stands after its root and one
+/// that calls it, in `up` each after its root and one that it calls, both of its component.
+#[derive(Drop)]
+pub(crate) struct Components {
+    pub(crate) ranks: Vec<u32>,
+    pub(crate) roots: Vec<u32>,
+    pub(crate) down: Vec<u32>,
+    pub(crate) up: Vec<u32>,
 }
 
-/// Gives this rank to the place and to all that are called from it and have none yet.
-fn give_all(
-    alloc: Global,
-    calls: &[Vec<u32>],
-    ranks: &mut [u32],
-    place: u32,
-    rank: u32,
-) -> Result<(), NoMemory> {
-    let mut waiting = Vec::new(alloc);
-    give(ranks, place, rank, &mut waiting)?;
-    for at in 0..calls.len() {
-        if at >= waiting.len() {
-            break;
+impl Components {
+    /// Gives this rank and this root to the place, if it has none yet.
+    fn give(&mut self, place: u32, rank: u32, root: u32) -> Result<(), NoMemory> {
+        let at = place as usize;
+        if at < self.ranks.len() && at < self.roots.len() && self.ranks[at] == 0 {
+            self.ranks[at] = rank;
+            self.roots[at] = root;
+            self.down.push(place)?;
         }
-        let next = waiting[at] as usize;
-        if next < calls.len() {
-            give_each(&calls[next], ranks, rank, &mut waiting)?;
+        Ok(())
+    }
+
+    /// Gives them to each of these places that has none yet.
+    fn give_each(&mut self, those: &[u32], rank: u32, root: u32) -> Result<(), NoMemory> {
+        for place in those {
+            self.give(*place, rank, root)?;
         }
+        Ok(())
     }
-    Ok(())
+
+    /// Gives this rank to the root and to all that are called from it and have none yet.
+    fn give_all(&mut self, calls: &[Vec<u32>], rank: u32, root: u32) -> Result<(), NoMemory> {
+        let first = self.down.len();
+        self.give(root, rank, root)?;
+        for at in first..calls.len() {
+            if at >= self.down.len() {
+                break;
+            }
+            let next = self.down[at] as usize;
+            if next < calls.len() {
+                self.give_each(&calls[next], rank, root)?;
+            }
+        }
+        Ok(())
+    }
 }
 
-/// Gives this rank to each of these places that has none yet.
-fn give_each(
-    those: &[u32],
-    ranks: &mut [u32],
-    rank: u32,
-    waiting: &mut Vec<u32>,
-) -> Result<(), NoMemory> {
-    for place in those {
-        give(ranks, *place, rank, waiting)?;
-    }
-    Ok(())
-}
-
-/// The ranks of places by their callers: those of one ring have one rank, and each other calls
+/// The components of places by their callers. Those of one ring have one rank, and each other calls
 /// lower ones alone.
-pub(crate) fn ranks(alloc: Global, callers: &[Vec<u32>]) -> Result<Vec<u32>, NoMemory> {
+pub(crate) fn find_components(alloc: Global, callers: &[Vec<u32>]) -> Result<Components, NoMemory> {
     let calls = calls_of(alloc, callers)?;
-    let order = left_in_order(alloc, callers)?;
-    let mut ranks = vec![in alloc; 0; callers.len()]?;
+    let Walk { up, left, .. } = walk_all(alloc, callers)?;
+    let mut found = Components {
+        ranks: vec![in alloc; 0; callers.len()]?,
+        roots: vec![in alloc; 0; callers.len()]?,
+        down: Vec::new(alloc),
+        up,
+    };
     let mut rank: u32 = 0;
-    for number in 0..order.len() {
+    for number in 0..left.len() {
         rank = rank.saturating_add(1);
-        give_all(
-            alloc,
-            &calls,
-            &mut ranks,
-            order[order.len() - 1 - number],
-            rank,
-        )?;
+        found.give_all(&calls, rank, left[left.len() - 1 - number])?;
     }
-    Ok(ranks)
+    Ok(found)
 }
 
 impl Block<'_> {

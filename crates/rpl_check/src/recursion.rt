@@ -14,7 +14,7 @@ ghost use Rattle.rpl_check.specs.inside.Search.{clean_all, clean_core, clean_eac
 
 use crate::NoMemory;
 use crate::facts::is_marked;
-use crate::ranks::ranks;
+use crate::ranks::find_components;
 use rpl_core::{Peg, Rules};
 use std::alloc::Global;
 
@@ -570,13 +570,17 @@ impl Block<'_> {
         Ok(turns)
     }
 
-    /// A list of such marks. Where the order has all rules, none is on a ring, and no ranks are
-    /// asked for.
-    fn clean_rules(&self, alloc: Global) -> Result<Vec<bool>, NoMemory>
-        requires { Stands self.now }
+    /// A list of such marks; and marks those that reach themselves in the other. Where the order
+    /// has all rules, none is on a ring, and no components are asked for.
+    fn clean_rules(&self, alloc: Global, left: &mut [bool]) -> Result<Vec<bool>, NoMemory>
+        requires block { Stands self.now }
+        requires left_long { IsLong self.now left.old }
+        requires left { AreLeft (table_of self.now) (empty_in self.now) self.now.start left.old }
         ensures long { IfOk result (λ v. IsLong self.now v.items) }
         ensures clean { IfOk result (λ v.
             AreClean (table_of self.now) (empty_in self.now) self.now.start v.items) }
+        ensures left_long { IsLong self.now left.new }
+        ensures left { AreLeft (table_of self.now) (empty_in self.now) self.now.start left.new }
     {
         let mut clean = vec![in alloc; false; (self.end - self.start) as usize]?;
         let mut turns = self.turns(alloc)?;
@@ -585,8 +589,9 @@ impl Block<'_> {
         if order.len() >= clean.len() {
             return Ok(clean);
         }
-        let ranks = ranks(alloc, &turns.callers)?;
-        self.mark_alone(alloc, &ranks, &mut clean)?;
+        let found = find_components(alloc, &turns.callers)?;
+        self.mark_alone(alloc, &found.ranks, &mut clean)?;
+        self.mark_rings(alloc, &found, left)?;
         Ok(clean)
     }
 
@@ -652,8 +657,8 @@ impl Block<'_> {
             IfOk result (λ v. v.items ≡ B.selves reach self.now.start
             (self.now.end - self.now.start))) }
     {
-        let clean = self.clean_rules(alloc)?;
         let mut left = vec![in alloc; false; (self.end - self.start) as usize]?;
+        let clean = self.clean_rules(alloc, &mut left)?;
         self.list_selves(alloc, &clean, &mut left)
     }
 }

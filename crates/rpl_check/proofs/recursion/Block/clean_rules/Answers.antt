@@ -1,12 +1,8 @@
-use Rattle.std.proofs.Common.{◌≡◌, ℕ, ◌++◌, ◌∙◌, List, length, sym, ap, subst, take, arith}
-use Rattle.std.proofs.Math.Seq.{take-append_seam}
-use Rattle.std.specs.Prelude.{Bool}
+use Rattle.std.proofs.Common.{◌≡◌, ◌∙◌, length, sym, subst, arith}
 use Rattle.rpl_check.specs.inside.Search.{AreClean}
 use Rattle.rpl_check.specs.inside.Within.{table_of, empty_in}
+use Rattle.rpl_check.proofs.Rings.{taken}
 use Rattle.rpl_check.proofs.recursion.Block.clean_rules.Goals as goal
-
-taken : (n : ℕ) (new tail : List Bool) → n ≡ length new → new ≡ take n (new ++ tail)
-taken n new tail e = sym (ap (λ k. take k (new ++ tail)) e ∙ take-append_seam new tail)
 
 pub returns-then-len-clause-clean : goal.returns-then-len-clause-clean
 returns-then-len-clause-clean c =

@@ -1,0 +1,6 @@
+use Rattle.rpl_check.specs.inside.Search.{AreLeft}
+use Rattle.rpl_check.specs.inside.Within.{table_of, empty_in}
+use Rattle.rpl_check.proofs.recursion.Block.mark_both.Given as goal
+
+abbrev pub invariant-loop-place : goal.invariant-loop-place
+invariant-loop-place l = AreLeft (table_of l.self) (empty_in l.self) l.self.start l.left
