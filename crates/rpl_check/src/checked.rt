@@ -82,14 +82,12 @@ pub fn check(alloc: Global, rules: Rules) -> Result<Checked, CheckFault>
 {
     let empties = work_out(alloc, &rules, Fact::MayBeEmpty)?;
     let halting = work_out(alloc, &rules, Fact::MayHalt)?;
-    match check_table(alloc, &rules, &empties, &halting) {
-        Ok(()) => Ok(Checked {
-            rules,
-            empties,
-            halting,
-        }),
-        Err(fault) => Err(fault),
-    }
+    check_table(alloc, &rules, &empties, &halting)?;
+    Ok(Checked {
+        rules,
+        empties,
+        halting,
+    })
 }
 
 /// A pattern without faults over a checked table.
@@ -136,8 +134,6 @@ pub fn check_pattern(_alloc: Global, checked: &Checked, peg: Peg) -> Result<Chec
     ensures same { IfOk result (λ g. peg_of g ≡ peg) }
     ensures whole { IfOk result (λ g. IsWhole (bodies_of checked.now) (core_of (peg_of g))) }
 {
-    match check_goal(&peg, &checked.empties, &checked.halting) {
-        Ok(()) => Ok(CheckedPeg { peg }),
-        Err(fault) => Err(fault),
-    }
+    check_goal(&peg, &checked.empties, &checked.halting)?;
+    Ok(CheckedPeg { peg })
 }

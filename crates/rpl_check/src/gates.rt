@@ -2,11 +2,12 @@
 //
 // Only the time hangs on it: a rule is marked where it passes, whatever order it is looked at in.
 // So a body is walked once for its gates, and once more in its turn.
-ghost use Rattle.std.specs.Prelude.{◌≤◌};
+ghost use Rattle.std.specs.Prelude.{◌-◌, ◌<◌, ◌≤◌};
 
 use crate::NoMemory;
 use crate::facts::{Fact, is_marked};
-use rpl_core::{Peg, Rules};
+use crate::group::Group;
+use rpl_core::Peg;
 use std::alloc::Global;
 
 /// Whether a pattern passes: surely, never, or once enough of the rules that it calls do.
@@ -178,16 +179,18 @@ fn any_halt_port(
     }
 }
 
-/// The port of the rule with this number.
+/// The port of the rule at this place of the group, whose gate has that number.
 fn rule_port(
     gates: &mut Gates,
-    rules: &Rules,
-    number: u32,
-    gate: usize,
+    group: &Group,
+    place: u32,
     fact: Fact,
     marks: &[bool],
-) -> Result<Port, NoMemory> {
-    match rules.get(number) {
+) -> Result<Port, NoMemory>
+    requires { place < group.now.end - group.now.start }
+{
+    let gate = place as usize;
+    match group.rules.get(group.start + place) {
         Some(rule) => match fact {
             Fact::MayBeEmpty => empty_port(gates, &rule.body, gate, marks),
             Fact::MayHalt => halt_port(gates, &rule.body, gate, marks),
@@ -239,36 +242,28 @@ fn open_callers(
     Ok(())
 }
 
-/// Places of a block's rules that have the fact, each after those by which it has it.
+/// Places of a group's rules that have the fact, each after those by which it has it.
 pub(crate) fn turns(
     alloc: Global,
-    rules: &Rules,
-    start: u32,
-    end: u32,
+    group: &Group,
     fact: Fact,
     marks: &[bool],
 ) -> Result<Vec<u32>, NoMemory>
-    requires { start ≤ end }
+    requires { group.now.start ≤ group.now.end }
 {
-    let mut gates = Gates::new(alloc, start, end)?;
+    let count = group.end - group.start;
+    let mut gates = Gates::new(alloc, group.start, group.end)?;
     let mut order = Vec::new(alloc);
-    for place in 0..end - start {
-        match rule_port(
-            &mut gates,
-            rules,
-            start + place,
-            place as usize,
-            fact,
-            marks,
-        )? {
+    for place in 0..count {
+        match rule_port(&mut gates, group, place, fact, marks)? {
             Port::Open => order.push(place)?,
             Port::Shut => {}
             Port::Waits => gates.set(place as usize, 1),
         }
     }
-    for at in 0..end - start {
+    for at in 0..count {
         if (at as usize) < order.len() {
-            open_callers(&mut gates, end - start, order[at as usize], &mut order)?;
+            open_callers(&mut gates, count, order[at as usize], &mut order)?;
         }
     }
     Ok(order)

@@ -14,6 +14,7 @@ ghost use Rattle.rpl_check.specs.inside.Rounds.{CallsBefore, OverReach};
 use crate::NoMemory;
 use crate::behinds::first_cause;
 use crate::fault::{BehindCause, CheckFault};
+use crate::group::Group;
 use crate::inside::{has_empty_loop, predicates_stay};
 use crate::recursion::Block;
 use rpl_core::{Rules, is_outside, joins_next};
@@ -85,39 +86,36 @@ fn check_halt(rules: &Rules, number: u32, halting: &[bool]) -> Result<(), CheckF
 }
 
 /// No rule of the block has a bad look-behind.
-fn check_behinds(rules: &Rules, start: u32, end: u32) -> Result<(), CheckFault>
-    requires { start ≤ end }
-    ensures { Answers (first_from (behind_at (bodies_in rules.now)) start (end - start)) result }
+fn check_behinds(group: &Group) -> Result<(), CheckFault>
+    requires { group.now.start ≤ group.now.end }
+    ensures { Answers (first_from (behind_at (bodies_in group.now.rules.now)) group.now.start
+        (group.now.end - group.now.start)) result }
 {
-    for number in start..end {
-        check_behind(rules, number)?;
+    for number in group.start..group.end {
+        check_behind(group.rules, number)?;
     }
     Ok(())
 }
 
 /// No rule of the block reaches itself before a character. A rule outside blocks calls only earlier
 /// ones.
-fn check_recursion(
-    alloc: Global,
-    rules: &Rules,
-    start: u32,
-    end: u32,
-    empties: &[bool],
-) -> Result<(), CheckFault>
-    requires within { (start < end) × (end ≤ length (rules_of rules.now)) }
-    requires order { IsInOrder (bodies_in rules.now) (blocks_in rules.now) }
-    requires earlier { CallsBefore (bodies_in rules.now) start }
-    requires calls { CallsBefore (bodies_in rules.now) end }
-    ensures { OverReach (bodies_in rules.now) (marked empties.now)
-        (λ reach. Answers (recursion_of (selves reach start (end - start))) result) }
+fn check_recursion(alloc: Global, group: &Group, empties: &[bool]) -> Result<(), CheckFault>
+    requires within { (group.now.start < group.now.end)
+        × (group.now.end ≤ length (rules_of group.now.rules.now)) }
+    requires order { IsInOrder (bodies_in group.now.rules.now) (blocks_in group.now.rules.now) }
+    requires earlier { CallsBefore (bodies_in group.now.rules.now) group.now.start }
+    requires calls { CallsBefore (bodies_in group.now.rules.now) group.now.end }
+    ensures { OverReach (bodies_in group.now.rules.now) (marked empties.now)
+        (λ reach. Answers (recursion_of (selves reach group.now.start
+        (group.now.end - group.now.start))) result) }
 {
-    if end - start == 1 && is_outside(rules, start) {
+    if group.end - group.start == 1 && is_outside(group.rules, group.start) {
         return Ok(());
     }
     let block = Block {
-        rules,
-        start,
-        end,
+        rules: group.rules,
+        start: group.start,
+        end: group.end,
         empties,
     };
     let list = block.selves(alloc)?;
@@ -128,25 +126,27 @@ fn check_recursion(
 }
 
 /// No rule of the block has an empty loop.
-fn check_loops(rules: &Rules, start: u32, end: u32, empties: &[bool]) -> Result<(), CheckFault>
-    requires { start ≤ end }
-    ensures { Answers (first_from (loop_at (marked empties.now) (bodies_in rules.now)) start
-        (end - start)) result }
+fn check_loops(group: &Group, empties: &[bool]) -> Result<(), CheckFault>
+    requires { group.now.start ≤ group.now.end }
+    ensures { Answers (first_from (loop_at (marked empties.now) (bodies_in group.now.rules.now))
+        group.now.start
+        (group.now.end - group.now.start)) result }
 {
-    for number in start..end {
-        check_loop(rules, number, empties)?;
+    for number in group.start..group.end {
+        check_loop(group.rules, number, empties)?;
     }
     Ok(())
 }
 
 /// No rule of the block has a halt under a predicate.
-fn check_halts(rules: &Rules, start: u32, end: u32, halting: &[bool]) -> Result<(), CheckFault>
-    requires { start ≤ end }
-    ensures { Answers (first_from (halt_at (marked halting.now) (bodies_in rules.now)) start
-        (end - start)) result }
+fn check_halts(group: &Group, halting: &[bool]) -> Result<(), CheckFault>
+    requires { group.now.start ≤ group.now.end }
+    ensures { Answers (first_from (halt_at (marked halting.now) (bodies_in group.now.rules.now))
+        group.now.start
+        (group.now.end - group.now.start)) result }
 {
-    for number in start..end {
-        check_halt(rules, number, halting)?;
+    for number in group.start..group.end {
+        check_halt(group.rules, number, halting)?;
     }
     Ok(())
 }
@@ -154,24 +154,24 @@ fn check_halts(rules: &Rules, start: u32, end: u32, halting: &[bool]) -> Result<
 /// The first fault of a block, or of a rule outside blocks.
 fn check_group(
     alloc: Global,
-    rules: &Rules,
-    start: u32,
-    end: u32,
+    group: &Group,
     empties: &[bool],
     halting: &[bool],
 ) -> Result<(), CheckFault>
-    requires within { (start < end) × (end ≤ length (rules_of rules.now)) }
-    requires order { IsInOrder (bodies_in rules.now) (blocks_in rules.now) }
-    requires earlier { CallsBefore (bodies_in rules.now) start }
-    requires calls { CallsBefore (bodies_in rules.now) end }
-    ensures { OverReach (bodies_in rules.now) (marked empties.now) (λ reach.
-        Answers (group_fault (marked empties.now) (marked halting.now) reach (bodies_in rules.now)
-        start end) result) }
+    requires within { (group.now.start < group.now.end)
+        × (group.now.end ≤ length (rules_of group.now.rules.now)) }
+    requires order { IsInOrder (bodies_in group.now.rules.now) (blocks_in group.now.rules.now) }
+    requires earlier { CallsBefore (bodies_in group.now.rules.now) group.now.start }
+    requires calls { CallsBefore (bodies_in group.now.rules.now) group.now.end }
+    ensures { OverReach (bodies_in group.now.rules.now) (marked empties.now) (λ reach.
+        Answers (group_fault (marked empties.now) (marked halting.now) reach
+        (bodies_in group.now.rules.now)
+        group.now.start group.now.end) result) }
 {
-    check_behinds(rules, start, end)?;
-    check_recursion(alloc, rules, start, end, empties)?;
-    check_loops(rules, start, end, empties)?;
-    check_halts(rules, start, end, halting)
+    check_behinds(group)?;
+    check_recursion(alloc, group, empties)?;
+    check_loops(group, empties)?;
+    check_halts(group, halting)
 }
 
 /// The first fault of the table.
@@ -192,10 +192,12 @@ pub(crate) fn check_table(
         if joins_next(rules, number) {
             continue;
         }
-        match check_group(alloc, rules, start, number + 1, empties, halting) {
-            Ok(()) => {}
-            Err(fault) => return Err(fault),
-        }
+        let group = Group {
+            rules,
+            start,
+            end: number + 1,
+        };
+        check_group(alloc, &group, empties, halting)?;
         start = number + 1;
     }
     Ok(())

@@ -13,6 +13,7 @@ mod checked;
 mod facts;
 mod fault;
 mod gates;
+mod group;
 mod groups;
 mod inside;
 mod laws;

@@ -10,6 +10,7 @@ ghost use Rattle.rpl_check.specs.inside.Rounds.{test_of};
 use crate::NoMemory;
 use crate::facts::{Fact, rule_holds};
 use crate::gates::turns;
+use crate::group::Group;
 use rpl_core::{Rules, joins_next};
 use std::alloc::Global;
 
@@ -31,22 +32,25 @@ fn is_new(rules: &Rules, number: u32, fact: Fact, marks: &[bool]) -> bool
 }
 
 /// One round over the rules of a block, the last first, and whether it marked a rule.
-fn round(rules: &Rules, start: u32, end: u32, fact: Fact, marks: &mut [bool]) -> bool
-    requires within { (start ≤ end) × (end ≤ length (rules_of rules.now)) }
-    requires long { length marks.old ≡ length (rules_of rules.now) }
-    requires under { IsUnder (test_of fact) (bodies_in rules.now) (marked marks.old) }
-    ensures grows { Grows start marks.old marks.new }
-    ensures under { IsUnder (test_of fact) (bodies_in rules.now) (marked marks.new) }
+fn round(group: &Group, fact: Fact, marks: &mut [bool]) -> bool
+    requires within { (group.now.start ≤ group.now.end)
+        × (group.now.end ≤ length (rules_of group.now.rules.now)) }
+    requires long { length marks.old ≡ length (rules_of group.now.rules.now) }
+    requires under { IsUnder (test_of fact) (bodies_in group.now.rules.now) (marked marks.old) }
+    ensures grows { Grows group.now.start marks.old marks.new }
+    ensures under { IsUnder (test_of fact) (bodies_in group.now.rules.now) (marked marks.new) }
     ensures quiet { result ≡ false → (marks.new ≡ marks.old)
-        × IsSettled (test_of fact) (bodies_in rules.now) (marked marks.new) start end }
+        × IsSettled (test_of fact) (bodies_in group.now.rules.now) (marked marks.new)
+        group.now.start
+        group.now.end }
     ensures found { result ≡ true →
         count (marked marks.old) (length marks.old) < count (marked marks.new) (length marks.old) }
 {
     let mut found = false;
-    let mut number = end;
-    while start < number {
+    let mut number = group.end;
+    while group.start < number {
         number -= 1;
-        if is_new(rules, number, fact, marks) {
+        if is_new(group.rules, number, fact, marks) {
             marks[number as usize] = true;
             found = true;
         }
@@ -55,75 +59,68 @@ fn round(rules: &Rules, start: u32, end: u32, fact: Fact, marks: &mut [bool]) ->
 }
 
 /// Marks the rule at this place of the block, if it has the fact.
-fn mark_if_new(rules: &Rules, start: u32, end: u32, place: u32, fact: Fact, marks: &mut [bool])
-    requires within { (start ≤ end) × (end ≤ length (rules_of rules.now)) }
-    requires long { length marks.old ≡ length (rules_of rules.now) }
-    requires under { IsUnder (test_of fact) (bodies_in rules.now) (marked marks.old) }
-    ensures grows { Grows start marks.old marks.new }
-    ensures under { IsUnder (test_of fact) (bodies_in rules.now) (marked marks.new) }
+fn mark_if_new(group: &Group, place: u32, fact: Fact, marks: &mut [bool])
+    requires within { (group.now.start ≤ group.now.end)
+        × (group.now.end ≤ length (rules_of group.now.rules.now)) }
+    requires long { length marks.old ≡ length (rules_of group.now.rules.now) }
+    requires under { IsUnder (test_of fact) (bodies_in group.now.rules.now) (marked marks.old) }
+    ensures grows { Grows group.now.start marks.old marks.new }
+    ensures under { IsUnder (test_of fact) (bodies_in group.now.rules.now) (marked marks.new) }
 {
-    if place >= end - start {
+    if place >= group.end - group.start {
         return;
     }
-    let number = start + place;
-    if is_new(rules, number, fact, marks) {
+    let number = group.start + place;
+    if is_new(group.rules, number, fact, marks) {
         marks[number as usize] = true;
     }
 }
 
 /// Marks rules of a block that have the fact: those of the list in turn.
-fn mark_in_turn(rules: &Rules, start: u32, end: u32, order: &[u32], fact: Fact, marks: &mut [bool])
-    requires within { (start ≤ end) × (end ≤ length (rules_of rules.now)) }
-    requires long { length marks.old ≡ length (rules_of rules.now) }
-    requires under { IsUnder (test_of fact) (bodies_in rules.now) (marked marks.old) }
-    ensures grows { Grows start marks.old marks.new }
-    ensures under { IsUnder (test_of fact) (bodies_in rules.now) (marked marks.new) }
+fn mark_in_turn(group: &Group, order: &[u32], fact: Fact, marks: &mut [bool])
+    requires within { (group.now.start ≤ group.now.end)
+        × (group.now.end ≤ length (rules_of group.now.rules.now)) }
+    requires long { length marks.old ≡ length (rules_of group.now.rules.now) }
+    requires under { IsUnder (test_of fact) (bodies_in group.now.rules.now) (marked marks.old) }
+    ensures grows { Grows group.now.start marks.old marks.new }
+    ensures under { IsUnder (test_of fact) (bodies_in group.now.rules.now) (marked marks.new) }
 {
     for place in order {
-        mark_if_new(rules, start, end, *place, fact, marks);
+        mark_if_new(group, *place, fact, marks);
     }
 }
 
 /// Marks rules of a block that have the fact, each after those by which it has it. A rule alone
 /// needs no order.
-fn mark_most(
-    alloc: Global,
-    rules: &Rules,
-    start: u32,
-    end: u32,
-    fact: Fact,
-    marks: &mut [bool],
-) -> Result<(), NoMemory>
-    requires within { (start ≤ end) × (end ≤ length (rules_of rules.now)) }
-    requires long { length marks.old ≡ length (rules_of rules.now) }
-    requires under { IsUnder (test_of fact) (bodies_in rules.now) (marked marks.old) }
-    ensures grows { OnOk result (Grows start marks.old marks.new) }
-    ensures under { OnOk result (IsUnder (test_of fact) (bodies_in rules.now) (marked marks.new)) }
+fn mark_most(alloc: Global, group: &Group, fact: Fact, marks: &mut [bool]) -> Result<(), NoMemory>
+    requires within { (group.now.start ≤ group.now.end)
+        × (group.now.end ≤ length (rules_of group.now.rules.now)) }
+    requires long { length marks.old ≡ length (rules_of group.now.rules.now) }
+    requires under { IsUnder (test_of fact) (bodies_in group.now.rules.now) (marked marks.old) }
+    ensures grows { OnOk result (Grows group.now.start marks.old marks.new) }
+    ensures under { OnOk result (IsUnder (test_of fact) (bodies_in group.now.rules.now)
+        (marked marks.new)) }
 {
-    if end - start > 1 {
-        let order = turns(alloc, rules, start, end, fact, marks)?;
-        mark_in_turn(rules, start, end, &order, fact, marks);
+    if group.end - group.start > 1 {
+        let order = turns(alloc, group, fact, marks)?;
+        mark_in_turn(group, &order, fact, marks);
     }
     Ok(())
 }
 
 /// Marks the rules of a block that have the fact: in turn, and then by rounds until one marks
 /// nothing, as the first does.
-fn close(
-    alloc: Global,
-    rules: &Rules,
-    start: u32,
-    end: u32,
-    fact: Fact,
-    marks: &mut [bool],
-) -> Result<(), NoMemory>
-    requires within { (start ≤ end) × (end ≤ length (rules_of rules.now)) }
-    requires earlier { CallsBefore (bodies_in rules.now) start }
-    requires known { AreKnown (test_of fact) (bodies_in rules.now) marks.old start }
-    ensures { OnOk result (AreKnown (test_of fact) (bodies_in rules.now) marks.new end) }
+fn close(alloc: Global, group: &Group, fact: Fact, marks: &mut [bool]) -> Result<(), NoMemory>
+    requires within { (group.now.start ≤ group.now.end)
+        × (group.now.end ≤ length (rules_of group.now.rules.now)) }
+    requires earlier { CallsBefore (bodies_in group.now.rules.now) group.now.start }
+    requires known { AreKnown (test_of fact) (bodies_in group.now.rules.now) marks.old
+        group.now.start }
+    ensures { OnOk result (AreKnown (test_of fact) (bodies_in group.now.rules.now) marks.new
+        group.now.end) }
 {
-    mark_most(alloc, rules, start, end, fact, marks)?;
-    while round(rules, start, end, fact, marks) {}
+    mark_most(alloc, group, fact, marks)?;
+    while round(group, fact, marks) {}
     Ok(())
 }
 
@@ -140,7 +137,12 @@ fn close_all(alloc: Global, rules: &Rules, fact: Fact, marks: &mut [bool]) -> Re
         if joins_next(rules, number) {
             continue;
         }
-        close(alloc, rules, start, number + 1, fact, marks)?;
+        let group = Group {
+            rules,
+            start,
+            end: number + 1,
+        };
+        close(alloc, &group, fact, marks)?;
         start = number + 1;
     }
     Ok(())

@@ -1,4 +1,5 @@
 use Rattle.std.proofs.Common.{rules}
+use Rattle.std.proofs.lemmas.Result.{err_from_is_err_and}
 use Rattle.rpl_core.specs.Listed.{rules_of}
 use Rattle.rpl_core.specs.Table.{blocks_of, bodies_of}
 use Rattle.rpl_core.specs.inside.Marks.{marked}
@@ -8,23 +9,24 @@ use Rattle.rpl_check.proofs.checked.check.Goals as goal
 
 pub invariant_of-result : goal.invariant_of-result
 invariant_of-result c =
-    let no = rw (c.deref.ensures.value, c.deref-2.ensures.value) at c.in-Ok.ensures in
+    let no = rw (c.deref.ensures.value, c.deref-2.ensures.value) at c.in_ok-check_table.ensures in
     let rs = rules_of c.args.rules in
     accepted (bodies_of rs) (blocks_of rs) (marked c.in_ok-empties.empties.items) (marked c.in_ok-halting.halting.items) (same_long rs) c.requires c.in_ok-empties.ensures c.in_ok-halting.ensures no
 
-pub returns-in-Ok-clause-exactly : goal.returns-in-Ok-clause-exactly
-returns-in-Ok-clause-exactly c =
-    let no = rw (c.deref.ensures.value, c.deref-2.ensures.value) at c.in-Ok.ensures in
+pub returns-clause-exactly : goal.returns-clause-exactly
+returns-clause-exactly c =
+    let no = rw (c.deref.ensures.value, c.deref-2.ensures.value) at c.in_ok-check_table.ensures in
     let rs = rules_of c.args.rules in
     let d = facts_in_order (bodies_of rs) (blocks_of rs) (marked c.in_ok-empties.empties.items) (marked c.in_ok-halting.halting.items) (same_long rs) c.requires c.in_ok-empties.ensures c.in_ok-halting.ensures in
     (d, no d.reach d.reach_least)
 
-pub returns-in-Err-clause-exactly : goal.returns-in-Err-clause-exactly
-returns-in-Err-clause-exactly c =
-    let due = rw (c.deref.ensures.value, c.deref-2.ensures.value) at c.in-Err.ensures in
+pub returns-in_err-check_table-clause-exactly : goal.returns-in_err-check_table-clause-exactly
+returns-in_err-check_table-clause-exactly c =
+    let due = rw (c.deref.ensures.value, c.deref-2.ensures.value) at c.in_err-check_table.ensures in
     let rs = rules_of c.args.rules in
     let d = facts_in_order (bodies_of rs) (blocks_of rs) (marked c.in_ok-empties.empties.items) (marked c.in_ok-halting.halting.items) (same_long rs) c.requires c.in_ok-empties.ensures c.in_ok-halting.ensures in
-    (d, due d.reach d.reach_least)
+    let p = err_from_is_err_and c.from_residual-in_err-check_table.result c.from_residual-in_err-check_table.ensures.1 in
+    (d, rw (p.1, p.2) (due d.reach d.reach_least))
 
 pub returns-in_err-empties-clause-exactly : goal.returns-in_err-empties-clause-exactly
 returns-in_err-empties-clause-exactly c =

@@ -1,5 +1,6 @@
 use Rattle.std.proofs.Common.{◌∙◌, ◌+◌, ◌-◌, ◌<◌, arith, length, sym}
 use Rattle.std.proofs.lemmas.List.{length-map}
+use Rattle.std.proofs.lemmas.Result.{err_from_is_err_and}
 use Rattle.rpl_core.specs.Listed.{rules_of}
 use Rattle.rpl_core.specs.Table.{blocks_of, bodies_of}
 use Rattle.rpl_core.specs.declared.rules.Rule.{Rule}
@@ -32,18 +33,19 @@ loop-number-preserved c =
       λ reach all.
           let f = group_fault (marked c.args.empties.now) (marked c.args.halting.now) reach (bodies_of rules) in
           let e = c.loop-number.invariant.2 reach all ∙ group_ends f blocks c.loop-number.start k (length blocks) lt (sym c.joins_next.ensures ∙ c.if-joins_next.false) in
-          none_first (table_fault (marked c.args.empties.now) (marked c.args.halting.now) reach (bodies_of rules) blocks) (f c.loop-number.start (k + 1)) (fault_from f blocks (k + 1) (k + 1) (length blocks - (k + 1))) e (c.in-Ok.ensures reach all),
+          none_first (table_fault (marked c.args.empties.now) (marked c.args.halting.now) reach (bodies_of rules) blocks) (f c.loop-number.start (k + 1)) (fault_from f blocks (k + 1) (k + 1) (length blocks - (k + 1))) e (c.in_ok-check_group.ensures reach all),
     )
 
-pub returns-in-Err : goal.returns-in-Err
-returns-in-Err c = λ reach all.
+pub returns-in_err-check_group : goal.returns-in_err-check_group
+returns-in_err-check_group c = λ reach all.
     let rules = rules_of c.args.rules.now in
     let blocks = blocks_of rules in
     let k = c.loop-number.number in
     let lt : k < length blocks = omega (arith, length-map rules (λ (r : Rule). r.block), c.len-number-end.ensures.count, c.loop-number-test.true) in
     let f = group_fault (marked c.args.empties.now) (marked c.args.halting.now) reach (bodies_of rules) in
     let e = c.loop-number.invariant.2 reach all ∙ group_ends f blocks c.loop-number.start k (length blocks) lt (sym c.joins_next.ensures ∙ c.if-joins_next.false) in
-    due_first (table_fault (marked c.args.empties.now) (marked c.args.halting.now) reach (bodies_of rules) blocks) (f c.loop-number.start (k + 1)) (fault_from f blocks (k + 1) (k + 1) (length blocks - (k + 1))) (fault_named c.in-Err.fault) e (c.in-Err.ensures reach all)
+    let p = err_from_is_err_and c.from_residual.result c.from_residual.ensures.1 in
+    rw (p.1, p.2) (due_first (table_fault (marked c.args.empties.now) (marked c.args.halting.now) reach (bodies_of rules) blocks) (f c.loop-number.start (k + 1)) (fault_from f blocks (k + 1) (k + 1) (length blocks - (k + 1))) (fault_named c.in_err-check_group.field-0.0) e (c.in_err-check_group.ensures reach all))
 
 pub returns : goal.returns
 returns c = λ reach all.

@@ -11,9 +11,9 @@ loop-fact-smaller c = room_less c.loop-fact.marks c.round.new.marks c.round.ensu
 
 pub loop-fact-preserved : goal.loop-fact-preserved
 loop-fact-preserved c =
-    (grows_on c.args.start c.args.marks.now c.loop-fact.marks c.round.new.marks c.loop-fact.invariant.0 c.round.ensures.grows, c.round.ensures.under)
+    (grows_on c.args.group.now.start c.args.marks.now c.loop-fact.marks c.round.new.marks c.loop-fact.invariant.0 c.round.ensures.grows, c.round.ensures.under)
 
 pub returns : goal.returns
 returns c =
-    known_end c.args.fact (bodies_of (rules_of c.args.rules.now)) c.args.start c.args.end c.args.marks.now c.round.new.marks c.requires.within.0 c.requires.known
-    (grows_on c.args.start c.args.marks.now c.loop-fact.marks c.round.new.marks c.loop-fact.invariant.0 c.round.ensures.grows) c.round.ensures.under (c.round.ensures.quiet c.loop-fact-test.false).1 c.requires.earlier
+    known_end c.args.fact (bodies_of (rules_of c.args.group.now.rules.now)) c.args.group.now.start c.args.group.now.end c.args.marks.now c.round.new.marks c.requires.within.0 c.requires.known
+    (grows_on c.args.group.now.start c.args.marks.now c.loop-fact.marks c.round.new.marks c.loop-fact.invariant.0 c.round.ensures.grows) c.round.ensures.under (c.round.ensures.quiet c.loop-fact-test.false).1 c.requires.earlier
