@@ -1,8 +1,8 @@
 -- Steps of a loading, and what follows them.
-use Rattle.std.proofs.Common.{◌≡◌, ℕ, List, [], ◌∷◌, refl, sym, ap, subst, ◌∙◌, false, true≢false}
+use Rattle.std.proofs.Common.{◌≡◌, ◌⊎◌, inl, inr, ℕ, List, [], ◌∷◌, refl, sym, ap, subst, ◌∙◌, false, true≢false, arith}
 use Rattle.std.specs.Prelude.{Result, Ok, Err}
 use Rattle.std.specs.List.{Contains}
-use Rattle.std.proofs.lemmas.List.Elements.{Contains-append_left, Contains-append_right}
+use Rattle.std.proofs.lemmas.List.Elements.{Contains-append_cases, Contains-append_left, Contains-append_right}
 use Rattle.rpl_scope.specs.Faults.{Or, ◌>>=◌, is_silent, StopIs, Gives}
 use Rattle.rpl_scope.specs.declared.fault.LoadFault.{LoadFault}
 use Rattle.rpl_scope.specs.declared.fault.LoadKind.{LoadKind}
@@ -11,11 +11,8 @@ use Rattle.rpl_scope.specs.declared.fault.Stop.{Stop}
 use Rattle.rpl_scope.specs.declared.fault.Stop.TheVariants.{Memory, Fault}
 use Rattle.rpl_package.specs.Asking.{Outcome, at_once, asked_then, and_then, each_in_turn, Explains, MayStop, Walks}
 use Rattle.rpl_package.specs.Asking.{KindAsks, StopAsks}
+pub use Rattle.rpl_package.specs.inside.Following.{Follows}
 use Rattle.rpl_package.specs.inside.Reading.{IsQuiet}
-
--- the same answer, and what one asks for the other asks for
-abbrev pub Follows : {A : Type 0} → Outcome A → Outcome A → Type 0
-Follows a b = (a.answer ≡ b.answer) × ((p : List ℕ) → Contains a.asked p → Contains b.asked p)
 
 pub same : {A : Type 0} (a b : Outcome A) → a ≡ b → Follows a b
 same a b h = subst (Follows a) h (refl, λ p c. c)
@@ -45,6 +42,31 @@ explains_then _ f a next e = ap (λ r. r >>= λ x. (next x).answer) e
 pub may_then : {A B : Type 0} (s : Stop) (a : Outcome A) (next : A → Outcome B) → MayStop s a → MayStop s (and_then a next)
 may_then Memory a next e = tt
 may_then (Fault f) a next e = explains_then f.kind f a next e
+
+no_more : {A B : Type 0} (r : Or A) (g : A → B) (p : List ℕ) → Contains (asked_then r (λ x. at_once (Ok (g x)))) p → ⊥
+no_more (Ok x) g p c = absurd (omega (arith, c.1))
+no_more (Err e) g p c = absurd (omega (arith, c.1))
+
+fault_before : {A B : Type 0} (r : Or A) (g : A → B) (f : LoadFault) → (r >>= λ x. Ok (g x)) ≡ Err f → r ≡ Err f
+fault_before (Ok x) g f e = absurd (cc)
+fault_before (Err y) g f e =
+    let h : y ≡ f = cc in
+    ap Err h
+
+explains_before : {A B : Type 0} (k : LoadKind) (f : LoadFault) (a : Outcome A) (g : A → B)
+    → Explains k f (and_then a (λ x. at_once (Ok (g x)))) → Explains k f a
+explains_before K.NoMemory f a g e = tt
+explains_before K.ReadFault f a g e = asked_before (Contains-append_cases a.asked (asked_then a.answer (λ x. at_once (Ok (g x)))) f.file e)
+  where
+    asked_before : Contains a.asked f.file ⊎ Contains (asked_then a.answer (λ x. at_once (Ok (g x)))) f.file → Contains a.asked f.file
+    asked_before (inl c) = c
+    asked_before (inr c) = absurd (no_more a.answer g f.file c)
+explains_before _ f a g e = fault_before a.answer g f e
+
+-- what stops a step and what is made of its answer stops the step
+pub may_before : {A B : Type 0} (s : Stop) (a : Outcome A) (g : A → B) → MayStop s (and_then a (λ x. at_once (Ok (g x)))) → MayStop s a
+may_before Memory a g e = tt
+may_before (Fault f) a g e = explains_before f.kind f a g e
 
 -- after a step that has an answer comes the next
 pub then_follows : {A B : Type 0} (a : Outcome A) (x : A) (next : A → Outcome B) → a.answer ≡ Ok x → Follows (next x) (and_then a next)

@@ -1,17 +1,18 @@
 -- Steps of the roots.
 use Rattle.std.proofs.Common.{◌≡◌, ℕ, ◌+◌, ◌<◌, ◌≤◌, List, [], ◌∷◌, length, drop, get_or, Some, None, sym, ap}
 use Rattle.std.proofs.Common.{true, false, ap₂, ◌∙◌, arith}
-use Rattle.std.specs.Prelude.{if◌then◌else◌, Ok, is_some, nat_lt, encode_utf8_all}
+use Rattle.std.specs.Prelude.{if◌then◌else◌, Ok, Err, is_some, nat_lt, encode_utf8_all}
 use Rattle.rosie_io.specs.Opening.{file_of}
 use Rattle.std.proofs.lemmas.List.{drop_all}
 use Rattle.rpl_syntax.specs.Modules.{ParsedModule}
 use Rattle.rpl_syntax.specs.declared.name.QName.{QName}
-use Rattle.rpl_scope.specs.Faults.{fault}
-use Rattle.rpl_scope.specs.Packages.{first_of}
+use Rattle.rpl_scope.specs.Faults.{Or, ◌>>=◌, fault}
+use Rattle.rpl_scope.specs.Imports.{with_prefix}
+use Rattle.rpl_scope.specs.Packages.{Module, first_of}
 use Rattle.rpl_scope.specs.declared.fault.LoadKind.TheVariants.{Duplicate, TooManyPackages}
 use Rattle.rpl_scope.proofs.Checking.{front}
 use Rattle.rpl_package.specs.Asking.{at_once, and_then}
-use Rattle.rpl_package.specs.Loading.{World, State, own_text, walk}
+use Rattle.rpl_package.specs.Loading.{World, Stock, State, own_text, taken_up, walk}
 use Rattle.rpl_package.specs.Roots.{top_head, named_root, root_text, with_root, counted, next, asked_root}
 use Rattle.rpl_package.specs.Roots.{file_root, read_root}
 use Rattle.rpl_package.specs.declared.rooted.Root.{Root}
@@ -55,3 +56,11 @@ file_led w p s bytes t found read =
 pub next_few : (k : ℕ) (r : Root) → next k r ≤ k + 1
 next_few k (File p) = omega arith
 next_few k (Given t) = omega arith
+
+-- a root's own module that is taken up is a prefix
+pub root_taken : (r : Or State) (name : List ℕ) (top : Module) (n : ℕ) (s : Stock) → (r >>= λ u. Ok (taken_up u)) ≡ Ok (n, s)
+    → (r >>= λ u. Ok (with_root name top u)) ≡ Ok (Some n, record { stock = s; own = with_prefix top name (record { since = length top.rules; number = n }) })
+root_taken (Ok u) name top n s h =
+    let e : taken_up u ≡ (n, s) = cc in
+    ap (λ x. Ok (Some x.0, record { stock = x.1; own = with_prefix top name (record { since = length top.rules; number = x.0 }) })) e
+root_taken (Err e) name top n s h = absurd (cc)

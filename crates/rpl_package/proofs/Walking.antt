@@ -5,13 +5,13 @@ use Rattle.std.specs.Prelude.{nat_lt, if◌then◌else◌, Ok}
 use Rattle.rpl_syntax.specs.Modules.{ParsedModule}
 use Rattle.rpl_syntax.specs.declared.module.Import.{Import}
 use Rattle.rpl_scope.specs.Faults.{fault, fault_at, ◌>>=◌, IsStop, StopIs}
-use Rattle.rpl_scope.specs.Packages.{Module, first_of}
+use Rattle.rpl_scope.specs.Packages.{first_of}
 use Rattle.rpl_scope.specs.declared.fault.Stop.{Stop}
 use Rattle.rpl_scope.proofs.Stops.{told}
 use Rattle.rpl_scope.specs.declared.fault.LoadKind.TheVariants.{ImportCycle, ImportMissing, TooManyPackages, Duplicate}
 use Rattle.rpl_package.specs.Asking.{at_once, and_then, MayStop, StopAsks}
 use Rattle.rpl_package.specs.inside.Reading.{IsQuiet}
-use Rattle.rpl_package.specs.Loading.{World, Walk, Stock, State, find, search, tried, fresh, known_or, load_import}
+use Rattle.rpl_package.specs.Loading.{World, Walk, Stock, find, search, tried, fresh, known_or, load_import}
 use Rattle.rpl_package.specs.Loading.{is_loading, is_taken, taken_up, own_text, checks, empty_module}
 use Rattle.rpl_package.specs.Loading.{label_of, label_at, walk}
 use Rattle.rpl_package.specs.declared.stock.Head.{Head}
@@ -27,13 +27,6 @@ pub walk_is : (w : World) (n : ℕ) (s : Stock) (hs : List Head) (f path bytes :
     → walk w n s hs f path bytes ≡ and_then (at_once (w.text f bytes)) (λ t. own_text w (walk w (n - 1)) s hs f (Some path) (label_of t.name path) t)
 walk_is w zero s hs f path bytes h = absurd (h refl)
 walk_is w (suc n) s hs f path bytes h = let e : suc n - 1 ≡ n = omega arith in rw e refl
-
--- a text of its own whose package name is free: its head is held, and its module begins empty
-pub own_leads : (w : World) (below : Walk) (s : Stock) (hs : List Head) (f : List ℕ) (path : Option (List ℕ)) (label : List ℕ) (t : ParsedModule) (now : List Head) (m : Module)
-    → is_taken label hs s ≡ false → now ≡ hs ++ record { path = path; label = label } ∷ [] → m ≡ empty_module path label
-    → Follows (checks w below now f t (record { stock = s; own = m })) (own_text w below s hs f path label t)
-own_leads w below s hs f path label t now m free held empty =
-    same _ _ (ap₂ (λ h o. checks w below h f t (record { stock = s; own = o })) held empty ∙ sym (own_free w below s hs f path label t free))
 
 -- an imported file that is read as t goes on as a text of its own
 pub read_leads : (w : World) (n : ℕ) (s : Stock) (hs : List Head) (f path bytes : List ℕ) (t : ParsedModule) (p l : List ℕ)
@@ -79,12 +72,6 @@ full_leads w below hs f i s g bytes free new found room =
     trail (at_once (fault f i.at TooManyPackages)) (fresh w below hs f i s (Some (g, bytes))) (load_import w below hs f i s) (same _ _ (sym (ap (λ b. if b then and_then (below s hs g i.path bytes) (λ t. at_once (Ok (taken_up t))) else at_once (fault f i.at TooManyPackages)) room)))
     (found_leads w below hs f i s (Some (g, bytes)) free new found)
 
-pub reach_fresh : (w : World) (below : Walk) (hs : List Head) (f : List ℕ) (i : Import) (s : Stock) (g bytes : List ℕ) (t : State)
-    → is_loading i.path hs ≡ false → first_of i.path s.paths ≡ None → find w.tree w.folders i.path ≡ Some (g, bytes) → nat_lt (length s.modules + length hs) w.most ≡ true → (below s hs g i.path bytes).answer ≡ Ok t
-    → (load_import w below hs f i s).answer ≡ Ok (taken_up t)
-reach_fresh w below hs f i s g bytes t free new found room walked =
-    sym (room_leads w below hs f i s g bytes free new found room).0 ∙ ap (λ r. r >>= λ u. Ok (taken_up u)) walked
-
 -- ---- how a walk stops
 
 -- no more files are read one inside the other
@@ -92,13 +79,6 @@ pub walk_deep : (w : World) (n : ℕ) (s : Stock) (hs : List Head) (f path bytes
     → MayStop stop (walk w n s hs f path bytes)
 walk_deep w n s hs f path bytes e stop is =
     may_lead stop _ _ (same _ _ (sym (ap (λ d. walk w d s hs f path bytes) e))) (may stop _ (told _ stop _ is refl))
-
--- another module has the package name
-pub own_taken : (w : World) (below : Walk) (s : Stock) (hs : List Head) (f : List ℕ) (path : Option (List ℕ)) (label : List ℕ) (t : ParsedModule) → is_taken label hs s ≡ true → (stop : Stop) → IsStop stop (fault_at f (label_at t.name) (Duplicate label))
-    → MayStop stop (own_text w below s hs f path label t)
-own_taken w below s hs f path label t taken stop is =
-    may_lead stop _ _ (same _ _ (sym (ap (λ b. if b then at_once (fault f (label_at t.name) (Duplicate label))
-    else checks w below (hs ++ record { path = path; label = label } ∷ []) f t (record { stock = s; own = empty_module path label })) taken))) (may stop _ (told _ stop _ is refl))
 
 -- the module is being loaded
 pub reach_cycle : (w : World) (below : Walk) (hs : List Head) (f : List ℕ) (i : Import) (s : Stock) → is_loading i.path hs ≡ true → (stop : Stop) → IsStop stop (fault_at f i.at (ImportCycle i.path))

@@ -8,7 +8,7 @@ use Rattle.std.proofs.lemmas.List.Elements.{Contains-push_cases}
 use Rattle.rpl_scope.specs.Packages as P
 use Rattle.rpl_scope.specs.Seen.{module_seen, modules_seen}
 use Rattle.rpl_package.specs.Built.{Becomes, same, on, text, said, again, imported, rooted, headed, opened}
-use Rattle.rpl_package.specs.Loading.{State, finished, label_of}
+use Rattle.rpl_package.specs.Loading.{State, finished, label_of, taken_up}
 use Rattle.rpl_package.specs.Roots.{AreWithin}
 use Rattle.rpl_package.specs.Stocks.{stock_seen}
 use Rattle.rpl_package.specs.declared.stock.Head.{Head}
@@ -56,12 +56,13 @@ finished_more s t m h =
     omega (arith, p, n, i, j)
 
 -- and has the number of the last one
-pub finished_within : (s t : Stock) (m : P.Module) (n : ℕ) → stock_seen t ≡ finished (stock_seen s) m
-    → n ≡ length (stock_seen s).modules → n < length t.modules.items
-finished_within s t m n h is =
-    let e = finished_more s t m h in
-    let i = length-map s.modules.items module_seen in
-    omega (arith, e, is, i)
+pub taken_within : (t : Stock) (u : State) (n : ℕ) → (n, stock_seen t) ≡ taken_up u → n < length t.modules.items
+taken_within t u n h =
+    let p = ap (λ r. r.0) h in
+    let q = ap (λ r. length r.1.modules) h in
+    let a = length-append u.stock.modules (u.own ∷ []) in
+    let i = length-map t.modules.items module_seen in
+    omega (arith, p, q, a, i)
 
 pub within_none : (os : List (Option ℕ)) (n : ℕ) → os ≡ [] → AreWithin os n
 within_none os n h i k =

@@ -71,8 +71,12 @@ abbrev pub counted : ℕ → List Root → List (ℕ × Root)
 counted k [] = []
 counted k (r ∷ rs) = (next k r, r) ∷ counted (next k r) rs
 
+-- a root that is the file at this path
+abbrev pub root_at : World → List ℕ → State → Outcome Rooted
+root_at w p s = and_then (asked_root w p) (file_root w p s)
+
 abbrev pub root_by : World → ℕ → Root → State → Outcome Rooted
-root_by w k (File p) s = and_then (asked_root w p) (file_root w p s)
+root_by w k (File p) s = root_at w p s
 root_by w k (Given t) s = read_root w (given_name k) (encode_utf8_all t) s
 
 -- the roots so far, each with its module as `Rooted` says, and the state after them

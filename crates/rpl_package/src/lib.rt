@@ -15,6 +15,7 @@ mod edge;
 mod loading;
 mod locate;
 mod names;
+mod opening;
 mod owned;
 mod pattern;
 mod reading;

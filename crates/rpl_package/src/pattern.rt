@@ -20,15 +20,16 @@ ghost use Rattle.rpl_scope.specs.Packages.{nth};
 ghost use Rattle.rpl_scope.specs.Seen.{module_seen, modules_seen};
 
 use crate::locate::MAX_TEXT_BYTES;
+use crate::opening::{Importer, MAX_MODULES, Walker};
 use crate::reading::{lex_stop, parse_stop};
 use crate::stock::Stock;
-use crate::walk::{Importer, MAX_MODULES, load_import};
+use crate::walk::load_import;
 use rosie_io::Files;
 use rpl_lexer::{cut_computes, lex};
 use rpl_parser::{one_pattern, parse_pattern};
 use rpl_scope::{
-    LoadKind, Module, NoMemory, Stop, add_prefix, check_macros, check_names, fault_at, push_names,
-    push_uses,
+    LoadKind, Module, NoMemory, Place, Scope, Stop, add_prefix, check_macros, check_names,
+    fault_at, push_names, push_uses,
 };
 use rpl_syntax::{Expr, Import, ImportAs, QName};
 use rpl_text::Chars;
@@ -135,22 +136,26 @@ fn needed_at(
 
 /// The prefix of an import in the top module, for the module with this number.
 fn put(
-    alloc: Global,
     stock: &mut Stock,
     top: usize,
-    file: &Chars,
+    importer: Importer<'_>,
     import: &Import,
     number: usize,
 ) -> Result<(), Stop>
     ensures gives { Gives (λ _. stock_seen stock.new) result
-        (put_by file.now import.now number top (stock_seen stock.old)
+        (put_by importer.entry.file.now import.now number top (stock_seen stock.old)
         (nth (stock_seen stock.old).modules top)) }
     ensures held { stock.new.held ≡ stock.old.held }
     ensures kept { (a : L.Stock) → CutsTo top a (stock_seen stock.old) →
         CutsTo top a (stock_seen stock.new) }
 {
+    let Importer { alloc, file, .. } = importer;
+    let place = Place {
+        file,
+        at: import.at,
+    };
     match stock.modules.get_mut(top) {
-        Some(own) => match add_prefix(alloc, own, file, import.at, &import.path, number) {
+        Some(own) => match add_prefix(alloc, own, place, &import.path, number) {
             Ok(()) => Ok(()),
             Err(stop) => Err(stop),
         },
@@ -160,7 +165,6 @@ fn put(
 
 /// The package that a name of the pattern asks for.
 fn enter_name<F: Files>(
-    alloc: Global,
     files: &mut F,
     stock: &mut Stock,
     top: usize,
@@ -178,16 +182,19 @@ fn enter_name<F: Files>(
     ensures built { OnOk result (StaysBuilt top (stock_seen stock.old) (stock_seen stock.new)) }
     ensures files { LeavesFiles F.Source result files.old files.new }
 {
-    let asked = needed_at(alloc, &stock.modules, top, name)?;
+    let asked = needed_at(importer.alloc, &stock.modules, top, name)?;
     let Some(import) = asked else {
         return Ok(());
     };
-    let depth = MAX_MODULES;
-    let number = match load_import(alloc, files, stock, importer, &import, depth) {
+    let walker = Walker {
+        importer,
+        depth: MAX_MODULES,
+    };
+    let number = match load_import(files, stock, &walker, &import) {
         Ok(number) => number,
         Err(stop) => return Err(stop),
     };
-    if let Err(stop) = put(alloc, stock, top, importer.file, &import, number) {
+    if let Err(stop) = put(stock, top, importer, &import, number) {
         return Err(stop);
     }
     Ok(())
@@ -195,7 +202,6 @@ fn enter_name<F: Files>(
 
 /// The packages that the names of a pattern ask for, in order.
 fn enter_names<F: Files>(
-    alloc: Global,
     files: &mut F,
     stock: &mut Stock,
     top: usize,
@@ -215,7 +221,7 @@ fn enter_names<F: Files>(
     ensures files { LeavesFiles F.Source result files.old files.new }
 {
     for name in all {
-        if let Err(stop) = enter_name(alloc, files, stock, top, importer, name) {
+        if let Err(stop) = enter_name(files, stock, top, importer, name) {
             return Err(stop);
         }
     }
@@ -224,23 +230,28 @@ fn enter_names<F: Files>(
 
 /// The names of a pattern, and then its macros.
 fn check_pattern(
-    alloc: Global,
     stock: &Stock,
     top: usize,
-    file: &Chars,
+    importer: Importer<'_>,
     all: &[&QName],
     e: &Expr,
 ) -> Result<(), Stop>
     requires { map (λ q. q.now) all.now ≡ names (expr_of e.now) }
-    ensures { Checks result (pattern_fault file.now (expr_of e.now)
+    ensures { Checks result (pattern_fault importer.entry.file.now (expr_of e.now)
         (modules_seen stock.now.modules.items)
         (nth (modules_seen stock.now.modules.items) top)) }
 {
+    let Importer { alloc, file, .. } = importer;
     let Some(own) = stock.modules.get(top) else {
         return Ok(());
     };
     let start = own.rules.len();
-    if let Err(stop) = check_names(alloc, file, &stock.modules, own, start, all) {
+    let scope = Scope {
+        modules: &stock.modules,
+        own,
+        start,
+    };
+    if let Err(stop) = check_names(alloc, file, scope, all) {
         return Err(stop);
     }
     let mut uses = Vec::new(alloc);
@@ -250,7 +261,6 @@ fn check_pattern(
 
 /// A pattern that is read: what it imports, and then its names and its macros.
 fn enter_expr<F: Files>(
-    alloc: Global,
     files: &mut F,
     stock: &mut Stock,
     top: usize,
@@ -271,12 +281,12 @@ fn enter_expr<F: Files>(
     ensures built { OnOk result (StaysBuilt top (stock_seen stock.old) (stock_seen stock.new)) }
     ensures files { LeavesFiles F.Source result files.old files.new }
 {
-    let mut all = Vec::new(alloc);
+    let mut all = Vec::new(importer.alloc);
     push_names(e, &mut all)?;
-    if let Err(stop) = enter_names(alloc, files, stock, top, importer, &all) {
+    if let Err(stop) = enter_names(files, stock, top, importer, &all) {
         return Err(stop);
     }
-    if let Err(stop) = check_pattern(alloc, stock, top, importer.file, &all, e) {
+    if let Err(stop) = check_pattern(stock, top, importer, &all, e) {
         return Err(stop);
     }
     Ok(())
@@ -284,18 +294,19 @@ fn enter_expr<F: Files>(
 
 /// The expression of a pattern, with all that it imports.
 pub fn enter_pattern<F: Files>(
-    alloc: Global,
     files: &mut F,
-    folders: &[Chars],
     stock: &mut Stock,
     top: usize,
+    importer: Importer<'_>,
     goal: Goal<'_>,
 ) -> Result<Expr, Stop>
-    requires { stock.old.held.items ≡ [] }
+    requires idle { stock.old.held.items ≡ [] }
+    requires file { importer.file.now ≡ pattern_file }
     ensures gives { F.tells → (r : Or ParsedExpr) →
         ReadsGoal goal.entry.fixed goal.entry.find goal.entry.text.now r
         → Walks (λ e. (expr_of e, stock_seen stock.new)) result
-        (goal_entered (world (F.tree files.old) folders.now) top (stock_seen stock.old) r) }
+        (goal_entered (world (F.tree files.old) importer.entry.folders.now) top
+        (stock_seen stock.old) r) }
     ensures right { IfOk result (λ e. pattern_fault pattern_file (expr_of e)
         (stock_seen stock.new).modules
         (nth (stock_seen stock.new).modules top) ≡ None) }
@@ -305,14 +316,12 @@ pub fn enter_pattern<F: Files>(
     ensures built { OnOk result (StaysBuilt top (stock_seen stock.old) (stock_seen stock.new)) }
     ensures files { LeavesFiles F.Source result files.old files.new }
 {
-    let file = Chars::from_str(alloc, "(pattern)")?;
-    let e = match read_goal(alloc, &file, goal.text, goal.fixed, goal.find) {
+    let Importer { alloc, file, .. } = importer;
+    let e = match read_goal(alloc, file, goal.text, goal.fixed, goal.find) {
         Ok(e) => e,
         Err(stop) => return Err(stop),
     };
-    let file = &file;
-    let importer = Importer { file, folders };
-    if let Err(stop) = enter_expr(alloc, files, stock, top, importer, &e) {
+    if let Err(stop) = enter_expr(files, stock, top, importer, &e) {
         return Err(stop);
     }
     Ok(e)

@@ -9,7 +9,7 @@ ghost use Rattle.rpl_package.specs.Targets as T;
 use crate::set::PackageSet;
 use crate::table::{Row, Table};
 use crate::targets::{NameFault, RuleHead, Target};
-use rpl_scope::{Entry, Found, Module, Referent, Rule, find, find_plain};
+use rpl_scope::{Entry, Found, Module, Referent, Rule, Scope, find, find_plain};
 use rpl_syntax::{Expr, QName};
 
 /// The k-th rule of the module with this number.
@@ -171,7 +171,12 @@ impl PackageSet {
         match self.stock.modules.get(site.owner) {
             None => Err(NameFault::Unknown),
             Some(own) => {
-                let found = find(&self.stock.modules, own, site.start, name);
+                let scope = Scope {
+                    modules: &self.stock.modules,
+                    own,
+                    start: site.start,
+                };
+                let found = find(scope, name);
                 target_of(&self.stock.modules, &self.table, site.owner, found)
             }
         }

@@ -15,6 +15,7 @@ ghost use Rattle.rpl_package.specs.Sets.{set_seen};
 ghost use Rattle.rpl_package.specs.Stocks.{stock_seen};
 ghost use Rattle.rpl_package.specs.inside.Leaving.{LeavesFiles};
 
+use crate::opening::Importer;
 use crate::pattern::{Goal, enter_pattern};
 use crate::set::PackageSet;
 use crate::stock::Stock;
@@ -96,8 +97,14 @@ pub fn enter_goal<F: Files>(
     ensures roots { (set_seen set.new).roots ≡ (set_seen set.old).roots }
     ensures files { LeavesFiles F.Source result files.old files.new }
 {
+    let file = Chars::from_str(alloc, "(pattern)")?;
+    let importer = Importer {
+        alloc,
+        file: &file,
+        folders,
+    };
     let marks = marks_of(&set.stock, set.top);
-    match enter_pattern(alloc, files, folders, &mut set.stock, set.top, goal) {
+    match enter_pattern(files, &mut set.stock, set.top, importer, goal) {
         Err(stop) => {
             cut_back(&mut set.stock, set.top, marks);
             Err(stop)

@@ -2,22 +2,24 @@
 ghost use Rattle.std.specs.Prelude.{◌≡◌, ◌<◌, ◌^◌, [], ◌∷◌, OnOk, IfOk, IfSome, Some, None};
 ghost use Rattle.std.specs.Prelude.{encode_utf8_all, length};
 ghost use Rattle.rpl_syntax.specs.Modules.{said};
-ghost use Rattle.rpl_package.specs.Asking.{Walks, and_then};
+ghost use Rattle.rpl_package.specs.Asking.{Walks};
 ghost use Rattle.rpl_package.specs.Built.{Becomes, IsSaid};
 ghost use Rattle.rpl_scope.specs.Faults.{Gives};
 ghost use Rattle.rpl_package.specs.Loading.{world};
 ghost use Rattle.rpl_package.specs.Roots.{AreWithin, top_head, next, given_name, root_by};
-ghost use Rattle.rpl_package.specs.Roots.{load_roots};
+ghost use Rattle.rpl_package.specs.Roots.{load_roots, root_at};
 ghost use Rattle.rpl_package.specs.Roots.{named_root, root_text};
-ghost use Rattle.rpl_package.specs.Roots.{read_root, file_root, asked_root};
+ghost use Rattle.rpl_package.specs.Roots.{read_root};
 ghost use Rattle.rpl_package.specs.Stocks.{state_seen};
 ghost use Rattle.rpl_package.specs.Texts.{module_text};
 ghost use Rattle.rpl_package.specs.inside.Leaving.{LeavesFiles};
+ghost use Rattle.rpl_package.specs.inside.Rooting.{roots_seen};
 
 use crate::locate::{MAX_TEXT_BYTES, read_in};
+use crate::opening::{Importer, MAX_MODULES, Walker};
 use crate::reading::{parse, read_module};
-use crate::stock::{State, finish};
-use crate::walk::{Importer, MAX_MODULES, load_own, load_text};
+use crate::stock::{Head, State};
+use crate::walk::{load_own, load_text};
 use rosie_io::Files;
 use rpl_list::List;
 use rpl_scope::{LoadKind, NoMemory, Stop, fault_at, put_prefix};
@@ -44,11 +46,9 @@ pub type LibPath = List<Chars>;
 /// top module.
 #[tactic(auto, using(rpl_scope::proofs::Stops::told, crate::proofs::Outcomes::may))]
 fn enter_named<F: Files>(
-    alloc: Global,
     files: &mut F,
-    folders: &[Chars],
     state: &mut State,
-    file: &Chars,
+    importer: Importer<'_>,
     name: &QName,
     text: &ParsedModule,
 ) -> Result<Option<usize>, Stop>
@@ -56,7 +56,8 @@ fn enter_named<F: Files>(
     requires held { state.old.stock.held.items ≡ top_head ∷ [] }
     requires said { IsSaid (said text.now) }
     ensures gives { F.tells → Walks (λ n. (n, state_seen state.new.stock state.new.own)) result
-        (named_root (world (F.tree files.old) folders.now) file.now (said text.now) name.now
+        (named_root (world (F.tree files.old) importer.entry.folders.now) importer.entry.file.now
+        (said text.now) name.now
         (state_seen state.old.stock state.old.own)) }
     ensures held { OnOk result (state.new.stock.held.items ≡ state.old.stock.held.items) }
     ensures built { OnOk result (Becomes (top_head ∷ []) (state_seen state.old.stock state.old.own)
@@ -64,6 +65,7 @@ fn enter_named<F: Files>(
     ensures within { IfOk result (λ n. IfSome n (λ i. i < length state.new.stock.modules.items)) }
     ensures files { LeavesFiles F.Source result files.old files.new }
 {
+    let Importer { alloc, file, .. } = importer;
     if state.own.prefixes.get(&name.name).is_some() {
         let kind = LoadKind::Duplicate {
             name: name.name.copy(alloc)?,
@@ -71,23 +73,12 @@ fn enter_named<F: Files>(
         return Err(fault_at(alloc, file, name.at, kind));
     }
     let label = name.name.copy(alloc)?;
-    let depth = MAX_MODULES;
-    let importer = Importer { file, folders };
-    let from = match load_own(
-        alloc,
-        files,
-        &mut state.stock,
+    let head = Head { path: None, label };
+    let walker = Walker {
         importer,
-        None,
-        label,
-        name.at,
-        text,
-        depth,
-    ) {
-        Ok(from) => from,
-        Err(stop) => return Err(stop),
+        depth: MAX_MODULES,
     };
-    let number = match finish(alloc, &mut state.stock, from) {
+    let number = match load_own(files, &mut state.stock, &walker, head, text) {
         Ok(number) => number,
         Err(stop) => return Err(stop),
     };
@@ -100,19 +91,16 @@ fn enter_named<F: Files>(
 /// A root that is read.
 #[tactic(auto, using(rpl_scope::proofs::Stops::told, crate::proofs::Outcomes::may))]
 pub fn enter_root<F: Files>(
-    alloc: Global,
     files: &mut F,
-    folders: &[Chars],
     state: &mut State,
-    file: &Chars,
+    importer: Importer<'_>,
     text: &ParsedModule,
 ) -> Result<Option<usize>, Stop>
     requires held { state.old.stock.held.items ≡ top_head ∷ [] }
     requires said { IsSaid (said text.now) }
     ensures gives { F.tells → Walks (λ n. (n, state_seen state.new.stock state.new.own)) result
-        (root_text (world (F.tree files.old) folders.now) file.now (said text.now)
-        (said text.now).name
-        (state_seen state.old.stock state.old.own)) }
+        (root_text (world (F.tree files.old) importer.entry.folders.now) importer.entry.file.now
+        (said text.now) (said text.now).name (state_seen state.old.stock state.old.own)) }
     ensures held { OnOk result (state.new.stock.held.items ≡ state.old.stock.held.items) }
     ensures built { OnOk result (Becomes (top_head ∷ []) (state_seen state.old.stock state.old.own)
         (state_seen state.new.stock state.new.own)) }
@@ -121,26 +109,21 @@ pub fn enter_root<F: Files>(
 {
     match &text.package {
         None => {
-            let depth = MAX_MODULES;
-            let importer = Importer { file, folders };
-            if let Err(stop) = load_text(
-                alloc,
-                files,
-                &mut state.stock,
-                &mut state.own,
+            let walker = Walker {
                 importer,
-                text,
-                depth,
-            ) {
+                depth: MAX_MODULES,
+            };
+            if let Err(stop) = load_text(files, &mut state.stock, &mut state.own, &walker, text) {
                 return Err(stop);
             }
             Ok(None)
         }
         Some(name) => {
             if state.stock.modules.len() + 1 >= MAX_MODULES {
+                let Importer { alloc, file, .. } = importer;
                 return Err(fault_at(alloc, file, name.at, LoadKind::TooManyPackages));
             }
-            enter_named(alloc, files, folders, state, file, name, text)
+            enter_named(files, state, importer, name, text)
         }
     }
 }
@@ -160,28 +143,26 @@ fn read_given(alloc: Global, file: &Chars, text: &Chars) -> Result<ParsedModule,
 
 /// A root that is given itself, under the name of its text.
 pub fn enter_given<F: Files>(
-    alloc: Global,
     files: &mut F,
-    folders: &[Chars],
     state: &mut State,
-    file: &Chars,
+    importer: Importer<'_>,
     text: &Chars,
 ) -> Result<Option<usize>, Stop>
     requires held { state.old.stock.held.items ≡ top_head ∷ [] }
     ensures gives { F.tells → Walks (λ n. (n, state_seen state.new.stock state.new.own)) result
-        (read_root (world (F.tree files.old) folders.now) file.now (encode_utf8_all text.now)
-        (state_seen state.old.stock state.old.own)) }
+        (read_root (world (F.tree files.old) importer.entry.folders.now) importer.entry.file.now
+        (encode_utf8_all text.now) (state_seen state.old.stock state.old.own)) }
     ensures held { OnOk result (state.new.stock.held.items ≡ state.old.stock.held.items) }
     ensures built { OnOk result (Becomes (top_head ∷ []) (state_seen state.old.stock state.old.own)
         (state_seen state.new.stock state.new.own)) }
     ensures within { IfOk result (λ n. IfSome n (λ i. i < length state.new.stock.modules.items)) }
     ensures files { LeavesFiles F.Source result files.old files.new }
 {
-    let said = match read_given(alloc, file, text) {
+    let said = match read_given(importer.alloc, importer.file, text) {
         Ok(said) => said,
         Err(stop) => return Err(stop),
     };
-    enter_root(alloc, files, folders, state, file, &said)
+    enter_root(files, state, importer, &said)
 }
 
 /// A root that is the file at this path.
@@ -195,9 +176,8 @@ pub fn enter_file<F: Files>(
 ) -> Result<Option<usize>, Stop>
     requires held { state.old.stock.held.items ≡ top_head ∷ [] }
     ensures gives { F.tells → Walks (λ n. (n, state_seen state.new.stock state.new.own)) result
-        (and_then (asked_root (world (F.tree files.old) folders.now) path.now)
-        (file_root (world (F.tree files.old) folders.now) path.now
-        (state_seen state.old.stock state.old.own))) }
+        (root_at (world (F.tree files.old) folders.now) path.now
+        (state_seen state.old.stock state.old.own)) }
     ensures held { OnOk result (state.new.stock.held.items ≡ state.old.stock.held.items) }
     ensures built { OnOk result (Becomes (top_head ∷ []) (state_seen state.old.stock state.old.own)
         (state_seen state.new.stock state.new.own)) }
@@ -213,7 +193,12 @@ pub fn enter_file<F: Files>(
         Ok(said) => said,
         Err(stop) => return Err(stop),
     };
-    match enter_root(alloc, files, folders, state, path, &said) {
+    let importer = Importer {
+        alloc,
+        file: path,
+        folders,
+    };
+    match enter_root(files, state, importer, &said) {
         Ok(number) => Ok(number),
         Err(stop) => Err(stop),
     }
@@ -239,17 +224,23 @@ fn given_name(alloc: Global, given: usize) -> Result<Chars, NoMemory>
 }
 
 /// A root, with the number of those so far that are given themselves.
+#[derive(Clone, Copy)]
+struct Turn<'a> {
+    given: usize,
+    root: &'a Root,
+}
+
+/// A root whose turn it is.
 fn enter_one<F: Files>(
     alloc: Global,
     files: &mut F,
     folders: &[Chars],
     state: &mut State,
-    given: usize,
-    root: &Root,
+    turn: Turn<'_>,
 ) -> Result<Option<usize>, Stop>
     requires held { state.old.stock.held.items ≡ top_head ∷ [] }
     ensures gives { F.tells → Walks (λ n. (n, state_seen state.new.stock state.new.own)) result
-        (root_by (world (F.tree files.old) folders.now) given root.now
+        (root_by (world (F.tree files.old) folders.now) turn.entry.given turn.entry.root.now
         (state_seen state.old.stock state.old.own)) }
     ensures held { OnOk result (state.new.stock.held.items ≡ state.old.stock.held.items) }
     ensures built { OnOk result (Becomes (top_head ∷ []) (state_seen state.old.stock state.old.own)
@@ -257,11 +248,16 @@ fn enter_one<F: Files>(
     ensures within { IfOk result (λ n. IfSome n (λ i. i < length state.new.stock.modules.items)) }
     ensures files { LeavesFiles F.Source result files.old files.new }
 {
-    match root {
+    match turn.root {
         Root::File(path) => enter_file(alloc, files, folders, state, path),
         Root::Given(text) => {
-            let name = given_name(alloc, given)?;
-            enter_given(alloc, files, folders, state, &name, text)
+            let name = given_name(alloc, turn.given)?;
+            let importer = Importer {
+                alloc,
+                file: &name,
+                folders,
+            };
+            enter_given(files, state, importer, text)
         }
     }
 }
@@ -275,11 +271,8 @@ pub fn enter_roots<F: Files>(
     roots: &[Root],
 ) -> Result<Vec<Option<usize>>, Stop>
     requires held { state.old.stock.held.items ≡ top_head ∷ [] }
-    ensures gives { F.tells → Walks
-        (λ into. record { roots = into.items; state = state_seen state.new.stock state.new.own })
-        result
-        (load_roots (world (F.tree files.old) folders.now) roots.now
-        (record { roots = []; state = state_seen state.old.stock state.old.own })) }
+    ensures gives { F.tells → Walks (λ into. roots_seen into.items state.new) result
+        (load_roots (world (F.tree files.old) folders.now) roots.now (roots_seen [] state.old)) }
     ensures held { OnOk result (state.new.stock.held.items ≡ state.old.stock.held.items) }
     ensures built { OnOk result (Becomes (top_head ∷ []) (state_seen state.old.stock state.old.own)
         (state_seen state.new.stock state.new.own)) }
@@ -292,7 +285,8 @@ pub fn enter_roots<F: Files>(
     let mut into = Vec::new(alloc);
     for root in roots {
         given = next(given, root);
-        let number = match enter_one(alloc, files, folders, state, given, root) {
+        let turn = Turn { given, root };
+        let number = match enter_one(alloc, files, folders, state, turn) {
             Ok(number) => number,
             Err(stop) => return Err(stop),
         };

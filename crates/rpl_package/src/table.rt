@@ -71,18 +71,25 @@ fn begun_at(blocks: u32, place: usize, rule: &Rule) -> u32
     }
 }
 
+/// A module: its number, and its package name.
+#[derive(Clone, Copy)]
+struct Owner<'a> {
+    number: usize,
+    label: &'a Chars,
+}
+
 /// The row of a rule up to which so many blocks have begun.
 fn row_of(
     alloc: Global,
-    label: &Chars,
-    from: usize,
+    owner: Owner<'_>,
     place: usize,
     blocks: u32,
     rule: &Rule,
 ) -> Result<Row, NoMemory>
-    ensures { IfOk result (λ r. r ≡ row_of label.now from place blocks (rule_seen rule.now)) }
+    ensures { IfOk result (λ r. r ≡ row_of owner.entry.label.now owner.entry.number place blocks
+        (rule_seen rule.now)) }
 {
-    let name = full_name(alloc, label, &rule.name)?;
+    let name = full_name(alloc, owner.label, &rule.name)?;
     let block = if in_block(rule) {
         Some(blocks.saturating_sub(1))
     } else {
@@ -90,7 +97,7 @@ fn row_of(
     };
     Ok(Row {
         name,
-        from,
+        from: owner.number,
         place,
         block,
     })
@@ -101,15 +108,14 @@ fn row_of(
 fn push_rules(
     alloc: Global,
     rows: &mut Vec<Row>,
-    label: &Chars,
-    from: usize,
+    owner: Owner<'_>,
     blocks: u32,
     rules: &[Rule],
 ) -> Result<u32, Stop>
     requires few { 2 + length rows.old.items ≤ 4294967295 }
     requires begun { blocks ≤ length rows.old.items }
-    ensures rows { OnOk result (rows.new.items ≡ rows.old.items ++ rows_of label.now from 0 blocks
-        (rules_seen rules.now)) }
+    ensures rows { OnOk result (rows.new.items ≡ rows.old.items
+        ++ rows_of owner.entry.label.now owner.entry.number 0 blocks (rules_seen rules.now)) }
     ensures few { OnOk result (2 + length rows.new.items ≤ 4294967295) }
     ensures begun { IfOk result (λ n. n ≤ length rows.new.items) }
     ensures blocks { IfOk result (λ n. n ≡ begun_in blocks 0 (rules_seen rules.now)) }
@@ -122,7 +128,7 @@ fn push_rules(
             return Err(Stop::Memory);
         }
         begun = begun_at(begun, place, rule);
-        let row = row_of(alloc, label, from, place, begun, rule)?;
+        let row = row_of(alloc, owner, place, begun, rule)?;
         rows.push(row)?;
         place += 1;
     }
@@ -141,7 +147,11 @@ pub fn table_of(alloc: Global, modules: &[Module]) -> Result<Table, Stop>
     for module in modules {
         let first = rows.len() + 2;
         firsts.push(first as u32)?;
-        blocks = match push_rules(alloc, &mut rows, &module.label, from, blocks, &module.rules) {
+        let owner = Owner {
+            number: from,
+            label: &module.label,
+        };
+        blocks = match push_rules(alloc, &mut rows, owner, blocks, &module.rules) {
             Ok(blocks) => blocks,
             Err(stop) => return Err(stop),
         };

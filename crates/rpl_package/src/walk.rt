@@ -1,37 +1,24 @@
 // The walk over a text and all that it imports.
-ghost use Rattle.std.specs.Prelude.{◌≡◌, ◌<◌, ℕ, All, List, OnOk, IfOk, IfErr, Some, None, length};
-ghost use Rattle.std.specs.Prelude.{[], ◌∷◌, ◌++◌};
+ghost use Rattle.std.specs.Prelude.{◌≡◌, All, OnOk, IfOk, IfErr, length};
 ghost use Rattle.rpl_syntax.specs.Modules.{said};
 ghost use Rattle.rpl_package.specs.Asking.{Walks};
-ghost use Rattle.rpl_package.specs.Built.{Becomes, IsAsked, IsSaid, Loads, Makes, Reaches};
+ghost use Rattle.rpl_package.specs.Built.{Becomes, IsAsked, IsSaid, Reaches};
+ghost use Rattle.rpl_package.specs.Loading.{checks, import_entries, import_entry, load_import};
+ghost use Rattle.rpl_package.specs.Loading.{with_text};
+ghost use Rattle.rpl_package.specs.Stocks.{stock_seen, state_seen};
 ghost use Rattle.rpl_package.specs.inside.Kept.{Keeps};
-ghost use Rattle.rpl_package.specs.Loading.{world, walk, load_import, import_entry, import_entries};
-ghost use Rattle.rpl_package.specs.Loading.{checks, own_text};
-ghost use Rattle.rpl_package.specs.Loading.{label_of, label_at, with_text};
-ghost use Rattle.rpl_package.specs.inside.Reading.{IsRead};
+ghost use Rattle.rpl_package.specs.inside.Leaving.{LeavesFiles};
+ghost use Rattle.rpl_package.specs.inside.Opening.{MakesOne, own_loaded, under};
 ghost use Rattle.rpl_scope.specs.Seen.{module_seen};
 ghost use Rattle.rpl_scope.specs.declared.fault.Stop.TheVariants.{Memory as OutOfMemory};
-ghost use Rattle.rpl_package.specs.Stocks.{stock_seen, state_seen};
-ghost use Rattle.rpl_package.specs.inside.Leaving.{LeavesFiles};
 
-use crate::locate::{Located, locate};
-use crate::reading::{Read, read_module};
-use crate::stock::{Stock, empty_module, finish, head_of, is_loading, is_taken};
+use crate::opening::{Importer, Opened, Walker, close, cycle_stop, open_import, open_own};
+use crate::stock::{Head, Stock, finish, is_loading};
 use rosie_io::Files;
-use rpl_scope::{LoadKind, Module, Stop, enter_items, fault_at, last_part, take_in};
-use rpl_syntax::{Import, Module as ParsedModule, QName};
+use rpl_scope::{Loaded, Module, ModuleText, Stop, enter_items, take_in};
+use rpl_syntax::{Import, Module as ParsedModule};
 use rpl_text::Chars;
 use std::alloc::Global;
-
-/// The most modules that may be loaded, the top module among them.
-pub const MAX_MODULES: usize = 1_024;
-
-/// A text that imports: its file, and the folders in which its imports are looked for.
-#[derive(Clone, Copy)]
-pub struct Importer<'a> {
-    pub file: &'a Chars,
-    pub folders: &'a [Chars],
-}
 
 /// One text more of a module.
 #[inline(never)]
@@ -47,173 +34,65 @@ fn push_text(alloc: Global, own: &mut Module, file: &Chars) -> Result<usize, Sto
 }
 
 /// The number of the module that an import names, which is loaded now.
+///
+/// Of what it holds while the imported text's own imports are loaded, only pointers stand on the
+/// stack: it calls itself as often as files are read one inside the other.
 #[cycle(load)]
 #[tactic(auto, using(rpl_scope::proofs::Stops::told, crate::proofs::Outcomes::may, crate::proofs::Outcomes::quiet))]
 pub fn load_import<F: Files>(
-    alloc: Global,
     files: &mut F,
     stock: &mut Stock,
-    importer: Importer<'_>,
+    walker: &Walker<'_>,
     import: &Import,
-    depth: usize,
 ) -> Result<usize, Stop>
     requires asked { IsAsked import.now }
-    ensures gives { F.tells → let w = world (F.tree files.old) importer.entry.folders.now in
-        Walks (λ n. (n, stock_seen stock.new)) result
-        (load_import w (walk w depth)
-        stock.old.held.items importer.entry.file.now import.now (stock_seen stock.old)) }
+    ensures gives { F.tells → Walks (λ n. (n, stock_seen stock.new)) result (under load_import
+        (F.tree files.old) walker.now stock.old.held.items import.now (stock_seen stock.old)) }
     ensures held { OnOk result (stock.new.held.items ≡ stock.old.held.items) }
     ensures kept { Keeps (stock_seen stock.old) (stock_seen stock.new) }
     ensures built { IfOk result (λ n. Reaches stock.old.held.items import.now.path
-        (stock_seen stock.old)
-        (n, stock_seen stock.new)) }
+        (stock_seen stock.old) (n, stock_seen stock.new)) }
     ensures files { LeavesFiles F.Source result files.old files.new }
 {
     if is_loading(&stock.held, &import.path) {
-        let kind = LoadKind::ImportCycle {
-            path: import.path.copy(alloc)?,
-        };
-        return Err(fault_at(alloc, importer.file, import.at, kind));
+        return Err(cycle_stop(walker.importer, import));
     }
     if let Some(number) = stock.paths.get(&import.path) {
         return Ok(number);
     }
-    let found = match locate(alloc, files, importer.folders, &import.path) {
-        Ok(Some(found)) => found,
-        Ok(None) => {
-            let kind = LoadKind::ImportMissing {
-                path: import.path.copy(alloc)?,
-            };
-            return Err(fault_at(alloc, importer.file, import.at, kind));
-        }
+    let Opened { read, mut own } = match open_import(files, stock, walker, import) {
+        Ok(opened) => opened,
         Err(stop) => return Err(stop),
     };
-    if stock.modules.len() >= MAX_MODULES || MAX_MODULES - stock.modules.len() <= stock.held.len() {
-        return Err(fault_at(alloc, importer.file, import.at, LoadKind::TooManyPackages));
-    }
-    let folders = importer.folders;
-    match load_module(alloc, files, folders, stock, &import.path, found, depth) {
-        Err(stop) => Err(stop),
-        Ok(from) => match finish(alloc, stock, from) {
-            Ok(number) => Ok(number),
-            Err(stop) => Err(stop),
-        },
-    }
-}
-
-/// The package name of an imported text, and the place where it is given.
-#[inline(never)]
-fn label_of(alloc: Global, name: &Option<QName>, path: &Chars) -> Result<(Chars, usize), Stop>
-    ensures ok { IfOk result (λ l. l ≡ (label_of name.now path.now, label_at name.now)) }
-    ensures memory { IfErr result (λ s. s ≡ OutOfMemory) }
-{
-    match name {
-        Some(name) => Ok((name.name.copy(alloc)?, name.at)),
-        None => Ok((last_part(alloc, path)?, 0)),
-    }
-}
-
-/// The module of an imported file.
-#[cycle(load)]
-#[tactic(auto, using(rpl_scope::proofs::Stops::told, crate::proofs::Outcomes::may, crate::proofs::Outcomes::quiet))]
-fn load_module<F: Files>(
-    alloc: Global,
-    files: &mut F,
-    folders: &[Chars],
-    stock: &mut Stock,
-    path: &Chars,
-    found: Located,
-    depth: usize,
-) -> Result<Module, Stop>
-    ensures gives { F.tells → (bytes : List ℕ) → IsRead found.read bytes →
-        Walks (λ m. state_seen stock.new m) result
-        (walk (world (F.tree files.old) folders.now) depth (stock_seen stock.old)
-        stock.old.held.items found.file
-        path.now bytes) }
-    ensures held { OnOk result (stock.new.held.items ≡ stock.old.held.items) }
-    ensures kept { Keeps (stock_seen stock.old) (stock_seen stock.new) }
-    ensures built { IfOk result (λ m. Loads stock.old.held.items path.now (stock_seen stock.old)
-        (state_seen stock.new m)) }
-    ensures files { LeavesFiles F.Source result files.old files.new }
-{
-    let Located { file, read } = found;
-    if depth == 0 {
-        return Err(fault_at(alloc, &file, 0, LoadKind::TooManyPackages));
-    }
-    let said = match read_module(alloc, &file, read) {
-        Ok(said) => said,
-        Err(stop) => return Err(stop),
+    let importer = Importer {
+        file: &read.file,
+        ..walker.importer
     };
-    let (label, at) = label_of(alloc, &said.package, path)?;
-    let place = Some(path.copy(alloc)?);
-    let file = &file;
-    let importer = Importer { file, folders };
-    let depth = depth - 1;
-    match load_own(
-        alloc, files, stock, importer, place, label, at, &said, depth,
-    ) {
-        Ok(from) => Ok(from),
-        Err(stop) => Err(stop),
-    }
-}
-
-/// The module of a text of its own: its package name first.
-#[cycle(load)]
-#[tactic(auto, using(rpl_scope::proofs::Stops::told, crate::proofs::Outcomes::may, crate::proofs::Outcomes::quiet))]
-pub fn load_own<F: Files>(
-    alloc: Global,
-    files: &mut F,
-    stock: &mut Stock,
-    importer: Importer<'_>,
-    path: Option<Chars>,
-    label: Chars,
-    at: usize,
-    text: &ParsedModule,
-    depth: usize,
-) -> Result<Module, Stop>
-    requires at { at ≡ label_at text.now.package }
-    requires said { IsSaid (said text.now) }
-    ensures gives { F.tells → let w = world (F.tree files.old) importer.entry.folders.now in
-        Walks (λ m. state_seen stock.new m) result
-        (own_text w (walk w depth)
-        (stock_seen stock.old) stock.old.held.items importer.entry.file.now path label
-        (said text.now)) }
-    ensures held { OnOk result (stock.new.held.items ≡ stock.old.held.items) }
-    ensures kept { Keeps (stock_seen stock.old) (stock_seen stock.new) }
-    ensures built { IfOk result (λ m. Makes stock.old.held.items path label (stock_seen stock.old)
-        (state_seen stock.new m)) }
-    ensures files { LeavesFiles F.Source result files.old files.new }
-{
-    if is_taken(stock, &label) {
-        let kind = LoadKind::Duplicate { name: label };
-        return Err(fault_at(alloc, importer.file, at, kind));
-    }
-    let head = head_of(alloc, &path, &label)?;
-    stock.held.push(head)?;
-    let mut own = empty_module(alloc, path, label);
-    if let Err(stop) = load_text(alloc, files, stock, &mut own, importer, text, depth) {
+    let inner = Walker {
+        importer,
+        depth: walker.depth - 1,
+    };
+    if let Err(stop) = load_text(files, stock, &mut own, &inner, &read.text) {
         return Err(stop);
     }
-    stock.held.pop();
-    Ok(own)
+    match close(walker.importer.alloc, stock, own) {
+        Ok(number) => Ok(number),
+        Err(stop) => Err(stop),
+    }
 }
 
 /// A text of the module at work: its imports, and then its statements.
 #[cycle(load)]
 pub fn load_text<F: Files>(
-    alloc: Global,
     files: &mut F,
     stock: &mut Stock,
     own: &mut Module,
-    importer: Importer<'_>,
+    walker: &Walker<'_>,
     text: &ParsedModule,
-    depth: usize,
 ) -> Result<(), Stop>
     requires said { IsSaid (said text.now) }
-    ensures gives { F.tells → let w = world (F.tree files.old) importer.entry.folders.now in
-        Walks (λ _. state_seen stock.new own.new) result
-        (checks w (walk w depth)
-        stock.old.held.items importer.entry.file.now (said text.now)
+    ensures gives { F.tells → Walks (λ _. state_seen stock.new own.new) result (under checks
+        (F.tree files.old) walker.now stock.old.held.items (said text.now)
         (state_seen stock.old own.old)) }
     ensures held { OnOk result (stock.new.held.items ≡ stock.old.held.items) }
     ensures kept { Keeps (stock_seen stock.old) (stock_seen stock.new) }
@@ -221,13 +100,15 @@ pub fn load_text<F: Files>(
         (state_seen stock.new own.new)) }
     ensures files { LeavesFiles F.Source result files.old files.new }
 {
-    let number = push_text(alloc, own, importer.file)?;
+    let Importer { alloc, file, .. } = walker.importer;
+    let number = push_text(alloc, own, file)?;
     let imports = text.imports.as_slice();
-    if let Err(stop) = enter_imports(alloc, files, stock, own, importer, imports, depth) {
+    if let Err(stop) = enter_imports(files, stock, own, walker, imports) {
         return Err(stop);
     }
     let items = text.items.as_slice();
-    if let Err(stop) = enter_items(alloc, &stock.modules, own, importer.file, number, items) {
+    let place = ModuleText { file, number };
+    if let Err(stop) = enter_items(alloc, &stock.modules, own, place, items) {
         return Err(stop);
     }
     Ok(())
@@ -236,19 +117,16 @@ pub fn load_text<F: Files>(
 /// Import entries in order.
 #[cycle(load)]
 pub fn enter_imports<F: Files>(
-    alloc: Global,
     files: &mut F,
     stock: &mut Stock,
     own: &mut Module,
-    importer: Importer<'_>,
+    walker: &Walker<'_>,
     imports: &[Import],
-    depth: usize,
 ) -> Result<(), Stop>
     requires asked { All IsAsked imports.now }
-    ensures gives { F.tells → let w = world (F.tree files.old) importer.entry.folders.now in
-        Walks (λ _. state_seen stock.new own.new) result
-        (import_entries w (walk w depth)
-        stock.old.held.items importer.entry.file.now imports.now (state_seen stock.old own.old)) }
+    ensures gives { F.tells → Walks (λ _. state_seen stock.new own.new) result (under import_entries
+        (F.tree files.old) walker.now stock.old.held.items imports.now
+        (state_seen stock.old own.old)) }
     ensures held { OnOk result (stock.new.held.items ≡ stock.old.held.items) }
     ensures kept { Keeps (stock_seen stock.old) (stock_seen stock.new) }
     ensures built { OnOk result (Becomes stock.old.held.items (state_seen stock.old own.old)
@@ -256,7 +134,7 @@ pub fn enter_imports<F: Files>(
     ensures files { LeavesFiles F.Source result files.old files.new }
 {
     for import in imports {
-        if let Err(stop) = enter_import(alloc, files, stock, own, importer, import, depth) {
+        if let Err(stop) = enter_import(files, stock, own, walker, import) {
             return Err(stop);
         }
     }
@@ -266,31 +144,65 @@ pub fn enter_imports<F: Files>(
 /// An import entry: the module that it names, and what that brings.
 #[cycle(load)]
 fn enter_import<F: Files>(
-    alloc: Global,
     files: &mut F,
     stock: &mut Stock,
     own: &mut Module,
-    importer: Importer<'_>,
+    walker: &Walker<'_>,
     import: &Import,
-    depth: usize,
 ) -> Result<(), Stop>
     requires asked { IsAsked import.now }
-    ensures gives { F.tells → let w = world (F.tree files.old) importer.entry.folders.now in
-        Walks (λ _. state_seen stock.new own.new) result
-        (import_entry w (walk w depth)
-        stock.old.held.items importer.entry.file.now import.now (state_seen stock.old own.old)) }
+    ensures gives { F.tells → Walks (λ _. state_seen stock.new own.new) result (under import_entry
+        (F.tree files.old) walker.now stock.old.held.items import.now
+        (state_seen stock.old own.old)) }
     ensures held { OnOk result (stock.new.held.items ≡ stock.old.held.items) }
     ensures kept { Keeps (stock_seen stock.old) (stock_seen stock.new) }
     ensures built { OnOk result (Becomes stock.old.held.items (state_seen stock.old own.old)
         (state_seen stock.new own.new)) }
     ensures files { LeavesFiles F.Source result files.old files.new }
 {
-    let number = match load_import(alloc, files, stock, importer, import, depth) {
+    let number = match load_import(files, stock, walker, import) {
         Ok(number) => number,
         Err(stop) => return Err(stop),
     };
-    if let Err(stop) = take_in(alloc, &stock.modules, own, importer.file, import, number) {
+    let Importer { alloc, file, .. } = walker.importer;
+    let from = Loaded {
+        modules: &stock.modules,
+        number,
+    };
+    if let Err(stop) = take_in(alloc, own, file, import, from) {
         return Err(stop);
     }
     Ok(())
+}
+
+/// The number of the module of a text of its own, which is loaded now: its package name first.
+pub fn load_own<F: Files>(
+    files: &mut F,
+    stock: &mut Stock,
+    walker: &Walker<'_>,
+    head: Head,
+    text: &ParsedModule,
+) -> Result<usize, Stop>
+    requires said { IsSaid (said text.now) }
+    ensures gives { F.tells → Walks (λ n. (n, stock_seen stock.new)) result (under own_loaded
+        (F.tree files.old) walker.now stock.old.held.items head (said text.now)
+        (stock_seen stock.old)) }
+    ensures held { OnOk result (stock.new.held.items ≡ stock.old.held.items) }
+    ensures kept { Keeps (stock_seen stock.old) (stock_seen stock.new) }
+    ensures built { IfOk result (λ n. MakesOne stock.old.held.items head (stock_seen stock.old)
+        (n, stock_seen stock.new)) }
+    ensures files { LeavesFiles F.Source result files.old files.new }
+{
+    let mut own = match open_own(stock, walker.importer, head, text) {
+        Ok(own) => own,
+        Err(stop) => return Err(stop),
+    };
+    if let Err(stop) = load_text(files, stock, &mut own, walker, text) {
+        return Err(stop);
+    }
+    stock.held.pop();
+    match finish(walker.importer.alloc, stock, own) {
+        Ok(number) => Ok(number),
+        Err(stop) => Err(stop),
+    }
 }

@@ -9,8 +9,7 @@ ghost use Rattle.std.specs.Prelude.{IfOk};
 use crate::NoMemory;
 use crate::bodies::Use;
 use crate::fault::{LoadKind, Stop, fault_at};
-use crate::module::Module;
-use crate::scope::{Found, find};
+use crate::scope::{Found, Scope, find};
 use rpl_macro::check_use;
 use rpl_syntax::QName;
 use rpl_text::Chars;
@@ -31,20 +30,13 @@ pub fn written(alloc: Global, name: &QName) -> Result<Chars, NoMemory>
     }
 }
 
-/// A name in a statement of the module `own` with this start.
+/// A name that is written there.
 #[tactic(auto, using(crate::proofs::Stops::told))]
-fn check_name(
-    alloc: Global,
-    file: &Chars,
-    modules: &[Module],
-    own: &Module,
-    start: usize,
-    name: &QName,
-) -> Result<(), Stop>
-    ensures { Checks result (named_fault file.now (modules_seen modules.now) (module_seen own.now)
-        start name.now) }
+fn check_name(alloc: Global, file: &Chars, scope: Scope<'_>, name: &QName) -> Result<(), Stop>
+    ensures { Checks result (named_fault file.now (modules_seen scope.entry.modules.now)
+        (module_seen scope.entry.own.now) scope.entry.start name.now) }
 {
-    match find(modules, own, start, name) {
+    match find(scope, name) {
         Found::To(_) => Ok(()),
         Found::Unknown => {
             let kind = LoadKind::UnknownName {
@@ -61,23 +53,18 @@ fn check_name(
     }
 }
 
-/// Names in statements of the module `own` with this start.
+/// Names that are written there: the first one that stands for nothing is a fault of the file.
 pub fn check_names(
     alloc: Global,
     file: &Chars,
-    modules: &[Module],
-    own: &Module,
-    start: usize,
+    scope: Scope<'_>,
     names: &[&QName],
 ) -> Result<(), Stop>
-    ensures { Checks result (names_fault file.now (modules_seen modules.now) (module_seen own.now)
-        start
-        (map (λ q. q.now) names.now)) }
+    ensures { Checks result (names_fault file.now (modules_seen scope.entry.modules.now)
+        (module_seen scope.entry.own.now) scope.entry.start (map (λ q. q.now) names.now)) }
 {
     for name in names {
-        if let Err(stop) = check_name(alloc, file, modules, own, start, name) {
-            return Err(stop);
-        }
+        check_name(alloc, file, scope, name)?;
     }
     Ok(())
 }
@@ -104,9 +91,7 @@ pub fn check_macros(alloc: Global, file: &Chars, uses: &[Use<'_>]) -> Result<(),
     ensures { Checks result (macros_fault file.now (map use_seen uses.now)) }
 {
     for used in uses {
-        if let Err(stop) = check_macro(alloc, file, *used) {
-            return Err(stop);
-        }
+        check_macro(alloc, file, *used)?;
     }
     Ok(())
 }

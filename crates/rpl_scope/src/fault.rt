@@ -62,6 +62,13 @@ pub struct LoadFault {
     pub kind: LoadKind,
 }
 
+/// A place in a file: the byte place `at`.
+#[derive(Clone, Copy)]
+pub struct Place<'a> {
+    pub file: &'a Chars,
+    pub at: usize,
+}
+
 /// Why a call of this crate stops.
 #[derive(Debug, Drop)]
 pub enum Stop {

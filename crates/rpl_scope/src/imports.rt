@@ -11,11 +11,26 @@ ghost use Rattle.rpl_scope.specs.Seen.{module_seen, modules_seen, rule_seen, rul
 
 use crate::NoMemory;
 use crate::enter::rules_so_far;
-use crate::fault::{LoadKind, Stop, fault_at};
+use crate::fault::{LoadKind, Place, Stop, fault_at};
 use crate::module::{Entry, Module, Prefix, Referent, Rule};
 use rpl_syntax::{Import, ImportAs};
 use rpl_text::Chars;
 use std::alloc::Global;
+
+/// A loaded module: the one with this number among these.
+#[derive(Clone, Copy)]
+pub struct Loaded<'a> {
+    pub modules: &'a [Module],
+    pub number: usize,
+}
+
+/// A rule that a module takes in: the number of its module, its own number there, and itself.
+#[derive(Clone, Copy)]
+struct Foreign<'a> {
+    owner: usize,
+    number: usize,
+    rule: &'a Rule,
+}
 
 /// The last name of a path.
 pub fn last_part(alloc: Global, path: &Chars) -> Result<Chars, NoMemory>
@@ -55,13 +70,12 @@ pub fn put_prefix(
 pub fn add_prefix(
     alloc: Global,
     own: &mut Module,
-    file: &Chars,
-    at: usize,
+    place: Place<'_>,
     prefix: &Chars,
     number: usize,
 ) -> Result<(), Stop>
     ensures gives { Gives (λ _. module_seen own.new) result
-        (add_prefix file.now at prefix.now number (module_seen own.old)) }
+        (add_prefix place.entry.file.now place.entry.at prefix.now number (module_seen own.old)) }
     ensures kept { OnErr result (module_seen own.new ≡ module_seen own.old) }
 {
     match own.prefixes.get(prefix) {
@@ -72,7 +86,7 @@ pub fn add_prefix(
             let kind = LoadKind::Duplicate {
                 name: prefix.copy(alloc)?,
             };
-            Err(fault_at(alloc, file, at, kind))
+            Err(fault_at(alloc, place.file, place.at, kind))
         }
         None => {
             let since = rules_so_far(own);
@@ -95,32 +109,35 @@ fn is_same(referent: Referent, number: usize, rule: usize) -> bool
     }
 }
 
-/// The name of a rule of the module with this number, where others see it.
+/// The name of a rule of another module, where others see it.
 #[tactic(auto, using(crate::proofs::Stops::told))]
 fn add_name(
     alloc: Global,
     own: &mut Module,
-    file: &Chars,
-    at: usize,
-    number: usize,
-    place: usize,
-    rule: &Rule,
+    place: Place<'_>,
+    foreign: Foreign<'_>,
 ) -> Result<(), Stop>
     ensures { Gives (λ _. module_seen own.new) result
-        (add_name file.now at number (place, rule_seen rule.now) (module_seen own.old)) }
+        (add_name place.entry.file.now place.entry.at foreign.entry.owner
+        (foreign.entry.number, rule_seen foreign.entry.rule.now) (module_seen own.old)) }
 {
+    let Foreign {
+        owner,
+        number,
+        rule,
+    } = foreign;
     if rule.local || rule.hidden {
         return Ok(());
     }
     match own.names.get(&rule.name) {
         Some(there) => {
-            if is_same(there.referent, number, place) {
+            if is_same(there.referent, owner, number) {
                 return Ok(());
             }
             let kind = LoadKind::Duplicate {
                 name: rule.name.copy(alloc)?,
             };
-            Err(fault_at(alloc, file, at, kind))
+            Err(fault_at(alloc, place.file, place.at, kind))
         }
         None => {
             let entry = Entry {
@@ -128,8 +145,8 @@ fn add_name(
                 local: false,
                 hidden: false,
                 referent: Referent::Of {
-                    module: number,
-                    rule: place,
+                    module: owner,
+                    rule: number,
                 },
             };
             own.names.put(alloc, &rule.name, entry)?;
@@ -142,46 +159,52 @@ fn add_name(
 fn add_names(
     alloc: Global,
     own: &mut Module,
-    file: &Chars,
-    at: usize,
-    number: usize,
+    place: Place<'_>,
+    owner: usize,
     rules: &[Rule],
 ) -> Result<(), Stop>
     ensures { Gives (λ _. module_seen own.new) result
-        (in_turn (add_name file.now at number) (numbered 0 (rules_seen rules.now))
-        (module_seen own.old)) }
+        (in_turn (add_name place.entry.file.now place.entry.at owner)
+        (numbered 0 (rules_seen rules.now)) (module_seen own.old)) }
 {
-    let mut place = 0;
+    let mut number = 0;
     for rule in rules {
-        if let Err(stop) = add_name(alloc, own, file, at, number, place, rule) {
-            return Err(stop);
-        }
-        place += 1;
+        let foreign = Foreign {
+            owner,
+            number,
+            rule,
+        };
+        add_name(alloc, own, place, foreign)?;
+        number += 1;
     }
     Ok(())
 }
 
-/// What an import brings of the loaded module with this number.
+/// What an import in this file brings of a loaded module.
 #[inline(never)]
 pub fn take_in(
     alloc: Global,
-    modules: &[Module],
     own: &mut Module,
     file: &Chars,
     import: &Import,
-    number: usize,
+    from: Loaded<'_>,
 ) -> Result<(), Stop>
     ensures { Gives (λ _. module_seen own.new) result
-        (take_in file.now import.now number (modules_seen modules.now) (module_seen own.old)) }
+        (take_in file.now import.now from.entry.number (modules_seen from.entry.modules.now)
+        (module_seen own.old)) }
 {
+    let place = Place {
+        file,
+        at: import.at,
+    };
     match &import.name {
         ImportAs::Last => {
             let prefix = last_part(alloc, &import.path)?;
-            add_prefix(alloc, own, file, import.at, &prefix, number)
+            add_prefix(alloc, own, place, &prefix, from.number)
         }
-        ImportAs::Named(prefix) => add_prefix(alloc, own, file, import.at, prefix, number),
-        ImportAs::Plain => match modules.get(number) {
-            Some(from) => add_names(alloc, own, file, import.at, number, &from.rules),
+        ImportAs::Named(prefix) => add_prefix(alloc, own, place, prefix, from.number),
+        ImportAs::Plain => match from.modules.get(from.number) {
+            Some(module) => add_names(alloc, own, place, from.number, &module.rules),
             None => Ok(()),
         },
     }

@@ -20,11 +20,11 @@ mod texts;
 
 pub use bodies::{Use, push_names, push_uses};
 pub use checks::{check_macros, check_names, written};
-pub use fault::{LoadFault, LoadKind, Stop, fault_at};
-pub use imports::{add_prefix, last_part, put_prefix, take_in};
-pub use module::{Entry, Module, Prefix, Referent, Rule};
+pub use fault::{LoadFault, LoadKind, Place, Stop, fault_at};
+pub use imports::{Loaded, add_prefix, last_part, put_prefix, take_in};
+pub use module::{Entry, Module, ModuleText, Prefix, Referent, Rule};
 pub use named::Named;
 pub use rpl_text::NoMemory;
-pub use scope::{Found, find, find_plain};
+pub use scope::{Found, Scope, find, find_plain};
 pub use statements::enter_items;
 pub use texts::same;

@@ -8,6 +8,15 @@ use crate::module::{Entry, Module, Prefix, Referent};
 use rpl_syntax::QName;
 use rpl_text::Chars;
 
+/// Where a name is written: the loaded modules, the module at work, and the start of the statement
+/// there.
+#[derive(Clone, Copy)]
+pub struct Scope<'a> {
+    pub modules: &'a [Module],
+    pub own: &'a Module,
+    pub start: usize,
+}
+
 /// What a name stands for.
 #[derive(Clone, Copy, Debug, PartialEq, Eq)]
 pub enum Found {
@@ -92,10 +101,16 @@ fn prefixed(modules: &[Module], start: usize, name: &Chars, prefix: Option<Prefi
     }
 }
 
-/// What a name stands for in a module, in a statement with this start.
-pub fn find(modules: &[Module], own: &Module, start: usize, name: &QName) -> Found
-    ensures { result ≡ bound (modules_seen modules.now) (module_seen own.now) start name.now }
+/// What a name stands for where it is written.
+pub fn find(scope: Scope<'_>, name: &QName) -> Found
+    ensures { result ≡ bound (modules_seen scope.entry.modules.now)
+        (module_seen scope.entry.own.now) scope.entry.start name.now }
 {
+    let Scope {
+        modules,
+        own,
+        start,
+    } = scope;
     match &name.prefix {
         None => find_plain(own, start, name.name.as_str()),
         Some(prefix) => {

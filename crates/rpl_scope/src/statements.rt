@@ -14,55 +14,61 @@ use crate::bodies::{Use, push_names, push_uses};
 use crate::checks::{check_macros, check_names};
 use crate::enter::{enter, rules_so_far};
 use crate::fault::Stop;
-use crate::module::{Module, Rule};
+use crate::module::{Module, ModuleText, Rule};
+use crate::scope::Scope;
 use rpl_syntax::{Binding, Item, QName};
 use rpl_text::Chars;
 use std::alloc::Global;
 
-/// The rule of a binding in the text with this number.
+/// A part of a statement: a binding alone, or a half of a block.
+#[derive(Clone, Copy)]
+struct Part {
+    /// How many rules the module has before the statement.
+    start: usize,
+    /// It is seen in its own block alone.
+    hidden: bool,
+}
+
+/// The rule of a binding in the text with this number, whose name counts from that start on.
 fn rule_of(
     alloc: Global,
-    binding: &Binding,
     text: usize,
-    start: usize,
+    part: Part,
     since: usize,
-    hidden: bool,
+    binding: &Binding,
 ) -> Result<Rule, NoMemory>
     ensures { IfOk result (λ r. rule_seen r
-        ≡ rule_of text start since hidden (S.rule_of binding.now)) }
+        ≡ rule_of text part.start since part.hidden (S.rule_of binding.now)) }
 {
     Ok(Rule {
         name: binding.name.copy(alloc)?,
         text,
         at: binding.at,
-        start,
+        start: part.start,
         since,
         local: binding.local,
         alias: binding.alias,
-        hidden,
+        hidden: part.hidden,
         body: binding.body.copy(alloc)?,
     })
 }
 
-/// One half of a block, which starts where the module has so many rules.
+/// One half of a block: its names count in the whole block.
 fn enter_half(
     alloc: Global,
     own: &mut Module,
-    file: &Chars,
-    text: usize,
-    start: usize,
-    hidden: bool,
+    text: ModuleText<'_>,
+    half: Part,
     bindings: &[Binding],
 ) -> Result<(), Stop>
     ensures { Gives (λ _. module_seen own.new) result
-        (enter_all file.now (block_rules text start hidden (S.rules_of bindings.now))
+        (enter_all text.entry.file.now
+        (block_rules text.entry.number half.start half.hidden (S.rules_of bindings.now))
         (module_seen own.old)) }
 {
     for binding in bindings {
-        let rule = rule_of(alloc, binding, text, start, start, hidden)?;
-        if let Err(stop) = enter(alloc, own, file, rule) {
-            return Err(stop);
-        }
+        let rule = rule_of(alloc, text.number, half, half.start, binding)?;
+        enter(alloc, own, text.file, rule)?;
     }
     Ok(())
 }
@@ -89,126 +95,114 @@ fn gather_uses<'a>(bindings: &'a [Binding], all: &mut Vec<Use<'a>>) -> Result<()
     Ok(())
 }
 
-/// The names, and then the macros, of bindings in two halves that start where their module has so
-/// many rules.
+/// The names, and then the macros, of bindings in two halves.
 fn check_bodies(
     alloc: Global,
     file: &Chars,
-    modules: &[Module],
-    own: &Module,
-    start: usize,
+    scope: Scope<'_>,
     hidden: &[Binding],
     visible: &[Binding],
 ) -> Result<(), Stop>
-    ensures { Checks result (bodies_fault file.now (modules_seen modules.now) start
-        (S.rules_of hidden.now ++ S.rules_of visible.now) (module_seen own.now)) }
+    ensures { Checks result (bodies_fault file.now (modules_seen scope.entry.modules.now)
+        scope.entry.start (S.rules_of hidden.now ++ S.rules_of visible.now)
+        (module_seen scope.entry.own.now)) }
 {
     let mut names = Vec::new(alloc);
     gather_names(hidden, &mut names)?;
     gather_names(visible, &mut names)?;
-    if let Err(stop) = check_names(alloc, file, modules, own, start, &names) {
-        return Err(stop);
-    }
+    check_names(alloc, file, scope, &names)?;
     let mut uses = Vec::new(alloc);
     gather_uses(hidden, &mut uses)?;
     gather_uses(visible, &mut uses)?;
     check_macros(alloc, file, &uses)
 }
 
-/// A binding, or the two halves of a block, which starts where the module has so many rules.
+/// The rules of a statement that starts where the module has so many rules.
 fn enter_rules(
     alloc: Global,
     own: &mut Module,
-    file: &Chars,
-    text: usize,
+    text: ModuleText<'_>,
     start: usize,
     item: &Item,
 ) -> Result<(), Stop>
     requires { start < 2 ^ 63 }
     ensures { Gives (λ _. module_seen own.new) result
-        (enter_all file.now (rules_of text start (S.entry_of item.now)) (module_seen own.old)) }
+        (enter_all text.entry.file.now (rules_of text.entry.number start (S.entry_of item.now))
+        (module_seen own.old)) }
 {
+    let seen = Part {
+        start,
+        hidden: false,
+    };
     match item {
         Item::Binding(binding) => {
-            let rule = rule_of(alloc, binding, text, start, start + 1, false)?;
-            enter(alloc, own, file, rule)
+            let rule = rule_of(alloc, text.number, seen, start + 1, binding)?;
+            enter(alloc, own, text.file, rule)
         }
         Item::Block { hidden, visible } => {
-            if let Err(stop) = enter_half(alloc, own, file, text, start, true, hidden.as_slice()) {
-                return Err(stop);
-            }
-            enter_half(alloc, own, file, text, start, false, visible.as_slice())
+            let unseen = Part {
+                start,
+                hidden: true,
+            };
+            enter_half(alloc, own, text, unseen, hidden.as_slice())?;
+            enter_half(alloc, own, text, seen, visible.as_slice())
         }
     }
 }
 
-/// The names, and then the macros, of a statement that starts where its module has so many rules.
-fn check_item(
-    alloc: Global,
-    file: &Chars,
-    modules: &[Module],
-    own: &Module,
-    start: usize,
-    item: &Item,
-) -> Result<(), Stop>
-    ensures { Checks result (bodies_fault file.now (modules_seen modules.now) start
-        (bindings_of (S.entry_of item.now))
-        (module_seen own.now)) }
+/// The names, and then the macros, of a statement.
+fn check_item(alloc: Global, file: &Chars, scope: Scope<'_>, item: &Item) -> Result<(), Stop>
+    ensures { Checks result (bodies_fault file.now (modules_seen scope.entry.modules.now)
+        scope.entry.start (bindings_of (S.entry_of item.now)) (module_seen scope.entry.own.now)) }
 {
     match item {
         Item::Binding(binding) => {
             let alone = std::slice::from_ref(binding);
-            check_bodies(alloc, file, modules, own, start, &[], alone)
+            check_bodies(alloc, file, scope, &[], alone)
         }
         Item::Block { hidden, visible } => {
-            let (hidden, visible) = (hidden.as_slice(), visible.as_slice());
-            check_bodies(alloc, file, modules, own, start, hidden, visible)
+            check_bodies(alloc, file, scope, hidden.as_slice(), visible.as_slice())
         }
     }
 }
 
-/// A statement of the text with this number: its rules are entered; then come its names, and then
-/// its macros.
+/// A statement of a text: its rules are entered; then come its names, and then its macros.
 fn enter_item(
     alloc: Global,
     modules: &[Module],
     own: &mut Module,
-    file: &Chars,
-    text: usize,
+    text: ModuleText<'_>,
     item: &Item,
 ) -> Result<(), Stop>
     ensures { Gives (λ _. module_seen own.new) result
-        (statement file.now text (modules_seen modules.now) (S.entry_of item.now)
-        (module_seen own.old)) }
+        (statement text.entry.file.now text.entry.number (modules_seen modules.now)
+        (S.entry_of item.now) (module_seen own.old)) }
 {
     let start = rules_so_far(own);
-    if let Err(stop) = enter_rules(alloc, own, file, text, start, item) {
-        return Err(stop);
-    }
-    if let Err(stop) = check_item(alloc, file, modules, own, start, item) {
-        return Err(stop);
-    }
-    Ok(())
+    enter_rules(alloc, own, text, start, item)?;
+    let scope = Scope {
+        modules,
+        own,
+        start,
+    };
+    check_item(alloc, text.file, scope, item)
 }
 
-/// The statements of the text with this number, in order.
+/// The statements of a text, in order.
 #[inline(never)]
 pub fn enter_items(
     alloc: Global,
     modules: &[Module],
     own: &mut Module,
-    file: &Chars,
-    text: usize,
+    text: ModuleText<'_>,
     items: &[Item],
 ) -> Result<(), Stop>
     ensures { Gives (λ _. module_seen own.new) result
-        (statements file.now text (modules_seen modules.now) (S.entries_of items.now)
-        (module_seen own.old)) }
+        (statements text.entry.file.now text.entry.number (modules_seen modules.now)
+        (S.entries_of items.now) (module_seen own.old)) }
 {
     for item in items {
-        if let Err(stop) = enter_item(alloc, modules, own, file, text, item) {
-            return Err(stop);
-        }
+        enter_item(alloc, modules, own, text, item)?;
     }
     Ok(())
 }

@@ -1,6 +1,5 @@
-use Rattle.std.proofs.Common.{rules, ◌≡◌, None, ap, sym, subst, ◌∙◌}
-use Rattle.std.specs.Prelude.{Ok, codes}
-use Rattle.std.proofs.lemmas.Str.{chars-IsAscii}
+use Rattle.std.proofs.Common.{◌≡◌, None, ap, sym, subst, ◌∙◌}
+use Rattle.std.specs.Prelude.{Ok}
 use Rattle.rpl_syntax.specs.View.{expr_of}
 use Rattle.rpl_scope.specs.Faults.{◌>>=◌}
 use Rattle.rpl_package.specs.Asking.{at_once, and_then}
@@ -14,18 +13,18 @@ use Rattle.rpl_package.proofs.Outcomes.{same, may_lead, may_then, then_follows}
 use Rattle.rpl_package.proofs.pattern.enter_pattern.Goals as goal
 
 pub read_goal-requires : goal.read_goal-requires
-read_goal-requires g c = c.in_ok-file.ensures ∙ chars-IsAscii (codes "(pattern)") (search rules)
+read_goal-requires g c = c.requires.file
 
 pub returns-in-Err-clause-files : goal.returns-in-Err-clause-files
 returns-in-Err-clause-files g c = unread g.F.Source c.in-Err.stop _ c.in-Err.ensures.loud
 
 pub returns-in-Err-enter_expr-clause-gives : goal.returns-in-Err-enter_expr-clause-gives
 returns-in-Err-enter_expr-clause-gives g c = λ tells r h.
-    let W = world (g.F.Source.tree c.args.files.now) c.args.folders.now in
+    let W = world (g.F.Source.tree c.args.files.now) c.args.importer.folders.now in
     let S = stock_seen c.args.stock.now in
     let i = c.args.top in
     let x = expr_of c.in-Ok.e in
-    let file = c.in_ok-file.ensures ∙ chars-IsAscii (codes "(pattern)") (search rules) in
+    let file = c.requires.file in
     let s = c.in-Err-enter_expr.stop in
     may_lead s _ _ (then_follows (at_once r) x (λ e. and_then (enter_pattern W pattern_file i S e) (λ t. at_once (Ok (e, t)))) (c.in-Ok.ensures.gives r h))
     (may_then s (enter_pattern W pattern_file i S x) (λ t. at_once (Ok (x, t)))
@@ -33,16 +32,16 @@ returns-in-Err-enter_expr-clause-gives g c = λ tells r h.
 
 pub returns-clause-right : goal.returns-clause-right
 returns-clause-right g c =
-    let file = c.in_ok-file.ensures ∙ chars-IsAscii (codes "(pattern)") (search rules) in
+    let file = c.requires.file in
     let S = stock_seen c.enter_expr.new.stock in
     subst (λ f. pattern_fault f (expr_of c.in-Ok.e) S.modules (nth S.modules c.args.top) ≡ None) file c.in_default.ensures.right
 
 pub returns-clause-gives : goal.returns-clause-gives
 returns-clause-gives g c = λ tells r h.
-    let W = world (g.F.Source.tree c.args.files.now) c.args.folders.now in
+    let W = world (g.F.Source.tree c.args.files.now) c.args.importer.folders.now in
     let S = stock_seen c.args.stock.now in
     let i = c.args.top in
     let x = expr_of c.in-Ok.e in
-    let file = c.in_ok-file.ensures ∙ chars-IsAscii (codes "(pattern)") (search rules) in
+    let file = c.requires.file in
     ap (λ q. q >>= λ y. (and_then (enter_pattern W pattern_file i S y) (λ t. at_once (Ok (y, t)))).answer) (c.in-Ok.ensures.gives r h)
     ∙ ap (λ q. q >>= λ t. Ok (x, t)) (ap (λ f. (enter_pattern W f i S x).answer) (sym file) ∙ c.in_default.ensures.gives tells)

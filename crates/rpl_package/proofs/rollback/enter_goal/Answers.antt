@@ -1,4 +1,6 @@
-use Rattle.std.proofs.Common.{ℕ, List, Option, ap, sym, subst}
+use Rattle.std.proofs.Common.{rules, ℕ, List, Option, ap, sym, subst, ◌∙◌}
+use Rattle.std.specs.Prelude.{codes}
+use Rattle.std.proofs.lemmas.Str.{chars-IsAscii}
 use Rattle.std.proofs.Math.Logic.{∥∥₁_map}
 use Rattle.rpl_scope.specs.Seen.{modules_seen}
 use Rattle.rpl_package.specs.Built.{IsBuilt, packages}
@@ -7,6 +9,9 @@ use Rattle.rpl_package.specs.Roots.{Packages}
 use Rattle.rpl_package.specs.inside.Numbering.{IsTable}
 use Rattle.rpl_package.proofs.Returning.{cut_home, same_inside, more_inside, more_within}
 use Rattle.rpl_package.proofs.rollback.enter_goal.Goals as goal
+
+pub enter_pattern-requires-clause-file : goal.enter_pattern-requires-clause-file
+enter_pattern-requires-clause-file g c = c.in_ok-file.ensures ∙ chars-IsAscii (codes "(pattern)") (search rules)
 
 abbrev pack : Stock → ℕ → List (Option ℕ) → Packages
 pack s i rs = record { stock = s; top = i; roots = rs }

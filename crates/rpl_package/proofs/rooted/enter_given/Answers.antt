@@ -9,7 +9,7 @@ use Rattle.rpl_package.proofs.rooted.enter_given.Goals as goal
 
 pub returns-in-Err-clause-gives : goal.returns-in-Err-clause-gives
 returns-in-Err-clause-gives g c = λ tells.
-    let W = world (g.F.Source.tree c.args.files.now) c.args.folders.now in
+    let W = world (g.F.Source.tree c.args.files.now) c.args.importer.folders.now in
     let s0 = state_seen c.args.state.now.stock c.args.state.now.own in
-    let r = module_text c.args.file.now (encode_utf8_all c.args.text.now) in
-    may_then c.in-Err.stop (at_once r) (λ t. root_text W c.args.file.now t t.name s0) (may c.in-Err.stop r c.in-Err.ensures.gives)
+    let r = module_text c.args.importer.file.now (encode_utf8_all c.args.text.now) in
+    may_then c.in-Err.stop (at_once r) (λ t. root_text W c.args.importer.file.now t t.name s0) (may c.in-Err.stop r c.in-Err.ensures.gives)

@@ -11,8 +11,8 @@ use Rattle.rpl_package.proofs.rooted.enter_root.Goals as goal
 
 pub returns-in-Err-clause-gives : goal.returns-in-Err-clause-gives
 returns-in-Err-clause-gives g c = λ tells.
-    let W = world (g.F.Source.tree c.args.files.now) c.args.folders.now in
-    let f = c.args.file.now in
+    let W = world (g.F.Source.tree c.args.files.now) c.args.importer.folders.now in
+    let f = c.args.importer.file.now in
     let m = said c.args.text.now in
     let s0 = state_seen c.args.state.now.stock c.args.state.now.own in
     let s = c.in-Err.stop in
@@ -22,8 +22,8 @@ returns-in-Err-clause-gives g c = λ tells.
 
 pub returns-in_default-clause-gives : goal.returns-in_default-clause-gives
 returns-in_default-clause-gives g c = λ tells.
-    let W = world (g.F.Source.tree c.args.files.now) c.args.folders.now in
-    let f = c.args.file.now in
+    let W = world (g.F.Source.tree c.args.files.now) c.args.importer.folders.now in
+    let f = c.args.importer.file.now in
     let m = said c.args.text.now in
     let s0 = state_seen c.args.state.now.stock c.args.state.now.own in
     let moved = ap (λ h. (checks W (walk W 1024) h f m s0).answer) (sym c.requires.held) in

@@ -6,6 +6,7 @@ use Rattle.rpl_package.specs.Built.{Becomes}
 use Rattle.rpl_package.specs.Roots.{AreWithin, counted, root_entry, top_head}
 use Rattle.rpl_package.specs.Stocks.{state_seen}
 use Rattle.rpl_package.specs.inside.Leaving.{LeavesFiles}
+use Rattle.rpl_package.specs.inside.Rooting.{roots_seen}
 use Rattle.rpl_package.proofs.Outcomes.{Follows}
 use Rattle.rpl_package.proofs.rooted.enter_roots.Given as goal
 
@@ -19,6 +20,6 @@ invariant-loop-root g l =
       within : AreWithin l.into.items (length l.state.stock.modules.items);
       built : Becomes (top_head ∷ []) (state_seen l.fn.state.stock l.fn.state.own) (state_seen l.state.stock l.state.own);
       left : g.F.Source.tells → Follows
-          (each_in_turn (root_entry (world (g.F.Source.tree l.fn.files) l.folders)) (counted l.given (drop l.root-index l.roots)) (record { roots = l.into.items; state = state_seen l.state.stock l.state.own }))
-          (each_in_turn (root_entry (world (g.F.Source.tree l.fn.files) l.folders)) (counted 0 l.roots) (record { roots = []; state = state_seen l.fn.state.stock l.fn.state.own }));
+          (each_in_turn (root_entry (world (g.F.Source.tree l.fn.files) l.folders)) (counted l.given (drop l.root-index l.roots)) (roots_seen l.into.items l.state))
+          (each_in_turn (root_entry (world (g.F.Source.tree l.fn.files) l.folders)) (counted 0 l.roots) (roots_seen [] l.fn.state));
     }

@@ -1,30 +1,25 @@
 use Rattle.std.proofs.Common.{◌≡◌, ◌+◌, ◌*◌, drop}
 use Rattle.std.specs.Prelude.{Ok}
-use Rattle.rpl_package.specs.Loading.{world, walk, import_entries}
+use Rattle.rpl_package.specs.Loading.{import_entries}
 use Rattle.rpl_package.specs.Built.{Becomes}
-use Rattle.rpl_package.specs.inside.Kept.{Keeps}
 use Rattle.rpl_package.specs.Stocks.{stock_seen, state_seen}
+use Rattle.rpl_package.specs.inside.Following.{Follows}
+use Rattle.rpl_package.specs.inside.Kept.{Keeps}
 use Rattle.rpl_package.specs.inside.Leaving.{LeavesFiles}
-use Rattle.rpl_package.proofs.Outcomes.{Follows}
+use Rattle.rpl_package.specs.inside.Opening.{under}
 use Rattle.rpl_package.proofs.walk.+load.Given as goal
 
-abbrev pub decreases-load_module : goal.decreases-load_module
-decreases-load_module g l = 6 * l.depth + 0
-
 abbrev pub decreases-load_import : goal.decreases-load_import
-decreases-load_import g l = 6 * l.depth + 1
+decreases-load_import g l = 4 * l.walker.now.depth + 0
 
 abbrev pub decreases-enter_import : goal.decreases-enter_import
-decreases-enter_import g l = 6 * l.depth + 2
+decreases-enter_import g l = 4 * l.walker.now.depth + 1
 
 abbrev pub decreases-enter_imports : goal.decreases-enter_imports
-decreases-enter_imports g l = 6 * l.depth + 3
+decreases-enter_imports g l = 4 * l.walker.now.depth + 2
 
 abbrev pub decreases-load_text : goal.decreases-load_text
-decreases-load_text g l = 6 * l.depth + 4
-
-abbrev pub decreases-load_own : goal.decreases-load_own
-decreases-load_own g l = 6 * l.depth + 5
+decreases-load_text g l = 4 * l.walker.now.depth + 3
 
 abbrev pub invariant-enter_imports-loop-import : goal.invariant-enter_imports-loop-import
 invariant-enter_imports-loop-import g l =
@@ -34,6 +29,6 @@ invariant-enter_imports-loop-import g l =
       kept : Keeps (stock_seen l.fn.stock) (stock_seen l.stock);
       built : Becomes l.fn.stock.held.items (state_seen l.fn.stock l.fn.own) (state_seen l.stock l.own);
       left : g.F.Source.tells → Follows
-          (import_entries (world (g.F.Source.tree l.fn.files) l.importer.folders.now) (walk (world (g.F.Source.tree l.fn.files) l.importer.folders.now) l.depth) l.fn.stock.held.items l.importer.file.now (drop l.import-index l.imports) (state_seen l.stock l.own))
-          (import_entries (world (g.F.Source.tree l.fn.files) l.importer.folders.now) (walk (world (g.F.Source.tree l.fn.files) l.importer.folders.now) l.depth) l.fn.stock.held.items l.importer.file.now l.imports (state_seen l.fn.stock l.fn.own));
+          (under import_entries (g.F.Source.tree l.fn.files) l.walker l.fn.stock.held.items (drop l.import-index l.imports) (state_seen l.stock l.own))
+          (under import_entries (g.F.Source.tree l.fn.files) l.walker l.fn.stock.held.items l.imports (state_seen l.fn.stock l.fn.own));
     }

@@ -7,7 +7,7 @@ use Rattle.rpl_scope.proofs.imports.add_names.Given as goal
 abbrev pub invariant-loop-rule : goal.invariant-loop-rule
 invariant-loop-rule l =
     record {
-      place : l.place ≡ l.rule-index;
-      left : in_turn (add_name l.file l.at l.number) (numbered l.rule-index (rules_seen (drop l.rule-index l.rules))) (module_seen l.own)
-          ≡ in_turn (add_name l.file l.at l.number) (numbered 0 (rules_seen l.rules)) (module_seen l.fn.own);
+      number : l.number ≡ l.rule-index;
+      left : in_turn (add_name l.place.file.now l.place.at l.owner) (numbered l.rule-index (rules_seen (drop l.rule-index l.rules))) (module_seen l.own)
+          ≡ in_turn (add_name l.place.file.now l.place.at l.owner) (numbered 0 (rules_seen l.rules)) (module_seen l.fn.own);
     }

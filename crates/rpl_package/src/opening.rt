@@ -1,0 +1,268 @@
+// An import's text, read, and its module, before anything of that text.
+ghost use Rattle.std.specs.Prelude.{◌≡◌, ◌≢◌, ◌+◌, ◌-◌, ◌++◌, ◌∷◌, [], ℕ, List, OnOk, IfErr, IfOk};
+ghost use Rattle.std.specs.Prelude.{None, Ok, Some, false, length, nat_lt, take, true};
+ghost use Rattle.rpl_syntax.specs.Modules.{said};
+ghost use Rattle.rpl_package.specs.Asking.{MayStop};
+ghost use Rattle.rpl_package.specs.Loading.{find, is_loading, label_of, label_at, load_import};
+ghost use Rattle.rpl_package.specs.Loading.{taken_up};
+ghost use Rattle.rpl_package.specs.Stocks.{state_seen, stock_seen};
+ghost use Rattle.rpl_package.specs.Texts.{module_text};
+ghost use Rattle.rpl_package.specs.inside.Kept.{Keeps};
+ghost use Rattle.rpl_package.specs.inside.Leaving.{LeavesFiles};
+ghost use Rattle.rpl_package.specs.inside.Opening.{Begins, GoesOn, StopsWalk, imported_head};
+ghost use Rattle.rpl_package.specs.inside.Opening.{own_begun, under};
+ghost use Rattle.rpl_package.specs.inside.Reading.{IsLoud, IsRead, Locates};
+ghost use Rattle.rpl_scope.specs.Faults.{Gives, IsStop, fault_at};
+ghost use Rattle.rpl_scope.specs.Packages.{first_of};
+ghost use Rattle.rpl_scope.specs.declared.fault.LoadKind.TheVariants.{ImportCycle};
+ghost use Rattle.rpl_scope.specs.declared.fault.Stop.TheVariants.{Memory as OutOfMemory};
+
+use crate::locate::{Located, locate};
+use crate::reading::read_module;
+use crate::stock::{Head, Stock, empty_module, finish, head_of, is_taken};
+use rosie_io::Files;
+use rpl_scope::{LoadKind, Module, NoMemory, Stop, fault_at, last_part};
+use rpl_syntax::{Import, Module as ParsedModule, QName};
+use rpl_text::Chars;
+use std::alloc::Global;
+
+/// The most modules that may be loaded, the top module among them.
+pub const MAX_MODULES: usize = 1_024;
+
+/// A text that imports: its file, and the folders in which its imports are looked for.
+#[derive(Clone, Copy)]
+pub struct Importer<'a> {
+    pub alloc: Global,
+    pub file: &'a Chars,
+    pub folders: &'a [Chars],
+}
+
+/// An importer, and how many files may be read for it, one inside the other.
+#[derive(Clone, Copy)]
+pub struct Walker<'a> {
+    pub importer: Importer<'a>,
+    pub depth: usize,
+}
+
+/// An imported text: its file, and what it says.
+#[derive(Drop)]
+pub struct ImportedText {
+    pub file: Chars,
+    pub text: ParsedModule,
+}
+
+/// An imported text, and its module, which has nothing of it yet. Both are on the heap, where they
+/// take no stack while the text's own imports are loaded.
+#[derive(Drop)]
+pub struct Opened {
+    pub read: Box<ImportedText>,
+    pub own: Box<Module>,
+}
+
+/// The stop for an import of a module that is being loaded.
+#[inline(never)]
+pub fn cycle_stop(importer: Importer<'_>, import: &Import) -> Stop
+    ensures { IsStop result (fault_at importer.entry.file.now import.now.at
+        (ImportCycle import.now.path)) }
+{
+    match import.path.copy(importer.alloc) {
+        Ok(path) => {
+            let kind = LoadKind::ImportCycle { path };
+            fault_at(importer.alloc, importer.file, import.at, kind)
+        }
+        Err(_) => Stop::Memory,
+    }
+}
+
+/// The file of an import, where there is one, and room for its module.
+#[tactic(auto, using(rpl_scope::proofs::Stops::told, crate::proofs::Outcomes::may, crate::proofs::Outcomes::quiet))]
+fn find_import<F: Files>(
+    files: &mut F,
+    stock: &Stock,
+    walker: &Walker<'_>,
+    import: &Import,
+) -> Result<Located, Stop>
+    requires free { is_loading import.now.path stock.now.held.items ≡ false }
+    requires new { first_of import.now.path (stock_seen stock.now).paths ≡ None }
+    ensures found { F.tells → IfOk result (λ l. Locates (Some l)
+        (find (F.tree files.old) walker.now.importer.folders.now import.now.path)) }
+    ensures room { IfOk result (λ _. nat_lt
+        (length stock.now.modules.items + length stock.now.held.items) 1024 ≡ true) }
+    ensures stops { F.tells → IfErr result (λ s. MayStop s (under load_import (F.tree files.old)
+        walker.now stock.now.held.items import.now (stock_seen stock.now))) }
+    ensures files { LeavesFiles F.Source result files.old files.new }
+{
+    let Importer {
+        alloc,
+        file,
+        folders,
+        ..
+    } = walker.importer;
+    let found = match locate(alloc, files, folders, &import.path) {
+        Ok(Some(found)) => found,
+        Ok(None) => {
+            let kind = LoadKind::ImportMissing {
+                path: import.path.copy(alloc)?,
+            };
+            return Err(fault_at(alloc, file, import.at, kind));
+        }
+        Err(stop) => return Err(stop),
+    };
+    if stock.modules.len() >= MAX_MODULES || MAX_MODULES - stock.modules.len() <= stock.held.len() {
+        return Err(fault_at(alloc, file, import.at, LoadKind::TooManyPackages));
+    }
+    Ok(found)
+}
+
+/// The package name of an imported text.
+fn label_of(alloc: Global, name: &Option<QName>, path: &Chars) -> Result<Chars, NoMemory>
+    ensures { IfOk result (λ label. label ≡ label_of name.now path.now) }
+{
+    match name {
+        Some(name) => name.name.copy(alloc),
+        None => last_part(alloc, path),
+    }
+}
+
+/// The place where the package name is given.
+fn label_at(name: &Option<QName>) -> usize
+    ensures { result ≡ label_at name.now }
+{
+    match name {
+        Some(name) => name.at,
+        None => 0,
+    }
+}
+
+/// The path and the package name of an imported text.
+fn imported_head(alloc: Global, name: &Option<QName>, path: &Chars) -> Result<Head, NoMemory>
+    ensures { IfOk result (λ h. h ≡ imported_head name.now path.now) }
+{
+    let label = label_of(alloc, name, path)?;
+    let path = path.copy(alloc)?;
+    Ok(Head {
+        path: Some(path),
+        label,
+    })
+}
+
+/// The module of a text of its own, before anything of the text: it is being loaded from now on.
+#[tactic(auto, using(rpl_scope::proofs::Stops::told))]
+pub fn open_own(
+    stock: &mut Stock,
+    importer: Importer<'_>,
+    head: Head,
+    text: &ParsedModule,
+) -> Result<Module, Stop>
+    ensures gives { Gives (λ m. state_seen stock.new m) result (own_begun (stock_seen stock.old)
+        stock.old.held.items importer.entry.file.now head (said text.now)) }
+    ensures held { OnOk result (stock.new.held.items ≡ stock.old.held.items ++ head ∷ []) }
+    ensures kept { stock_seen stock.new ≡ stock_seen stock.old }
+{
+    let Head { path, label } = head;
+    if is_taken(stock, &label) {
+        let at = label_at(&text.package);
+        let kind = LoadKind::Duplicate { name: label };
+        return Err(fault_at(importer.alloc, importer.file, at, kind));
+    }
+    let held = head_of(importer.alloc, &path, &label)?;
+    stock.held.push(held)?;
+    Ok(empty_module(importer.alloc, path, label))
+}
+
+/// A text and its module on the heap.
+fn boxed(alloc: Global, read: ImportedText, own: Module) -> Result<Opened, NoMemory>
+    ensures { IfOk result (λ o. (o.read.value ≡ read) × (o.own.value ≡ own)) }
+{
+    let read = Box::new(alloc, read)?;
+    let own = Box::new(alloc, own)?;
+    Ok(Opened { read, own })
+}
+
+/// The text of a file, and its module.
+#[tactic(auto, using(rpl_scope::proofs::Stops::told, crate::proofs::Causes::told_loud))]
+fn open_found(
+    stock: &mut Stock,
+    walker: &Walker<'_>,
+    path: &Chars,
+    found: Located,
+) -> Result<Opened, Stop>
+    ensures begins { IfOk result (λ o. Begins stock.old.held.items path.now (stock_seen stock.old)
+        (said o.read.value.text) stock.new.held.items (state_seen stock.new o.own.value)) }
+    ensures file { IfOk result (λ o. o.read.value.file ≡ found.file) }
+    ensures read { IfOk result (λ o. (bytes : List ℕ) → IsRead found.read bytes →
+        module_text found.file bytes ≡ Ok (said o.read.value.text)) }
+    ensures deep { IfOk result (λ _. walker.now.depth ≢ 0) }
+    ensures stops { IfErr result (λ s. (bytes : List ℕ) → IsRead found.read bytes →
+        StopsWalk s walker.now (stock_seen stock.old) stock.old.held.items found.file path.now
+        bytes) }
+    ensures kept { stock_seen stock.new ≡ stock_seen stock.old }
+    ensures loud { IfErr result IsLoud }
+{
+    let Located { file, read } = found;
+    let alloc = walker.importer.alloc;
+    if walker.depth == 0 {
+        return Err(fault_at(alloc, &file, 0, LoadKind::TooManyPackages));
+    }
+    let text = match read_module(alloc, &file, read) {
+        Ok(text) => text,
+        Err(stop) => return Err(stop),
+    };
+    let head = imported_head(alloc, &text.package, path)?;
+    let importer = Importer {
+        file: &file,
+        ..walker.importer
+    };
+    let own = match open_own(stock, importer, head, &text) {
+        Ok(own) => own,
+        Err(stop) => return Err(stop),
+    };
+    let opened = boxed(alloc, ImportedText { file, text }, own)?;
+    Ok(opened)
+}
+
+/// The text of an import whose module isn't there yet, and that module.
+#[inline(never)]
+pub fn open_import<F: Files>(
+    files: &mut F,
+    stock: &mut Stock,
+    walker: &Walker<'_>,
+    import: &Import,
+) -> Result<Opened, Stop>
+    requires free { is_loading import.now.path stock.old.held.items ≡ false }
+    requires new { first_of import.now.path (stock_seen stock.old).paths ≡ None }
+    ensures begins { IfOk result (λ o. Begins stock.old.held.items import.now.path
+        (stock_seen stock.old) (said o.read.value.text) stock.new.held.items
+        (state_seen stock.new o.own.value)) }
+    ensures deep { IfOk result (λ _. walker.now.depth ≢ 0) }
+    ensures goes { F.tells → IfOk result (λ o. GoesOn (F.tree files.old) walker.now
+        stock.new.held.items o (state_seen stock.new o.own.value) (under load_import
+        (F.tree files.old) walker.now stock.old.held.items import.now (stock_seen stock.old))) }
+    ensures stops { F.tells → IfErr result (λ s. MayStop s (under load_import (F.tree files.old)
+        walker.now stock.old.held.items import.now (stock_seen stock.old))) }
+    ensures kept { stock_seen stock.new ≡ stock_seen stock.old }
+    ensures files { LeavesFiles F.Source result files.old files.new }
+{
+    let found = match find_import(files, stock, walker, import) {
+        Ok(found) => found,
+        Err(stop) => return Err(stop),
+    };
+    match open_found(stock, walker, &import.path, found) {
+        Ok(opened) => Ok(opened),
+        Err(stop) => Err(stop),
+    }
+}
+
+/// The number of a module whose text is done, which is the last of those that were being loaded.
+#[inline(never)]
+pub fn close(alloc: Global, stock: &mut Stock, own: Box<Module>) -> Result<usize, Stop>
+    ensures taken { IfOk result (λ n. (n, stock_seen stock.new)
+        ≡ taken_up (state_seen stock.old own.value)) }
+    ensures held { OnOk result (stock.new.held.items
+        ≡ take (length stock.old.held.items - 1) stock.old.held.items) }
+    ensures kept { Keeps (stock_seen stock.old) (stock_seen stock.new) }
+    ensures memory { IfErr result (λ s. s ≡ OutOfMemory) }
+{
+    stock.held.pop();
+    finish(alloc, stock, Box::into_inner(own))
+}
