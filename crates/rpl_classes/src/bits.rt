@@ -48,7 +48,8 @@ pub(crate) fn bitmap(class: &Class, start: u32) -> u64
 /// The bits of the first that are none of the second.
 #[inline]
 pub(crate) fn but(bits: u64, others: u64) -> u64
-    ensures { (k : ℕ) → k < 64 → bit_at result k ≡ 1 → (bit_at bits k ≡ 1) × (bit_at others k ≢ 1) }
+    ensures { (k : ℕ) → k < 64 →
+        (bit_at result k ≡ 1) ↔ ((bit_at bits k ≡ 1) × (bit_at others k ≢ 1)) }
 {
     bits & !others
 }

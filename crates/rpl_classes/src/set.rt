@@ -1,6 +1,6 @@
 // A set of characters: its ranges, which its copies share, and two masks for the test of an ASCII
 // character.
-ghost use Rattle.std.specs.Prelude.{◌≡◌, ℕ, ◌≤◌, ◌||◌, ◌&&◌, ◌↔◌, [], ◌∷◌, ◌++◌, not, nat_eq};
+ghost use Rattle.std.specs.Prelude.{◌≡◌, ℕ, ◌<◌, ◌≤◌, ◌||◌, ◌&&◌, ◌↔◌, [], ◌∷◌, ◌++◌, not, nat_eq};
 ghost use Rattle.std.specs.Prelude.{nat_le, IfOk};
 ghost use Rattle.std.specs.Prelude.{IfSome, OnOk, IsTrue, chars, true, false};
 ghost use Rattle.std.specs.Option.{option_map};
@@ -321,15 +321,15 @@ impl Set {
     /// The ASCII characters that are in the set, as the bits of two words.
     #[inline(always)]
     pub fn ascii(&self) -> [u64; 2]
-        ensures { (c : ℕ) → IsMarked result c → in_ranges self.now c ≡ true }
+        ensures { (c : ℕ) → IsMarked result c ↔ ((c < 128) × (in_ranges self.now c ≡ true)) }
     {
         self.masks
     }
 
     /// The ASCII characters that are in this set and not in the other, as the bits of two words.
     pub fn ascii_without(&self, other: &Set) -> [u64; 2]
-        ensures { (c : ℕ) → IsMarked result c → (in_ranges self.now c ≡ true) ×
-            (in_ranges other.now c ≡ false) }
+        ensures { (c : ℕ) → IsMarked result c ↔ ((c < 128) × (in_ranges self.now c ≡ true)
+            × (in_ranges other.now c ≡ false)) }
     {
         [
             but(self.masks[0], other.masks[0]),
