@@ -1,9 +1,11 @@
 pub mod Characters
 pub mod Checking
 pub mod Gathering
+pub mod Growing
 pub mod Halves
 pub mod Maps
 pub mod Paths
 pub mod Scopes
+pub mod Scoping
 pub mod Stops
 pub mod Turns

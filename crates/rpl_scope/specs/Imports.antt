@@ -12,7 +12,8 @@ use Rattle.rpl_scope.specs.declared.module.Prefix.{Prefix}
 use Rattle.rpl_scope.specs.declared.module.Referent.{Referent}
 use Rattle.rpl_scope.specs.declared.module.Referent.TheVariants.{Own, Of, BuiltIn}
 
--- what stands after the last slash, where acc stands after the last one before
+-- The last part of a path, with [] for acc: what stands after its last slash, the path itself where it has none
+-- (`LastPartsEnd` in Laws.antt). It is read from the front: acc stands after the last slash so far.
 abbrev pub last_part : List ℕ → List ℕ → List ℕ
 last_part acc [] = acc
 last_part acc (c ∷ p) = if nat_eq c 47 then last_part [] p else last_part (acc ++ c ∷ []) p

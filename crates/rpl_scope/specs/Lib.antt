@@ -2,6 +2,7 @@ pub mod Bodies
 pub mod Results
 pub mod Faults
 pub mod Imports
+pub mod Laws
 pub mod Packages
 pub mod Pairs
 pub mod Seen

@@ -11,10 +11,11 @@ use Rattle.rpl_scope.specs.declared.module.Referent.TheVariants.{Own, Of, BuiltI
 use Rattle.rpl_scope.specs.declared.scope.Found.{Found}
 use Rattle.rpl_scope.specs.declared.scope.Found.TheVariants.{To, Unknown, Hidden}
 
--- A statement that binds a name: the number of its text among those of its module, the place of its first token, and
--- how many statements its module has before it (`start`), a block's rules all being before or after together. Its
--- name counts where a statement starts at `since` or later: that is `start` in a block, and one more for a binding
--- alone. A hidden rule counts in its own block alone.
+-- A rule, which a binding makes: the number of its text among those of its module, the place of its first token, and
+-- two numbers that say where its name is seen. `start` is how many rules its module has before its statement, a block
+-- being one statement. `since` is the first start at which the name is seen: that of its block, whose rules see one
+-- another; or one more for a binding alone, which only later statements see. A hidden rule is seen at just that start,
+-- so in its block alone. `StatementsSee` and `RulesAreLaid` in Laws.antt say the same without the numbers.
 pub record Rule : Type 0 where
   pub name : List ℕ
   pub text : ℕ
@@ -57,7 +58,7 @@ nth (x ∷ xs) (suc i) = nth xs i
 
 -- ---- names without a prefix
 
--- an entry at a start
+-- an entry in a statement with this start: not bound there yet; hidden, for its block has ended; or its rule
 abbrev pub meant : ℕ → Entry → Found
 meant start e =
     if nat_lt start e.since then Unknown else if e.hidden && nat_lt e.since start then Hidden else To e.referent
@@ -94,7 +95,8 @@ prefixed ms start n (Some p) = if nat_lt start p.since then Unknown else shared_
 
 -- ---- all names
 
--- what a name stands for in a module, in a statement with this start; no text spells the empty prefix
+-- What a name stands for in a module, in a statement with this start: how many rules the module has before it. No text
+-- spells the empty prefix.
 abbrev pub bound_by : List Module → Module → ℕ → List ℕ → Option (List ℕ) → Found
 bound_by ms m start n None = plain n start (first_of n m.names)
 bound_by ms m start n (Some []) = To BuiltIn

@@ -32,7 +32,7 @@ struct Foreign<'a> {
     rule: &'a Rule,
 }
 
-/// The last name of a path.
+/// The last part of a path: what stands after its last `/`, the path itself where it has none.
 pub fn last_part(alloc: Global, path: &Chars) -> Result<Chars, NoMemory>
     ensures { IfOk result (λ last. last ≡ last_part [] path.now) }
 {
