@@ -7,5 +7,6 @@ pub mod Maps
 pub mod Paths
 pub mod Scopes
 pub mod Scoping
+pub mod Sharing
 pub mod Stops
 pub mod Turns

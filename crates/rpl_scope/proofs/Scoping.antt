@@ -8,6 +8,7 @@ use Rattle.std.proofs.lemmas.List.{length-append}
 use Rattle.rpl_syntax.specs.Parsed as S
 use Rattle.rpl_scope.specs.declared.fault.LoadFault.{LoadFault}
 use Rattle.rpl_scope.specs.declared.module.Entry.{Entry}
+use Rattle.rpl_scope.specs.declared.module.Referent.TheVariants.{Own}
 use Rattle.rpl_scope.specs.declared.scope.Found.{Found}
 use Rattle.rpl_scope.specs.declared.scope.Found.TheVariants.{To, Unknown, Hidden}
 use Rattle.rpl_scope.specs.Faults.{◌>>=◌, unless}
@@ -42,16 +43,16 @@ all_entered f k ms (e ∷ es) m n h =
 
 -- ---- bindings and their rules
 
-binds_left : (bs cs : List S.Rule) (n : List ℕ) → Binds bs n → Binds (bs ++ cs) n
+pub binds_left : (bs cs : List S.Rule) (n : List ℕ) → Binds bs n → Binds (bs ++ cs) n
 binds_left [] cs n h = absurd h
 binds_left (b ∷ bs) cs n (inl e) = inl e
 binds_left (b ∷ bs) cs n (inr h) = inr (binds_left bs cs n h)
 
-binds_right : (bs cs : List S.Rule) (n : List ℕ) → Binds cs n → Binds (bs ++ cs) n
+pub binds_right : (bs cs : List S.Rule) (n : List ℕ) → Binds cs n → Binds (bs ++ cs) n
 binds_right [] cs n h = h
 binds_right (b ∷ bs) cs n h = inr (binds_right bs cs n h)
 
-binds_cases : (bs cs : List S.Rule) (n : List ℕ) → Binds (bs ++ cs) n → Binds bs n ⊎ Binds cs n
+pub binds_cases : (bs cs : List S.Rule) (n : List ℕ) → Binds (bs ++ cs) n → Binds bs n ⊎ Binds cs n
 binds_cases [] cs n h = inr h
 binds_cases (b ∷ bs) cs n (inl e) = inl (inl e)
 binds_cases (b ∷ bs) cs n (inr h) = deeper (binds_cases bs cs n h)
@@ -73,12 +74,12 @@ record IsShut (n : List ℕ) (start : ℕ) (r : Rule) : Type 0 where
   hidden : r.hidden ≡ true
 
 -- it counts there, hidden or not
-record Counts (n : List ℕ) (start : ℕ) (r : Rule) : Type 0 where
-  name : r.name ≡ n
-  counts : r.since ≤ start
+pub record Counts (n : List ℕ) (start : ℕ) (r : Rule) : Type 0 where
+  pub name : r.name ≡ n
+  pub counts : r.since ≤ start
 
 module _ (k l : ℕ) (hidden : Bool) (n : List ℕ) (P : Rule → Type 0) where
-  to_rules : (bs : List S.Rule) → ((b : S.Rule) → b.name ≡ n → P (rule_of k l l hidden b)) → Binds bs n → Any P (block_rules k l hidden bs)
+  pub to_rules : (bs : List S.Rule) → ((b : S.Rule) → b.name ≡ n → P (rule_of k l l hidden b)) → Binds bs n → Any P (block_rules k l hidden bs)
   to_rules [] f h = absurd h
   to_rules (b ∷ bs) f (inl e) = inl (f b e)
   to_rules (b ∷ bs) f (inr h) = inr (to_rules bs f h)
@@ -186,7 +187,7 @@ module _ (k s : ℕ) (n : List ℕ) where
           let long = length-append rs rest in
           any_right (IsShut n s) rs rest (more (omega (arith, long, le)) g)
 
-  all_back : (l : ℕ) (es : List S.Entry) → Any (Counts n s) (laid k l es) → Binds (of_all lasting es) n ⊎ Binds (of_all passing es) n
+  pub all_back : (l : ℕ) (es : List S.Entry) → Any (Counts n s) (laid k l es) → Binds (of_all lasting es) n ⊎ Binds (of_all passing es) n
   all_back l [] a = absurd a
   all_back l (e ∷ es) a = by (all_back (l + length (rules_of k l e)) es) (any_cases (Counts n s) (rules_of k l e) (laid k (l + length (rules_of k l e)) es) a)
     where
@@ -243,7 +244,7 @@ module _ (f : List ℕ) (rs : List Rule) (m m1 : Module) (n : List ℕ) (s : ℕ
     (came : enter_all f rs m ≡ Ok m1) (new : first_of n m.names ≡ None)
     (opens : Binds seen n → Any (IsOpen n s) rs) (shuts : Binds hidden n → Any (IsShut n s) rs)
     (back : Any (Counts n s) rs → Binds seen n ⊎ Binds hidden n) where
-  is_open : Any (IsOpen n s) rs → IsRuleOf m1 n (plain n s (first_of n m1.names))
+  is_open : Any (IsOpen n s) rs → IsRuleOf m1 Own n (plain n s (first_of n m1.names))
   is_open a =
       let g = found f rs m m1 came (IsOpen n s) a in
       let here : first_of n m1.names ≡ Some (entry_for g.1 g.0) = subst (λ w. first_of w m1.names ≡ Some (entry_for g.1 g.0)) g.2.name g.4 in
@@ -273,7 +274,7 @@ module _ (f : List ℕ) (rs : List Rule) (m m1 : Module) (n : List ℕ) (s : ℕ
       by None h = refl
       by (Some x) h = at x h (nat_lt s x.since) refl
 
-  stands_for : StandsFor m1 seen hidden n (plain n s (first_of n m1.names))
+  stands_for : StandsFor m1 Own seen hidden n (halt_or n Unknown) (plain n s (first_of n m1.names))
   stands_for = record { bound = λ i. is_open (opens i); shut = λ i. is_shut (shuts i); unbound = is_unbound }
 
 -- ---- the laws
