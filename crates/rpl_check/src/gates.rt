@@ -19,7 +19,7 @@ enum Port {
 }
 
 /// The gates of a block's patterns. The first are those of its rules, and each other stands after
-/// the one above it.
+/// the one above it, and has a call below it. So many calls were noted.
 #[derive(Drop)]
 struct Gates {
     start: u32,
@@ -27,6 +27,7 @@ struct Gates {
     above: Vec<usize>,
     needs: Vec<usize>,
     callers: Vec<Vec<usize>>,
+    calls: usize,
 }
 
 impl Gates {
@@ -44,6 +45,7 @@ impl Gates {
             above: vec![in alloc; 0; (end - start) as usize]?,
             needs: vec![in alloc; 0; (end - start) as usize]?,
             callers,
+            calls: 0,
         })
     }
 
@@ -53,6 +55,15 @@ impl Gates {
         self.above.push(above)?;
         self.needs.push(0)?;
         Ok(gate)
+    }
+
+    /// Takes the gate back, and those after it, where no call was noted since there were so many:
+    /// none of them waits.
+    fn take_back(&mut self, gate: usize, calls: usize) {
+        if self.calls == calls {
+            self.above.truncate(gate);
+            self.needs.truncate(gate);
+        }
     }
 
     /// The gate opens once so many of those below it did.
@@ -68,6 +79,7 @@ impl Gates {
             let place = (rule - self.start) as usize;
             if place < self.callers.len() {
                 self.callers[place].push(gate)?;
+                self.calls = self.calls.saturating_add(1);
             }
             return Ok(Port::Waits);
         }
@@ -101,16 +113,21 @@ fn all_empty_port(
     above: usize,
     marks: &[bool],
 ) -> Result<Port, NoMemory> {
+    let calls = gates.calls;
     let gate = gates.add(above)?;
     let mut needs: usize = 0;
     for part in parts {
         match empty_port(gates, part, gate, marks)? {
             Port::Open => {}
-            Port::Shut => return Ok(Port::Shut),
+            Port::Shut => {
+                gates.take_back(gate, calls);
+                return Ok(Port::Shut);
+            }
             Port::Waits => needs = needs.saturating_add(1),
         }
     }
     if needs == 0 {
+        gates.take_back(gate, calls);
         return Ok(Port::Open);
     }
     gates.set(gate, needs);
@@ -125,16 +142,21 @@ fn any_empty_port(
     above: usize,
     marks: &[bool],
 ) -> Result<Port, NoMemory> {
+    let calls = gates.calls;
     let gate = gates.add(above)?;
     let mut waits = false;
     for part in parts {
         match empty_port(gates, part, gate, marks)? {
-            Port::Open => return Ok(Port::Open),
+            Port::Open => {
+                gates.take_back(gate, calls);
+                return Ok(Port::Open);
+            }
             Port::Shut => {}
             Port::Waits => waits = true,
         }
     }
     if !waits {
+        gates.take_back(gate, calls);
         return Ok(Port::Shut);
     }
     gates.set(gate, 1);
