@@ -8,8 +8,8 @@ ghost use Rattle.rpl_check.specs.Facts.{front_calls_here};
 ghost use Rattle.rpl_check.specs.Blocks as B;
 ghost use Rattle.rpl_core.specs.inside.Marks.{marked};
 ghost use Rattle.rpl_check.specs.inside.Rounds.{OverReach};
-ghost use Rattle.rpl_check.specs.inside.Search.{AreClean, AreLeft, AreReached, Finds, Lists};
-ghost use Rattle.rpl_check.specs.inside.Search.{ReachRule, marked_from};
+ghost use Rattle.rpl_check.specs.inside.Search.{AreClean, AreLeft, Finds, Lists};
+ghost use Rattle.rpl_check.specs.inside.Search.{marked_from};
 ghost use Rattle.rpl_check.specs.inside.Search.{clean_all, clean_core, clean_each, within_or_none};
 
 use crate::NoMemory;
@@ -393,109 +393,23 @@ impl Block<'_> {
         }
     }
 
-    /// Marks a rule that the rule `number` reaches, if it calls one that reaches `number`: such a
-    /// rule reaches itself. Those that don't reach `number`, as far as is known, are `away`.
-    fn mark_caller(&self, number: u32, rule: u32, away: &mut [bool], left: &mut [bool])
-        requires block { Stands self.now }
-        requires within { (self.now.start ≤ rule) × (rule < self.now.end) }
-        requires away_long { IsLong self.now away.old }
-        requires left_long { IsLong self.now left.old }
-        requires reached { OverReach (table_of self.now) (empty_in self.now)
-            (λ reach. reach number rule ≡ true) }
-        requires away { ReachRule (table_of self.now) (empty_in self.now) self.now.start number
-            away.old }
-        requires left { AreLeft (table_of self.now) (empty_in self.now) self.now.start left.old }
-        ensures away { ReachRule (table_of self.now) (empty_in self.now) self.now.start number
-            away.new }
-        ensures left { AreLeft (table_of self.now) (empty_in self.now) self.now.start left.new }
-    {
-        if self.calls_clean(rule, away) {
-            return;
-        }
-        let place = (rule - self.start) as usize;
-        away[place] = false;
-        left[place] = true;
-    }
-
-    /// Marks each such rule of the list, the last first.
-    fn mark_callers(&self, number: u32, looked: &[u32], away: &mut [bool], left: &mut [bool])
-        requires block { Stands self.now }
-        requires away_long { IsLong self.now away.old }
-        requires left_long { IsLong self.now left.old }
-        requires looked { AreReached (table_of self.now) (empty_in self.now) number self.now.start
-            self.now.end
-            looked.now }
-        requires away { ReachRule (table_of self.now) (empty_in self.now) self.now.start number
-            away.old }
-        requires left { AreLeft (table_of self.now) (empty_in self.now) self.now.start left.old }
-        ensures { AreLeft (table_of self.now) (empty_in self.now) self.now.start left.new }
-    {
-        let mut place = looked.len();
-        while place > 0 {
-            place -= 1;
-            self.mark_caller(number, looked[place], away, left);
-        }
-    }
-
-    /// Marks rules that reach themselves, where `number` does: of those that it reaches, each that
-    /// calls it or calls another that was marked, the last that was looked at first. So a ring of
-    /// rules is marked whole.
-    fn mark_ring(
-        &self,
-        alloc: Global,
-        number: u32,
-        looked: &[u32],
-        left: &mut [bool],
-    ) -> Result<(), NoMemory>
+    /// The rule reaches itself before a character: its calls are followed through the block.
+    fn reaches_itself(&self, alloc: Global, number: u32) -> Result<bool, NoMemory>
         requires block { Stands self.now }
         requires within { (self.now.start ≤ number) × (number < self.now.end) }
-        requires itself { OverReach (table_of self.now) (empty_in self.now)
-            (λ reach. reach number number ≡ true) }
-        requires looked { AreReached (table_of self.now) (empty_in self.now) number self.now.start
-            self.now.end
-            looked.now }
-        requires long { IsLong self.now left.old }
-        requires left { AreLeft (table_of self.now) (empty_in self.now) self.now.start left.old }
-        ensures { AreLeft (table_of self.now) (empty_in self.now) self.now.start left.new }
-    {
-        let mut away = vec![in alloc; true; (self.end - self.start) as usize]?;
-        away[(number - self.start) as usize] = false;
-        self.mark_callers(number, looked, &mut away, left);
-        Ok(())
-    }
-
-    /// The rule reaches itself before a character: its calls are followed through the block. Where
-    /// it does, others that are found to reach themselves on the way are marked.
-    fn reaches_itself(
-        &self,
-        alloc: Global,
-        number: u32,
-        left: &mut [bool],
-    ) -> Result<bool, NoMemory>
-        requires block { Stands self.now }
-        requires within { (self.now.start ≤ number) × (number < self.now.end) }
-        requires long { IsLong self.now left.old }
-        requires left { AreLeft (table_of self.now) (empty_in self.now) self.now.start left.old }
-        ensures itself { OverReach (table_of self.now) (empty_in self.now)
+        ensures { OverReach (table_of self.now) (empty_in self.now)
             (λ reach. IfOk result (λ b. b ≡ reach number number)) }
-        ensures left { AreLeft (table_of self.now) (empty_in self.now) self.now.start left.new }
     {
         let mut search = BlockSearch {
             start: self.start,
             marks: vec![in alloc; false; (self.end - self.start) as usize]?,
             waiting: Vec::new(alloc),
         };
-        let mut looked = Vec::new(alloc);
         self.find_calls_of(&mut search, number)?;
         while let Some(next) = search.waiting.pop() {
-            looked.push(next)?;
             self.find_calls_of(&mut search, next)?;
         }
-        if !search.marks[(number - self.start) as usize] {
-            return Ok(false);
-        }
-        self.mark_ring(alloc, number, &looked, left)?;
-        Ok(true)
+        Ok(search.marks[(number - self.start) as usize])
     }
 
     /// Marks the rule at this place of the block, if it calls only marked rules and earlier blocks
@@ -596,23 +510,22 @@ impl Block<'_> {
     }
 
     /// The rule reaches itself before a character. One that is clean doesn't, and one that is
-    /// marked does.
+    /// marked does; another is searched.
     fn is_left_recursive(
         &self,
         alloc: Global,
         number: u32,
         clean: &[bool],
-        left: &mut [bool],
+        left: &[bool],
     ) -> Result<bool, NoMemory>
         requires block { Stands self.now }
         requires within { (self.now.start ≤ number) × (number < self.now.end) }
         requires clean_long { IsLong self.now clean.now }
         requires clean { AreClean (table_of self.now) (empty_in self.now) self.now.start clean.now }
-        requires left_long { IsLong self.now left.old }
-        requires left { AreLeft (table_of self.now) (empty_in self.now) self.now.start left.old }
-        ensures itself { OverReach (table_of self.now) (empty_in self.now)
+        requires left_long { IsLong self.now left.now }
+        requires left { AreLeft (table_of self.now) (empty_in self.now) self.now.start left.now }
+        ensures { OverReach (table_of self.now) (empty_in self.now)
             (λ reach. IfOk result (λ b. b ≡ reach number number)) }
-        ensures left { AreLeft (table_of self.now) (empty_in self.now) self.now.start left.new }
     {
         let place = (number - self.start) as usize;
         if clean[place] {
@@ -621,22 +534,22 @@ impl Block<'_> {
         if left[place] {
             return Ok(true);
         }
-        self.reaches_itself(alloc, number, left)
+        self.reaches_itself(alloc, number)
     }
 
-    /// Lists the rules of a block that reach themselves, where the clean ones are marked, and marks
-    /// them.
+    /// Lists the rules of a block that reach themselves, where the clean ones are marked, and
+    /// some that reach themselves.
     fn list_selves(
         &self,
         alloc: Global,
         clean: &[bool],
-        left: &mut [bool],
+        left: &[bool],
     ) -> Result<Vec<u32>, NoMemory>
         requires block { Stands self.now }
         requires clean_long { IsLong self.now clean.now }
         requires clean { AreClean (table_of self.now) (empty_in self.now) self.now.start clean.now }
-        requires left_long { IsLong self.now left.old }
-        requires left { AreLeft (table_of self.now) (empty_in self.now) self.now.start left.old }
+        requires left_long { IsLong self.now left.now }
+        requires left { AreLeft (table_of self.now) (empty_in self.now) self.now.start left.now }
         ensures { OverReach (table_of self.now) (empty_in self.now) (λ reach.
             IfOk result (λ v. v.items ≡ B.selves reach self.now.start
             (self.now.end - self.now.start))) }
@@ -659,6 +572,6 @@ impl Block<'_> {
     {
         let mut left = vec![in alloc; false; (self.end - self.start) as usize]?;
         let clean = self.clean_rules(alloc, &mut left)?;
-        self.list_selves(alloc, &clean, &mut left)
+        self.list_selves(alloc, &clean, &left)
     }
 }

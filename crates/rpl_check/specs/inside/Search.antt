@@ -1,5 +1,5 @@
 -- How the rules of a block that reach themselves before a character are found.
-use Rattle.std.specs.Prelude.{◌≡◌, ℕ, ◌+◌, ◌-◌, ◌<◌, ◌≤◌, Bool, true, false, ◌||◌, ◌&&◌, not, nat_lt, nat_le}
+use Rattle.std.specs.Prelude.{◌≡◌, ℕ, ◌+◌, ◌-◌, ◌≤◌, Bool, true, false, ◌||◌, ◌&&◌, not, nat_lt, nat_le}
 use Rattle.std.specs.Prelude.{List, length, Option, Some, None, slice_index_or}
 use Rattle.rpl_core.specs.Core.{Core, Set, Seq, Choice, Many, Not, And, Behind, Call, Capture, Note, Start, End, Halt}
 use Rattle.rpl_core.specs.Core.{Cores, NoMore, Then}
@@ -65,16 +65,6 @@ AreClean R m a clean =
 abbrev pub AreLeft : List Core → (ℕ → Bool) → ℕ → List Bool → Type 0
 AreLeft R m a left =
     OverReach R m (λ reach. (q : ℕ) → a ≤ q → marked left (q - a) ≡ true → reach q q ≡ true)
-
--- each rule of a block that begins at a reaches the rule r, unless it is marked
-abbrev pub ReachRule : List Core → (ℕ → Bool) → ℕ → ℕ → List Bool → Type 0
-ReachRule R m a r away =
-    OverReach R m (λ reach. (q : ℕ) → a ≤ q → q - a < length away → marked away (q - a) ≡ false → reach q r ≡ true)
-
--- the rule r reaches each rule of the list, and each is one from a on and before e
-pub record AreReached (R : List Core) (m : ℕ → Bool) (r a e : ℕ) (list : List ℕ) : Type 0 where
-  pub reached : OverReach R m (λ reach. (q : ℕ) → waits list q ≡ true → reach r q ≡ true)
-  pub inside : (q : ℕ) → waits list q ≡ true → (a ≤ q) × (q < e)
 
 -- the rule is one of the block
 abbrev pub in_block : BlockSearch → ℕ → Bool

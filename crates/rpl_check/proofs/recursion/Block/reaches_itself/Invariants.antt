@@ -1,7 +1,5 @@
-use Rattle.std.proofs.Common.{◌≡◌, ℕ, ◌+◌, ◌-◌, length}
-use Rattle.std.specs.Prelude.{true}
-use Rattle.rpl_core.specs.inside.Marks.{unmarked, waits}
-use Rattle.rpl_check.specs.inside.Search.{found}
+use Rattle.std.proofs.Common.{◌+◌, ◌-◌, length}
+use Rattle.rpl_core.specs.inside.Marks.{unmarked}
 use Rattle.rpl_check.proofs.Following.{Followed}
 use Rattle.rpl_check.specs.inside.Within.{table_of, empty_in}
 use Rattle.rpl_check.proofs.recursion.Block.reaches_itself.Given as goal
@@ -9,7 +7,6 @@ use Rattle.rpl_check.proofs.recursion.Block.reaches_itself.Given as goal
 abbrev pub invariant-loop-next : goal.invariant-loop-next
 invariant-loop-next l =
     Followed (table_of l.self) (empty_in l.self) l.number l.self.start (l.self.end - l.self.start) l.search
-    × ((q : ℕ) → waits l.looked.items q ≡ true → found l.search q ≡ true)
 
 abbrev pub decreases-loop-next : goal.decreases-loop-next
 decreases-loop-next l = length l.search.waiting.items + unmarked l.search.marks.items
