@@ -8,9 +8,8 @@ ghost use Rattle.rpl_safe.specs.Safe.{IsSafe};
 ghost use Rattle.rosie_jobs.specs.Written.{written};
 
 use crate::line_run::LineRun;
-use crate::place::Place;
 use crate::settings::Settings;
-use rosie_run::{LineJob, Mark, NoMemory};
+use rosie_run::{InputLine, LineJob, Mark, NoMemory};
 use rpl_core::Program;
 use rpl_machine::Steps;
 use std::alloc::Global;
@@ -51,17 +50,13 @@ impl LineJob for CodeJob {
 
     ghost err_text = { λ j. string_bytes j.line.texts.told };
 
+    #[inline(always)]
     fn answer<L: Ledger>(
         &mut self,
-        file: &str,
-        number: u64,
-        line: &str,
-        is_ascii: bool,
+        line: InputLine<'_>,
         steps: &mut Steps<L>,
     ) -> Result<Mark, NoMemory> {
-        let place = Place { file, number };
-        self.line
-            .answer(&self.program, place, line, is_ascii, steps)
+        self.line.answer(&self.program, line, steps)
     }
 
     fn out(&self) -> &[u8] {

@@ -2,7 +2,7 @@
 
 ghost use Rattle.std.specs.Prelude.{◌≡◌, ◌⊎◌, ◌≤◌, ◌^◌, ◌+◌, Some, length, chars, string_bytes};
 ghost use Rattle.std.specs.Prelude.{IfOk, OnOk, IsTrue};
-ghost use Rattle.std.specs.Str.{IsAscii};
+ghost use Rattle.std.specs.Str.{IsAscii, IsUtf8};
 ghost use Rattle.rosie_run.specs.Made.{IsMade};
 ghost use Rattle.rpl_core.specs.Forest as F;
 ghost use Rattle.rpl_core.specs.Meaning.{Outcome};
@@ -14,10 +14,9 @@ ghost use Rattle.rpl_tree.specs.Trees.{BuildsEach};
 ghost use Rattle.rosie_jobs.specs.Lines.{budget_of, budget_or, made, ran, ran_piece};
 ghost use Rattle.rosie_jobs.specs.inside.Printed.{Catches, IsShown, Printed};
 
-use crate::place::Place;
 use crate::settings::Settings;
-use crate::texts::Texts;
-use rosie_run::{Mark, NoMemory};
+use crate::texts::{RunEnd, Texts};
+use rosie_run::{InputLine, Mark, NoMemory};
 use rpl_core::{Caught, Program};
 use rpl_encode::{Fronts, Style};
 use rpl_machine::{Answer, RunFault, Scratch, Steps, run};
@@ -38,6 +37,14 @@ pub(crate) struct LineRun {
     forest: Forest,
     pub(crate) fronts: Fronts,
     pub(crate) texts: Texts,
+}
+
+/// The text of a line. A call's answer is known to be text, which isn't known of a field.
+#[inline(always)]
+fn text_of(line: InputLine<'_>) -> &str
+    ensures { result.now ≡ line.entry.text.now }
+{
+    line.text
 }
 
 /// How many characters a line has. Where it is known that all of its bytes are ASCII, each is one.
@@ -114,43 +121,53 @@ impl LineRun {
     }
 
     /// Makes the piece of a line, whatever outcome the run shows.
+    #[inline(always)]
     pub(crate) fn answer<L: Ledger>(
         &mut self,
         program: &Program,
-        place: Place<'_>,
-        line: &str,
-        is_ascii: bool,
+        line: InputLine<'_>,
         steps: &mut Steps<L>,
     ) -> Result<Mark, NoMemory>
-        requires fits { length line.now ≤ 2 ^ 30 }
-        requires ascii { IsTrue is_ascii → IsAscii line.now }
+        requires fits { length line.text.now ≤ 2 ^ 30 }
+        requires ascii { IsTrue line.is_ascii → IsAscii line.text.now }
         requires fronts { self.old.fronts ≡ labels_of program.now }
         ensures same { self.new.settings ≡ self.old.settings }
         ensures fronts { self.new.fronts ≡ self.old.fronts }
-        ensures made { let a = ran self.old.settings (instructions program.now) line.now in
-            (o : Outcome) → IsShown a o
+        ensures text { IsUtf8 line.entry.text.now }
+        ensures made { let a = ran self.old.settings (instructions program.now) line.entry.text.now
+            in (o : Outcome) → IsShown a o
             → IfOk result (λ mark. IsMade mark self.new.texts.answer
             (string_bytes self.new.texts.told)
-            (ran_piece self.old.settings place.entry.file.now place.entry.number line.now o a)) }
+            (ran_piece self.old.settings line.entry.file.now line.entry.number line.entry.text.now
+            o a)) }
         ensures steps { OnOk result (steps.new ≡ steps.old + made
-            (budget_of self.old.settings (chars line.now))
-            (ran self.old.settings (instructions program.now) line.now)) }
+            (budget_of self.old.settings (chars line.entry.text.now))
+            (ran self.old.settings (instructions program.now) line.entry.text.now)) }
     {
         let settings = self.settings;
-        let budget = budget_or(settings.budget, line, is_ascii);
-        match run(program, Text::new(line), budget, &mut self.scratch, steps) {
+        let text = line.text;
+        let budget = budget_or(settings.budget, text, line.is_ascii);
+        match run(
+            program,
+            Text::new(text_of(line)),
+            budget,
+            &mut self.scratch,
+            steps,
+        ) {
             Ok(answer) => match answer {
                 Answer::At { steps, .. } => {
-                    let fits = self.print_match(line)?;
-                    self.texts.say(settings, place, line, fits, true, steps)
+                    let fits = self.print_match(text)?;
+                    let end = RunEnd { hit: true, steps };
+                    self.texts.say(settings, line, fits, end)
                 }
                 Answer::Fail { steps } => {
-                    let fits = self.texts.print(settings.style, line, None, &self.fronts)?;
-                    self.texts.say(settings, place, line, fits, false, steps)
+                    let fits = self.texts.print(settings.style, text, None, &self.fronts)?;
+                    let end = RunEnd { hit: false, steps };
+                    self.texts.say(settings, line, fits, end)
                 }
             },
             Err(fault) => match fault {
-                RunFault::Budget => self.texts.fault(place, "budget spent"),
+                RunFault::Budget => self.texts.fault(line, "budget spent"),
                 RunFault::NoMemory => Err(AllocError),
             },
         }

@@ -5,9 +5,8 @@ ghost use Rattle.rpl_core.specs.Program.{labels_of};
 
 use crate::job::Job;
 use crate::line_run::LineRun;
-use crate::place::Place;
 use crate::settings::Settings;
-use rosie_run::{LineJob, Mark, NoMemory};
+use rosie_run::{InputLine, LineJob, Mark, NoMemory};
 use rpl_machine::Steps;
 use std::alloc::Global;
 use std::sync::ledger::Ledger;
@@ -46,17 +45,13 @@ impl LineJob for MatchJob {
 
     ghost err_text = { λ j. string_bytes j.line.texts.told };
 
+    #[inline(always)]
     fn answer<L: Ledger>(
         &mut self,
-        file: &str,
-        number: u64,
-        line: &str,
-        is_ascii: bool,
+        line: InputLine<'_>,
         steps: &mut Steps<L>,
     ) -> Result<Mark, NoMemory> {
-        let program = self.job.program();
-        let place = Place { file, number };
-        self.line.answer(program, place, line, is_ascii, steps)
+        self.line.answer(self.job.program(), line, steps)
     }
 
     fn out(&self) -> &[u8] {

@@ -12,9 +12,8 @@ ghost use Rattle.rpl_encode.specs.Labels.{trees_in};
 ghost use Rattle.rosie_jobs.specs.Lines.{told, unanswered, said};
 ghost use Rattle.rosie_jobs.specs.inside.Printed.{Printed};
 
-use crate::place::Place;
 use crate::settings::Settings;
-use rosie_run::{Mark, NoMemory, line_fault};
+use rosie_run::{InputLine, Mark, NoMemory, line_fault};
 use rpl_encode::{AnswerText, EncodeFault, Fronts, Style};
 use rpl_tree::Forest;
 use std::alloc::{AllocError, Global};
@@ -27,6 +26,15 @@ pub(crate) struct Texts {
     pub(crate) answer: AnswerText,
     /// The text for `err`.
     pub(crate) told: String,
+}
+
+/// How the machine's run over a line ended.
+#[derive(Clone, Copy)]
+pub(crate) struct RunEnd {
+    /// Whether the line matched.
+    pub(crate) hit: bool,
+    /// How many steps the run made.
+    pub(crate) steps: u64,
 }
 
 /// How a line with an answer, and how one that matched counts.
@@ -68,17 +76,19 @@ impl Texts {
     }
 
     /// Says that a line has no answer, and why.
-    pub(crate) fn fault(&mut self, place: Place<'_>, text: &str) -> Result<Mark, NoMemory>
+    #[inline(never)]
+    pub(crate) fn fault(&mut self, line: InputLine<'_>, text: &str) -> Result<Mark, NoMemory>
         ensures { (cost : ℕ) →
             IfOk result (λ mark. IsMade mark self.new.answer (string_bytes self.new.told)
-            (unanswered (line_fault place.entry.file.now place.entry.number text.now) cost)) }
+            (unanswered (line_fault line.entry.file.now line.entry.number text.now) cost)) }
     {
-        self.told = line_fault(self.alloc, place.file, place.number, text)?;
+        self.told = line_fault(self.alloc, line.file, line.number, text)?;
         self.answer = AnswerText::new(self.alloc);
         Ok(Mark::Fault)
     }
 
     /// Adds the line to what is reported, where that is wanted.
+    #[inline(always)]
     fn tell_line(&mut self, line: &str, tells: bool) -> Result<(), NoMemory>
         ensures told { OnOk result (string_bytes self.new.told ≡ string_bytes self.old.told
             ++ (if tells then line.now ++ codes "\n" else [])) }
@@ -92,6 +102,7 @@ impl Texts {
     }
 
     /// Adds the number of steps to what is reported, where that is wanted.
+    #[inline(always)]
     fn tell_steps(&mut self, steps: u64, tells: bool) -> Result<(), NoMemory>
         ensures told { OnOk result (string_bytes self.new.told ≡ string_bytes self.old.told
             ++ (if tells then codes "steps " ++ (decimal steps ++ codes "\n") else [])) }
@@ -105,6 +116,7 @@ impl Texts {
     }
 
     /// Says of a line what is reported beside its answer.
+    #[inline(always)]
     fn tell(
         &mut self,
         settings: Settings,
@@ -121,24 +133,23 @@ impl Texts {
     }
 
     /// The texts of a line whose answer was printed.
+    #[inline(always)]
     pub(crate) fn say(
         &mut self,
         settings: Settings,
-        place: Place<'_>,
-        line: &str,
+        line: InputLine<'_>,
         fits: bool,
-        hit: bool,
-        steps: u64,
+        end: RunEnd,
     ) -> Result<Mark, NoMemory>
         ensures { (cost : ℕ) →
             IfOk result (λ mark. IsMade mark self.new.answer (string_bytes self.new.told)
-            (said settings place.entry.file.now place.entry.number line.now fits self.old.answer hit
-            steps cost)) }
+            (said settings line.entry.file.now line.entry.number line.entry.text.now fits
+            self.old.answer end.hit end.steps cost)) }
     {
         if !fits {
-            return self.fault(place, "answer too long");
+            return self.fault(line, "answer too long");
         }
-        self.tell(settings, line, hit, steps)?;
-        Ok(mark_of(hit))
+        self.tell(settings, line.text, end.hit, end.steps)?;
+        Ok(mark_of(end.hit))
     }
 }

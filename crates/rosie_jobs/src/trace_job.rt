@@ -6,7 +6,7 @@ ghost use Rattle.std.specs.Fmt.{decimal};
 ghost use Rattle.std.specs.Str.{encode_utf8_all};
 
 use crate::job::Job;
-use rosie_run::{LineJob, Mark, NoMemory, line_fault};
+use rosie_run::{InputLine, LineJob, Mark, NoMemory, line_fault};
 use rpl_machine::Steps;
 use rpl_print::{push_decimal, push_text};
 use rpl_text::{Chars, Text};
@@ -77,18 +77,15 @@ impl LineJob for TraceJob {
 
     fn answer<L: Ledger>(
         &mut self,
-        file: &str,
-        number: u64,
-        line: &str,
-        _is_ascii: bool,
+        line: InputLine<'_>,
         _steps: &mut Steps<L>,
     ) -> Result<Mark, NoMemory> {
         let rules = self.job.rules();
         let goal = self.job.goal();
-        let text = Text::new(line);
+        let text = Text::new(line.text);
         match trace(self.alloc, rules, goal, text, self.limit) {
             Ok(trace) => {
-                let out = numbered(self.alloc, number, &trace.printed)?;
+                let out = numbered(self.alloc, line.number, &trace.printed)?;
                 let mark = mark_of(trace.end);
                 let nothing = String::new(self.alloc);
                 self.out = out;
@@ -97,7 +94,7 @@ impl LineJob for TraceJob {
             }
             Err(fault) => match fault {
                 TraceFault::TraceTooLong => {
-                    let err = line_fault(self.alloc, file, number, "trace too long")?;
+                    let err = line_fault(self.alloc, line.file, line.number, "trace too long")?;
                     let no_text = String::new(self.alloc);
                     self.err = err;
                     self.out = no_text;

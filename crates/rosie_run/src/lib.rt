@@ -23,7 +23,7 @@ mod write;
 pub use ended::{Ended, ReadStop};
 pub use ending::finish;
 pub use inputs::{run_inputs, run_source};
-pub use line_job::LineJob;
+pub use line_job::{InputLine, LineJob};
 pub use lines::Reading;
 pub use mark::Mark;
 pub use saying::{cut, say};

@@ -8,6 +8,20 @@ use crate::{Mark, NoMemory};
 use rpl_machine::Steps;
 use std::sync::ledger::Ledger;
 
+/// A line of an input, as a job is given it.
+#[derive(Clone, Copy, Debug)]
+pub struct InputLine<'a> {
+    /// What faults call the input.
+    pub file: &'a str,
+    /// The number of the line in that input, from 1.
+    pub number: u64,
+    /// The line itself, without its line feed: 2^30 bytes at most.
+    pub text: &'a str,
+    /// Whether all bytes of the text are known to be ASCII: then none is looked at for that. Where
+    /// it is false they may be ASCII too.
+    pub is_ascii: bool,
+}
+
 /// What a command does on each line. It makes the texts of the line's piece and writes nothing: the
 /// run does.
 pub trait LineJob {
@@ -19,23 +33,19 @@ pub trait LineJob {
 
     ghost err_text: { Self → List ℕ };
 
-    /// Makes the piece of a line. Where `is_ascii` says that all its bytes are ASCII, none is
-    /// looked at for that; it need not say so.
+    /// Makes the piece of a line.
     fn answer<L: Ledger>(
         &mut self,
-        file: &str,
-        number: u64,
-        line: &str,
-        is_ascii: bool,
+        line: InputLine<'_>,
         steps: &mut Steps<L>,
     ) -> Result<Mark, NoMemory>
-        requires fits { length line.now ≤ 2 ^ 30 }
-        requires ascii { IsTrue is_ascii → IsAscii line.now }
+        requires fits { length line.text.now ≤ 2 ^ 30 }
+        requires ascii { IsTrue line.is_ascii → IsAscii line.text.now }
         ensures same { makes self.new ≡ makes self.old }
         ensures made { IfOk result (λ mark. IsMade mark (out_text self.new) (err_text self.new)
-            (makes self.old file.now number line.now)) }
+            (makes self.old line.entry.file.now line.entry.number line.entry.text.now)) }
         ensures steps { OnOk result (steps.new ≡ steps.old
-            + (makes self.old file.now number line.now).cost) };
+            + (makes self.old line.entry.file.now line.entry.number line.entry.text.now).cost) };
 
     /// The text for `out` that it made last.
     fn out(&self) -> &[u8]

@@ -15,7 +15,7 @@ ghost use Rattle.rosie_run.specs.inside.Passing.{MakesLine, CountsLine, StopsLin
 ghost use Rattle.rosie_run.specs.inside.Passing.{ComesOf, SaysFault};
 ghost use Rattle.rosie_run.specs.inside.Passing.{made_out, made_err, made_mark};
 
-use crate::line_job::LineJob;
+use crate::line_job::{InputLine, LineJob};
 use crate::write::{flush_before_wait, line_fault, write_both};
 use crate::{Mark, Tally, Trouble};
 use rosie_io::{Line, LineFault, LineReader, Sink, Source, WriteFault};
@@ -78,6 +78,7 @@ fn make_line<J: LineJob, S: Source, L: Ledger>(
 }
 
 /// Makes the piece of what the reader answered. `None` where there is no further line.
+#[inline(always)]
 fn make_of<J: LineJob, L: Ledger>(
     alloc: Global,
     job: &mut J,
@@ -94,8 +95,13 @@ fn make_of<J: LineJob, L: Ledger>(
 {
     match found {
         Ok(Line::Text) => {
-            let (line, is_ascii) = (reader.line(), reader.is_ascii());
-            match job.answer(file, reader.number(), line, is_ascii, steps) {
+            let line = InputLine {
+                file,
+                number: reader.number(),
+                text: reader.line(),
+                is_ascii: reader.is_ascii(),
+            };
+            match job.answer(line, steps) {
                 Ok(mark) => Ok(Some(Made::Answer(mark))),
                 Err(_) => Err(Trouble::NoMemory),
             }
@@ -110,6 +116,7 @@ fn make_of<J: LineJob, L: Ledger>(
 }
 
 /// What is wrong with a line, as what was made of it.
+#[inline(never)]
 fn fault_of(alloc: Global, file: &str, number: u64, why: &str) -> Result<Option<Made>, Trouble>
     ensures { SaysFault result (line_fault file.now number why.now) }
 {
@@ -121,6 +128,7 @@ fn fault_of(alloc: Global, file: &str, number: u64, why: &str) -> Result<Option<
 
 /// Writes what was made of a line. Where there is some of it, that is pending until both outputs
 /// are flushed.
+#[inline(always)]
 fn write_made<J: LineJob, O: Sink, E: Sink>(
     job: &J,
     made: Made,

@@ -25,6 +25,7 @@ fn flush<S: Sink>(sink: &mut S) -> Result<(), WriteFault>
 
 /// Writes the two texts of a piece. `out` is flushed before anything is written on `err`, so that
 /// whoever sees both on one screen, or in one pipe, has them in this order.
+#[inline(always)]
 pub fn write_both<O: Sink, E: Sink>(
     out: &mut O,
     err: &mut E,
@@ -49,6 +50,7 @@ pub fn write_both<O: Sink, E: Sink>(
 
 /// Writes a text on `err`, after what stands on `out`: that is flushed before, where there is a
 /// text.
+#[inline(always)]
 fn write_behind<O: Sink, E: Sink>(out: &mut O, err: &mut E, text: &[u8]) -> Result<(), WriteFault>
     ensures out { O.tells → O.written out.new ≡ O.written out.old }
     ensures err { E.tells → Appends result (E.written err.old) (E.written err.new) text.now }

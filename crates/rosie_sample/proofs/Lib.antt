@@ -3,3 +3,4 @@ pub mod One
 pub mod Limits
 pub mod Onward
 pub mod Counting
+pub mod Breaking

@@ -1,9 +1,11 @@
 // The run of a sample: its lines are matched, and what comes of them is counted.
 ghost use Rattle.std.specs.Prelude.{◌≡◌, ◌<◌, ◌≤◌, ◌^◌, ◌∷◌, [], length, codes, IfErr, IfOk};
+ghost use Rattle.std.specs.Prelude.{IsTrue};
+ghost use Rattle.std.specs.Str.{IsAscii};
 ghost use Rattle.rosie_jobs.specs.Jobs.{matcher_of};
 ghost use Rattle.rosie_jobs.specs.Makers.{makes_of};
 ghost use Rattle.rosie_run.specs.Runs.{WritesCause, Runs, IsNoCut};
-ghost use Rattle.rosie_run.specs.Outputs.{texts};
+ghost use Rattle.rosie_run.specs.Outputs.{shown, telling};
 ghost use Rattle.rosie_run.specs.Tallies.{tally_of};
 ghost use Rattle.rosie_run.specs.Where.{Nowhere};
 ghost use Rattle.rosie_sample.specs.Counting.{hits, line_pieces, sample_pieces};
@@ -13,7 +15,7 @@ use crate::Sample;
 use crate::text::counts_text;
 use rosie_io::{CountSink, Sink};
 use rosie_jobs::MatchJob;
-use rosie_run::{Ended, LineJob, Mark, Tally, say};
+use rosie_run::{Ended, InputLine, LineJob, Mark, Tally, say};
 use rpl_machine::Steps;
 use std::alloc::Global;
 use std::sync::ledger::Ledger;
@@ -59,59 +61,26 @@ impl Counts {
 /// Matches a line, and writes its piece.
 fn run_line<J: LineJob, O: Sink, E: Sink, L: Ledger>(
     job: &mut J,
-    number: u64,
-    line: &str,
+    line: InputLine<'_>,
     out: &mut O,
     err: &mut E,
     steps: &mut Steps<L>,
 ) -> Result<Tally, Ended>
-    requires { length line.now ≤ 64 }
+    requires fits { length line.text.now ≤ 64 }
+    requires ascii { IsTrue line.is_ascii → IsAscii line.text.now }
     ensures same { J.makes job.new ≡ J.makes job.old }
-    ensures runs { Runs result (record { out = O.tells; err = E.tells; counts = O.counts })
-        (J.makes job.old (codes "-") number line.now ∷ []) Nowhere
-        (texts O.written O.number E.written out.old err.old steps.old)
-        (texts O.written O.number E.written out.new err.new steps.new) }
+    ensures runs { Runs result (telling O.Sink E.Sink)
+        (J.makes job.old line.entry.file.now line.entry.number line.entry.text.now ∷ []) Nowhere
+        (shown O.Sink E.Sink out.old err.old steps.old)
+        (shown O.Sink E.Sink out.new err.new steps.new) }
     ensures no_cut { IfErr result IsNoCut }
     ensures sinks { WritesCause result (O.faults out.old) (O.faults out.new) (E.faults err.old)
         (E.faults err.new) }
 {
-    match job.answer("-", number, line, false, steps) {
+    match job.answer(line, steps) {
         Ok(mark) => say(out, err, job.out(), job.err(), mark),
         Err(_) => Err(Ended::NoMemory),
     }
-}
-
-/// Matches so many lines of a sample, and writes their pieces.
-fn run_lines<O: Sink, E: Sink, L: Ledger>(
-    job: &mut MatchJob,
-    sample: &mut Sample,
-    lines: u32,
-    out: &mut O,
-    err: &mut E,
-    steps: &mut Steps<L>,
-) -> Result<Counts, Ended>
-    ensures runs { Runs (tallied result) (record
-        { out = O.tells; err = E.tells; counts = O.counts })
-        (line_pieces (makes_of (matcher_of job.old)) sample.old.number lines) Nowhere
-        (texts O.written O.number E.written out.old err.old steps.old)
-        (texts O.written O.number E.written out.new err.new steps.new) }
-    ensures matched { IfOk result (λ counts. counts.matched
-        ≡ hits (line_pieces (makes_of (matcher_of job.old)) sample.old.number lines)) }
-    ensures no_cut { IfErr result IsNoCut }
-    ensures sinks { WritesCause (tallied result) (O.faults out.old) (O.faults out.new)
-        (E.faults err.old) (E.faults err.new) }
-{
-    let mut counts = Counts::new();
-    'lines: for before in 0..lines {
-        let Ok(()) = sample.advance() else {
-            return Err(Ended::NoMemory);
-        };
-        match run_line(job, before as u64 + 1, sample.line(), out, err, steps) {
-            Ok(line) => counts = counts.with(line),
-            Err(ended) => return Err(ended),
-        }
-    }
-    Ok(counts)
 }
 
 impl SampleRun {
@@ -129,6 +98,43 @@ impl SampleRun {
         }
     }
 
+    /// Matches the lines, and writes their pieces.
+    fn run_lines<O: Sink, E: Sink, L: Ledger>(
+        &mut self,
+        out: &mut O,
+        err: &mut E,
+        steps: &mut Steps<L>,
+    ) -> Result<Counts, Ended>
+        ensures runs { Runs (tallied result) (telling O.Sink E.Sink)
+            (line_pieces (makes_of (matcher_of self.old.job)) self.old.sample.number self.old.lines)
+            Nowhere
+            (shown O.Sink E.Sink out.old err.old steps.old)
+            (shown O.Sink E.Sink out.new err.new steps.new) }
+        ensures matched { IfOk result (λ counts. counts.matched ≡ hits
+            (line_pieces (makes_of (matcher_of self.old.job)) self.old.sample.number
+            self.old.lines)) }
+        ensures no_cut { IfErr result IsNoCut }
+        ensures sinks { WritesCause (tallied result) (O.faults out.old) (O.faults out.new)
+            (E.faults err.old) (E.faults err.new) }
+    {
+        let lines = self.lines;
+        let mut counts = Counts::new();
+        'lines: for before in 0..lines {
+            let Ok(()) = self.sample.advance() else {
+                return Err(Ended::NoMemory);
+            };
+            let line = InputLine {
+                file: "-",
+                number: before as u64 + 1,
+                text: self.sample.line(),
+                is_ascii: false,
+            };
+            let ran = run_line(&mut self.job, line, out, err, steps)?;
+            counts = counts.with(ran);
+        }
+        Ok(counts)
+    }
+
     /// Matches the lines, and says what they come to.
     pub fn run<O: Sink, E: Sink, L: Ledger>(
         &mut self,
@@ -137,29 +143,22 @@ impl SampleRun {
         err: &mut E,
         steps: &mut Steps<L>,
     ) -> Result<Tally, Ended>
-        ensures runs { Runs result (record { out = O.tells; err = E.tells; counts = O.counts })
+        ensures runs { Runs result (telling O.Sink E.Sink)
             (sample_pieces (makes_of (matcher_of self.old.job)) self.old.sample.number
             self.old.lines) Nowhere
-            (texts O.written O.number E.written out.old err.old steps.old)
-            (texts O.written O.number E.written out.new err.new steps.new) }
+            (shown O.Sink E.Sink out.old err.old steps.old)
+            (shown O.Sink E.Sink out.new err.new steps.new) }
         ensures no_cut { IfErr result IsNoCut }
         ensures sinks { WritesCause result (O.faults out.old) (O.faults out.new)
             (E.faults err.old) (E.faults err.new) }
     {
         let lines = self.lines;
-        let job = &mut self.job;
-        let sample = &mut self.sample;
         let mut counted = CountSink::new();
-        let counts = match run_lines(job, sample, lines, &mut counted, err, steps) {
-            Ok(counts) => counts,
-            Err(ended) => return Err(ended),
-        };
+        let counts = self.run_lines(&mut counted, err, steps)?;
         let Ok(text) = counts_text(alloc, lines, counts.matched, counted.number()) else {
             return Err(Ended::NoMemory);
         };
-        match say(out, err, text.as_bytes(), &[], Mark::Miss) {
-            Ok(last) => Ok(counts.tally.and(last)),
-            Err(ended) => Err(ended),
-        }
+        let last = say(out, err, text.as_bytes(), &[], Mark::Miss)?;
+        Ok(counts.tally.and(last))
     }
 }

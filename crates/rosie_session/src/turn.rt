@@ -23,7 +23,7 @@ use crate::loading::{load_goal, load_texts};
 use crate::reply::{NAME, Reply, accepted, refused, wrong};
 use crate::session_end::SessionEnd;
 use rosie_io::Files;
-use rosie_jobs::{LineJob, MatchJob};
+use rosie_jobs::{InputLine, LineJob, MatchJob};
 use rosie_prepare::Unready;
 use rosie_repl::{Edit, State, read_edit};
 use rosie_run::{Mark, NoMemory, Trouble};
@@ -157,7 +157,13 @@ fn try_job<L: Ledger>(
     ensures cost { (ran : Job) → matcher_of job.old ≡ Matches plain ran
         → OnOk result (steps.new ≡ steps.old + (job_piece ran number line.now).cost) }
 {
-    let mark = job.answer(NAME, number, line, false, steps)?;
+    let line = InputLine {
+        file: NAME,
+        number,
+        text: line,
+        is_ascii: false,
+    };
+    let mark = job.answer(line, steps)?;
     let text = job.out();
     let fault = job.err();
     Ok(Reply {

@@ -11,8 +11,8 @@ unfolding code_makes
 returns-clause-made g c =
     let s = c.args.self.now.line.settings in
     let code = instructions c.args.self.now.program in
-    c.answer.ensures.made (code_outcome s code c.args.line.now)
-    (shown_code code (chars c.args.line.now) (budget_of s (chars c.args.line.now)) c.args.self.now.trees)
+    c.answer.ensures.made (code_outcome s code c.args.line.text.now)
+    (shown_code code (chars c.args.line.text.now) (budget_of s (chars c.args.line.text.now)) c.args.self.now.trees)
 
 pub returns-clause-steps : goal.returns-clause-steps
 unfolding code_makes
@@ -20,5 +20,5 @@ returns-clause-steps g c =
     let s = c.args.self.now.line.settings in
     let code = instructions c.args.self.now.program in
     steps_cost c.answer.result c.args.steps.now c.answer.new.steps _ _
-    (ran_cost s c.args.file.now c.args.number c.args.line.now (code_outcome s code c.args.line.now) (run code (chars c.args.line.now) (budget_of s (chars c.args.line.now))))
+    (ran_cost s c.args.line.file.now c.args.line.number c.args.line.text.now (code_outcome s code c.args.line.text.now) (run code (chars c.args.line.text.now) (budget_of s (chars c.args.line.text.now))))
     c.answer.ensures.steps

@@ -18,8 +18,8 @@ returns-in_ok-out-in-Ok-clause-made g c =
     let w = c.args.self.now in
     let is = c.in-Ok.ensures in
     told_line w.limit (rule_names w.job) (names_of c.rules-rules.result.now) (job_of w.job)
-    (bodies_of c.rules-rules.result.now) (core_of (peg_of c.goal-goal.result.now)) _ c.args.file.now c.args.number
-    c.args.line.now c.in-Ok.trace.end (encode_utf8_all c.in-Ok.trace.printed) c.mark_of-mark.result _ _
+    (bodies_of c.rules-rules.result.now) (core_of (peg_of c.goal-goal.result.now)) _ c.args.line.file.now c.args.line.number
+    c.args.line.text.now c.in-Ok.trace.end (encode_utf8_all c.in-Ok.trace.printed) c.mark_of-mark.result _ _
     (ap names_of c.rules-rules.ensures) (ap bodies_of c.rules-rules.ensures)
     (ap (λ x. core_of (peg_of x)) c.goal-goal.ensures) c.new-text.ensures
     (record { within = is.within; ends = is.end; bytes = is.printed }) c.mark_of-mark.ensures
@@ -29,7 +29,7 @@ pub returns-in_ok-err-in-TraceTooLong-clause-made : goal.returns-in_ok-err-in-Tr
 returns-in_ok-err-in-TraceTooLong-clause-made g c =
     let w = c.args.self.now in
     over_line w.limit (rule_names w.job) (job_of w.job) (bodies_of c.rules-rules.result.now)
-    (core_of (peg_of c.goal-goal.result.now)) _ c.args.file.now c.args.number c.args.line.now _ _
+    (core_of (peg_of c.goal-goal.result.now)) _ c.args.line.file.now c.args.line.number c.args.line.text.now _ _
     (ap bodies_of c.rules-rules.ensures) (ap (λ x. core_of (peg_of x)) c.goal-goal.ensures) c.new-text.ensures
     (c.in-Err.ensures.refused c.in-TraceTooLong.is) c.new-no_text.ensures.bytes
     c.in_ok-err-in-TraceTooLong.ensures
@@ -37,9 +37,9 @@ returns-in_ok-err-in-TraceTooLong-clause-made g c =
 pub returns-in_ok-out-in-Ok-clause-steps : goal.returns-in_ok-out-in-Ok-clause-steps
 returns-in_ok-out-in-Ok-clause-steps g c =
     let w = c.args.self.now in
-    no_steps w.limit (rule_names w.job) (job_of w.job) c.args.file.now c.args.number c.args.line.now c.args._steps.now
+    no_steps w.limit (rule_names w.job) (job_of w.job) c.args.line.file.now c.args.line.number c.args.line.text.now c.args._steps.now
 
 pub returns-in_ok-err-in-TraceTooLong-clause-steps : goal.returns-in_ok-err-in-TraceTooLong-clause-steps
 returns-in_ok-err-in-TraceTooLong-clause-steps g c =
     let w = c.args.self.now in
-    no_steps w.limit (rule_names w.job) (job_of w.job) c.args.file.now c.args.number c.args.line.now c.args._steps.now
+    no_steps w.limit (rule_names w.job) (job_of w.job) c.args.line.file.now c.args.line.number c.args.line.text.now c.args._steps.now

@@ -1,10 +1,11 @@
-use Rattle.std.proofs.Common.{◌≡◌, ◌≤◌, ◌∙◌, length, refl, ap, arith}
+use Rattle.std.proofs.Common.{◌≡◌, ◌≤◌, ◌<◌, ◌^◌, ◌∙◌, length, refl, ap, arith}
 use Rattle.std.proofs.lemmas.Str.{is_utf8-from_IsUtf8}
 use Rattle.rosie_sample.specs.declared.run.Counts.{Counts}
 use Rattle.rosie_sample.proofs.Limits.{match_stays}
 use Rattle.rosie_sample.proofs.Onward.{all-matched, counted-break, counted-end, counted-first, counted-front, counted-on}
 use Rattle.rosie_sample.proofs.Onward.{few_matched}
-use Rattle.rosie_sample.proofs.run.run_lines.Goals as goal
+use Rattle.rosie_sample.proofs.Breaking.{lines-break}
+use Rattle.rosie_sample.proofs.run.SampleRun.run_lines.Goals as goal
 
 pub lines-init : goal.lines-init
 lines-init g c = record {
@@ -22,29 +23,30 @@ pub with-counts-requires : goal.with-counts-requires
 with-counts-requires g c =
     let few : c.lines.counts.matched ≤ c.lines.before = few_matched _ _ _ _ _ _ _ _ _ c.lines.invariant.counted in
     let more = c.lines-test.true in
-    let fits = c.ranges.lines.fits in
+    let fits : c.args.self.now.lines < 2 ^ 32 = omega arith in
     omega arith
 
-pub returns-in-Err-clause-runs : goal.returns-in-Err-clause-runs
-returns-in-Err-clause-runs g c =
+pub returns-in_err-ran-clause-runs : goal.returns-in_err-ran-clause-runs
+returns-in_err-ran-clause-runs g c =
     let same_length = ap length c.line.ensures in
     let line_short = c.in-Ok.ensures.short in
     let short : length c.line.result.now ≤ 64 = omega arith in
-    counted-break _ _ _ _ _ _ _ _ _ c.lines.invariant.counted c.line.result.now (c.line.ensures ∙ c.in-Ok.ensures.line)
-    c.lines-test.true (is_utf8-from_IsUtf8 c.line.result.now c.line.utf8) short _ c.lines.invariant.same c.in-Err.ended _
-    c.in-Err.ensures.runs
+    lines-break _ _ _ _ c.in_err-ran.field-0.0 c.from_residual.result c.from_residual.ensures.1
+    (counted-break _ _ _ _ _ _ _ _ _ c.lines.invariant.counted c.line.result.now (c.line.ensures ∙ c.in-Ok.ensures.line)
+    c.lines-test.true (is_utf8-from_IsUtf8 c.line.result.now c.line.utf8) short _ c.lines.invariant.same c.in_err-ran.field-0.0 _
+    c.in_err-ran.ensures.runs)
 
 pub lines-preserved : goal.lines-preserved
 lines-preserved g c =
     let same_length = ap length c.line.ensures in
     let line_short = c.in-Ok.ensures.short in
     let short : length c.line.result.now ≤ 64 = omega arith in
-    let ran = c.in-Ok-run_line in record {
+    let ran = c.in_ok-ran in record {
       same = ran.ensures.same ∙ c.lines.invariant.same;
       counted = counted-on _ _ _ _ _ _ _ _ _ c.lines.invariant.counted c.line.result.now
           (c.line.ensures ∙ c.in-Ok.ensures.line) c.lines-test.true
           (is_utf8-from_IsUtf8 c.line.result.now c.line.utf8) short _ c.lines.invariant.same c.advance.new.self.number _
-          ran.line c.with-counts.result c.in-Ok.ensures.number (match_stays _ _ _ _ _) ran.ensures.runs
+          ran.ran c.with-counts.result c.in-Ok.ensures.number (match_stays _ _ _ _ _) ran.ensures.runs
           c.with-counts.ensures;
       out_faults = ran.ensures.sinks.0 ∙ c.lines.invariant.out_faults;
       err_faults = ran.ensures.sinks.1 ∙ c.lines.invariant.err_faults;
@@ -54,12 +56,12 @@ pub returns-clause-runs : goal.returns-clause-runs
 returns-clause-runs g c =
     let past = c.lines-test.false in
     let within = c.lines.auto.before-end in
-    let all : c.lines.before ≡ c.args.lines = omega arith in
+    let all : c.lines.before ≡ c.args.self.now.lines = omega arith in
     counted-end _ _ _ _ _ _ _ _ _ c.lines.invariant.counted all
 
 pub returns-clause-matched : goal.returns-clause-matched
 returns-clause-matched g c =
     let past = c.lines-test.false in
     let within = c.lines.auto.before-end in
-    let all : c.lines.before ≡ c.args.lines = omega arith in
+    let all : c.lines.before ≡ c.args.self.now.lines = omega arith in
     all-matched _ _ _ _ _ _ _ _ _ c.lines.invariant.counted all
