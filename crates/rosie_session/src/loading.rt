@@ -9,7 +9,7 @@ ghost use Rattle.rosie_prepare.specs.Views.{ready_seen};
 ghost use Rattle.rosie_repl.specs.Session.{Session};
 ghost use Rattle.rosie_repl.specs.States.{session_of};
 ghost use Rattle.rosie_run.specs.Sources.{moment_of};
-ghost use Rattle.rosie_session.specs.Loading.{Compiles, IsLoading, Loading, given};
+ghost use Rattle.rosie_session.specs.Loading.{Compiles, OfLoading, given};
 ghost use Rattle.rosie_session.specs.Replay.{judged};
 ghost use Rattle.rosie_session.specs.inside.Turning.{GivesJob, IsOwn, Judges};
 ghost use Rattle.rpl_check.specs.Checked.{IsWhole};
@@ -58,10 +58,9 @@ pub(crate) fn load_texts<F: Files>(
     state: &State,
     files: &mut F,
 ) -> Result<(), Unready>
-    ensures judges { F.tells → (w : Loading) → IsLoading (F.tree files.old) folders.now w →
-        (before after : Session)
-        → Judges result (judged before after (w.texts (session_of state.now).now.texts)) before
-        after }
+    ensures judges { OfLoading F.tells (F.tree files.old) folders.now
+        (λ w. (before after : Session) → Judges result
+        (judged before after (w.texts (session_of state.now).now.texts)) before after) }
     ensures cause { HasCause result (moment_of F.Source files.old) (moment_of F.Source files.new) }
     ensures taken { NotFewer (F.taken files.old) (F.taken files.new) }
     ensures tree { F.tree files.new ≡ F.tree files.old }
@@ -114,11 +113,12 @@ pub(crate) fn load_goal<F: Files>(
     pattern: &str,
     files: &mut F,
 ) -> Result<MatchJob, Unready>
-    ensures gives { F.tells → (w : Loading) → IsLoading (F.tree files.old) folders.now w
-        → GivesJob result (w.goal (session_of state.now).now.texts (chars pattern.now)).answer }
-    ensures asked { F.tells → (w : Loading) → IsLoading (F.tree files.old) folders.now w
-        → IfErr result (λ u. IsAsked u
-        (w.goal (session_of state.now).now.texts (chars pattern.now)).asked) }
+    ensures gives { OfLoading F.tells (F.tree files.old) folders.now
+        (λ w. GivesJob result
+        (w.goal (session_of state.now).now.texts (chars pattern.now)).answer) }
+    ensures asked { OfLoading F.tells (F.tree files.old) folders.now
+        (λ w. IfErr result (λ u. IsAsked u
+        (w.goal (session_of state.now).now.texts (chars pattern.now)).asked)) }
     ensures cause { HasCause result (moment_of F.Source files.old) (moment_of F.Source files.new) }
     ensures taken { NotFewer (F.taken files.old) (F.taken files.new) }
     ensures tree { F.tree files.new ≡ F.tree files.old }

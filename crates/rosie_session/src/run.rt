@@ -4,24 +4,22 @@ ghost use Rattle.std.specs.Prelude.{IfErr, IfOk, OnOk};
 ghost use Rattle.rosie_io.specs.Answering.{Keeps};
 ghost use Rattle.rosie_io.specs.Appending.{Appends};
 ghost use Rattle.rosie_io.specs.Counts.{capped};
-ghost use Rattle.rosie_io.specs.Gathering.{Reads, left};
+ghost use Rattle.rosie_io.specs.Gathering.{Reads};
 ghost use Rattle.rosie_io.specs.Loading.{NotFewer};
 ghost use Rattle.rosie_repl.specs.States.{session_of};
-ghost use Rattle.rosie_run.specs.Runs.{SourcesCause, WritesCause, GoesOn, Runs};
-ghost use Rattle.rosie_run.specs.Outputs.{shown, telling};
+ghost use Rattle.rosie_run.specs.Runs.{SourcesCause, WritesCause, GoesOn};
 ghost use Rattle.rosie_run.specs.Closing.{OutFirst};
 ghost use Rattle.rosie_run.specs.Sources.{moment_of};
 ghost use Rattle.rosie_run.specs.inside.Causes.{BothCause};
+ghost use Rattle.rosie_session.specs.Course.{course, RunsSession};
 ghost use Rattle.rosie_session.specs.Loading.{IsLoading, Loading};
-ghost use Rattle.rosie_session.specs.Replay.{replay};
-ghost use Rattle.rosie_session.specs.Where.{InSession};
-ghost use Rattle.rosie_session.specs.inside.Passing.{Counts, InputCause, IsOfReading, Makes};
-ghost use Rattle.rosie_session.specs.inside.Passing.{RunsLines, SinksCause, SpentCause, Stops};
+ghost use Rattle.rosie_session.specs.inside.Passing.{Counts, InputCause, IsOfReading, MakesNext};
+ghost use Rattle.rosie_session.specs.inside.Passing.{RunsTold, SinksCause, SpentCause, Stops};
 ghost use Rattle.rosie_session.specs.inside.Turning.{FilesBy};
 
 use crate::reply::{Reply, wrong};
 use crate::session_end::{SessionEnd, ended_by};
-use crate::turn::answer;
+use crate::turn::{Base, answer};
 use rosie_io::{Files, Line, LineFault, LineReader, Sink, Source, WriteFault};
 use rosie_repl::State;
 use rosie_run::{Ended, Tally, Trouble, flush_both, write_both};
@@ -47,9 +45,8 @@ fn next_turn<F: Files, I: Source, L: Ledger>(
     requires lines { reader.old.whole ≡ false }
     requires most { reader.old.most ≡ 1048576 }
     ensures makes { F.tells → I.tells → (w : Loading) → IsLoading (F.tree files.old) folders.now w
-        → Makes result w reader.old.number (session_of state.old) (session_of state.new)
-        reader.new.held.ended
-        (left reader.old.held (I.rest input.old)) (left reader.new.held (I.rest input.new))
+        → MakesNext result w reader.old reader.new (session_of state.old) (session_of state.new)
+        (I.rest input.old) (I.rest input.new)
         steps.old steps.new }
     ensures numbers { Counts result reader.old reader.new }
     ensures fits { reader.new.number ≤ 2 ^ 48 }
@@ -72,7 +69,12 @@ fn next_turn<F: Files, I: Source, L: Ledger>(
         Ok(line) => match line {
             Line::Text => {
                 let number = reader.number();
-                match answer(alloc, folders, state, number, reader.line(), files, steps) {
+                let base = Base {
+                    alloc,
+                    folders,
+                    number,
+                };
+                match answer(&base, state, reader.line(), files, steps) {
                     Ok(reply) => Ok(Some(reply)),
                     Err(session_end) => Err(session_end),
                 }
@@ -134,11 +136,8 @@ fn run_lines<F: Files, I: Source, O: Sink, E: Sink, L: Ledger>(
     err: &mut E,
     steps: &mut Steps<L>,
 ) -> Result<Tally, SessionEnd>
-    ensures runs { F.tells → I.tells → (w : Loading) → IsLoading (F.tree files.old) folders.now w
-        → RunsLines result (telling O.Sink E.Sink) w
-        (I.rest input.old) (I.rest input.new)
-        (shown O.Sink E.Sink out.old err.old steps.old)
-        (shown O.Sink E.Sink out.new err.new steps.new) }
+    ensures runs { RunsTold result folders.now (course F.Source I.Source O.Sink E.Sink files.old
+        files.new input.old input.new out.old out.new err.old err.new steps.old steps.new) }
     ensures cause { InputCause result (I.faults input.old) (I.faults input.new) }
     ensures spent { SpentCause result (I.taken input.old) (I.taken input.new) }
     ensures files { FilesBy result (moment_of F.Source files.old) (moment_of F.Source files.new) }
@@ -183,16 +182,8 @@ pub fn run_session<F: Files, I: Source, O: Sink, E: Sink, L: Ledger>(
     err: &mut E,
     steps: &mut Steps<L>,
 ) -> Result<Tally, Ended>
-    ensures runs { F.tells → I.tells → (w : Loading) → IsLoading (F.tree files.old) folders.now w
-        → Runs result (telling O.Sink E.Sink)
-        (replay w (I.rest input.old))
-        (InSession w (I.rest input.old)
-        (moment_of I.Source input.old)
-        (moment_of I.Source input.new)
-        (moment_of F.Source files.old)
-        (moment_of F.Source files.new))
-        (shown O.Sink E.Sink out.old err.old steps.old)
-        (shown O.Sink E.Sink out.new err.new steps.new) }
+    ensures runs { RunsSession result folders.now (course F.Source I.Source O.Sink E.Sink files.old
+        files.new input.old input.new out.old out.new err.old err.new steps.old steps.new) }
     ensures rest { F.tells → I.tells → GoesOn result (I.rest input.new ≡ []) }
     ensures cause { SourcesCause result (moment_of I.Source input.old)
         (moment_of I.Source input.new)

@@ -13,11 +13,12 @@ ghost use Rattle.rosie_repl.specs.Session.{Session};
 ghost use Rattle.rosie_repl.specs.States.{session_of};
 ghost use Rattle.rosie_run.specs.Report.{Piece};
 ghost use Rattle.rosie_run.specs.Sources.{moment_of};
-ghost use Rattle.rosie_session.specs.Loading.{IsLoading, Loading};
-ghost use Rattle.rosie_session.specs.Replay.{change_turn, edit_turn, job_piece, loaded, or_no};
+ghost use Rattle.rosie_session.specs.Loading.{OfLoading};
+ghost use Rattle.rosie_session.specs.Replay.{edit_turn, job_piece, loaded, or_no};
 ghost use Rattle.rosie_session.specs.Replay.{plain, try_turn};
 ghost use Rattle.rosie_session.specs.Replay.{undo_turn};
-ghost use Rattle.rosie_session.specs.inside.Turning.{IsReply, Judges, Leaves, Says, StepsBy, Turns};
+ghost use Rattle.rosie_session.specs.inside.Turning.{change_of, IsReply, Judges, Leaves, Says};
+ghost use Rattle.rosie_session.specs.inside.Turning.{StepsBy, Turns, TurnsMade};
 
 use crate::loading::{load_goal, load_texts};
 use crate::reply::{NAME, Reply, accepted, refused, wrong};
@@ -32,6 +33,22 @@ use rpl_package::LibPath;
 use std::alloc::Global;
 use std::sync::ledger::Ledger;
 
+/// What a line of a session is answered over: the folders in which imports are looked for, and its
+/// number.
+#[derive(Clone, Copy)]
+pub(crate) struct Base<'a> {
+    pub(crate) alloc: Global,
+    pub(crate) folders: &'a LibPath,
+    pub(crate) number: u64,
+}
+
+/// A line that is tried, and the pattern with which it is matched.
+#[derive(Clone, Copy)]
+struct Trial<'a> {
+    pattern: &'a str,
+    line: &'a str,
+}
+
 /// Loads what is kept after a change: a new pattern with the texts, else the texts alone.
 fn load_change<F: Files>(
     alloc: Global,
@@ -40,11 +57,10 @@ fn load_change<F: Files>(
     edit: &Edit<'_>,
     files: &mut F,
 ) -> Result<(), Unready>
-    ensures judges { F.tells → (w : Loading) → IsLoading (F.tree files.old) folders.now w →
-        (before : Session)
-        → Judges result (loaded w (in_chars (edit_seen edit.now)) before (session_of state.now))
-        before
-        (session_of state.now) }
+    ensures judges { OfLoading F.tells (F.tree files.old) folders.now
+        (λ w. (before : Session) → Judges result
+        (loaded w (in_chars (edit_seen edit.now)) before (session_of state.now)) before
+        (session_of state.now)) }
     ensures cause { HasCause result (moment_of F.Source files.old) (moment_of F.Source files.new) }
     ensures taken { NotFewer (F.taken files.old) (F.taken files.new) }
     ensures tree { F.tree files.new ≡ F.tree files.old }
@@ -66,11 +82,9 @@ fn judge<F: Files>(
     edit: &Edit<'_>,
     files: &mut F,
 ) -> Result<Reply, SessionEnd>
-    ensures turns { F.tells → (w : Loading) → IsLoading (F.tree files.old) folders.now w →
-        (before : Session)
-        → S.changed (in_chars (edit_seen edit.now)) before ≡ Some (session_of state.old)
-        → Turns result (loaded w (in_chars (edit_seen edit.now)) before (session_of state.old))
-        (session_of state.new) }
+    ensures turns { OfLoading F.tells (F.tree files.old) folders.now
+        (λ w. TurnsMade result w (in_chars (edit_seen edit.now)) (session_of state.old)
+        (session_of state.new)) }
     ensures leaves { Leaves F.Source result files.old files.new }
 {
     match load_change(alloc, folders, state, edit, files) {
@@ -88,22 +102,20 @@ fn judge<F: Files>(
 
 /// Makes a change, which stands where loading has no fault.
 fn change<F: Files>(
-    alloc: Global,
-    folders: &LibPath,
+    base: &Base<'_>,
     state: &mut State,
-    number: u64,
     edit: &Edit<'_>,
     files: &mut F,
 ) -> Result<Reply, SessionEnd>
-    ensures turns { F.tells → (w : Loading) → IsLoading (F.tree files.old) folders.now w
-        → Turns result (change_turn w number (session_of state.old) (in_chars (edit_seen edit.now))
-        (S.changed (in_chars (edit_seen edit.now)) (session_of state.old))) (session_of state.new) }
+    ensures turns { OfLoading F.tells (F.tree files.old) base.now.folders.now
+        (λ w. Turns result (change_of w base.now.number (session_of state.old)
+        (in_chars (edit_seen edit.now))) (session_of state.new)) }
     ensures leaves { Leaves F.Source result files.old files.new }
 {
     if state.change(edit)? {
-        return judge(alloc, folders, state, edit, files);
+        return judge(base.alloc, base.folders, state, edit, files);
     }
-    Ok(wrong(alloc, number, "bad command")?)
+    Ok(wrong(base.alloc, base.number, "bad command")?)
 }
 
 /// Goes back to what was kept before the last change.
@@ -175,31 +187,26 @@ fn try_job<L: Ledger>(
 
 /// Matches a line with a pattern over the kept texts.
 fn try_with<F: Files, L: Ledger>(
-    alloc: Global,
-    folders: &LibPath,
+    base: &Base<'_>,
     state: &State,
-    pattern: &str,
-    number: u64,
-    line: &str,
+    trial: &Trial<'_>,
     files: &mut F,
     steps: &mut Steps<L>,
 ) -> Result<Reply, SessionEnd>
-    requires { length line.now ≤ 2 ^ 30 }
-    ensures turns { F.tells → (w : Loading) → IsLoading (F.tree files.old) folders.now w
-        → Turns result (try_turn w number (session_of state.now) (Some (chars pattern.now))
-        line.now)
-        (session_of state.now) }
-    ensures steps { F.tells → (w : Loading) → IsLoading (F.tree files.old) folders.now w
-        → StepsBy result (try_turn w number (session_of state.now) (Some (chars pattern.now))
-        line.now)
-        steps.old steps.new }
+    requires { length trial.now.line.now ≤ 2 ^ 30 }
+    ensures turns { OfLoading F.tells (F.tree files.old) base.now.folders.now
+        (λ w. Turns result (try_turn w base.now.number (session_of state.now)
+        (Some (chars trial.now.pattern.now)) trial.now.line.now) (session_of state.now)) }
+    ensures steps { OfLoading F.tells (F.tree files.old) base.now.folders.now
+        (λ w. StepsBy result (try_turn w base.now.number (session_of state.now)
+        (Some (chars trial.now.pattern.now)) trial.now.line.now) steps.old steps.new) }
     ensures leaves { Leaves F.Source result files.old files.new }
 {
-    match load_goal(alloc, folders, state, pattern, files) {
-        Ok(mut job) => Ok(try_job(alloc, &mut job, number, line, steps)?),
+    match load_goal(base.alloc, base.folders, state, trial.pattern, files) {
+        Ok(mut job) => Ok(try_job(base.alloc, &mut job, base.number, trial.line, steps)?),
         Err(unready) => match unready {
             Unready::NoMemory => Err(SessionEnd::Run(Trouble::NoMemory)),
-            Unready::Refused(text) => Ok(refused(alloc, text)),
+            Unready::Refused(text) => Ok(refused(base.alloc, text)),
             Unready::ReadFault(path) => Err(SessionEnd::Unread(path)),
         },
     }
@@ -207,78 +214,72 @@ fn try_with<F: Files, L: Ledger>(
 
 /// Matches a line with the kept pattern.
 fn try_line<F: Files, L: Ledger>(
-    alloc: Global,
-    folders: &LibPath,
+    base: &Base<'_>,
     state: &State,
-    number: u64,
     line: &str,
     files: &mut F,
     steps: &mut Steps<L>,
 ) -> Result<Reply, SessionEnd>
     requires { length line.now ≤ 2 ^ 30 }
-    ensures turns { F.tells → (w : Loading) → IsLoading (F.tree files.old) folders.now w
-        → Turns result (try_turn w number (session_of state.now) (session_of state.now).now.pattern
-        line.now)
-        (session_of state.now) }
-    ensures steps { F.tells → (w : Loading) → IsLoading (F.tree files.old) folders.now w
-        → StepsBy result (try_turn w number (session_of state.now)
-        (session_of state.now).now.pattern line.now)
-        steps.old steps.new }
+    ensures turns { OfLoading F.tells (F.tree files.old) base.now.folders.now
+        (λ w. Turns result (try_turn w base.now.number (session_of state.now)
+        (session_of state.now).now.pattern line.now) (session_of state.now)) }
+    ensures steps { OfLoading F.tells (F.tree files.old) base.now.folders.now
+        (λ w. StepsBy result (try_turn w base.now.number (session_of state.now)
+        (session_of state.now).now.pattern line.now) steps.old steps.new) }
     ensures leaves { Leaves F.Source result files.old files.new }
 {
     match state.pattern() {
-        None => Ok(wrong(alloc, number, "no pattern")?),
-        Some(pattern) => try_with(alloc, folders, state, pattern, number, line, files, steps),
+        None => Ok(wrong(base.alloc, base.number, "no pattern")?),
+        Some(pattern) => try_with(base, state, &Trial { pattern, line }, files, steps),
     }
 }
 
 /// Does what a command says.
 fn obey<F: Files, L: Ledger>(
-    alloc: Global,
-    folders: &LibPath,
+    base: &Base<'_>,
     state: &mut State,
-    number: u64,
     edit: &Edit<'_>,
     files: &mut F,
     steps: &mut Steps<L>,
 ) -> Result<Reply, SessionEnd>
     requires { (line : List ℕ) → edit_seen edit.now ≡ Try line → length line ≤ 2 ^ 30 }
-    ensures turns { F.tells → (w : Loading) → IsLoading (F.tree files.old) folders.now w
-        → Turns result (edit_turn w number (session_of state.old) (Some (edit_seen edit.now)))
-        (session_of state.new) }
-    ensures steps { F.tells → (w : Loading) → IsLoading (F.tree files.old) folders.now w
-        → StepsBy result (edit_turn w number (session_of state.old) (Some (edit_seen edit.now)))
-        steps.old steps.new }
+    ensures turns { OfLoading F.tells (F.tree files.old) base.now.folders.now
+        (λ w. Turns result
+        (edit_turn w base.now.number (session_of state.old) (Some (edit_seen edit.now)))
+        (session_of state.new)) }
+    ensures steps { OfLoading F.tells (F.tree files.old) base.now.folders.now
+        (λ w. StepsBy result
+        (edit_turn w base.now.number (session_of state.old) (Some (edit_seen edit.now)))
+        steps.old steps.new) }
     ensures leaves { Leaves F.Source result files.old files.new }
 {
     match *edit {
-        Edit::Try(line) => try_line(alloc, folders, state, number, line, files, steps),
-        Edit::Undo => Ok(undo(alloc, state, number)?),
-        _ => change(alloc, folders, state, number, edit, files),
+        Edit::Try(line) => try_line(base, state, line, files, steps),
+        Edit::Undo => Ok(undo(base.alloc, state, base.number)?),
+        _ => change(base, state, edit, files),
     }
 }
 
 /// What is said to a line of text.
 pub(crate) fn answer<F: Files, L: Ledger>(
-    alloc: Global,
-    folders: &LibPath,
+    base: &Base<'_>,
     state: &mut State,
-    number: u64,
     line: &str,
     files: &mut F,
     steps: &mut Steps<L>,
 ) -> Result<Reply, SessionEnd>
     requires { length line.now ≤ 2 ^ 30 }
-    ensures turns { F.tells → (w : Loading) → IsLoading (F.tree files.old) folders.now w
-        → Turns result (edit_turn w number (session_of state.old) (edit_of line.now))
-        (session_of state.new) }
-    ensures steps { F.tells → (w : Loading) → IsLoading (F.tree files.old) folders.now w
-        → StepsBy result (edit_turn w number (session_of state.old) (edit_of line.now)) steps.old
-        steps.new }
+    ensures turns { OfLoading F.tells (F.tree files.old) base.now.folders.now
+        (λ w. Turns result (edit_turn w base.now.number (session_of state.old) (edit_of line.now))
+        (session_of state.new)) }
+    ensures steps { OfLoading F.tells (F.tree files.old) base.now.folders.now
+        (λ w. StepsBy result (edit_turn w base.now.number (session_of state.old) (edit_of line.now))
+        steps.old steps.new) }
     ensures leaves { Leaves F.Source result files.old files.new }
 {
     match read_edit(line) {
-        None => Ok(wrong(alloc, number, "bad command")?),
-        Some(edit) => obey(alloc, folders, state, number, &edit, files, steps),
+        None => Ok(wrong(base.alloc, base.number, "bad command")?),
+        Some(edit) => obey(base, state, &edit, files, steps),
     }
 }

@@ -17,7 +17,8 @@ use Rattle.rosie_run.specs.declared.tally.Tally.{Tally}
 use Rattle.rosie_run.specs.declared.trouble.Trouble.TheVariants as T
 use Rattle.rosie_run.specs.inside.Causes.{SinksEnd, SourceEnds, SpentEnds}
 use Rattle.rosie_run.specs.inside.Passing.{ReadsOn, StopsAt}
-use Rattle.rosie_session.specs.Loading.{Loading}
+use Rattle.rosie_session.specs.Course.{Course}
+use Rattle.rosie_session.specs.Loading.{IsLoading, Loading}
 use Rattle.rosie_session.specs.Replay.{Turn, pieces_of, turn, turns, turns_from}
 use Rattle.rosie_session.specs.declared.session_end.SessionEnd.{SessionEnd}
 use Rattle.rosie_session.specs.declared.session_end.SessionEnd.TheVariants as H
@@ -62,6 +63,12 @@ Makes (Ok (Some reply)) w n s0 s1 ended left0 left1 steps0 steps1 =
     MakesTurn w n s0 s1 ended left0 left1 reply steps0 steps1
 Makes (Ok None) w n s0 s1 ended left0 left1 steps0 steps1 = (left0 ≡ []) × (left1 ≡ []) × (steps1 ≡ steps0)
 Makes (Err session_end) w n s0 s1 ended left0 left1 steps0 steps1 = MakesEnd session_end w n s0 left0 steps0 steps1
+
+-- and so by the reader, and by what is left of the input
+abbrev pub MakesNext : Result (Option Reply) SessionEnd → Loading → Reader → Reader → Session → Session → List ℕ → List ℕ
+    → ℕ → ℕ → Type 0
+MakesNext result w r0 r1 s0 s1 rest0 rest1 steps0 steps1 =
+    Makes result w r0.number s0 s1 r1.held.ended (left r0.held rest0) (left r1.held rest1) steps0 steps1
 
 -- how many lines were passed, and whether there may be more
 abbrev pub Counts : {A : Type 0} → Result (Option A) SessionEnd → Reader → Reader → Type 0
@@ -159,6 +166,12 @@ abbrev pub RunsLines : Result Tally SessionEnd → Telling → Loading → List 
 RunsLines (Ok tally) W w rest0 rest1 a b =
     Wrote W (pieces_of (turns w rest0)) a b × (tally ≡ tally_of (pieces_of (turns w rest0)))
 RunsLines (Err session_end) W w rest0 rest1 a b = EndsLines session_end W w rest0 rest1 a b
+
+-- where files and input are told
+abbrev pub RunsTold : Result Tally SessionEnd → (folders : List (List ℕ)) → Course → Type 0
+RunsTold result folders c =
+    c.files_tell → c.input_tells → (w : Loading) → IsLoading c.tree folders w
+    → RunsLines result c.tells w c.input.before.rest c.input.after.rest c.before c.after
 
 -- so many bytes were taken where the reads are spent
 abbrev pub SpentBy : SessionEnd → ℕ → ℕ → Type 0

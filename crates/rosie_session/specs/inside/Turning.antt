@@ -1,5 +1,5 @@
 -- What comes of one line of a session.
-use Rattle.std.specs.Prelude.{◌≡◌, ◌+◌, ℕ, Result, Ok, Err, IfErr, encode_utf8_all, string_bytes}
+use Rattle.std.specs.Prelude.{◌≡◌, ◌+◌, ℕ, Some, Result, Ok, Err, IfErr, encode_utf8_all, string_bytes}
 use Rattle.std.specs.List.{Contains}
 use Rattle.rosie_io.specs.Loading.{NotFewer}
 use Rattle.rosie_io.specs.declared.outside.Source.{Ghosts}
@@ -11,12 +11,14 @@ use Rattle.rosie_prepare.specs.Answers.{IsDue}
 use Rattle.rosie_prepare.specs.Prepared.{OrLine}
 use Rattle.rosie_prepare.specs.declared.unready.Unready.{Unready}
 use Rattle.rosie_prepare.specs.declared.unready.Unready.TheVariants as U
-use Rattle.rosie_repl.specs.Session.{Session}
+use Rattle.rosie_repl.specs.Edits.{Edit}
+use Rattle.rosie_repl.specs.Session.{Session, changed}
 use Rattle.rosie_run.specs.Made.{IsMade}
 use Rattle.rosie_run.specs.Report.{Piece, fault_piece}
 use Rattle.rosie_run.specs.Sources.{Moment, NoFewer, RoseIn, Still, moment_of}
 use Rattle.rosie_run.specs.declared.trouble.Trouble.TheVariants as T
-use Rattle.rosie_session.specs.Replay.{Turn, ok_piece, plain}
+use Rattle.rosie_session.specs.Loading.{Loading}
+use Rattle.rosie_session.specs.Replay.{Turn, change_turn, loaded, ok_piece, plain}
 use Rattle.rosie_session.specs.declared.session_end.SessionEnd.{SessionEnd}
 use Rattle.rosie_session.specs.declared.session_end.SessionEnd.TheVariants as H
 use Rattle.rosie_session.specs.declared.reply.Reply.{Reply}
@@ -63,6 +65,14 @@ Says reply t now = IsReply reply t.piece × (now ≡ t.session)
 abbrev pub Turns : Result Reply SessionEnd → Turn → Session → Type 0
 Turns (Ok reply) t now = Says reply t now
 Turns (Err session_end) t now = IsEndOf session_end t
+
+-- a change comes to this
+abbrev pub change_of : Loading → ℕ → Session → Edit → Turn
+change_of w n s e = change_turn w n s e (changed e s)
+
+-- and a change that was made, to whatever the session was before it
+abbrev pub TurnsMade : Result Reply SessionEnd → Loading → Edit → (made now : Session) → Type 0
+TurnsMade result w e made now = (before : Session) → changed e before ≡ Some made → Turns result (loaded w e before made) now
 
 -- the steps that were made
 abbrev pub EndSteps : SessionEnd → ℕ → ℕ → Type 0

@@ -16,23 +16,23 @@ obey-requires g c = λ line e.
 pub returns-in_ok-wrong-in-None-clause-turns : goal.returns-in_ok-wrong-in-None-clause-turns
 returns-in_ok-wrong-in-None-clause-turns g c = λ t w is.
     let s = session_of c.args.state.now in
-    subst (λ (o : Option Edit). Says c.in_ok-wrong-in-None.field-0 (edit_turn w c.args.number s o) s) c.in-None.ensures
+    subst (λ (o : Option Edit). Says c.in_ok-wrong-in-None.field-0 (edit_turn w c.args.base.now.number s o) s) c.in-None.ensures
     (c.in_ok-wrong-in-None.ensures, refl)
 
 pub returns-in_ok-wrong-in-None-clause-steps : goal.returns-in_ok-wrong-in-None-clause-steps
 returns-in_ok-wrong-in-None-clause-steps g c = λ t w is.
     let s = session_of c.args.state.now in
-    subst (λ (o : Option Edit). c.args.steps.now ≡ c.args.steps.now + (edit_turn w c.args.number s o).piece.cost)
+    subst (λ (o : Option Edit). c.args.steps.now ≡ c.args.steps.now + (edit_turn w c.args.base.now.number s o).piece.cost)
     c.in-None.ensures (omega arith)
 
 pub returns-in-Some-clause-turns : goal.returns-in-Some-clause-turns
 returns-in-Some-clause-turns g c = λ t w is.
     let s = session_of c.args.state.now in
-    subst (λ (o : Option Edit). Turns c.obey.result (edit_turn w c.args.number s o) (session_of c.obey.new.state))
+    subst (λ (o : Option Edit). Turns c.obey.result (edit_turn w c.args.base.now.number s o) (session_of c.obey.new.state))
     c.in-Some.ensures (c.obey.ensures.turns t w is)
 
 pub returns-in-Some-clause-steps : goal.returns-in-Some-clause-steps
 returns-in-Some-clause-steps g c = λ t w is.
     let s = session_of c.args.state.now in
-    subst (λ (o : Option Edit). StepsBy c.obey.result (edit_turn w c.args.number s o) c.args.steps.now c.obey.new.steps)
+    subst (λ (o : Option Edit). StepsBy c.obey.result (edit_turn w c.args.base.now.number s o) c.args.steps.now c.obey.new.steps)
     c.in-Some.ensures (c.obey.ensures.steps t w is)

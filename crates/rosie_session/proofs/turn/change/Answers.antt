@@ -15,7 +15,7 @@ returns-then-branch-clause-turns g c = λ t w is.
     let e = in_chars (edit_seen c.args.edit.now) in
     let done : c.in_ok-change.field-0 ≡ true = cc in
     subst (λ (x : Turn). Turns c.judge.result x (session_of c.judge.new.state))
-    (sym (change_some w c.args.number s mid e (changed e s) c.in_ok-change.field-0 c.in_ok-change.ensures done))
+    (sym (change_some w c.args.base.now.number s mid e (changed e s) c.in_ok-change.field-0 c.in_ok-change.ensures done))
     (c.judge.ensures.turns t w is s (made_some s mid (changed e s) c.in_ok-change.field-0 c.in_ok-change.ensures done))
 
 pub returns-clause-turns : goal.returns-clause-turns
@@ -23,5 +23,5 @@ returns-clause-turns g c = λ t w is.
     let s = session_of c.args.state.now in
     let e = in_chars (edit_seen c.args.edit.now) in
     let off : c.in_ok-change.field-0 ≡ false = cc in
-    change_none w c.args.number s (session_of c.change.new.self) e (changed e s) c.in_ok-change.field-0
+    change_none w c.args.base.now.number s (session_of c.change.new.self) e (changed e s) c.in_ok-change.field-0
     c.in_ok-wrong.field-0 c.in_ok-change.ensures off c.in_ok-wrong.ensures

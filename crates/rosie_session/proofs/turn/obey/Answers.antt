@@ -25,14 +25,14 @@ pub returns-in_ok-undo-in-Undo-clause-steps : goal.returns-in_ok-undo-in-Undo-cl
 returns-in_ok-undo-in-Undo-clause-steps g c = λ t w is.
     let s = session_of c.args.state.now in
     rw c.in-Undo.is
-    (steps_none (Ok c.in_ok-undo-in-Undo.field-0) (undo_turn c.args.number s (undone s)) c.args.steps.now
-    (undo_cost c.args.number s (undone s)))
+    (steps_none (Ok c.in_ok-undo-in-Undo.field-0) (undo_turn c.args.base.now.number s (undone s)) c.args.steps.now
+    (undo_cost c.args.base.now.number s (undone s)))
 
 pub returns-in_default-clause-turns : goal.returns-in_default-clause-turns
 returns-in_default-clause-turns g c = λ t w is.
     let s = session_of c.args.state.now in
     subst (λ (x : Turn). Turns c.change.result x (session_of c.change.new.state))
-    (sym (edit_change w c.args.number s c.args.edit.now c.in_default.not-Try c.in_default.not-Undo))
+    (sym (edit_change w c.args.base.now.number s c.args.edit.now c.in_default.not-Try c.in_default.not-Undo))
     (c.change.ensures.turns t w is)
 
 pub returns-in_default-clause-steps : goal.returns-in_default-clause-steps
@@ -40,6 +40,6 @@ returns-in_default-clause-steps g c = λ t w is.
     let s = session_of c.args.state.now in
     let e = in_chars (edit_seen c.args.edit.now) in
     subst (λ (x : Turn). StepsBy c.change.result x c.args.steps.now c.args.steps.now)
-    (sym (edit_change w c.args.number s c.args.edit.now c.in_default.not-Try c.in_default.not-Undo))
-    (steps_none c.change.result (change_turn w c.args.number s e (changed e s)) c.args.steps.now
-    (change_cost w c.args.number s e (changed e s)))
+    (sym (edit_change w c.args.base.now.number s c.args.edit.now c.in_default.not-Try c.in_default.not-Undo))
+    (steps_none c.change.result (change_turn w c.args.base.now.number s e (changed e s)) c.args.steps.now
+    (change_cost w c.args.base.now.number s e (changed e s)))
