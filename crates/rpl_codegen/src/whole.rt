@@ -73,7 +73,11 @@ pub(crate) fn compile_goal(
     }
     let mut nodes = Nodes::new(measured.nodes);
     let mut draft = Draft::new(alloc);
-    emit_whole(&mut draft, &layout, &mut nodes, rules, goal, &reached)?;
+    let reached = Reached {
+        rules,
+        numbers: &reached,
+    };
+    emit_whole(&mut draft, &layout, &mut nodes, goal, reached)?;
     Ok(program_of(alloc, draft)?)
 }
 
@@ -90,28 +94,36 @@ fn program_of(alloc: Global, draft: Draft) -> Result<Program, NoMemory>
     Ok(Program::new(draft.code, sets, labels))
 }
 
+/// A table of rules, and the numbers of those that are reached.
+#[derive(Clone, Copy)]
+struct Reached<'a> {
+    rules: &'a Rules,
+    numbers: &'a BTreeSet<u32>,
+}
+
 /// Writes the goal, `finish`, and the reached rules into an empty draft.
 fn emit_whole(
     draft: &mut Draft,
     layout: &Layout,
     nodes: &mut Nodes,
-    rules: &Rules,
     goal: &Peg,
-    reached: &BTreeSet<u32>,
+    reached: Reached<'_>,
 ) -> Result<(), NoMemory>
     requires empty { draft.old.code ≡ [] }
-    requires layout { LaysOut (has reached.now) (bodies_of (rules_of rules.now)) (core_of goal.now)
+    requires layout { LaysOut (has reached.numbers.now) (bodies_of (rules_of reached.rules.now))
+        (core_of goal.now)
         layout.now }
     requires room { layout.now.end ≤ 1048576 }
     requires nodes { left nodes.old
         ≡ nodes_in (core_of goal.now)
-        ++ bodies_nodes (has reached.now) (bodies_of (rules_of rules.now)) 0 }
+        ++ bodies_nodes (has reached.numbers.now) (bodies_of (rules_of reached.rules.now)) 0 }
     ensures { OnOk result (Adds draft.old draft.new
-        (program (has reached.now) (bodies_of (rules_of rules.now)) (core_of goal.now))) }
+        (program (has reached.entry.numbers.now) (bodies_of (rules_of reached.entry.rules.now))
+        (core_of goal.now))) }
 {
     emit(draft, layout, nodes, goal)?;
     draft.put(Instr::Finish)?;
-    emit_rules(draft, layout, nodes, rules, reached)
+    emit_rules(draft, layout, nodes, reached.rules, reached.numbers)
 }
 
 /// Writes the reached rules in the order of the table, each with its return.

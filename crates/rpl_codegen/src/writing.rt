@@ -20,6 +20,15 @@ use rpl_intern::Draft;
 use rpl_text::Chars;
 use std::alloc::Global;
 
+/// A look-behind: its lengths, its body, and where its code ends.
+#[derive(Clone, Copy)]
+struct Look<'a> {
+    least: u32,
+    most: u32,
+    body: &'a Peg,
+    end: u32,
+}
+
 /// Writes the code of the pattern.
 #[cycle(emit)]
 pub(crate) fn emit(
@@ -60,7 +69,13 @@ fn emit_inner(
         Peg::Not(body) => emit_not(draft, layout, nodes, body),
         Peg::And(body) => emit_and(draft, layout, nodes, body),
         Peg::Behind { least, most, body } => {
-            emit_behind(draft, layout, nodes, *least, *most, body, end)
+            let look = Look {
+                least: *least,
+                most: *most,
+                body,
+                end,
+            };
+            emit_behind(draft, layout, nodes, look)
         }
         Peg::Call(rule) => draft.put(Instr::Call(layout.address(*rule))),
         Peg::Capture(label, body) => emit_capture(draft, layout, nodes, label, body),
@@ -251,26 +266,26 @@ fn emit_behind(
     draft: &mut Draft,
     layout: &Layout,
     nodes: &mut Nodes,
-    least: u32,
-    most: u32,
-    body: &Peg,
-    end: u32,
+    look: Look<'_>,
 ) -> Result<(), NoMemory>
-    requires room { length draft.old.code + ((most + 1 - least) * (len (core_of body.now) + 3) + 1)
+    requires room { length draft.old.code + ((look.most + 1 - look.least) *
+        (len (core_of look.body.now) + 3) + 1)
         ≤ 1048576 }
-    requires nodes { Begins (left nodes.old) (behind_nodes (most + 1 - least)
-        (nodes_in (core_of body.now))) }
-    requires end { end ≡ length draft.old.code
-        + ((most + 1 - least) * (len (core_of body.now) + 3) + 1) }
+    requires nodes { Begins (left nodes.old) (behind_nodes (look.most + 1 - look.least)
+        (nodes_in (core_of look.body.now))) }
+    requires end { look.end ≡ length draft.old.code
+        + ((look.most + 1 - look.least) * (len (core_of look.body.now) + 3) + 1) }
     ensures code { OnOk result (Writes draft.old draft.new
-        (C.behind_code (code_in layout.now body.now) (most + 1 - least) least)) }
+        (C.behind_code (code_in layout.now look.entry.body.now)
+        (look.entry.most + 1 - look.entry.least) look.entry.least)) }
     ensures nodes { OnOk result (Takes nodes.old nodes.new
-        (behind_nodes (most + 1 - least) (nodes_in (core_of body.now)))) }
+        (behind_nodes (look.entry.most + 1 - look.entry.least)
+        (nodes_in (core_of look.entry.body.now)))) }
 {
     let start = nodes.next;
-    for back in least as u64..most as u64 + 1 {
+    for back in look.least as u64..look.most as u64 + 1 {
         nodes.next = start;
-        emit_length(draft, layout, nodes, back as u32, body, end)?;
+        emit_length(draft, layout, nodes, look, back as u32)?;
     }
     draft.put(Instr::Fail)
 }
@@ -281,23 +296,24 @@ fn emit_length(
     draft: &mut Draft,
     layout: &Layout,
     nodes: &mut Nodes,
+    look: Look<'_>,
     back: u32,
-    body: &Peg,
-    end: u32,
 ) -> Result<(), NoMemory>
-    requires room { length draft.old.code + (len (core_of body.now) + 3) ≤ 1048576 }
-    requires nodes { Begins (left nodes.old) (nodes_in (core_of body.now)) }
-    ensures goes_on { OnOk result (Tries draft.old draft.new (code_in layout.now body.now) end
+    requires room { length draft.old.code + (len (core_of look.body.now) + 3) ≤ 1048576 }
+    requires nodes { Begins (left nodes.old) (nodes_in (core_of look.body.now)) }
+    ensures goes_on { OnOk result (Tries draft.old draft.new
+        (code_in layout.now look.entry.body.now) look.entry.end
         back) }
     ensures long { OnOk result (length draft.new.code
-        ≡ length draft.old.code + (len (core_of body.now) + 3)) }
-    ensures nodes { OnOk result (Takes nodes.old nodes.new (nodes_in (core_of body.now))) }
+        ≡ length draft.old.code + (len (core_of look.entry.body.now) + 3)) }
+    ensures nodes { OnOk result (Takes nodes.old nodes.new
+        (nodes_in (core_of look.entry.body.now))) }
 {
     let next = draft.next() + 2 + nodes.size() + 1;
     draft.put(Instr::Choice(next))?;
     draft.put(Instr::Back(back))?;
-    emit(draft, layout, nodes, body)?;
-    draft.put(Instr::Meet(end))
+    emit(draft, layout, nodes, look.body)?;
+    draft.put(Instr::Meet(look.end))
 }
 
 /// Writes a capture.

@@ -15,7 +15,7 @@ use Rattle.rpl_codegen.proofs.whole.emit_whole.Goals as goal
 
 pub emit-requires-clause-nodes : goal.emit-requires-clause-nodes
 emit-requires-clause-nodes c =
-    let bodies = bodies_nodes (has c.args.reached.now) (bodies_of (rules_of c.args.rules.now)) 0 in
+    let bodies = bodies_nodes (has c.args.reached.numbers.now) (bodies_of (rules_of c.args.reached.rules.now)) 0 in
     begins_front (left c.args.nodes.now) (nodes_in (core_of c.args.goal.now)) bodies (begins_all _ _ c.requires.nodes)
 
 pub put-requires : goal.put-requires
@@ -31,10 +31,10 @@ emit_rules-requires-clause-room c =
 
 pub emit_rules-requires-clause-nodes : goal.emit_rules-requires-clause-nodes
 emit_rules-requires-clause-nodes c =
-    let bodies = bodies_nodes (has c.args.reached.now) (bodies_of (rules_of c.args.rules.now)) 0 in
+    let bodies = bodies_nodes (has c.args.reached.numbers.now) (bodies_of (rules_of c.args.reached.rules.now)) 0 in
     begins_behind c.args.nodes.now c.emit.new.nodes (nodes_in (core_of c.args.goal.now)) bodies c.in_ok-emit.ensures.nodes (begins_all _ _ c.requires.nodes)
 
 pub returns : goal.returns
 returns c =
-    let bs = c.args.reached.now in
-    on_ok_weaker c.emit_rules.result (compiled c.args.draft.now c.emit.new.draft c.put.new.self c.emit_rules.new.draft c.args.layout.now bs bs bs (bodies_of (rules_of c.args.rules.now)) (core_of c.args.goal.now) refl refl c.requires.layout c.requires.room c.requires.empty c.in_ok-emit.ensures.code c.in_ok-put.ensures.adds) c.emit_rules.ensures
+    let bs = c.args.reached.numbers.now in
+    on_ok_weaker c.emit_rules.result (compiled c.args.draft.now c.emit.new.draft c.put.new.self c.emit_rules.new.draft c.args.layout.now bs bs bs (bodies_of (rules_of c.args.reached.rules.now)) (core_of c.args.goal.now) refl refl c.requires.layout c.requires.room c.requires.empty c.in_ok-emit.ensures.code c.in_ok-put.ensures.adds) c.emit_rules.ensures

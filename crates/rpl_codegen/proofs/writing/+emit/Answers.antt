@@ -197,9 +197,9 @@ emit_and-returns-clause-code t c =
 
 pub emit_behind-emit_length-requires : goal.emit_behind-emit_length-requires
 emit_behind-emit_length-requires t c =
-    let p = core_of c.args.body.now in
-    let most = c.args.most in
-    let least = c.args.least in
+    let p = core_of c.args.look.body.now in
+    let most = c.args.look.most in
+    let least = c.args.look.least in
     let room = room_here most c.loop-back.back (len p) (length c.loop-back.draft.code) (omega arith) c.loop-back.invariant.0 in
     let some = more_lengths (most + 1 - least) (most - least) (nodes_in p) (omega arith) in
     let first = as_begins (left c.args.nodes.now) _ _ some c.requires.nodes in
@@ -208,30 +208,30 @@ emit_behind-emit_length-requires t c =
 pub emit_behind-loop-back-preserved : goal.emit_behind-loop-back-preserved
 emit_behind-loop-back-preserved t c =
     let at = address_of c.args.layout.now in
-    let p = core_of c.args.body.now in
-    let most = c.args.most in
+    let p = core_of c.args.look.body.now in
+    let most = c.args.look.most in
     let k = c.loop-back.back in
     let d = c.loop-back.draft in
     let left = most + 1 - (k + 1) in
-    let end = c.args.end in
+    let end = c.args.look.end in
     let one : suc left ≡ most + 1 - k = omega arith in (
       room_turn most k (len p) (length d.code) (length c.emit_length.new.draft.code) (omega arith) c.loop-back.invariant.0 c.in_ok-emit_length.ensures.long,
       λ x rest.
           c.loop-back.invariant.1 x (subst (λ n. Adds d x (C.lengths_code (C.code at p) end n k (length d.code))) one (c.in_ok-emit_length.ensures.goes_on left x rest)),
-      as_taken c.args.nodes.now c.emit_length.new.nodes _ _ (sym (more_lengths (k + 1 - c.args.least) (k - c.args.least) (nodes_in p) (omega arith))) (takes_anew c.args.nodes.now c.loop-back.nodes _ c.emit_length.new.nodes (behind_nodes (k - c.args.least) (nodes_in p)) (nodes_in p) c.loop-back.invariant.2 refl refl c.in_ok-emit_length.ensures.nodes),
+      as_taken c.args.nodes.now c.emit_length.new.nodes _ _ (sym (more_lengths (k + 1 - c.args.look.least) (k - c.args.look.least) (nodes_in p) (omega arith))) (takes_anew c.args.nodes.now c.loop-back.nodes _ c.emit_length.new.nodes (behind_nodes (k - c.args.look.least) (nodes_in p)) (nodes_in p) c.loop-back.invariant.2 refl refl c.in_ok-emit_length.ensures.nodes),
       omega arith,
     )
 
 pub emit_behind-returns-clause-code : goal.emit_behind-returns-clause-code
 emit_behind-returns-clause-code t c =
     let at = address_of c.args.layout.now in
-    let p = core_of c.args.body.now in
+    let p = core_of c.args.look.body.now in
     let d = c.loop-back.draft in
-    let n = c.args.most + 1 - c.args.least in
+    let n = c.args.look.most + 1 - c.args.look.least in
     let a = length c.args.draft.now.code in
-    let end = c.args.end in
-    let same = behind_end (C.code at p) n c.args.least a (len p) end (code_length at p) c.requires.end in
-    let none : 0 ≡ c.args.most + 1 - c.loop-back.back = omega arith in
+    let end = c.args.look.end in
+    let same = behind_end (C.code at p) n c.args.look.least a (len p) end (code_length at p) c.requires.end in
+    let none : 0 ≡ c.args.look.most + 1 - c.loop-back.back = omega arith in
     on_ok c.put.result _ _ (λ w.
     subst (λ l. Adds c.args.draft.now c.put.new.self l) (sym same) (c.loop-back.invariant.1 c.put.new.self (subst (λ m. Adds d c.put.new.self (C.lengths_code (C.code at p) end m c.loop-back.back (length d.code))) none w))) c.put.ensures.adds
 
@@ -316,25 +316,25 @@ emit_length-put-requires-3 t c =
     let a = c.in_ok-put.ensures.adds in
     let b = c.in_ok-put-2.ensures.adds in
     let e = c.in_ok-emit.ensures.code in
-    record { room = omega (arith, a.long, b.long, e.long, code_length at (core_of c.args.body.now) (length c.put-2.new.self.code)); plain = refl }
+    record { room = omega (arith, a.long, b.long, e.long, code_length at (core_of c.args.look.body.now) (length c.put-2.new.self.code)); plain = refl }
 
 pub emit_length-returns-clause-goes_on : goal.emit_length-returns-clause-goes_on
 emit_length-returns-clause-goes_on t c =
     let at = address_of c.args.layout.now in
-    let p = core_of c.args.body.now in
+    let p = core_of c.args.look.body.now in
     let to = c.next.result + 2 + c.size.result + 1 in
     let is : to ≡ length c.args.draft.now.code + 1 + 1 + len p + 1 = omega (arith, c.next.ensures, (c.size.ensures ∙ ap size_at c.requires.nodes.is), c.requires.room) in
     on_ok c.put-3.result _ _ (λ w left x rest.
-    piece_length c.args.draft.now c.put.new.self c.put-2.new.self c.emit.new.draft c.put-3.new.self x (C.code at p) (len p) to c.args.end c.args.back left (code_length at p) is c.in_ok-put.ensures.adds c.in_ok-put-2.ensures.adds c.in_ok-emit.ensures.code w rest) c.put-3.ensures.adds
+    piece_length c.args.draft.now c.put.new.self c.put-2.new.self c.emit.new.draft c.put-3.new.self x (C.code at p) (len p) to c.args.look.end c.args.back left (code_length at p) is c.in_ok-put.ensures.adds c.in_ok-put-2.ensures.adds c.in_ok-emit.ensures.code w rest) c.put-3.ensures.adds
 
 pub emit_length-returns-clause-long : goal.emit_length-returns-clause-long
 emit_length-returns-clause-long t c =
     let at = address_of c.args.layout.now in
-    let p = core_of c.args.body.now in
+    let p = core_of c.args.look.body.now in
     let a = c.in_ok-put.ensures.adds in
     let b = c.in_ok-put-2.ensures.adds in
     let e = c.in_ok-emit.ensures.code in
-    on_ok c.put-3.result (Adds c.emit.new.draft c.put-3.new.self (I.Meet c.args.end ∷ [])) _ (λ w. omega (arith, a.long, b.long, e.long, w.long, code_length at p (length c.put-2.new.self.code))) c.put-3.ensures.adds
+    on_ok c.put-3.result (Adds c.emit.new.draft c.put-3.new.self (I.Meet c.args.look.end ∷ [])) _ (λ w. omega (arith, a.long, b.long, e.long, w.long, code_length at p (length c.put-2.new.self.code))) c.put-3.ensures.adds
 
 pub emit_many-put-requires-2 : goal.emit_many-put-requires-2
 emit_many-put-requires-2 t c =
@@ -421,10 +421,10 @@ emit_inner-returns-in-Behind-clause-code t c =
 pub emit_behind-returns-clause-nodes : goal.emit_behind-returns-clause-nodes
 emit_behind-returns-clause-nodes t c =
     let k = c.loop-back.back in
-    let n = c.args.most + 1 - c.args.least in
-    let all : k - c.args.least ≡ n = omega (arith, c.loop-back.invariant.3) in
+    let n = c.args.look.most + 1 - c.args.look.least in
+    let all : k - c.args.look.least ≡ n = omega (arith, c.loop-back.invariant.3) in
     on_ok c.put.result _ _ (λ w.
-    as_taken c.args.nodes.now c.loop-back.nodes _ _ (ap (λ n. behind_nodes n (nodes_in (core_of c.args.body.now))) all) c.loop-back.invariant.2) c.put.ensures.adds
+    as_taken c.args.nodes.now c.loop-back.nodes _ _ (ap (λ n. behind_nodes n (nodes_in (core_of c.args.look.body.now))) all) c.loop-back.invariant.2) c.put.ensures.adds
 
 pub emit_first-returns-then-is_empty-clause-nodes : goal.emit_first-returns-then-is_empty-clause-nodes
 emit_first-returns-then-is_empty-clause-nodes t c =

@@ -32,10 +32,10 @@ invariant-emit_first-loop-number l =
 
 abbrev pub invariant-emit_behind-loop-back : goal.invariant-emit_behind-loop-back
 invariant-emit_behind-loop-back l =
-    (length l.draft.code + ((l.most + 1 - l.back) * (len (core_of l.body) + 3) + 1) ≤ 1048576)
-    × ((x : Draft) → Adds l.draft x (C.lengths_code (C.code (address_of l.layout) (core_of l.body)) l.end (l.most + 1 - l.back) l.back (length l.draft.code)) → Adds l.fn.draft x (C.lengths_code (C.code (address_of l.layout) (core_of l.body)) l.end (l.most + 1 - l.least) l.least (length l.fn.draft.code)))
-    × Takes l.fn.nodes l.nodes (behind_nodes (l.back - l.least) (nodes_in (core_of l.body)))
-    × (l.back ≤ l.least + (l.most + 1 - l.least))
+    (length l.draft.code + ((l.look.most + 1 - l.back) * (len (core_of l.look.body.now) + 3) + 1) ≤ 1048576)
+    × ((x : Draft) → Adds l.draft x (C.lengths_code (C.code (address_of l.layout) (core_of l.look.body.now)) l.look.end (l.look.most + 1 - l.back) l.back (length l.draft.code)) → Adds l.fn.draft x (C.lengths_code (C.code (address_of l.layout) (core_of l.look.body.now)) l.look.end (l.look.most + 1 - l.look.least) l.look.least (length l.fn.draft.code)))
+    × Takes l.fn.nodes l.nodes (behind_nodes (l.back - l.look.least) (nodes_in (core_of l.look.body.now)))
+    × (l.back ≤ l.look.least + (l.look.most + 1 - l.look.least))
 
 abbrev pub decreases-emit : goal.decreases-emit
 decreases-emit l = weight (core_of l.peg.now) + 2
@@ -62,10 +62,10 @@ abbrev pub decreases-emit_and : goal.decreases-emit_and
 decreases-emit_and l = weight (core_of l.body.now) + 3
 
 abbrev pub decreases-emit_behind : goal.decreases-emit_behind
-decreases-emit_behind l = weight (core_of l.body.now) + 4
+decreases-emit_behind l = weight (core_of l.look.body.now) + 4
 
 abbrev pub decreases-emit_length : goal.decreases-emit_length
-decreases-emit_length l = weight (core_of l.body.now) + 3
+decreases-emit_length l = weight (core_of l.look.body.now) + 3
 
 abbrev pub decreases-emit_capture : goal.decreases-emit_capture
 decreases-emit_capture l = weight (core_of l.body.now) + 3
