@@ -4,3 +4,4 @@ pub mod Nodes
 pub mod Walking
 pub mod Listing
 pub mod Placed
+pub mod Digits

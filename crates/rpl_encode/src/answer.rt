@@ -9,6 +9,7 @@ use crate::children::{put_line, put_root_text, put_texts};
 use crate::escapes::Escapes;
 use crate::fault::EncodeFault;
 use crate::front::Fronts;
+use crate::page::Page;
 use crate::source::Source;
 use crate::style::Style;
 use crate::tree::put_tree;
@@ -24,14 +25,14 @@ pub(crate) const MAX_ANSWER_BYTES: usize = 67_108_864;
 /// The text of an answer, in memory that is kept from line to line. Contracts see its bytes.
 #[derive(Drop)]
 pub struct AnswerText {
-    text: Vec<u8>,
+    text: Page,
     draft: Draft,
 }
 
 /// The next text, until it is known that it isn't too long, and the room for the work on it.
 #[derive(Drop)]
 struct Draft {
-    text: Vec<u8>,
+    text: Page,
     /// How many nodes are still to come in each list of JSON that is open.
     pending: Vec<usize>,
     escapes: Escapes,
@@ -42,7 +43,7 @@ impl Model for AnswerText {
 
     ghost Value = { List ℕ };
 
-    ghost view = { λ a. a.text.items };
+    ghost view = { λ a. a.text };
 }
 
 impl AnswerText {
@@ -51,7 +52,7 @@ impl AnswerText {
         ensures { result ≡ [] }
     {
         AnswerText {
-            text: Vec::new(alloc),
+            text: Page::new(alloc),
             draft: Draft::new(alloc),
         }
     }
@@ -60,7 +61,7 @@ impl AnswerText {
     pub fn as_slice(&self) -> &[u8]
         ensures { result.now ≡ self.now }
     {
-        &self.text
+        self.text.as_slice()
     }
 
     /// Becomes the text of a line's outcome in a style: of the trees that were found, or of none,
@@ -123,15 +124,15 @@ pub fn encode(
     let fronts = Fronts::new(alloc, program)?;
     let mut answer = AnswerText::new(alloc);
     answer.fill(style, line, found, &fronts)?;
-    Ok(Bytes::from_vec(answer.text))
+    Ok(Bytes::from_vec(answer.text.into_vec()))
 }
 
 /// Writes the text of a line that isn't matched.
-fn put_miss(out: &mut Vec<u8>, style: Style) -> Result<(), NoMemory>
-    ensures { OnOk result (out.new.items ≡ out.old.items ++ (line_by_line (none style))) }
+fn put_miss(out: &mut Page, style: Style) -> Result<(), NoMemory>
+    ensures { OnOk result (out.new ≡ out.old ++ (line_by_line (none style))) }
 {
     match style {
-        Style::Bool => out.extend_from_slice(b"false\n"),
+        Style::Bool => out.put(b"false\n"),
         _ => Ok(()),
     }
 }
@@ -139,7 +140,7 @@ fn put_miss(out: &mut Vec<u8>, style: Style) -> Result<(), NoMemory>
 impl Draft {
     fn new(alloc: Global) -> Draft {
         Draft {
-            text: Vec::new(alloc),
+            text: Page::new(alloc),
             pending: Vec::new(alloc),
             escapes: Escapes::new(alloc),
         }
@@ -154,9 +155,9 @@ impl Draft {
         fronts: &Fronts,
     ) -> Result<(), EncodeFault>
         ensures too_long { IsTooLong result
-            (self.old.text.items ++ match_text style line.now fronts.now forest.now) }
+            (self.old.text ++ match_text style line.now fronts.now forest.now) }
         ensures text { OnOk result
-            (self.new.text.items ≡ self.old.text.items
+            (self.new.text ≡ self.old.text
             ++ (match_text style line.now fronts.now forest.now)) }
     {
         let bytes = line.as_bytes();
@@ -177,22 +178,22 @@ impl Draft {
                 Ok(())
             }
             Style::Plain => Ok(put_root_text(&mut self.text, bytes, forest, fronts)?),
-            Style::Bool => Ok(self.text.extend_from_slice(b"true\n")?),
+            Style::Bool => Ok(self.text.put(b"true\n")?),
         }
     }
 }
 
 /// Writes the texts of the hits of a search, or the text of the root where there is none.
 fn put_hits(
-    out: &mut Vec<u8>,
+    out: &mut Page,
     line: &[u8],
     forest: &Forest,
     fronts: &Fronts,
 ) -> Result<(), EncodeFault>
-    ensures too_long { IsTooLong result (out.old.items
+    ensures too_long { IsTooLong result (out.old
         ++ match_text Style.Matches line.now fronts.now forest.now) }
     ensures text { OnOk result
-        (out.new.items ≡ out.old.items
+        (out.new ≡ out.old
         ++ (match_text Style.Matches line.now fronts.now forest.now)) }
 {
     if put_texts(out, true, line, forest, fronts)? {

@@ -10,6 +10,7 @@ use crate::answer::MAX_ANSWER_BYTES;
 use crate::fault::EncodeFault;
 use crate::front::Fronts;
 use crate::node_text::{label_of, text_of};
+use crate::page::Page;
 use crate::style::Style;
 use rpl_core::NoMemory;
 use rpl_tree::{Forest, Node};
@@ -18,23 +19,23 @@ use rpl_tree::{Forest, Node};
 const HIT: &str = "find.*";
 
 /// Writes the bytes and a line feed.
-pub(crate) fn put_line(out: &mut Vec<u8>, bytes: &[u8]) -> Result<(), NoMemory>
-    ensures { OnOk result (out.new.items ≡ out.old.items ++ (bytes.now ++ 10 ∷ [])) }
+pub(crate) fn put_line(out: &mut Page, bytes: &[u8]) -> Result<(), NoMemory>
+    ensures { OnOk result (out.new ≡ out.old ++ (bytes.now ++ 10 ∷ [])) }
 {
-    out.extend_from_slice(bytes)?;
-    out.extend_from_slice(b"\n")
+    out.put(bytes)?;
+    out.put(b"\n")
 }
 
 /// Writes the text of the first tree and a line feed, or nothing where there is no tree.
 pub(crate) fn put_root_text(
-    out: &mut Vec<u8>,
+    out: &mut Page,
     line: &[u8],
     forest: &Forest,
     fronts: &Fronts,
 ) -> Result<(), NoMemory>
     ensures { OnOk result
-        (out.new.items
-        ≡ out.old.items ++ (match_text Style.Plain line.now fronts.now forest.now)) }
+        (out.new
+        ≡ out.old ++ (match_text Style.Plain line.now fronts.now forest.now)) }
 {
     match forest.get(0) {
         Some(root) => put_line(out, text_of(root, line, fronts)),
@@ -45,19 +46,19 @@ pub(crate) fn put_root_text(
 /// Writes the texts of the nodes directly under the root, or only those of hits, each with a line
 /// feed. Tells whether there was one.
 pub(crate) fn put_texts(
-    out: &mut Vec<u8>,
+    out: &mut Page,
     only_hits: bool,
     line: &[u8],
     forest: &Forest,
     fronts: &Fronts,
 ) -> Result<bool, EncodeFault>
     ensures text { OnOk result
-        (out.new.items
-        ≡ out.old.items
+        (out.new
+        ≡ out.old
         ++ (line_by_line (printed_texts only_hits line.now
         (below_root (trees_in fronts.now forest.now))))) }
     ensures too_long { IsTooLong result
-        (out.old.items
+        (out.old
         ++ line_by_line (printed_texts only_hits line.now
         (below_root (trees_in fronts.now forest.now)))) }
     ensures found { IfOk result

@@ -1,12 +1,13 @@
 // What stands for the bytes of a line in strings of JSON.
 ghost use Rattle.std.specs.Prelude.{◌≡◌, ◌<◌, ◌≤◌, ◌+◌, ◌*◌, ◌++◌, length, drop, slice_range};
-ghost use Rattle.std.specs.Prelude.{vec_len, OnOk};
+ghost use Rattle.std.specs.Prelude.{vec_len, IfSome, OnOk};
 ghost use Rattle.std.specs.Char.{digit_char};
 ghost use Rattle.json.specs.Print.{escape, escape_byte, escape_letter};
 ghost use Rattle.rpl_print.specs.Quoted as Q;
 ghost use Rattle.rpl_encode.specs.inside.Escapes.{AreKept, AreOf};
 
 use crate::node_text::{part_of, write_before};
+use crate::page::Page;
 use rpl_core::NoMemory;
 use rpl_print::is_plain;
 use std::alloc::Global;
@@ -70,27 +71,21 @@ impl Escapes {
         Ok(())
     }
 
-    /// Adds what stands for the part of their line between two places. It is empty where the end is
-    /// before the start, and ends where the line does.
-    pub(crate) fn put(
-        &self,
-        out: &mut Vec<u8>,
-        line: &[u8],
-        start: usize,
-        end: usize,
-    ) -> Result<(), NoMemory>
+    /// What stands for the part of their line between two places, where it is at hand. The part is
+    /// empty where the end is before the start, and ends where the line does.
+    #[inline(always)]
+    pub(crate) fn part<'a>(&'a self, line: &'a [u8], start: usize, end: usize) -> Option<&'a [u8]>
         requires { AreOf line.now self.now }
-        ensures { OnOk result (out.new.items ≡ out.old.items
-            ++ escape (slice_range line.now start end)) }
+        ensures { IfSome result (λ text. text.now ≡ escape (slice_range line.now start end)) }
     {
         match self.kind {
-            Kind::Plain => out.extend_from_slice(part_of(line, start, end)),
+            Kind::Plain => Some(part_of(line, start, end)),
             Kind::Kept => {
                 let end = end.min(line.len());
                 let start = start.min(end);
-                out.extend_from_slice(cut_out(line, &self.string, &self.places, start, end))
+                Some(cut_out(line, &self.string, &self.places, start, end))
             }
-            Kind::Long => put_bytes(out, part_of(line, start, end)),
+            Kind::Long => None,
         }
     }
 }
@@ -145,8 +140,8 @@ const ROOM: usize = 6 * CHUNK;
 /// Adds what stands for these bytes in a string of JSON. They are taken a few at a time: a list
 /// that grows is slow where little is added at once, and in a line of JSON few bytes stand between
 /// two quotes.
-pub(crate) fn put_bytes(out: &mut Vec<u8>, bytes: &[u8]) -> Result<(), NoMemory>
-    ensures { OnOk result (out.new.items ≡ out.old.items ++ escape bytes.now) }
+pub(crate) fn put_bytes(out: &mut Page, bytes: &[u8]) -> Result<(), NoMemory>
+    ensures { OnOk result (out.new ≡ out.old ++ escape bytes.now) }
 {
     let mut rest = bytes;
     while rest.len() > 0 {
@@ -159,12 +154,12 @@ pub(crate) fn put_bytes(out: &mut Vec<u8>, bytes: &[u8]) -> Result<(), NoMemory>
 
 /// Adds what stands for a few bytes. Where one needs an escape, all is put together in a buffer,
 /// from its end.
-fn put_chunk(out: &mut Vec<u8>, bytes: &[u8]) -> Result<(), NoMemory>
+fn put_chunk(out: &mut Page, bytes: &[u8]) -> Result<(), NoMemory>
     requires { length bytes.now ≤ 64 }
-    ensures { OnOk result (out.new.items ≡ out.old.items ++ escape bytes.now) }
+    ensures { OnOk result (out.new ≡ out.old ++ escape bytes.now) }
 {
     if is_plain(bytes) {
-        return out.extend_from_slice(bytes);
+        return out.put(bytes);
     }
     let mut buffer = [0; ROOM];
     let mut at = ROOM;
@@ -173,7 +168,7 @@ fn put_chunk(out: &mut Vec<u8>, bytes: &[u8]) -> Result<(), NoMemory>
         left -= 1;
         at = write_escaped(bytes[left], &mut buffer, at);
     }
-    out.extend_from_slice(&buffer[at..])
+    out.put(&buffer[at..])
 }
 
 /// Writes what stands for a byte so that it ends at `end`, and tells where that starts.

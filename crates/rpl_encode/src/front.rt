@@ -1,5 +1,5 @@
 // The texts of a program, and the fronts of the objects of nodes.
-ghost use Rattle.std.specs.Prelude.{◌≡◌, ◌++◌, false, IfOk, OnOk, string_bytes};
+ghost use Rattle.std.specs.Prelude.{◌≡◌, ◌++◌, [], false, IfOk, OnOk, string_bytes};
 ghost use Rattle.std.specs.Prelude.{chars, option_map, slice_get};
 ghost use Rattle.std.specs.Option.{option_copied};
 ghost use Rattle.std.specs.Str.{encode_utf8_all};
@@ -9,6 +9,7 @@ ghost use Rattle.rpl_encode.specs.Labels.{label_in};
 ghost use Rattle.rpl_encode.specs.inside.Fronts.{front};
 
 use crate::escapes::put_bytes;
+use crate::page::Page;
 use rpl_core::{NoMemory, Program};
 use rpl_print::push_quoted;
 use std::alloc::{AllocError, Global};
@@ -89,40 +90,44 @@ impl Fronts {
     }
 }
 
-/// Writes the front of the object of a node of the type with this number, with a comma before it
-/// unless it is the first.
-pub(crate) fn put_front(
-    out: &mut Vec<u8>,
-    fronts: &Fronts,
-    is_first: bool,
-    number: u32,
-) -> Result<(), NoMemory>
-    ensures { OnOk result
-        (out.new.items ≡ out.old.items
-        ++ front is_first (encode_utf8_all (label_in fronts.now number))) }
+/// The front of the object of a node of the type with this number, with a comma before it unless it
+/// is the first.
+pub(crate) fn front_of(fronts: &Fronts, is_first: bool, number: u32) -> &[u8]
+    ensures { result.now ≡ front is_first (encode_utf8_all (label_in fronts.now number)) }
 {
     match fronts.list.get(number as usize) {
-        Some(known) => out.extend_from_slice(known.bytes(is_first)),
-        None => put_new_front(out, is_first, ""),
+        Some(known) => known.bytes(is_first),
+        None => empty_front(is_first),
+    }
+}
+
+/// The front of the object of a node of a type without a name.
+fn empty_front(is_first: bool) -> &'static [u8]
+    ensures { result.now ≡ front is_first [] }
+{
+    if is_first {
+        b"{\"type\":\"\",\"s\":"
+    } else {
+        b",{\"type\":\"\",\"s\":"
     }
 }
 
 /// Writes the front of the object of a node of this type, with a comma before it unless it is the
 /// first.
-pub(crate) fn put_new_front(out: &mut Vec<u8>, is_first: bool, label: &str) -> Result<(), NoMemory>
-    ensures { OnOk result (out.new.items ≡ out.old.items ++ front is_first label.now) }
+pub(crate) fn put_new_front(out: &mut Page, is_first: bool, label: &str) -> Result<(), NoMemory>
+    ensures { OnOk result (out.new ≡ out.old ++ front is_first label.now) }
 {
     if !is_first {
-        out.push(b',')?;
+        out.put(b",")?;
     }
-    out.extend_from_slice(b"{\"type\":\"")?;
+    out.put(b"{\"type\":\"")?;
     put_escaped(out, label)?;
-    out.extend_from_slice(b"\",\"s\":")
+    out.put(b"\",\"s\":")
 }
 
 /// Writes what stands for a text between the quotes of a string of JSON.
-pub(crate) fn put_escaped(out: &mut Vec<u8>, text: &str) -> Result<(), NoMemory>
-    ensures { OnOk result (out.new.items ≡ out.old.items ++ escape text.now) }
+pub(crate) fn put_escaped(out: &mut Page, text: &str) -> Result<(), NoMemory>
+    ensures { OnOk result (out.new ≡ out.old ++ escape text.now) }
 {
     put_bytes(out, text.as_bytes())
 }

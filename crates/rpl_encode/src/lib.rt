@@ -13,6 +13,7 @@ mod escapes;
 mod fault;
 mod front;
 mod node_text;
+mod page;
 mod source;
 mod style;
 mod tree;

@@ -1,5 +1,7 @@
 // What is written of one node.
-ghost use Rattle.std.specs.Prelude.{◌≡◌, ◌+◌, ◌≤◌, ◌++◌, ◌∷◌, length, drop, slice_range, OnOk};
+ghost use Rattle.std.specs.Prelude.{◌≡◌, ◌+◌, ◌^◌, ◌<◌, ◌≤◌, ◌++◌, ◌∷◌, ◌↔◌, length, drop};
+ghost use Rattle.std.specs.Prelude.{slice_range};
+ghost use Rattle.std.specs.Prelude.{IsTrue, OnOk};
 ghost use Rattle.std.specs.Prelude.{decimal, codes};
 ghost use Rattle.std.specs.Str.{encode_utf8_all};
 ghost use Rattle.json.specs.Print.{escape};
@@ -8,9 +10,11 @@ ghost use Rattle.rpl_encode.specs.Texts.{fields};
 ghost use Rattle.rpl_encode.specs.inside.Escapes.{AreOf};
 ghost use Rattle.rpl_encode.specs.inside.Walk.{text_at, fields_at, comma, ending};
 
-use crate::front::{Fronts, put_escaped, put_front, put_new_front};
+use crate::escapes::put_bytes;
+use crate::front::{Fronts, front_of, put_escaped, put_new_front};
+use crate::page::Page;
 use crate::source::Source;
-use itoa::{Buffer, write_digits};
+use itoa::Buffer;
 use rpl_core::NoMemory;
 use rpl_tree::Node;
 
@@ -44,7 +48,7 @@ pub(crate) fn part_of(line: &[u8], start: usize, end: usize) -> &[u8]
 /// Writes the object of a node, with a comma before it unless it is the first, up to the first of
 /// the nodes below it or to its end.
 pub(crate) fn put_node(
-    out: &mut Vec<u8>,
+    out: &mut Page,
     node: Node,
     is_first: bool,
     has_subs: bool,
@@ -52,8 +56,8 @@ pub(crate) fn put_node(
 ) -> Result<(), NoMemory>
     requires { AreOf source.line.now source.escapes.now }
     ensures { OnOk result
-        (out.new.items
-        ≡ out.old.items
+        (out.new
+        ≡ out.old
         ++ (comma is_first
         ++ (fields_at (source.entry.fronts.now) source.entry.line.now node ++ ending has_subs))) }
 {
@@ -64,24 +68,26 @@ pub(crate) fn put_node(
             put_message(out, is_first, has_subs, node.start, text)
         }
         None => {
-            put_front(out, fronts, is_first, node.label)?;
-            put_places(out, node.start, node.end)?;
-            put_part(out, node, has_subs, source)
+            let front = front_of(fronts, is_first, node.label);
+            match source.escapes.part(source.line, node.start, node.end) {
+                Some(text) if is_near(node) => out.put_object(front, node, text, has_subs),
+                _ => put_far(out, front, node, has_subs, source),
+            }
         }
     }
 }
 
 /// Writes the object of a note.
 fn put_message(
-    out: &mut Vec<u8>,
+    out: &mut Page,
     is_first: bool,
     has_subs: bool,
     place: usize,
     text: &str,
 ) -> Result<(), NoMemory>
     ensures { OnOk result
-        (out.new.items
-        ≡ out.old.items
+        (out.new
+        ≡ out.old
         ++ (comma is_first ++ (fields (codes "message") place place text.now ++ ending has_subs))) }
 {
     put_new_front(out, is_first, "message")?;
@@ -90,57 +96,51 @@ fn put_message(
     put_ending(out, has_subs)
 }
 
-/// Writes the text of a node that is a part of the line, and what stands after it.
-fn put_part(
-    out: &mut Vec<u8>,
+/// Whether its places, printed one higher, are numbers of 64 bits.
+#[inline(always)]
+fn is_near(node: Node) -> bool
+    ensures { IsTrue result ↔ ((node.start + 1 < 2 ^ 64) × (node.end + 1 < 2 ^ 64)) }
+{
+    node.start < usize::MAX && node.end < usize::MAX
+}
+
+/// Writes the object of a node that begins with this front, piece by piece.
+#[cold]
+#[inline(never)]
+fn put_far(
+    out: &mut Page,
+    front: &[u8],
     node: Node,
     has_subs: bool,
     source: Source<'_>,
 ) -> Result<(), NoMemory>
-    requires { AreOf source.line.now source.escapes.now }
     ensures { OnOk result
-        (out.new.items
-        ≡ out.old.items
+        (out.new
+        ≡ out.old
+        ++ (front.now
+        ++ (decimal (node.start + 1)
+        ++ (codes ",\"e\":" ++ (decimal (node.end + 1)
+        ++ (codes ",\"data\":\""
         ++ (escape (slice_range source.entry.line.now node.start node.end)
-        ++ 34 ∷ ending has_subs)) }
+        ++ 34 ∷ ending has_subs))))))) }
 {
-    source.escapes.put(out, source.line, node.start, node.end)?;
+    out.put(front)?;
+    put_places(out, node.start, node.end)?;
+    put_bytes(out, part_of(source.line, node.start, node.end))?;
     put_ending(out, has_subs)
 }
 
 /// Writes the quote after the text of a node, and what stands after it.
 #[inline]
-fn put_ending(out: &mut Vec<u8>, has_subs: bool) -> Result<(), NoMemory>
-    ensures { OnOk result (out.new.items ≡ out.old.items ++ 34 ∷ ending has_subs) }
+fn put_ending(out: &mut Page, has_subs: bool) -> Result<(), NoMemory>
+    ensures { OnOk result (out.new ≡ out.old ++ 34 ∷ ending has_subs) }
 {
     if has_subs {
-        out.extend_from_slice(b"\",\"subs\":[")
+        out.put(b"\",\"subs\":[")
     } else {
-        out.extend_from_slice(b"\"}")
+        out.put(b"\"}")
     }
 }
-
-/// Writes where a node starts and ends, up to the quote before its text.
-#[inline(always)]
-fn put_places(out: &mut Vec<u8>, start: usize, end: usize) -> Result<(), NoMemory>
-    ensures { OnOk result
-        (out.new.items
-        ≡ out.old.items ++ (decimal (start + 1)
-        ++ (codes ",\"e\":" ++ (decimal (end + 1) ++ codes ",\"data\":\"")))) }
-{
-    if start == usize::MAX || end == usize::MAX {
-        return put_far_places(out, start, end);
-    }
-    let mut buffer = [0; ROOM];
-    let at = write_before(b",\"data\":\"", &mut buffer, ROOM);
-    let at = write_digits(end as u64 + 1, &mut buffer, at);
-    let at = write_before(b",\"e\":", &mut buffer, at);
-    let at = write_digits(start as u64 + 1, &mut buffer, at);
-    out.extend_from_slice(&buffer[at..])
-}
-
-/// Room for two numbers with what stands between and after them.
-const ROOM: usize = 64;
 
 /// Writes the bytes so that they end at `end`, and tells where they start.
 #[inline(always)]
@@ -155,17 +155,17 @@ pub(crate) fn write_before(bytes: &[u8], buffer: &mut [u8], end: usize) -> usize
     start
 }
 
-/// Writes any two places; printed one higher, the greatest has no usize.
-#[cold]
-fn put_far_places(out: &mut Vec<u8>, start: usize, end: usize) -> Result<(), NoMemory>
+/// Writes two places, each one higher, up to the quote before the text.
+#[inline(never)]
+fn put_places(out: &mut Page, start: usize, end: usize) -> Result<(), NoMemory>
     ensures { OnOk result
-        (out.new.items
-        ≡ out.old.items ++ (decimal (start + 1)
+        (out.new
+        ≡ out.old ++ (decimal (start + 1)
         ++ (codes ",\"e\":" ++ (decimal (end + 1) ++ codes ",\"data\":\"")))) }
 {
     let mut buffer = Buffer::new();
-    out.extend_from_slice(buffer.format(start as u128 + 1).as_bytes())?;
-    out.extend_from_slice(b",\"e\":")?;
-    out.extend_from_slice(buffer.format(end as u128 + 1).as_bytes())?;
-    out.extend_from_slice(b",\"data\":\"")
+    out.put(buffer.format(start as u128 + 1).as_bytes())?;
+    out.put(b",\"e\":")?;
+    out.put(buffer.format(end as u128 + 1).as_bytes())?;
+    out.put(b",\"data\":\"")
 }

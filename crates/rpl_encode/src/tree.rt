@@ -23,6 +23,7 @@ ghost use Rattle.rpl_encode.specs.inside.Walk.{rest_of};
 use crate::answer::MAX_ANSWER_BYTES;
 use crate::fault::EncodeFault;
 use crate::node_text::put_node;
+use crate::page::Page;
 use crate::source::Source;
 use crate::style::Style;
 use rpl_core::NoMemory;
@@ -31,17 +32,17 @@ use rpl_tree::{Forest, Node};
 /// Writes the object of the first tree and a line feed, or nothing where there is no tree.
 /// `pending` is room for the work.
 pub(crate) fn put_tree(
-    out: &mut Vec<u8>,
+    out: &mut Page,
     pending: &mut Vec<usize>,
     forest: &Forest,
     source: Source<'_>,
 ) -> Result<(), EncodeFault>
     requires { AreOf source.line.now source.escapes.now }
-    ensures text { OnOk result (out.new.items
-        ≡ out.old.items ++ match_text Style.Json source.entry.line.now source.entry.fronts.now
+    ensures text { OnOk result (out.new
+        ≡ out.old ++ match_text Style.Json source.entry.line.now source.entry.fronts.now
         forest.now) }
     ensures too_long { IsTooLong result
-        (out.old.items ++ match_text Style.Json source.entry.line.now source.entry.fronts.now
+        (out.old ++ match_text Style.Json source.entry.line.now source.entry.fronts.now
         forest.now) }
 {
     let Some(root) = forest.get(0) else {
@@ -51,7 +52,7 @@ pub(crate) fn put_tree(
     put_node(out, root, true, has_subs, source)?;
     open_root(pending, has_subs, root.below)?;
     put_below(out, pending, forest, source)?;
-    Ok(out.extend_from_slice(b"\n")?)
+    Ok(out.put(b"\n")?)
 }
 
 /// Of the lists, just that of the nodes below the root is open, where any are printed there.
@@ -85,19 +86,19 @@ fn has_subs(node: Node, below: usize, next: usize, count: usize) -> bool
 /// Writes the nodes from the second on, and closes the lists that are open. `lists` has the number
 /// of nodes that are still to come in each of them, the innermost last.
 fn put_below(
-    out: &mut Vec<u8>,
+    out: &mut Page,
     lists: &mut Vec<usize>,
     forest: &Forest,
     source: Source<'_>,
 ) -> Result<(), EncodeFault>
     requires { AreOf source.line.now source.escapes.now }
     ensures text { OnOk result
-        (out.new.items
-        ≡ out.old.items
+        (out.new
+        ≡ out.old
         ++ rest_of (source.entry.fronts.now) source.entry.line.now
         (drop 1 forest.now) (reverse lists.old.items) true) }
     ensures too_long { IsTooLong result
-        (out.old.items
+        (out.old
         ++ rest_of (source.entry.fronts.now) source.entry.line.now
         (drop 1 forest.now) (reverse lists.old.items) true) }
 {
@@ -128,7 +129,7 @@ fn put_below(
                 is_first = has_subs;
             }
             _ => {
-                out.extend_from_slice(b"]}")?;
+                out.put(b"]}")?;
                 is_first = false;
                 innermost = lists.pop();
             }

@@ -9,8 +9,8 @@ use Rattle.rpl_encode.proofs.children.put_texts.Given as goal
 -- what is written, with the texts that are left, is the whole, and a text was written or is left where there is one
 abbrev pub invariant-loop-node : goal.invariant-loop-node
 invariant-loop-node l =
-    (l.out.items ++ (line_by_line (texts_left l.fronts l.line l.only_hits l.forest l.index l.left))
-    ≡ l.initial.out.items ++ (line_by_line (printed_texts l.only_hits l.line (below_root (trees_in l.fronts l.forest)))))
+    (l.out ++ (line_by_line (texts_left l.fronts l.line l.only_hits l.forest l.index l.left))
+    ≡ l.initial.out ++ (line_by_line (printed_texts l.only_hits l.line (below_root (trees_in l.fronts l.forest)))))
     × ((l.some || is_some_text (texts_left l.fronts l.line l.only_hits l.forest l.index l.left))
     ≡ is_some_text (printed_texts l.only_hits l.line (below_root (trees_in l.fronts l.forest))))
 

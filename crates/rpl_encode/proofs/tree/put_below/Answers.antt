@@ -15,7 +15,7 @@ loop-innermost-preserved-in_ok-open_list-in-Some-get c =
     let was = ap (λ o. pending o c.loop-innermost.lists.items) c.in-Some.is in
     let now = ap (λ q. c.min-below.result ∷ q) (ap reverse c.in_ok-open_list-in-Some-get.ensures.items ∙ reverse_last c.loop-innermost.lists.items (c.in-Some.left - 1 - c.min-below.result)) in
     let step = subs_step labels c.args.source.line.now c.args.forest.now c.loop-innermost.index c.in-Some.left c.min-below.result c.in-Some-get.node _ _ _ c.loop-innermost.is_first c.has_subs-has_subs.result (sym c.in-Some-get.ensures) (omega arith) c.min-below.ensures was now c.if-has_subs.true has.0 has.1 (omega (arith, has.2, c.len-count.ensures)) in
-    stepped ◌++◌ append_assoc c.loop-innermost.out.items c.put_node.new.out.items _ _ _ _ c.in_ok-put_node-in-Some-get.ensures step c.loop-innermost.invariant
+    stepped ◌++◌ append_assoc c.loop-innermost.out c.put_node.new.out _ _ _ _ c.in_ok-put_node-in-Some-get.ensures step c.loop-innermost.invariant
 
 pub loop-innermost-smaller-else-has_subs : goal.loop-innermost-smaller-else-has_subs
 loop-innermost-smaller-else-has_subs c =
@@ -28,7 +28,7 @@ loop-innermost-preserved-else-has_subs c =
     let has : (c.in-Some-get.node.note ≡ None) × (0 < c.min-below.result) × (c.loop-innermost.index + 1 < length c.args.forest.now) → ⊥ =
     λ h. false≢true (sym c.if-has_subs.false ∙ c.has_subs-has_subs.ensures.1 (h.0, h.1, omega (arith, h.2, c.len-count.ensures))) in
     let step = leaf_step labels c.args.source.line.now c.args.forest.now c.loop-innermost.index c.saturating_add-index.result c.in-Some.left c.min-below.result c.in-Some-get.node _ _ (reverse c.loop-innermost.lists.items) c.loop-innermost.is_first c.has_subs-has_subs.result (sym c.in-Some-get.ensures) (omega arith) (omega (arith, c.len-count.ensures)) c.min-below.ensures c.saturating_add-index.ensures was refl c.if-has_subs.false has in
-    stepped ◌++◌ append_assoc c.loop-innermost.out.items c.put_node.new.out.items _ _ _ _ c.in_ok-put_node-in-Some-get.ensures step c.loop-innermost.invariant
+    stepped ◌++◌ append_assoc c.loop-innermost.out c.put_node.new.out _ _ _ _ c.in_ok-put_node-in-Some-get.ensures step c.loop-innermost.invariant
 
 pub loop-innermost-preserved : goal.loop-innermost-preserved
 loop-innermost-preserved c =
@@ -41,10 +41,10 @@ loop-innermost-preserved c =
     ] in
     let around = popped c.pop-innermost-in_default-get.result c.loop-innermost.lists.items c.pop-innermost-in_default-get.new.self.items (vec_len c.loop-innermost.lists) (omega arith) c.pop-innermost-in_default-get.ensures.items c.pop-innermost-in_default-get.ensures.variant in
     let step = close_step labels c.args.source.line.now c.args.forest.now c.loop-innermost.index c.in-Some.left _ _ c.loop-innermost.is_first was done ∙ ap (λ q. codes "]}" ++ rest_of labels c.args.source.line.now (drop c.loop-innermost.index c.args.forest.now) q false) around in
-    stepped ◌++◌ append_assoc c.loop-innermost.out.items c.extend_from_slice.new.self.items _ _ _ _ c.in_ok-extend_from_slice-in_default-get.ensures.items step c.loop-innermost.invariant
+    stepped ◌++◌ append_assoc c.loop-innermost.out c.put.new.self _ _ _ _ c.in_ok-put-in_default-get.ensures step c.loop-innermost.invariant
 
 pub returns-clause-text : goal.returns-clause-text
 returns-clause-text c =
     let none = ap (λ o. pending o c.loop-innermost.lists.items) c.in_default.is in
-    sym (ap (λ q. c.loop-innermost.out.items ++ rest_of c.args.source.fronts.now c.args.source.line.now (drop c.loop-innermost.index c.args.forest.now) q c.loop-innermost.is_first) none ∙ append-nil c.loop-innermost.out.items)
+    sym (ap (λ q. c.loop-innermost.out ++ rest_of c.args.source.fronts.now c.args.source.line.now (drop c.loop-innermost.index c.args.forest.now) q c.loop-innermost.is_first) none ∙ append-nil c.loop-innermost.out)
     ∙ c.loop-innermost.invariant

@@ -4,7 +4,7 @@ use Rattle.json.specs.Print.{escape}
 use Rattle.rpl_print.specs.Quoted.{is_plain}
 use Rattle.rpl_encode.specs.inside.Escapes.{AreBy}
 use Rattle.rpl_encode.proofs.Escaping.{clamped, plain_part}
-use Rattle.rpl_encode.proofs.escapes.Escapes.put.Goals as goal
+use Rattle.rpl_encode.proofs.escapes.Escapes.part.Goals as goal
 
 pub returns-in-Plain : goal.returns-in-Plain
 returns-in-Plain c =

@@ -2,7 +2,7 @@ use Rattle.std.proofs.Common.{◌≡◌, sym, ap, ◌∙◌, rules}
 use Rattle.std.specs.Prelude.{encode_utf8_all, string_bytes}
 use Rattle.rpl_encode.specs.Labels.{label_in}
 use Rattle.rpl_encode.proofs.Texts.{text_with}
-use Rattle.rpl_encode.proofs.front.put_front.Goals as goal
+use Rattle.rpl_encode.proofs.front.front_of.Goals as goal
 
 pub returns-in-Some : goal.returns-in-Some
 returns-in-Some c =

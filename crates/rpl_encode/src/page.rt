@@ -1,0 +1,233 @@
+// Text that is written at its end.
+ghost use Rattle.std.specs.Prelude.{◌≡◌, ◌+◌, ◌^◌, ◌<◌, ◌≤◌, ◌++◌, ◌∷◌, [], length, take, OnOk};
+ghost use Rattle.std.specs.Prelude.{vec_len, decimal, codes};
+ghost use Rattle.rpl_encode.specs.inside.Walk.{ending};
+
+use itoa::write_digits;
+use rpl_core::NoMemory;
+use rpl_tree::Node;
+use std::alloc::{AllocError, Global};
+use std::marker::Model;
+
+/// A text that grows at its end, in memory that is kept when it is cleared. Contracts see its
+/// bytes.
+#[derive(Drop)]
+pub(crate) struct Page {
+    /// The text, and room after it.
+    bytes: Vec<u8>,
+    len: usize,
+}
+
+impl Model for Page {
+    ghost use Rattle.std.specs.Prelude.{List, ℕ, ◌≤◌, take, vec_len};
+
+    ghost Value = { List ℕ };
+
+    ghost view = { λ p. take p.len p.bytes.items };
+
+    ghost invariant = { λ p. p.len ≤ vec_len p.bytes };
+}
+
+impl Page {
+    /// No text. Takes no memory.
+    pub(crate) fn new(alloc: Global) -> Page
+        ensures { result ≡ [] }
+    {
+        Page {
+            bytes: Vec::new(alloc),
+            len: 0,
+        }
+    }
+
+    /// The number of bytes.
+    #[inline(always)]
+    pub(crate) fn len(&self) -> usize
+        ensures { result ≡ length self.now }
+    {
+        self.len
+    }
+
+    /// Its bytes.
+    pub(crate) fn as_slice(&self) -> &[u8]
+        ensures { result.now ≡ self.now }
+    {
+        &self.bytes[..self.len]
+    }
+
+    /// Becomes the empty text.
+    pub(crate) fn clear(&mut self)
+        ensures { self.new ≡ [] }
+    {
+        self.len = 0;
+    }
+
+    /// Its bytes, in a list of their own.
+    pub(crate) fn into_vec(self) -> Vec<u8>
+        ensures { result.items ≡ self }
+    {
+        let Page { mut bytes, len } = self;
+        bytes.truncate(len);
+        bytes
+    }
+
+    /// Adds these bytes.
+    #[inline(always)]
+    pub(crate) fn put(&mut self, bytes: &[u8]) -> Result<(), NoMemory>
+        ensures { OnOk result (self.new ≡ self.old ++ bytes.now) }
+    {
+        make_room(&mut self.bytes, self.len, bytes.len())?;
+        self.len = write_at(bytes, &mut self.bytes, self.len);
+        Ok(())
+    }
+
+    /// Adds the object of a node that begins with this front, up to the first of the nodes below it
+    /// or to its end. There is one look for room.
+    pub(crate) fn put_object(
+        &mut self,
+        front: &[u8],
+        node: Node,
+        text: &[u8],
+        has_subs: bool,
+    ) -> Result<(), NoMemory>
+        requires { (node.start + 1 < 2 ^ 64) × (node.end + 1 < 2 ^ 64) }
+        ensures { OnOk result
+            (self.new
+            ≡ self.old
+            ++ (front.now
+            ++ (decimal (node.start + 1)
+            ++ (codes ",\"e\":" ++ (decimal (node.end + 1)
+            ++ (codes ",\"data\":\"" ++ (text.now ++ 34 ∷ ending has_subs))))))) }
+    {
+        let count = (front.len() + text.len()).saturating_add(MORE);
+        make_room(&mut self.bytes, self.len, count)?;
+        let at = write_at(front, &mut self.bytes, self.len);
+        let at = write_places(node, &mut self.bytes, at);
+        let at = write_at(text, &mut self.bytes, at);
+        self.len = write_ending(has_subs, &mut self.bytes, at);
+        Ok(())
+    }
+}
+
+/// What an object has at most besides its front and its text.
+const MORE: usize = 64;
+
+/// So much room is made at least, so that little is seldom added.
+const STEP: usize = 1024;
+
+/// Makes room for so many bytes after the first `len`, which stay.
+#[inline(always)]
+fn make_room(bytes: &mut Vec<u8>, len: usize, count: usize) -> Result<(), NoMemory>
+    requires { len ≤ vec_len bytes.old }
+    ensures kept { take len bytes.new.items ≡ take len bytes.old.items }
+    ensures inside { len ≤ vec_len bytes.new }
+    ensures room { OnOk result (len + count ≤ vec_len bytes.new) }
+{
+    if bytes.len() - len >= count {
+        return Ok(());
+    }
+    lengthen(bytes, len, count)
+}
+
+/// The same where there is less.
+#[cold]
+#[inline(never)]
+fn lengthen(bytes: &mut Vec<u8>, len: usize, count: usize) -> Result<(), NoMemory>
+    requires { (len ≤ vec_len bytes.old) × (vec_len bytes.old < len + count) }
+    ensures kept { take len bytes.new.items ≡ take len bytes.old.items }
+    ensures inside { len ≤ vec_len bytes.new }
+    ensures room { OnOk result (len + count ≤ vec_len bytes.new) }
+{
+    let Some(least) = len.checked_add(count) else {
+        return Err(AllocError);
+    };
+    bytes.resize(least.saturating_add(STEP), 0)
+}
+
+/// Writes the bytes from `at` on, and tells where they end.
+#[inline(always)]
+fn write_at(bytes: &[u8], buffer: &mut [u8], at: usize) -> usize
+    requires { at + length bytes.now ≤ length buffer.old }
+    ensures end { result ≡ at + length bytes.now }
+    ensures long { length buffer.new ≡ length buffer.old }
+    ensures written { take result buffer.new ≡ take at buffer.old ++ bytes.now }
+{
+    let end = at + bytes.len();
+    buffer[at..end].copy_from_slice(bytes);
+    end
+}
+
+/// Writes where a node starts and ends, each place one higher, up to the quote before its text.
+#[inline(always)]
+fn write_places(node: Node, buffer: &mut [u8], at: usize) -> usize
+    requires places { (node.start + 1 < 2 ^ 64) × (node.end + 1 < 2 ^ 64) }
+    requires room { at + 54 ≤ length buffer.old }
+    ensures end { result ≤ at + 54 }
+    ensures long { length buffer.new ≡ length buffer.old }
+    ensures written { take result buffer.new
+        ≡ take at buffer.old ++ (decimal (node.start + 1)
+        ++ (codes ",\"e\":" ++ (decimal (node.end + 1) ++ codes ",\"data\":\""))) }
+{
+    let at = write_number(node.start as u64 + 1, buffer, at);
+    let at = write_at(b",\"e\":", buffer, at);
+    let at = write_number(node.end as u64 + 1, buffer, at);
+    write_at(b",\"data\":\"", buffer, at)
+}
+
+/// Writes the quote after the text of a node, and what stands after it.
+#[inline(always)]
+fn write_ending(has_subs: bool, buffer: &mut [u8], at: usize) -> usize
+    requires { at + 10 ≤ length buffer.old }
+    ensures end { result ≤ at + 10 }
+    ensures long { length buffer.new ≡ length buffer.old }
+    ensures written { take result buffer.new ≡ take at buffer.old ++ 34 ∷ ending has_subs }
+{
+    if has_subs {
+        write_at(b"\",\"subs\":[", buffer, at)
+    } else {
+        write_at(b"\"}", buffer, at)
+    }
+}
+
+/// Writes a number from `at` on, and tells where it ends.
+#[inline(always)]
+fn write_number(number: u64, buffer: &mut [u8], at: usize) -> usize
+    requires { at + 20 ≤ length buffer.old }
+    ensures end { result ≤ at + 20 }
+    ensures long { length buffer.new ≡ length buffer.old }
+    ensures written { take result buffer.new ≡ take at buffer.old ++ decimal number }
+{
+    if number < 10 {
+        return write_at(&[b'0' + number as u8], buffer, at);
+    }
+    if number < 100 {
+        let digits = [b'0' + (number / 10) as u8, b'0' + (number % 10) as u8];
+        return write_at(&digits, buffer, at);
+    }
+    write_long(number, buffer, at)
+}
+
+/// The same, also where there are more than two digits.
+#[inline(never)]
+fn write_long(number: u64, buffer: &mut [u8], at: usize) -> usize
+    requires { at + 20 ≤ length buffer.old }
+    ensures end { result ≤ at + 20 }
+    ensures long { length buffer.new ≡ length buffer.old }
+    ensures written { take result buffer.new ≡ take at buffer.old ++ decimal number }
+{
+    let end = at + count_digits(number);
+    write_digits(number, buffer, end);
+    end
+}
+
+/// The number of digits of a number.
+fn count_digits(number: u64) -> usize
+    ensures { result ≡ length (decimal number) }
+{
+    let mut left = number;
+    let mut count = 1;
+    while left >= 10 {
+        left /= 10;
+        count += 1;
+    }
+    count
+}
