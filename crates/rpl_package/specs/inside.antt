@@ -1,4 +1,5 @@
 -- Words of the private contracts: nothing here is needed to read what the crate promises.
+pub mod Asked
 pub mod Firsts
 pub mod Following
 pub mod Kept

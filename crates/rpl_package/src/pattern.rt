@@ -13,6 +13,7 @@ ghost use Rattle.rpl_package.specs.inside.Marks.{CutsTo};
 ghost use Rattle.rpl_package.specs.Patterns.{enter_pattern, goal_entered, pattern_fault};
 ghost use Rattle.rpl_package.specs.Patterns.{pattern_name, put_by};
 ghost use Rattle.rpl_package.specs.Patterns.{needed_import, needed_at};
+ghost use Rattle.rpl_package.specs.inside.Asked.{Reads};
 ghost use Rattle.rpl_package.specs.inside.Reading.{IsLoud};
 ghost use Rattle.rpl_package.specs.Stocks.{stock_seen};
 ghost use Rattle.rpl_package.specs.inside.Leaving.{LeavesFiles};
@@ -302,9 +303,8 @@ pub fn enter_pattern<F: Files>(
 ) -> Result<Expr, Stop>
     requires idle { stock.old.held.items ≡ [] }
     requires file { importer.file.now ≡ pattern_file }
-    ensures gives { F.tells → (r : Or ParsedExpr) →
-        ReadsGoal goal.entry.fixed goal.entry.find goal.entry.text.now r
-        → Walks (λ e. (expr_of e, stock_seen stock.new)) result
+    ensures gives { F.tells → (r : Or ParsedExpr) → Reads goal.entry r →
+        Walks (λ e. (expr_of e, stock_seen stock.new)) result
         (goal_entered (world (F.tree files.old) importer.entry.folders.now) top
         (stock_seen stock.old) r) }
     ensures right { IfOk result (λ e. pattern_fault pattern_file (expr_of e)

@@ -10,10 +10,9 @@ ghost use Rattle.rpl_package.specs.Roots.{AreWithin, top_head, next, given_name,
 ghost use Rattle.rpl_package.specs.Roots.{load_roots, root_at};
 ghost use Rattle.rpl_package.specs.Roots.{named_root, root_text};
 ghost use Rattle.rpl_package.specs.Roots.{read_root};
-ghost use Rattle.rpl_package.specs.Stocks.{state_seen};
 ghost use Rattle.rpl_package.specs.Texts.{module_text};
 ghost use Rattle.rpl_package.specs.inside.Leaving.{LeavesFiles};
-ghost use Rattle.rpl_package.specs.inside.Rooting.{roots_seen};
+ghost use Rattle.rpl_package.specs.inside.Rooting.{roots_seen, seen};
 
 use crate::locate::{MAX_TEXT_BYTES, read_in};
 use crate::opening::{Importer, MAX_MODULES, Walker};
@@ -55,13 +54,13 @@ fn enter_named<F: Files>(
     requires name { text.now.package ≡ Some name.now }
     requires held { state.old.stock.held.items ≡ top_head ∷ [] }
     requires said { IsSaid (said text.now) }
-    ensures gives { F.tells → Walks (λ n. (n, state_seen state.new.stock state.new.own)) result
+    ensures gives { F.tells → Walks (λ n. (n, seen state.new)) result
         (named_root (world (F.tree files.old) importer.entry.folders.now) importer.entry.file.now
         (said text.now) name.now
-        (state_seen state.old.stock state.old.own)) }
+        (seen state.old)) }
     ensures held { OnOk result (state.new.stock.held.items ≡ state.old.stock.held.items) }
-    ensures built { OnOk result (Becomes (top_head ∷ []) (state_seen state.old.stock state.old.own)
-        (state_seen state.new.stock state.new.own)) }
+    ensures built { OnOk result (Becomes (top_head ∷ []) (seen state.old)
+        (seen state.new)) }
     ensures within { IfOk result (λ n. IfSome n (λ i. i < length state.new.stock.modules.items)) }
     ensures files { LeavesFiles F.Source result files.old files.new }
 {
@@ -98,12 +97,12 @@ pub fn enter_root<F: Files>(
 ) -> Result<Option<usize>, Stop>
     requires held { state.old.stock.held.items ≡ top_head ∷ [] }
     requires said { IsSaid (said text.now) }
-    ensures gives { F.tells → Walks (λ n. (n, state_seen state.new.stock state.new.own)) result
+    ensures gives { F.tells → Walks (λ n. (n, seen state.new)) result
         (root_text (world (F.tree files.old) importer.entry.folders.now) importer.entry.file.now
-        (said text.now) (said text.now).name (state_seen state.old.stock state.old.own)) }
+        (said text.now) (said text.now).name (seen state.old)) }
     ensures held { OnOk result (state.new.stock.held.items ≡ state.old.stock.held.items) }
-    ensures built { OnOk result (Becomes (top_head ∷ []) (state_seen state.old.stock state.old.own)
-        (state_seen state.new.stock state.new.own)) }
+    ensures built { OnOk result (Becomes (top_head ∷ []) (seen state.old)
+        (seen state.new)) }
     ensures within { IfOk result (λ n. IfSome n (λ i. i < length state.new.stock.modules.items)) }
     ensures files { LeavesFiles F.Source result files.old files.new }
 {
@@ -149,12 +148,12 @@ pub fn enter_given<F: Files>(
     text: &Chars,
 ) -> Result<Option<usize>, Stop>
     requires held { state.old.stock.held.items ≡ top_head ∷ [] }
-    ensures gives { F.tells → Walks (λ n. (n, state_seen state.new.stock state.new.own)) result
+    ensures gives { F.tells → Walks (λ n. (n, seen state.new)) result
         (read_root (world (F.tree files.old) importer.entry.folders.now) importer.entry.file.now
-        (encode_utf8_all text.now) (state_seen state.old.stock state.old.own)) }
+        (encode_utf8_all text.now) (seen state.old)) }
     ensures held { OnOk result (state.new.stock.held.items ≡ state.old.stock.held.items) }
-    ensures built { OnOk result (Becomes (top_head ∷ []) (state_seen state.old.stock state.old.own)
-        (state_seen state.new.stock state.new.own)) }
+    ensures built { OnOk result (Becomes (top_head ∷ []) (seen state.old)
+        (seen state.new)) }
     ensures within { IfOk result (λ n. IfSome n (λ i. i < length state.new.stock.modules.items)) }
     ensures files { LeavesFiles F.Source result files.old files.new }
 {
@@ -175,12 +174,12 @@ pub fn enter_file<F: Files>(
     path: &Chars,
 ) -> Result<Option<usize>, Stop>
     requires held { state.old.stock.held.items ≡ top_head ∷ [] }
-    ensures gives { F.tells → Walks (λ n. (n, state_seen state.new.stock state.new.own)) result
+    ensures gives { F.tells → Walks (λ n. (n, seen state.new)) result
         (root_at (world (F.tree files.old) folders.now) path.now
-        (state_seen state.old.stock state.old.own)) }
+        (seen state.old)) }
     ensures held { OnOk result (state.new.stock.held.items ≡ state.old.stock.held.items) }
-    ensures built { OnOk result (Becomes (top_head ∷ []) (state_seen state.old.stock state.old.own)
-        (state_seen state.new.stock state.new.own)) }
+    ensures built { OnOk result (Becomes (top_head ∷ []) (seen state.old)
+        (seen state.new)) }
     ensures within { IfOk result (λ n. IfSome n (λ i. i < length state.new.stock.modules.items)) }
     ensures files { LeavesFiles F.Source result files.old files.new }
 {
@@ -239,12 +238,12 @@ fn enter_one<F: Files>(
     turn: Turn<'_>,
 ) -> Result<Option<usize>, Stop>
     requires held { state.old.stock.held.items ≡ top_head ∷ [] }
-    ensures gives { F.tells → Walks (λ n. (n, state_seen state.new.stock state.new.own)) result
+    ensures gives { F.tells → Walks (λ n. (n, seen state.new)) result
         (root_by (world (F.tree files.old) folders.now) turn.entry.given turn.entry.root.now
-        (state_seen state.old.stock state.old.own)) }
+        (seen state.old)) }
     ensures held { OnOk result (state.new.stock.held.items ≡ state.old.stock.held.items) }
-    ensures built { OnOk result (Becomes (top_head ∷ []) (state_seen state.old.stock state.old.own)
-        (state_seen state.new.stock state.new.own)) }
+    ensures built { OnOk result (Becomes (top_head ∷ []) (seen state.old)
+        (seen state.new)) }
     ensures within { IfOk result (λ n. IfSome n (λ i. i < length state.new.stock.modules.items)) }
     ensures files { LeavesFiles F.Source result files.old files.new }
 {
@@ -274,8 +273,8 @@ pub fn enter_roots<F: Files>(
     ensures gives { F.tells → Walks (λ into. roots_seen into.items state.new) result
         (load_roots (world (F.tree files.old) folders.now) roots.now (roots_seen [] state.old)) }
     ensures held { OnOk result (state.new.stock.held.items ≡ state.old.stock.held.items) }
-    ensures built { OnOk result (Becomes (top_head ∷ []) (state_seen state.old.stock state.old.own)
-        (state_seen state.new.stock state.new.own)) }
+    ensures built { OnOk result (Becomes (top_head ∷ []) (seen state.old)
+        (seen state.new)) }
     ensures many { IfOk result (λ into. length into.items ≡ length roots.now) }
     ensures within { IfOk result (λ into. AreWithin into.items
         (length state.new.stock.modules.items)) }
