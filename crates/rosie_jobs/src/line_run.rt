@@ -3,16 +3,14 @@
 ghost use Rattle.std.specs.Prelude.{◌≡◌, ◌⊎◌, ◌≤◌, ◌^◌, ◌+◌, Some, length, chars, string_bytes};
 ghost use Rattle.std.specs.Prelude.{IfOk, OnOk, IsTrue};
 ghost use Rattle.std.specs.Str.{IsAscii, IsUtf8};
-ghost use Rattle.rosie_run.specs.Made.{IsMade};
 ghost use Rattle.rpl_core.specs.Forest as F;
 ghost use Rattle.rpl_core.specs.Meaning.{Outcome};
 ghost use Rattle.rpl_core.specs.Program.{instructions, labels_of};
-ghost use Rattle.rpl_encode.specs.Answer.{answer, IgnoresTrees};
-ghost use Rattle.rpl_encode.specs.Print.{placed};
-ghost use Rattle.rpl_text.specs.Places.{at};
+ghost use Rattle.rpl_encode.specs.Answer.{IgnoresTrees};
 ghost use Rattle.rpl_tree.specs.Trees.{BuildsEach};
-ghost use Rattle.rosie_jobs.specs.Lines.{budget_of, budget_or, made, ran, ran_piece};
-ghost use Rattle.rosie_jobs.specs.inside.Printed.{Catches, IsShown, Printed};
+ghost use Rattle.rosie_jobs.specs.Lines.{budget_of, budget_or, made, ran};
+ghost use Rattle.rosie_jobs.specs.inside.Printed.{answer_with, piece_of};
+ghost use Rattle.rosie_jobs.specs.inside.Printed.{Catches, HasMade, IsShown, Printed};
 
 use crate::settings::Settings;
 use crate::texts::{RunEnd, Texts};
@@ -109,10 +107,9 @@ impl LineRun {
     fn print_match(&mut self, line: &str) -> Result<bool, NoMemory>
         ensures settings { self.new.settings ≡ self.old.settings }
         ensures fronts { self.new.fronts ≡ self.old.fronts }
-        ensures printed { let t = chars line.now in IfOk result (λ fits. (f : F.Forest)
+        ensures printed { IfOk result (λ fits. (f : F.Forest)
             → Catches self.old.scratch.captures self.old.fronts line.now f
-            → Printed fits (answer self.old.settings.style line.now (Some (placed (at t) f)))
-            self.new.texts.answer) }
+            → Printed fits (answer_with self.old.settings line.now f) self.new.texts.answer) }
     {
         let style = self.settings.style;
         make_trees(&mut self.forest, self.scratch.captures(), style)?;
@@ -135,11 +132,8 @@ impl LineRun {
         ensures fronts { self.new.fronts ≡ self.old.fronts }
         ensures text { IsUtf8 line.entry.text.now }
         ensures made { let a = ran self.old.settings (instructions program.now) line.entry.text.now
-            in (o : Outcome) → IsShown a o
-            → IfOk result (λ mark. IsMade mark self.new.texts.answer
-            (string_bytes self.new.texts.told)
-            (ran_piece self.old.settings line.entry.file.now line.entry.number line.entry.text.now
-            o a)) }
+            in (o : Outcome) → IsShown a o → IfOk result
+            (λ mark. HasMade mark self.new.texts (piece_of self.old.settings line.entry o a)) }
         ensures steps { OnOk result (steps.new ≡ steps.old + made
             (budget_of self.old.settings (chars line.entry.text.now))
             (ran self.old.settings (instructions program.now) line.entry.text.now)) }

@@ -6,11 +6,10 @@ ghost use Rattle.std.specs.Prelude.{option_map, IfOk, OnOk};
 ghost use Rattle.std.specs.Fmt.{decimal};
 ghost use Rattle.std.specs.Option.{option_copied};
 ghost use Rattle.rosie_run.specs.Lines.{line_fault};
-ghost use Rattle.rosie_run.specs.Made.{IsMade};
 ghost use Rattle.rpl_encode.specs.Answer.{answer};
 ghost use Rattle.rpl_encode.specs.Labels.{trees_in};
 ghost use Rattle.rosie_jobs.specs.Lines.{told, unanswered, said};
-ghost use Rattle.rosie_jobs.specs.inside.Printed.{Printed};
+ghost use Rattle.rosie_jobs.specs.inside.Printed.{HasMade, Printed};
 
 use crate::settings::Settings;
 use rosie_run::{InputLine, Mark, NoMemory, line_fault};
@@ -79,7 +78,7 @@ impl Texts {
     #[inline(never)]
     pub(crate) fn fault(&mut self, line: InputLine<'_>, text: &str) -> Result<Mark, NoMemory>
         ensures { (cost : ℕ) →
-            IfOk result (λ mark. IsMade mark self.new.answer (string_bytes self.new.told)
+            IfOk result (λ mark. HasMade mark self.new
             (unanswered (line_fault line.entry.file.now line.entry.number text.now) cost)) }
     {
         self.told = line_fault(self.alloc, line.file, line.number, text)?;
@@ -142,7 +141,7 @@ impl Texts {
         end: RunEnd,
     ) -> Result<Mark, NoMemory>
         ensures { (cost : ℕ) →
-            IfOk result (λ mark. IsMade mark self.new.answer (string_bytes self.new.told)
+            IfOk result (λ mark. HasMade mark self.new
             (said settings line.entry.file.now line.entry.number line.entry.text.now fits
             self.old.answer end.hit end.steps cost)) }
     {

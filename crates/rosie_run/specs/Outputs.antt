@@ -27,6 +27,15 @@ telling O E = record { out = O.tells; err = E.tells; counts = O.counts }
 abbrev pub shown : {O E : Type 0} → Ghosts O → Ghosts E → O → E → ℕ → Texts
 shown O E o e n = texts O.written O.number E.written o e n
 
+-- what the outputs tell, and what stands on them before and after a call
+pub record Showing : Type 1 where
+  pub tells : Telling
+  pub before : Texts
+  pub after : Texts
+
+abbrev pub showing : {O E : Type 0} → Ghosts O → Ghosts E → O → E → ℕ → O → E → ℕ → Showing
+showing O E o e n o' e' n' = record { tells = telling O E; before = shown O E o e n; after = shown O E o' e' n' }
+
 pub record Failures : Type 0 where
   pub out : ℕ
   pub err : ℕ

@@ -4,16 +4,14 @@ ghost use Rattle.std.specs.Prelude.{length, codes};
 ghost use Rattle.std.specs.Prelude.{encode_utf8_all, IfOk};
 ghost use Rattle.std.specs.Str.{bytes_eq};
 ghost use Rattle.rosie_io.specs.Answering.{Keeps};
-ghost use Rattle.rosie_io.specs.Opening.{file_of};
-ghost use Rattle.rosie_run.specs.Runs.{FilesCause, SourcesCause, WritesCause, Runs, GoesOn};
-ghost use Rattle.rosie_run.specs.Inputs.{is_standard, file_pieces, one_pieces, left_after};
-ghost use Rattle.rosie_run.specs.Inputs.{inputs_pieces};
+ghost use Rattle.rosie_run.specs.Runs.{FilesCause, SourcesCause, WritesCause, GoesOn};
+ghost use Rattle.rosie_run.specs.Inputs.{is_standard, left_after};
 ghost use Rattle.rosie_run.specs.Inputs.{AreTold, reads_standard, names_of};
-ghost use Rattle.rosie_run.specs.Lines.{input_pieces};
-ghost use Rattle.rosie_run.specs.Outputs.{shown, telling};
-ghost use Rattle.rosie_run.specs.Sources.{moment_of};
-ghost use Rattle.rosie_run.specs.Where.{InNamed, InInputs};
-ghost use Rattle.rosie_run.specs.inside.Where.{InFileNamed, InOne};
+ghost use Rattle.rosie_run.specs.Lines.{reading_of};
+ghost use Rattle.rosie_run.specs.Outputs.{showing};
+ghost use Rattle.rosie_run.specs.Sources.{moment_of, span_of};
+ghost use Rattle.rosie_run.specs.Where.{RunsInputs, RunsSource};
+ghost use Rattle.rosie_run.specs.inside.Where.{RunsFile, RunsOne};
 ghost use Rattle.rosie_run.specs.inside.Causes.{IsEndedBy};
 
 use crate::line_job::LineJob;
@@ -53,14 +51,9 @@ pub fn run_source<J: LineJob, S: Source, O: Sink, E: Sink, L: Ledger>(
 ) -> Result<Tally, Ended>
     ensures keeps { Keeps reader.old reader.new }
     ensures same { J.makes job.new ≡ J.makes job.old }
-    ensures runs { S.tells → Runs result (telling O.Sink E.Sink)
-        (input_pieces (J.makes job.old)
-        (record { whole = reader.old.whole; most = reader.old.most }) file.now
-        (S.rest source.old))
-        (InNamed file.now reader.old.whole (moment_of S.Source source.old)
-        (moment_of S.Source source.new))
-        (shown O.Sink E.Sink out.old err.old steps.old)
-        (shown O.Sink E.Sink out.new err.new steps.new) }
+    ensures runs { S.tells → RunsSource result (J.makes job.old) (reading_of reader.old) file.now
+        (span_of S.Source source.old source.new)
+        (showing O.Sink E.Sink out.old err.old steps.old out.new err.new steps.new) }
     ensures rest { S.tells → GoesOn result (S.rest source.new ≡ []) }
     ensures cause { FilesCause result (moment_of S.Source source.old)
         (moment_of S.Source source.new) }
@@ -88,14 +81,9 @@ fn run_file<J: LineJob, F: Files, O: Sink, E: Sink, L: Ledger>(
     err: &mut E,
     steps: &mut Steps<L>,
 ) -> Result<Tally, Ended>
-    ensures runs { F.tells → Runs result (telling O.Sink E.Sink)
-        (file_pieces (J.makes job.old) (record { whole = reader.old.whole; most = reader.old.most })
-        path.now
-        (file_of path.now (F.tree files.old)))
-        (InFileNamed path.now (F.tree files.old) reader.old.whole
-        (moment_of F.Source files.old) (moment_of F.Source files.new))
-        (shown O.Sink E.Sink out.old err.old steps.old)
-        (shown O.Sink E.Sink out.new err.new steps.new) }
+    ensures runs { F.tells → RunsFile result (J.makes job.old) (reading_of reader.old) path.now
+        (F.tree files.old) (span_of F.Source files.old files.new)
+        (showing O.Sink E.Sink out.old err.old steps.old out.new err.new steps.new) }
     ensures cause { FilesCause result (moment_of F.Source files.old)
         (moment_of F.Source files.new) }
     ensures sinks { WritesCause result (O.faults out.old) (O.faults out.new) (E.faults err.old)
@@ -140,15 +128,11 @@ fn run_one<J: LineJob, F: Files, I: Source, O: Sink, E: Sink, L: Ledger>(
 ) -> Result<Tally, Ended>
     ensures runs { (is_standard name.now ≡ false → F.tells) →
         (is_standard name.now ≡ true → I.tells)
-        → (read.old ≡ true → I.rest input.old ≡ []) → Runs result
-        (telling O.Sink E.Sink)
-        (one_pieces (J.makes job.old) (record { whole = reader.old.whole; most = reader.old.most })
-        (F.tree files.old) (I.rest input.old) name.now)
-        (InOne name.now read.old (F.tree files.old) reader.old.whole
-        (moment_of I.Source input.old) (moment_of I.Source input.new)
-        (moment_of F.Source files.old) (moment_of F.Source files.new))
-        (shown O.Sink E.Sink out.old err.old steps.old)
-        (shown O.Sink E.Sink out.new err.new steps.new) }
+        → (read.old ≡ true → I.rest input.old ≡ [])
+        → RunsOne result (J.makes job.old) (reading_of reader.old) name.now read.old
+        (F.tree files.old)
+        (span_of I.Source input.old input.new) (span_of F.Source files.old files.new)
+        (showing O.Sink E.Sink out.old err.old steps.old out.new err.new steps.new) }
     ensures rest { (is_standard name.now ≡ true → I.tells) →
         (read.old ≡ true → I.rest input.old ≡ []) → GoesOn result
         (I.rest input.new ≡ left_after name.now (I.rest input.old)) }
@@ -196,19 +180,10 @@ pub fn run_inputs<J: LineJob, F: Files, I: Source, O: Sink, E: Sink, L: Ledger>(
 ) -> Result<Tally, Ended>
     requires { reading.most ≤ 2 ^ 30 }
     ensures same { J.makes job.new ≡ J.makes job.old }
-    ensures runs { AreTold (names_of encode_utf8_all names.now) F.tells I.tells →
-        Runs result (telling O.Sink E.Sink)
-        (inputs_pieces (J.makes job.old) reading (F.tree files.old) (I.rest input.old)
-        (names_of encode_utf8_all names.now))
-        (InInputs (names_of encode_utf8_all names.now) (λ front. length
-        (inputs_pieces (J.makes job.old) reading (F.tree files.old) (I.rest input.old) front))
-        (F.tree files.old) reading.whole
-        (moment_of I.Source input.old)
-        (moment_of I.Source input.new)
-        (moment_of F.Source files.old)
-        (moment_of F.Source files.new))
-        (shown O.Sink E.Sink out.old err.old steps.old)
-        (shown O.Sink E.Sink out.new err.new steps.new) }
+    ensures runs { let all = names_of encode_utf8_all names.now in AreTold all F.tells I.tells
+        → RunsInputs result (J.makes job.old) reading all (F.tree files.old)
+        (span_of I.Source input.old input.new) (span_of F.Source files.old files.new)
+        (showing O.Sink E.Sink out.old err.old steps.old out.new err.new steps.new) }
     ensures rest { AreTold (names_of encode_utf8_all names.now) F.tells I.tells → GoesOn result
         (reads_standard (names_of encode_utf8_all names.now) ≡ true → I.rest input.new ≡ []) }
     ensures unread { reads_standard (names_of encode_utf8_all names.now) ≡ false →

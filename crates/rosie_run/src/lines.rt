@@ -5,13 +5,13 @@ ghost use Rattle.std.specs.Prelude.{OnOk};
 ghost use Rattle.rosie_io.specs.Answering.{Keeps};
 ghost use Rattle.rosie_io.specs.Appending.{Appends};
 ghost use Rattle.rosie_io.specs.Counts.{capped};
-ghost use Rattle.rosie_io.specs.Gathering.{left, Reads};
-ghost use Rattle.rosie_run.specs.Lines.{input_pieces, line_fault};
-ghost use Rattle.rosie_run.specs.Outputs.{shown, telling};
+ghost use Rattle.rosie_io.specs.Gathering.{Reads};
+ghost use Rattle.rosie_run.specs.Lines.{line_fault, reading_of};
+ghost use Rattle.rosie_run.specs.Outputs.{showing};
 ghost use Rattle.rosie_run.specs.Closing.{OutFirst};
 ghost use Rattle.rosie_run.specs.inside.Causes.{BothCause, SinksCause, SourceCause, SpentCause};
 ghost use Rattle.rosie_run.specs.inside.Causes.{IsOfReading};
-ghost use Rattle.rosie_run.specs.inside.Passing.{MakesLine, CountsLine, StopsLine, RunsInput};
+ghost use Rattle.rosie_run.specs.inside.Passing.{MakesNext, CountsLine, StopsLine, RunsLines};
 ghost use Rattle.rosie_run.specs.inside.Passing.{ComesOf, SaysFault};
 ghost use Rattle.rosie_run.specs.inside.Passing.{made_out, made_err, made_mark};
 
@@ -52,11 +52,9 @@ fn make_line<J: LineJob, S: Source, L: Ledger>(
 ) -> Result<Option<Made>, Trouble>
     requires { reader.old.done ≡ false }
     ensures same { J.makes job.new ≡ J.makes job.old }
-    ensures makes { S.tells → MakesLine result (J.makes job.old)
-        (record { whole = reader.old.whole; most = reader.old.most }) file.now reader.old reader.new
-        (left reader.old.held (S.rest source.old)) (left reader.new.held (S.rest source.new))
-        (J.out_text job.new)
-        (J.err_text job.new) steps.old steps.new }
+    ensures makes { S.tells → MakesNext result (J.makes job.old) file.now reader.old reader.new
+        (S.rest source.old) (S.rest source.new)
+        (J.out_text job.new) (J.err_text job.new) steps.old steps.new }
     ensures numbers { CountsLine result reader.old reader.new }
     ensures fits { reader.new.number ≤ 2 ^ 48 }
     ensures keeps { Keeps reader.old reader.new }
@@ -155,17 +153,13 @@ fn write_made<J: LineJob, O: Sink, E: Sink>(
     match made {
         Made::Answer(mark) => {
             *pending |= !job.out().is_empty() || !job.err().is_empty();
-            match write_both(out, err, job.out(), job.err()) {
-                Ok(()) => Ok(mark),
-                Err(fault) => Err(fault),
-            }
+            write_both(out, err, job.out(), job.err())?;
+            Ok(mark)
         }
         Made::Fault(text) => {
             *pending = true;
-            match write_both(out, err, &[], text.as_bytes()) {
-                Ok(()) => Ok(Mark::Fault),
-                Err(fault) => Err(fault),
-            }
+            write_both(out, err, &[], text.as_bytes())?;
+            Ok(Mark::Fault)
         }
     }
 }
@@ -183,13 +177,9 @@ pub(crate) fn run_input<J: LineJob, S: Source, O: Sink, E: Sink, L: Ledger>(
     steps: &mut Steps<L>,
 ) -> Result<Tally, Trouble>
     ensures same { J.makes job.new ≡ J.makes job.old }
-    ensures runs { S.tells → RunsInput result (telling O.Sink E.Sink)
-        (input_pieces (J.makes job.old)
-        (record { whole = reader.old.whole; most = reader.old.most })
-        file.now (S.rest source.old)) reader.old.whole
+    ensures runs { S.tells → RunsLines result (J.makes job.old) (reading_of reader.old) file.now
         (S.rest source.old) (S.rest source.new)
-        (shown O.Sink E.Sink out.old err.old steps.old)
-        (shown O.Sink E.Sink out.new err.new steps.new) }
+        (showing O.Sink E.Sink out.old err.old steps.old out.new err.new steps.new) }
     ensures keeps { Keeps reader.old reader.new }
     ensures cause { SourceCause result (S.faults source.old) (S.faults source.new) }
     ensures sinks { SinksCause result (O.faults out.old) (O.faults out.new) (E.faults err.old)

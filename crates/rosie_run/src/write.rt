@@ -42,10 +42,8 @@ pub fn write_both<O: Sink, E: Sink>(
     ensures cause { BothCause result (O.faults out.old) (O.faults out.new) (E.faults err.old)
         (E.faults err.new) }
 {
-    match write_all(out, out_text) {
-        Ok(()) => write_behind(out, err, err_text),
-        Err(fault) => Err(fault),
-    }
+    write_all(out, out_text)?;
+    write_behind(out, err, err_text)
 }
 
 /// Writes a text on `err`, after what stands on `out`: that is flushed before, where there is a
@@ -64,10 +62,8 @@ fn write_behind<O: Sink, E: Sink>(out: &mut O, err: &mut E, text: &[u8]) -> Resu
     if text.is_empty() {
         return Ok(());
     }
-    match flush(out) {
-        Ok(()) => write_all(err, text),
-        Err(fault) => Err(fault),
-    }
+    flush(out)?;
+    write_all(err, text)
 }
 
 /// Flushes what was written on both.
@@ -80,10 +76,8 @@ pub fn flush_both<O: Sink, E: Sink>(out: &mut O, err: &mut E) -> Result<(), Writ
     ensures cause { BothCause result (O.faults out.old) (O.faults out.new) (E.faults err.old)
         (E.faults err.new) }
 {
-    match flush(out) {
-        Ok(()) => flush(err),
-        Err(fault) => Err(fault),
-    }
+    flush(out)?;
+    flush(err)
 }
 
 /// Writes a text and flushes it.
@@ -92,10 +86,8 @@ fn write_last<S: Sink>(sink: &mut S, text: &[u8]) -> Result<(), WriteFault>
     ensures flushed { S.counts → OnOk result (S.flushed sink.new ≡ S.number sink.new) }
     ensures cause { HasCause result (S.faults sink.old) (S.faults sink.new) }
 {
-    match write_all(sink, text) {
-        Ok(()) => flush(sink),
-        Err(fault) => Err(fault),
-    }
+    write_all(sink, text)?;
+    flush(sink)
 }
 
 /// Flushes `out`, and then writes the last line on `err` and flushes it.
@@ -115,10 +107,8 @@ pub(crate) fn close_with<O: Sink, E: Sink>(
     ensures cause { BothCause result (O.faults out.old) (O.faults out.new) (E.faults err.old)
         (E.faults err.new) }
 {
-    match flush(out) {
-        Ok(()) => write_last(err, text.as_bytes()),
-        Err(fault) => Err(fault),
-    }
+    flush(out)?;
+    write_last(err, text.as_bytes())
 }
 
 /// Flushes both outputs where something is pending on one and the reader may wait for input.

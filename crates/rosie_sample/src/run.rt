@@ -1,14 +1,13 @@
 // The run of a sample: its lines are matched, and what comes of them is counted.
-ghost use Rattle.std.specs.Prelude.{◌≡◌, ◌<◌, ◌≤◌, ◌^◌, ◌∷◌, [], length, codes, IfErr, IfOk};
+ghost use Rattle.std.specs.Prelude.{◌≡◌, ◌<◌, ◌≤◌, ◌^◌, ◌∷◌, [], length, IfErr, IfOk};
 ghost use Rattle.std.specs.Prelude.{IsTrue};
 ghost use Rattle.std.specs.Str.{IsAscii};
 ghost use Rattle.rosie_jobs.specs.Jobs.{matcher_of};
-ghost use Rattle.rosie_jobs.specs.Makers.{makes_of};
 ghost use Rattle.rosie_run.specs.Runs.{WritesCause, Runs, IsNoCut};
 ghost use Rattle.rosie_run.specs.Outputs.{shown, telling};
 ghost use Rattle.rosie_run.specs.Tallies.{tally_of};
 ghost use Rattle.rosie_run.specs.Where.{Nowhere};
-ghost use Rattle.rosie_sample.specs.Counting.{hits, line_pieces, sample_pieces};
+ghost use Rattle.rosie_sample.specs.Counting.{hits};
 ghost use Rattle.rosie_sample.specs.inside.Passing.{tallied, with_line};
 
 use crate::Sample;
@@ -84,7 +83,7 @@ fn run_line<J: LineJob, O: Sink, E: Sink, L: Ledger>(
 }
 
 impl SampleRun {
-    ghost use Rattle.rosie_sample.specs.Views.{sampled_of};
+    ghost use Rattle.rosie_sample.specs.Views.{lines_of, report_of, sampled_of};
 
     /// The run of a job on so many lines of the sample of a seed.
     pub fn new(alloc: Global, job: MatchJob, seed: u32, lines: u32) -> SampleRun
@@ -105,14 +104,10 @@ impl SampleRun {
         err: &mut E,
         steps: &mut Steps<L>,
     ) -> Result<Counts, Ended>
-        ensures runs { Runs (tallied result) (telling O.Sink E.Sink)
-            (line_pieces (makes_of (matcher_of self.old.job)) self.old.sample.number self.old.lines)
-            Nowhere
+        ensures runs { Runs (tallied result) (telling O.Sink E.Sink) (lines_of self.old) Nowhere
             (shown O.Sink E.Sink out.old err.old steps.old)
             (shown O.Sink E.Sink out.new err.new steps.new) }
-        ensures matched { IfOk result (λ counts. counts.matched ≡ hits
-            (line_pieces (makes_of (matcher_of self.old.job)) self.old.sample.number
-            self.old.lines)) }
+        ensures matched { IfOk result (λ counts. counts.matched ≡ hits (lines_of self.old)) }
         ensures no_cut { IfErr result IsNoCut }
         ensures sinks { WritesCause (tallied result) (O.faults out.old) (O.faults out.new)
             (E.faults err.old) (E.faults err.new) }
@@ -143,9 +138,7 @@ impl SampleRun {
         err: &mut E,
         steps: &mut Steps<L>,
     ) -> Result<Tally, Ended>
-        ensures runs { Runs result (telling O.Sink E.Sink)
-            (sample_pieces (makes_of (matcher_of self.old.job)) self.old.sample.number
-            self.old.lines) Nowhere
+        ensures runs { Runs result (telling O.Sink E.Sink) (report_of self.old) Nowhere
             (shown O.Sink E.Sink out.old err.old steps.old)
             (shown O.Sink E.Sink out.new err.new steps.new) }
         ensures no_cut { IfErr result IsNoCut }

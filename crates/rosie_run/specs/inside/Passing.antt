@@ -9,9 +9,9 @@ use Rattle.rosie_io.specs.Lines.{lines}
 use Rattle.rosie_io.specs.Reader.{Reader}
 use Rattle.rosie_io.specs.declared.reader.Line.{Line}
 use Rattle.rosie_io.specs.declared.reader.LineFault.{LineFault}
-use Rattle.rosie_run.specs.Lines.{Makes, input_pieces, line_fault, line_piece, passed, pieces_from}
+use Rattle.rosie_run.specs.Lines.{Makes, input_pieces, line_fault, line_piece, passed, pieces_from, reading_of}
 use Rattle.rosie_run.specs.Made.{IsMade}
-use Rattle.rosie_run.specs.Outputs.{Fronts, Telling, Texts, Wrote}
+use Rattle.rosie_run.specs.Outputs.{Fronts, Showing, Telling, Texts, Wrote}
 use Rattle.rosie_run.specs.Runs.{Stands}
 use Rattle.rosie_run.specs.Report.{Piece, has, is_stop, up_to_stop}
 use Rattle.rosie_run.specs.Tallies.{tally_of}
@@ -92,6 +92,12 @@ MakesLine (Ok None) makes r file old now left0 left1 out err steps0 steps1 =
     (left0 ≡ []) × (left1 ≡ []) × (steps1 ≡ steps0)
 MakesLine (Err e) makes r file old now left0 left1 out err steps0 steps1 = ReadsOn e steps0 steps1
 
+-- the same of a reader that goes on over its source, with what is left of the source
+abbrev pub MakesNext : Result (Option Made) Trouble → Makes → List ℕ → Reader → Reader → (rest0 rest1 out err : List ℕ)
+    → ℕ → ℕ → Type 0
+MakesNext result makes file old now rest0 rest1 out err steps0 steps1 =
+    MakesLine result makes (reading_of old) file old now (left old.held rest0) (left now.held rest1) out err steps0 steps1
+
 -- how many lines were passed, and whether there may be more
 abbrev pub CountsLine : {A : Type 0} → Result (Option A) Trouble → Reader → Reader → Type 0
 CountsLine (Ok (Some a)) old now = (now.number ≡ old.number + 1) × (now.done ≡ false)
@@ -157,3 +163,8 @@ abbrev pub RunsInput : Result Tally Trouble → Telling → List Piece → Bool 
 RunsInput (Ok tally) W all whole rest0 rest1 a b =
     Wrote W (up_to_stop all) a b × (tally ≡ tally_of (up_to_stop all)) × (tally.stop ≡ false → rest1 ≡ [])
 RunsInput (Err e) W all whole rest0 rest1 a b = BreaksInput e W all whole rest0 rest1 a b
+
+-- of an input with this name, of which so much is left before and after
+abbrev pub RunsLines : Result Tally Trouble → Makes → Reading → (file rest0 rest1 : List ℕ) → Showing → Type 0
+RunsLines result makes r file rest0 rest1 w =
+    RunsInput result w.tells (input_pieces makes r file rest0) r.whole rest0 rest1 w.before w.after

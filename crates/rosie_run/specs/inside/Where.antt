@@ -1,12 +1,25 @@
 -- Where reading stood in one input when it ended the run.
-use Rattle.rosie_run.specs.Inputs.{is_standard}
-use Rattle.rosie_run.specs.Sources.{Moment}
+use Rattle.rosie_io.specs.Opening.{file_of}
+use Rattle.rosie_run.specs.Inputs.{file_pieces, is_standard, one_pieces}
+use Rattle.rosie_run.specs.Lines.{Makes}
+use Rattle.rosie_run.specs.Outputs.{Showing}
+use Rattle.rosie_run.specs.Runs.{Runs}
+use Rattle.rosie_run.specs.Sources.{Moment, Span}
+use Rattle.rosie_run.specs.declared.ended.Ended.{Ended}
 use Rattle.rosie_run.specs.declared.ended.ReadStop.{ReadStop}
-use Rattle.std.specs.Prelude.{◌≡◌, Bool, List, false, true, ℕ}
+use Rattle.rosie_run.specs.declared.lines.Reading.{Reading}
+use Rattle.rosie_run.specs.declared.tally.Tally.{Tally}
+use Rattle.std.specs.Prelude.{◌≡◌, Bool, List, Result, false, true, ℕ}
 use Rattle.rosie_run.specs.Where.{InFile, InNamed}
 
 abbrev pub InFileNamed : List ℕ → List (List ℕ × List ℕ) → Bool → Moment → Moment → ReadStop → List ℕ → ℕ → Type 0
 InFileNamed name tree whole f0 f1 why file k = (file ≡ name) × InFile tree whole f0 f1 why file k
+
+-- the run over a file: its pieces are written, or it breaks off
+abbrev pub RunsFile : Result Tally Ended → Makes → Reading → List ℕ → List (List ℕ × List ℕ) → Span → Showing → Type 0
+RunsFile result makes r path tree files w =
+    Runs result w.tells (file_pieces makes r path (file_of path tree))
+    (InFileNamed path tree r.whole files.before files.after) w.before w.after
 
 -- and in one input: the standard input, which was not read before, or a file
 pub data InOne (name : List ℕ) (read : Bool) (tree : List (List ℕ × List ℕ)) (whole : Bool) (i0 i1 f0 f1 : Moment)
@@ -15,3 +28,10 @@ pub data InOne (name : List ℕ) (read : Bool) (tree : List (List ℕ × List �
       → InOne name read tree whole i0 i1 f0 f1 why file k
   of_file : is_standard name ≡ false → InFileNamed name tree whole f0 f1 why file k
       → InOne name read tree whole i0 i1 f0 f1 why file k
+
+-- the run over one input
+abbrev pub RunsOne : Result Tally Ended → Makes → Reading → List ℕ → Bool → List (List ℕ × List ℕ)
+    → (input files : Span) → Showing → Type 0
+RunsOne result makes r name read tree input files w =
+    Runs result w.tells (one_pieces makes r tree input.before.rest name)
+    (InOne name read tree r.whole input.before input.after files.before files.after) w.before w.after
