@@ -10,6 +10,7 @@ ghost use Rattle.rosie_unittest.specs.inside.Ready.{IsText};
 
 use crate::subject::{Compiled, Subject, Subjects};
 use crate::suite::Suite;
+use crate::telling::Judged;
 use crate::tester::{Tester, judge_none};
 use crate::trial::Trial;
 use crate::verdict::Verdict;
@@ -22,6 +23,14 @@ use rpl_text::Text;
 use rpl_unittest::Test;
 use std::alloc::{AllocError, Global};
 use std::sync::ledger::Ledger;
+
+/// What is kept from test to test: what others were tried with, and the memory of a run.
+#[derive(Drop)]
+struct Kept {
+    alloc: Global,
+    subjects: Subjects,
+    tester: Tester,
+}
 
 impl Suite {
     ghost use Rattle.rosie_unittest.specs.Seen.{bench_of, trials_of};
@@ -86,25 +95,26 @@ impl Suite {
     /// How a test comes out, beside what others were tried with.
     fn try_test<L: Ledger>(
         &self,
-        alloc: Global,
         trial: &Trial,
-        subjects: &mut Subjects,
-        tester: &mut Tester,
+        kept: &mut Kept,
         steps: &mut Steps<L>,
     ) -> Result<Verdict, NoMemory>
         requires bound { IsBound (bodies_of self.now.rules) trial.now.target }
         requires ready { ∥ IsReadyTrial (trial_of (bodies_of self.now.rules) trial.now) ∥₁ }
-        requires sound { AreSound (bodies_of self.now.rules) subjects.old.entries.items }
+        requires sound { AreSound (bodies_of self.now.rules) kept.old.subjects.entries.items }
         ensures sound { OnOk result (AreSound (bodies_of self.now.rules)
-            subjects.new.entries.items) }
+            kept.new.subjects.entries.items) }
         ensures verdict { IfOk result (λ verdict. verdict ≡ T.verdict_in (bench_of self.now)
             (trial_of (bodies_of self.now.rules) trial.now)) }
         ensures steps { OnOk result (steps.new ≡ steps.old + T.cost_of (bench_of self.now)
             trial.now.test
             (subject_for (bodies_of self.now.rules) trial.now.target)) }
     {
-        let place = subjects.place_for(alloc, &self.rules, trial.target)?;
-        self.try_subject(&trial.test, &subjects.entries[place].subject, tester, steps)
+        let place = kept
+            .subjects
+            .place_for(kept.alloc, &self.rules, trial.target)?;
+        let subject = &kept.subjects.entries[place].subject;
+        self.try_subject(&trial.test, subject, &mut kept.tester, steps)
     }
 
     /// Tries the tests in turn, and writes the line of each that isn't met, and the counts at the
@@ -125,13 +135,22 @@ impl Suite {
         ensures sinks { WritesCause result (O.faults out.old) (O.faults out.new) (E.faults err.old)
             (E.faults err.new) }
     {
-        let mut subjects = Subjects::new(alloc, &self.rules)?;
-        let mut tester = Tester::new(alloc)?;
+        let subjects = Subjects::new(alloc, &self.rules)?;
+        let tester = Tester::new(alloc)?;
+        let mut kept = Kept {
+            alloc,
+            subjects,
+            tester,
+        };
         let mut tally = Tally::new();
         let mut unmet = 0;
         'tests: for trial in &self.trials {
-            let verdict = self.try_test(alloc, trial, &mut subjects, &mut tester, steps)?;
-            let told = self.tell_test(alloc, &trial.test, verdict, out, err)?;
+            let verdict = self.try_test(trial, &mut kept, steps)?;
+            let judged = Judged {
+                test: &trial.test,
+                verdict,
+            };
+            let told = self.tell_test(alloc, judged, out, err)?;
             tally = tally.and(told);
             if tally.stop {
                 return Ok(tally);

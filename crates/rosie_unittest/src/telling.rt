@@ -14,6 +14,13 @@ use rpl_print::text_of;
 use rpl_unittest::{Test, counts_line, failed_line};
 use std::alloc::Global;
 
+/// A test, and how it came out.
+#[derive(Clone, Copy)]
+pub(crate) struct Judged<'a> {
+    pub(crate) test: &'a Test,
+    pub(crate) verdict: Verdict,
+}
+
 /// The text for `out`.
 fn out_text(alloc: Global, file: &str, test: &Test, verdict: Verdict) -> Result<String, NoMemory>
     ensures { IfOk result (λ text. string_bytes text ≡ T.out_text file.now test.now verdict) }
@@ -54,20 +61,20 @@ impl Suite {
     pub(crate) fn tell_test<O: Sink, E: Sink>(
         &self,
         alloc: Global,
-        test: &Test,
-        verdict: Verdict,
+        judged: Judged<'_>,
         out: &mut O,
         err: &mut E,
     ) -> Result<Tally, Ended>
         ensures runs { (n : ℕ) → Runs result (telling O.Sink E.Sink)
-            (T.piece_of (bench_of self.now).file test.now verdict 0 ∷ []) Nowhere
+            (T.piece_of (bench_of self.now).file judged.entry.test.now judged.entry.verdict 0 ∷ []) Nowhere
             (shown O.Sink E.Sink out.old err.old n)
             (shown O.Sink E.Sink out.new err.new n) }
-        ensures stops { IfOk result (λ tally. tally.stop ≡ is_stop (T.mark_of verdict)) }
+        ensures stops { IfOk result (λ tally. tally.stop ≡ is_stop (T.mark_of judged.entry.verdict)) }
         ensures no_cut { IfErr result IsNoCut }
         ensures sinks { WritesCause result (O.faults out.old) (O.faults out.new) (E.faults err.old)
             (E.faults err.new) }
     {
+        let Judged { test, verdict } = judged;
         let file = text_of(&self.file);
         let out_text = out_text(alloc, file, test, verdict)?;
         let err_text = err_text(alloc, file, test, verdict)?;

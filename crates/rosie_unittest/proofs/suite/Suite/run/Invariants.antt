@@ -19,7 +19,7 @@ invariant-tests g l = record {
   counted : l.unmet + unmet (bench_of l.self) (map (trial_of (bodies_of l.self.rules)) (drop l.trial-index l.self.trials.items))
       ≡ unmet (bench_of l.self) (trials_of l.self);
   few : l.unmet ≤ l.trial-index;
-  sound : AreSound (bodies_of l.self.rules) l.subjects.entries.items;
+  sound : AreSound (bodies_of l.self.rules) l.kept.subjects.entries.items;
   out_faults : g.O.Sink.faults l.out ≡ g.O.Sink.faults l.initial.out;
   err_faults : g.E.Sink.faults l.err ≡ g.E.Sink.faults l.initial.err;
 }
