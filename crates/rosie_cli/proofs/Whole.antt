@@ -32,7 +32,7 @@ use Rattle.rosie_jobs.specs.Makers.{Maker, makes_of}
 use Rattle.rosie_unittest.specs.Trials.{Bench, Trial, suite_pieces}
 use Rattle.rosie_cli.specs.Planned.{IsPlanned, IsPlannedAs}
 use Rattle.rosie_cli.specs.Plans.{Plan, Says, Writes, Tries, Reads, Planned, refusal, Samples, Replays}
-use Rattle.rosie_cli.specs.Plans.{pieces, inputs_of, LeavesInput, ReadsInput, among, stood}
+use Rattle.rosie_cli.specs.Plans.{pieces, inputs_of, IsIdlePlan, LeavesInput, ReadsInput, among, stood}
 use Rattle.rosie_words.specs.declared.command.Command.{Command}
 use Rattle.rosie_session.specs.Loading.{Loading}
 use Rattle.rosie_session.specs.Replay.{replay}
@@ -302,3 +302,7 @@ unread-names plan names names' e f n = ap reads_standard (f ∙ sym e) ∙ n
 pub session-reads : (p : Planned) (w : Loading) → p ≡ session_planned w → LeavesInput p.plan → ⊥
 session-reads p w is n =
     false≢true (sym (subst (λ (q : Planned). LeavesInput q.plan) is n) ∙ session_reads)
+
+-- a session runs its lines
+pub session-works : (p : Planned) (w : Loading) → p ≡ session_planned w → IsIdlePlan p.plan → ⊥
+session-works p w is n = subst (λ (q : Planned). IsIdlePlan q.plan) is n

@@ -59,6 +59,12 @@ ReadsInput plan = reads_standard (inputs_of plan) ≡ true
 abbrev pub LeavesInput : Plan → Type 0
 LeavesInput plan = reads_standard (inputs_of plan) ≡ false
 
+-- a text or bytes are written, as where a load is refused, and no line, no test and no sample is run
+abbrev pub IsIdlePlan : Plan → Type 0
+IsIdlePlan (Says ps) = Unit {0}
+IsIdlePlan (Writes bytes) = Unit {0}
+IsIdlePlan _ = ⊥
+
 -- where reading may end the run of a plan: among its inputs, or in a file that a line of a session asks for. `input` is
 -- the standard input
 abbrev pub among : Plan → List (List ℕ × List ℕ) → (input files : Span) → ReadStop → List ℕ → ℕ → Type 0

@@ -1,5 +1,5 @@
 -- What the words ask for.
-use Rattle.std.specs.Prelude.{◌≡◌, Bool, true, false, List, ◌++◌, Result, Ok, Err, ℕ}
+use Rattle.std.specs.Prelude.{◌≡◌, Bool, true, false, List, ◌++◌, Result, Ok, Err, ℕ, String}
 use Rattle.rosie_words.specs.Printed.{fault_line, usage}
 use Rattle.rosie_words.specs.Reading as R
 use Rattle.rosie_words.specs.Table.{Word}
@@ -19,6 +19,9 @@ read (Ok c) = Do c
 
 unfoldable pub asked : List Word → Asked
 asked ws = read (R.reading ws)
+
+abbrev pub asks : {Z : Type 0} → List (String Z) → Asked
+asks words = asked (R.words_of words)
 
 -- the words are refused
 abbrev pub IsRefused : Asked → Type 0

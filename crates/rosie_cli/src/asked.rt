@@ -3,7 +3,6 @@
 ghost use Rattle.std.specs.Prelude.{◌≡◌, ◌≢◌, ◌++◌, string_bytes, IfOk};
 ghost use Rattle.rosie_words.specs.declared.fault.UsageFault.TheVariants as E;
 ghost use Rattle.rosie_words.specs.Printed.{fault_line, usage};
-ghost use Rattle.rosie_words.specs.Reading.{words_of};
 ghost use Rattle.rosie_cli.specs.Words as W;
 ghost use Rattle.rosie_cli.specs.inside.Asking.{asked_of};
 
@@ -34,7 +33,7 @@ fn usage_text(alloc: Global, fault: &UsageFault) -> Result<String, NoMemory>
 
 /// What the words ask for.
 pub(crate) fn ask(alloc: Global, words: &[String]) -> Result<Asked, NoMemory>
-    ensures { IfOk result (λ asked. asked_of asked ≡ W.asked (words_of words.now)) }
+    ensures { IfOk result (λ asked. asked_of asked ≡ W.asks words.now) }
 {
     match read_words(alloc, words) {
         Ok(command) => Ok(Asked::Do(command)),

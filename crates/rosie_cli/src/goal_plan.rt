@@ -29,22 +29,12 @@ use std::alloc::Global;
 #[derive(Drop)]
 pub(crate) enum Purpose {
     /// It is matched on each line of the inputs.
-    Match {
-        settings: Settings,
-        inputs: Paths,
-    },
-    /// It is traced on each line of the inputs, with at most so much work a line.
-    Trace {
-        limit: u32,
-        whole: bool,
-        inputs: Paths,
-    },
-    /// It is matched on so many lines of the sample of a seed.
-    Sample {
-        settings: Settings,
-        seed: u32,
-        lines: u32,
-    },
+    Match(Settings, Paths),
+    /// It is traced on each line of the inputs, with at most so much work a line. An input may be
+    /// one line.
+    Trace(u32, bool, Paths),
+    /// It is matched on the lines of the sample of a seed: the seed, and how many.
+    Sample(Settings, u32, u32),
 }
 
 /// The names of the inputs: without any it is the standard input.
@@ -64,26 +54,18 @@ fn plan_job(alloc: Global, job: Job, purpose: Purpose) -> Result<Plan, NoMemory>
         → run_of purpose rules (job_of job) ≡ plan_of plan) }
 {
     match purpose {
-        Purpose::Match { settings, inputs } => {
+        Purpose::Match(settings, inputs) => {
             let names = input_names(alloc, inputs)?;
             let job = MatchJob::new(alloc, settings, job)?;
             let whole = settings.whole;
             Ok(Plan::Match { job, whole, names })
         }
-        Purpose::Trace {
-            limit,
-            whole,
-            inputs,
-        } => {
+        Purpose::Trace(limit, whole, inputs) => {
             let names = input_names(alloc, inputs)?;
             let job = TraceJob::new(alloc, job, limit);
             Ok(Plan::Trace { job, whole, names })
         }
-        Purpose::Sample {
-            settings,
-            seed,
-            lines,
-        } => {
+        Purpose::Sample(settings, seed, lines) => {
             let job = MatchJob::new(alloc, settings, job)?;
             let run = SampleRun::new(alloc, job, seed, lines);
             Ok(Plan::Sample(run))

@@ -1,13 +1,13 @@
 //! From a command to its plan.
 
-ghost use Rattle.std.specs.Prelude.{◌≡◌, ◌≢◌, encode_utf8_all, true};
+ghost use Rattle.std.specs.Prelude.{◌≡◌, ◌≢◌, true};
 ghost use Rattle.rosie_prepare.specs.Views.{request_seen};
 ghost use Rattle.rosie_words.specs.declared.command.What.TheVariants as W;
-ghost use Rattle.rosie_cli.specs.Planned.{IsPlannedAs};
+ghost use Rattle.rosie_cli.specs.Planned.{IsRunning};
 ghost use Rattle.rosie_cli.specs.Plans.{Planned};
-ghost use Rattle.rosie_cli.specs.Report.{KnowsFor};
 ghost use Rattle.rosie_cli.specs.Words.{is_idle};
-ghost use Rattle.rosie_cli.specs.inside.Planning.{Leaves, Plans, PlansIdle};
+ghost use Rattle.rosie_cli.specs.inside.Planning.{run_of, wanted, Leaves, Plans, PlansIdle};
+ghost use Rattle.rosie_cli.specs.inside.Running.{OfPlans};
 
 use crate::class_plan::plan_class;
 use crate::code_plan::plan_code;
@@ -30,6 +30,7 @@ use std::alloc::Global;
 /// What a pattern is read over, as the options say.
 #[derive(Clone, Copy)]
 struct Base<'a> {
+    alloc: Global,
     roots: &'a Roots,
     folders: &'a LibPath,
     fixed: bool,
@@ -39,13 +40,8 @@ impl<'a> Base<'a> {
     /// What a command wants of its pattern, which is matched from the start of a line or looked
     /// for.
     fn request(&self, pattern: &'a Chars, find: bool) -> PatternRequest<'a>
-        ensures { request_seen result ≡ record {
-          roots = self.now.roots.now;
-          folders = self.now.folders.now;
-          text = encode_utf8_all pattern.now;
-          fixed = self.now.fixed;
-          find = find;
-        } }
+        ensures { request_seen result ≡ wanted self.now.roots.now self.now.folders.now
+            self.now.fixed find pattern.now }
     {
         PatternRequest {
             roots: self.roots,
@@ -54,6 +50,35 @@ impl<'a> Base<'a> {
             fixed: self.fixed,
             find,
         }
+    }
+
+    /// The plan of a pattern that is run for some purpose.
+    fn plan<F: Files>(
+        &self,
+        pattern: &Chars,
+        find: bool,
+        purpose: Purpose,
+        files: &mut F,
+    ) -> Result<Plan, Unready>
+        ensures plans { F.tells → (p : Planned) → IsRunning (run_of purpose)
+            (wanted self.now.roots.now self.now.folders.now self.now.fixed find pattern.now)
+            (F.tree files.old) p → Plans result p }
+        ensures leaves { Leaves F.Source result files.old files.new }
+    {
+        plan_goal(self.alloc, &self.request(pattern, find), purpose, files)
+    }
+}
+
+/// A base with these options.
+fn base_of<'a>(alloc: Global, roots: &'a Roots, folders: &'a LibPath, fixed: bool) -> Base<'a>
+    ensures { (result.roots.now ≡ roots.now) × (result.folders.now ≡ folders.now)
+        × (result.fixed ≡ fixed) }
+{
+    Base {
+        alloc,
+        roots,
+        folders,
+        fixed,
     }
 }
 
@@ -64,8 +89,7 @@ pub(crate) fn plan_command<F: Files>(
     files: &mut F,
 ) -> Result<Plan, Unready>
     requires { command.what ≢ W.Repl }
-    ensures plans { KnowsFor command.what F.tells → (p : Planned)
-        → IsPlannedAs command command.what (F.tree files.old) p → Plans result p }
+    ensures plans { OfPlans command F.tells (F.tree files.old) (Plans result) }
     ensures idle { is_idle command.what ≡ true → PlansIdle result }
     ensures leaves { Leaves F.Source result files.old files.new }
 {
@@ -75,51 +99,33 @@ pub(crate) fn plan_command<F: Files>(
         roots,
         folders,
         fixed,
-        budget,
         code,
         code_file,
         limit,
-        whole,
         ..
     } = command;
-    let base = Base {
-        roots: &roots,
-        folders: &folders,
-        fixed,
-    };
+    let base = base_of(alloc, &roots, &folders, fixed);
     match what {
         What::Match { pattern, inputs } => match code_file {
             Some(path) => plan_code(alloc, path, settings, inputs, files),
-            None => {
-                let purpose = Purpose::Match { settings, inputs };
-                plan_goal(alloc, &base.request(&pattern, false), purpose, files)
-            }
+            None => base.plan(&pattern, false, Purpose::Match(settings, inputs), files),
         },
         What::Grep { pattern, inputs } => {
-            let purpose = Purpose::Match { settings, inputs };
-            plan_goal(alloc, &base.request(&pattern, true), purpose, files)
+            base.plan(&pattern, true, Purpose::Match(settings, inputs), files)
         }
         What::Trace { pattern, inputs } => {
-            let purpose = Purpose::Trace {
-                limit,
-                whole,
-                inputs,
-            };
-            plan_goal(alloc, &base.request(&pattern, false), purpose, files)
+            let purpose = Purpose::Trace(limit, settings.whole, inputs);
+            base.plan(&pattern, false, purpose, files)
         }
         What::Sample { seed, lines } => {
-            let purpose = Purpose::Sample {
-                settings,
-                seed,
-                lines,
-            };
+            let purpose = Purpose::Sample(settings, seed, lines);
             plan_sample(alloc, &folders, purpose, files)
         }
         What::Expand { pattern } => {
             plan_expansion(alloc, &base.request(&pattern, false), code, files)
         }
         What::Compile { pattern } => plan_compiled(alloc, &base.request(&pattern, false), files),
-        What::Test { file } => plan_tests(alloc, file, &folders, budget, files),
+        What::Test { file } => plan_tests(alloc, file, &folders, settings.budget, files),
         What::List => plan_list(alloc, &roots, &folders, files),
         What::Class { name } => plan_class(alloc, &name),
         What::Repl => unreachable!(),

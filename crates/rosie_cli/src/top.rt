@@ -7,17 +7,17 @@ ghost use Rattle.rosie_run.specs.Causes.{IsFlushed};
 ghost use Rattle.rosie_run.specs.Runs.{SourcesCause, WritesCause, Runs, GoesOn, IsNoCut};
 ghost use Rattle.rosie_run.specs.Outputs.{shown, telling};
 ghost use Rattle.rosie_run.specs.Report.{stop_piece};
-ghost use Rattle.rosie_run.specs.Sources.{moment_of, span_of};
+ghost use Rattle.rosie_run.specs.Sources.{moment_of};
 ghost use Rattle.rosie_run.specs.Where.{Nowhere};
-ghost use Rattle.rosie_words.specs.Reading.{words_of};
 ghost use Rattle.rosie_words.specs.declared.command.What.TheVariants as W;
 ghost use Rattle.rosie_cli.specs.Planned.{IsPlanned, IsPlannedAs};
-ghost use Rattle.rosie_cli.specs.Plans.{Planned, pieces, LeavesInput, ReadsInput, among, stood};
+ghost use Rattle.rosie_cli.specs.Plans.{Planned, IsIdlePlan, LeavesInput, ReadsInput};
 ghost use Rattle.rosie_cli.specs.Replaying.{IsReplayed};
 ghost use Rattle.rosie_cli.specs.Report.{KnowsFiles, KnowsFor, KnowsInputs};
 ghost use Rattle.rosie_cli.specs.Rosie.{Answers, call};
-ghost use Rattle.rosie_cli.specs.Words.{asked, IsRefused, IsIdle, is_idle};
-ghost use Rattle.rosie_cli.specs.inside.Planning.{plan_of, IsSaid, IsIdlePlan};
+ghost use Rattle.rosie_cli.specs.Words.{asks, IsRefused, IsIdle, is_idle};
+ghost use Rattle.rosie_cli.specs.inside.Planning.{plan_of, IsSaid};
+ghost use Rattle.rosie_cli.specs.inside.Running.{course, OfPlans, RunsPlan, RunsPlanned};
 
 use crate::asked::{Asked, ask};
 use crate::plan::Plan;
@@ -67,14 +67,9 @@ fn run_plan<F: Files, I: Source, O: Sink, E: Sink, L: Ledger>(
     err: &mut E,
     steps: &mut Steps<L>,
 ) -> Result<Tally, Ended>
-    ensures runs { KnowsInputs (plan_of plan.old) F.tells I.tells → Runs result
-        (telling O.Sink E.Sink)
-        (pieces (plan_of plan.old) (F.tree files.old) (I.rest input.old))
-        (among (plan_of plan.old) (F.tree files.old)
-        (span_of I.Source input.old input.new)
-        (span_of F.Source files.old files.new))
-        (shown O.Sink E.Sink out.old err.old steps.old)
-        (shown O.Sink E.Sink out.new err.new steps.new) }
+    ensures runs { RunsPlan result (plan_of plan.old)
+        (course F.Source I.Source O.Sink E.Sink files.old files.new
+        input.old input.new out.old out.new err.old err.new steps.old steps.new) }
     ensures rest { KnowsInputs (plan_of plan.old) F.tells I.tells → GoesOn result
         (ReadsInput (plan_of plan.old) → I.rest input.new ≡ []) }
     ensures cause { SourcesCause result (moment_of I.Source input.old)
@@ -122,22 +117,16 @@ fn run_planned<F: Files, I: Source, O: Sink, E: Sink, L: Ledger>(
     steps: &mut Steps<L>,
 ) -> Result<Tally, Ended>
     requires { command.what ≢ W.Repl }
-    ensures runs { KnowsFor command.what F.tells → (p : Planned)
-        → IsPlannedAs command command.what (F.tree files.old) p → KnowsInputs p.plan F.tells I.tells
-        → Runs result (telling O.Sink E.Sink)
-        (pieces p.plan (F.tree files.old) (I.rest input.old))
-        (stood p (F.tree files.old)
-        (span_of I.Source input.old input.new)
-        (span_of F.Source files.old files.new))
-        (shown O.Sink E.Sink out.old err.old steps.old)
-        (shown O.Sink E.Sink out.new err.new steps.new) }
-    ensures rest { KnowsFor command.what F.tells → (p : Planned)
-        → IsPlannedAs command command.what (F.tree files.old) p → KnowsInputs p.plan F.tells I.tells
-        → GoesOn result (ReadsInput p.plan → I.rest input.new ≡ []) }
-    ensures unread { KnowsFor command.what F.tells → (p : Planned)
-        → IsPlannedAs command command.what (F.tree files.old) p → LeavesInput p.plan →
-        input.new ≡ input.old }
+    ensures runs { OfPlans command F.tells (F.tree files.old) (RunsPlanned result
+        (course F.Source I.Source O.Sink E.Sink files.old files.new
+        input.old input.new out.old out.new err.old err.new steps.old steps.new)) }
+    ensures rest { OfPlans command F.tells (F.tree files.old) (λ p. KnowsInputs p.plan F.tells I.tells
+        → GoesOn result (ReadsInput p.plan → I.rest input.new ≡ [])) }
+    ensures unread { OfPlans command F.tells (F.tree files.old)
+        (λ p. LeavesInput p.plan → input.new ≡ input.old) }
     ensures idle { is_idle command.what ≡ true → steps.new ≡ steps.old }
+    ensures unrun { OfPlans command F.tells (F.tree files.old)
+        (λ p. IsIdlePlan p.plan → steps.new ≡ steps.old) }
     ensures cause { SourcesCause result (moment_of I.Source input.old)
         (moment_of I.Source input.new)
         (moment_of F.Source files.old)
@@ -190,10 +179,11 @@ fn run_command<F: Files, I: Source, O: Sink, E: Sink, L: Ledger>(
         (IsPlannedAs command command.what (F.tree files.old)) (KnowsFor command.what F.tells)
         files.old files.new
         input.old input.new out.old out.new err.old err.new steps.old steps.new result) }
-    ensures unread { KnowsFor command.what F.tells → (p : Planned)
-        → IsPlannedAs command command.what (F.tree files.old) p → LeavesInput p.plan →
-        input.new ≡ input.old }
+    ensures unread { OfPlans command F.tells (F.tree files.old)
+        (λ p. LeavesInput p.plan → input.new ≡ input.old) }
     ensures idle { is_idle command.what ≡ true → steps.new ≡ steps.old }
+    ensures unrun { OfPlans command F.tells (F.tree files.old)
+        (λ p. IsIdlePlan p.plan → steps.new ≡ steps.old) }
     ensures out_flushed { O.counts → IsFlushed result (O.number out.new) (O.flushed out.new) }
     ensures err_flushed { E.counts → IsFlushed result (E.number err.new) (E.flushed err.new) }
 {
@@ -233,22 +223,24 @@ pub fn rosie<F: Files, I: Source, O: Sink, E: Sink, L: Ledger>(
     // What is written, answered and read, by the report of what the words come to:
     // `specs/Rosie.antt`.
     ensures answers { Answers (call F.Source I.Source O.Sink E.Sink
-        (IsPlanned (asked (words_of words.now)) (F.tree files.old))
-        (KnowsFiles (asked (words_of words.now)) F.tells)
+        (IsPlanned (asks words.now) (F.tree files.old)) (KnowsFiles (asks words.now) F.tells)
         files.old files.new input.old input.new out.old out.new err.old err.new steps.old steps.new
         result) }
 
     // Where the standard input isn't among the inputs, nothing of it is read. Words that are
     // refused open nothing.
-    ensures unread { (p : Planned) → KnowsFiles (asked (words_of words.now)) F.tells
-        → IsPlanned (asked (words_of words.now)) (F.tree files.old) p → LeavesInput p.plan →
+    ensures unread { (p : Planned) → KnowsFiles (asks words.now) F.tells
+        → IsPlanned (asks words.now) (F.tree files.old) p → LeavesInput p.plan →
         input.new ≡ input.old }
-    ensures untouched { IsRefused (asked (words_of words.now)) → (files.new ≡ files.old) ×
+    ensures untouched { IsRefused (asks words.now) → (files.new ≡ files.old) ×
         (input.new ≡ input.old) }
 
-    // Where no line, no test and no sample is run, the machine makes no step, whatever the files
-    // hold.
-    ensures idle { IsIdle (asked (words_of words.now)) → steps.new ≡ steps.old }
+    // Words that ask for no line, no test and no sample make no step of the machine, whatever the
+    // files hold. Nor do others where a load is refused, as far as the files tell it.
+    ensures idle { IsIdle (asks words.now) → steps.new ≡ steps.old }
+    ensures unrun { (p : Planned) → KnowsFiles (asks words.now) F.tells
+        → IsPlanned (asks words.now) (F.tree files.old) p → IsIdlePlan p.plan →
+        steps.new ≡ steps.old }
 
     // All is flushed, unless a write failed or memory ran out.
     ensures out_flushed { O.counts → IsFlushed result (O.number out.new) (O.flushed out.new) }

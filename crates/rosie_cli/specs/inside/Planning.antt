@@ -1,5 +1,5 @@
 -- How contracts see a plan, and what comes of making one.
-use Rattle.std.specs.Prelude.{◌≡◌, ℕ, List, Option, None, Some, Result, Ok, Err, IfErr}
+use Rattle.std.specs.Prelude.{◌≡◌, ℕ, Bool, List, Option, None, Some, Result, Ok, Err, IfErr}
 use Rattle.std.specs.Prelude.{string_bytes, encode_utf8_all}
 use Rattle.rosie_prepare.specs.Lines.{Line, compile_line}
 use Rattle.rosie_io.specs.Loading.{NotFewer}
@@ -7,6 +7,7 @@ use Rattle.rosie_io.specs.declared.outside.Source.{Ghosts}
 use Rattle.rosie_jobs.specs.Jobs.{matcher_of, runner_of, tracer_of}
 use Rattle.rosie_jobs.specs.Lines.{Job}
 use Rattle.rosie_prepare.specs.Answers.{HasCause, IsAsked}
+use Rattle.rosie_prepare.specs.Prepared.{PatternRequest}
 use Rattle.rosie_prepare.specs.declared.prepared.Prepared.{Prepared}
 use Rattle.rosie_prepare.specs.declared.unready.Unready.{Unready}
 use Rattle.rosie_prepare.specs.declared.unready.Unready.TheVariants as U
@@ -21,6 +22,7 @@ use Rattle.rpl_codegen.specs.declared.whole.CompileFault.TheVariants as C
 use Rattle.rpl_core.specs.Table.{bodies_of}
 use Rattle.rpl_core.specs.View.{core_of}
 use Rattle.rpl_forms.specs.Rows.{Row}
+use Rattle.rpl_package.specs.declared.rooted.Root.{Root}
 use Rattle.rpl_compile_laws.specs.Laws.{IsCapture}
 use Rattle.rosie_cli.specs.Planned.{matching, sampling, tracing}
 use Rattle.rosie_cli.specs.Plans as P
@@ -43,6 +45,11 @@ abbrev pub run_of : Purpose → List Row → Job → P.Plan
 run_of (R.Match settings inputs) = matching settings inputs
 run_of (R.Trace limit whole inputs) = tracing limit whole inputs
 run_of (R.Sample settings seed lines) = sampling settings seed lines
+
+-- what is wanted of a pattern, over these roots and folders
+abbrev pub wanted : List Root → (folders : List (List ℕ)) → (fixed find : Bool) → (pattern : List ℕ) → PatternRequest
+wanted roots folders fixed find pattern =
+    record { roots = roots; folders = folders; text = encode_utf8_all pattern; fixed = fixed; find = find }
 
 -- a pattern that is ready is whole, and makes one tree of a whole match
 pub record IsReady (p : Prepared) : Type 0 where
@@ -75,15 +82,9 @@ pub record Leaves {F : Type 0} (S : Ghosts F) (result : Result Plan Unready) (ol
   pub taken : NotFewer (S.taken old) (S.taken new)
   pub tree : S.tree new ≡ S.tree old
 
--- a text or bytes are written, and nothing else is done
-abbrev pub IsIdlePlan : P.Plan → Type 0
-IsIdlePlan (P.Says ps) = Unit {0}
-IsIdlePlan (P.Writes bytes) = Unit {0}
-IsIdlePlan _ = ⊥
-
--- and so it is where a plan is made
+-- a plan that is made runs nothing
 abbrev pub PlansIdle : Result Plan Unready → Type 0
-PlansIdle (Ok plan) = IsIdlePlan (plan_of plan)
+PlansIdle (Ok plan) = P.IsIdlePlan (plan_of plan)
 PlansIdle (Err u) = Unit {0}
 
 -- no input is read

@@ -49,3 +49,9 @@ returns-in-Do-clause-unread g c = λ p files is.
     let a = asked (words_of c.args.words.now) in
     let e = rw c.in-Do.is at c.in-Ok.ensures in
     c.run_command.ensures.unread (do-knows a c.in-Do.command _ e files) p (do-planned a c.in-Do.command _ p e is)
+
+pub returns-in-Do-clause-unrun : goal.returns-in-Do-clause-unrun
+returns-in-Do-clause-unrun g c = λ p files is.
+    let a = asked (words_of c.args.words.now) in
+    let e = rw c.in-Do.is at c.in-Ok.ensures in
+    c.run_command.ensures.unrun (do-knows a c.in-Do.command _ e files) p (do-planned a c.in-Do.command _ p e is)

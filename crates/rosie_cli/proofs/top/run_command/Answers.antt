@@ -1,6 +1,6 @@
 use Rattle.rosie_cli.proofs.Calls.{answers-by, answers-of}
 use Rattle.rosie_cli.proofs.Paying.{pays_planned}
-use Rattle.rosie_cli.proofs.Whole.{session-reads}
+use Rattle.rosie_cli.proofs.Whole.{session-reads, session-works}
 use Rattle.rosie_cli.proofs.top.run_command.Goals as goal
 
 pub returns-in-Repl-clause-answers : goal.returns-in-Repl-clause-answers
@@ -17,3 +17,7 @@ returns-in_default-clause-answers g c =
     answers-of _ c.run_planned-run.result _ _ (c.finish.ensures.closes c.run_planned-run.new.steps) e.cause e.sinks
     c.finish.ensures.cause (λ p t is inputs. e.runs t p is inputs) (λ p t is inputs. e.rest t p is inputs)
     (λ p is. pays_planned c.args.command c.args.command.what _ p is)
+
+pub returns-in-Repl-clause-unrun : goal.returns-in-Repl-clause-unrun
+returns-in-Repl-clause-unrun g c = λ t p is n.
+    let s = rw c.in-Repl.is at is in absurd (session-works p s.loading s.plan n)

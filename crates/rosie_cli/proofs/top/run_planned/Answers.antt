@@ -3,7 +3,7 @@ use Rattle.std.specs.List.{Contains}
 use Rattle.std.specs.Prelude.{string_bytes}
 use Rattle.rosie_run.proofs.Pieces.{fronts-none}
 use Rattle.rosie_session.proofs.Paying.{pays_holds}
-use Rattle.rosie_cli.specs.Plans.{LeavesInput, Plan, Planned, refusal}
+use Rattle.rosie_cli.specs.Plans.{IsIdlePlan, LeavesInput, Plan, Planned, refusal}
 use Rattle.rosie_cli.specs.Report.{KnowsInputs}
 use Rattle.rosie_cli.specs.inside.Planning.{plan_of}
 use Rattle.rosie_cli.proofs.Whole.{planned-runs, planned-goes, refused-runs, said-goes, session-goes, session-runs, unread}
@@ -49,3 +49,7 @@ returns-in-ReadFault-clause-runs g c = λ t p is inputs.
 pub returns-in-Ok-clause-unread : goal.returns-in-Ok-clause-unread
 returns-in-Ok-clause-unread g c = λ t p is n.
     c.run_plan.ensures.unread (subst LeavesInput (c.in-Ok.ensures.plans t p is).0 n)
+
+pub returns-in-Ok-clause-unrun : goal.returns-in-Ok-clause-unrun
+returns-in-Ok-clause-unrun g c = λ t p is n.
+    c.run_plan.ensures.idle (subst IsIdlePlan (c.in-Ok.ensures.plans t p is).0 n)
