@@ -70,24 +70,33 @@ fn type_of(node: Node, program: &Program) -> &str
     }
 }
 
+/// The type that a test asks for: a name, and that of the file's package.
+#[derive(Clone, Copy)]
+struct Asked<'a> {
+    prefix: &'a str,
+    part: &'a str,
+}
+
 /// There is such a node, and it has the type.
-fn is_here(forest: &Forest, index: usize, prefix: &str, part: &str, program: &Program) -> bool
-    ensures { result ≡ passes (has_part program.now prefix.now part.now)
+fn is_here(forest: &Forest, index: usize, asked: Asked<'_>, program: &Program) -> bool
+    ensures { result ≡ passes
+        (has_part program.now asked.entry.prefix.now asked.entry.part.now)
         (slice_get forest.now index) }
 {
     match forest.get(index) {
-        Some(node) => is_type(prefix, part, type_of(node, program)),
+        Some(node) => is_type(asked.prefix, asked.part, type_of(node, program)),
         None => false,
     }
 }
 
 /// Some node after the first has the type.
-fn has_type(forest: &Forest, prefix: &str, part: &str, program: &Program) -> bool
-    ensures { result ≡ list_any (has_part program.now prefix.now part.now) (drop 1 forest.now) }
+fn has_type(forest: &Forest, asked: Asked<'_>, program: &Program) -> bool
+    ensures { result ≡ list_any
+        (has_part program.now asked.entry.prefix.now asked.entry.part.now) (drop 1 forest.now) }
 {
     let len = forest.len();
     for index in 1..len {
-        if is_here(forest, index, prefix, part, program) {
+        if is_here(forest, index, asked, program) {
             return true;
         }
     }
@@ -116,23 +125,16 @@ fn part_of(part: &Option<Chars>) -> &str
 }
 
 /// The verdict over a match.
-fn judge_match(
-    verb: Verb,
-    prefix: &str,
-    part: &str,
-    text: &str,
-    forest: &Forest,
-    program: &Program,
-) -> bool
+fn judge_match(verb: Verb, asked: Asked<'_>, text: &str, forest: &Forest, program: &Program) -> bool
     requires { AreOneTree forest.now }
-    ensures { result ≡ is_met verb prefix.now part.now text.now
+    ensures { result ≡ is_met verb asked.entry.prefix.now asked.entry.part.now text.now
         (Some (trees_in program.now forest.now)) }
 {
     match verb {
         Verb::Accepts => is_whole(forest, text, program),
         Verb::Rejects => !is_whole(forest, text, program),
-        Verb::Includes => has_type(forest, prefix, part, program),
-        Verb::Excludes => !has_type(forest, prefix, part, program),
+        Verb::Includes => has_type(forest, asked, program),
+        Verb::Excludes => !has_type(forest, asked, program),
     }
 }
 
@@ -148,13 +150,10 @@ pub fn judge(test: &Test, prefix: &str, found: Option<&Forest>, program: &Progra
 {
     match found {
         None => matches!(test.verb, Verb::Rejects),
-        Some(forest) => judge_match(
-            test.verb,
-            prefix,
-            part_of(&test.part),
-            text_of(&test.text),
-            forest,
-            program,
-        ),
+        Some(forest) => {
+            let part = part_of(&test.part);
+            let asked = Asked { prefix, part };
+            judge_match(test.verb, asked, text_of(&test.text), forest, program)
+        }
     }
 }

@@ -5,5 +5,5 @@ use Rattle.rpl_unittest.proofs.verdict.has_type.Given as goal
 
 abbrev pub invariant-loop-index : goal.invariant-loop-index
 invariant-loop-index l =
-    list_any (has_part l.program l.prefix l.part) (drop l.index l.forest)
-    ≡ list_any (has_part l.program l.prefix l.part) (drop 1 l.forest)
+    list_any (has_part l.program l.asked.prefix.now l.asked.part.now) (drop l.index l.forest)
+    ≡ list_any (has_part l.program l.asked.prefix.now l.asked.part.now) (drop 1 l.forest)
