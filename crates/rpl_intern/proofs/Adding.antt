@@ -12,6 +12,11 @@ use Rattle.rpl_core.specs.declared.instr.Instr.TheVariants as V
 use Rattle.rpl_intern.specs.declared.draft.Draft.{Draft}
 use Rattle.rpl_intern.specs.Uses.{sets_in, labels_in, Keeps}
 use Rattle.rpl_intern.specs.Written.{plain, shown, Says, Adds}
+use Rattle.rpl_intern.specs.declared.draft.SetUse.{SetUse}
+use Rattle.rpl_intern.specs.declared.draft.SetUse.TheVariants as S
+use Rattle.rpl_intern.specs.declared.draft.TextUse.{TextUse}
+use Rattle.rpl_intern.specs.declared.draft.TextUse.TheVariants as T
+use Rattle.rpl_intern.specs.inside.Uses.{numbered_set, numbered_text, with_set, with_text}
 
 -- a list holds what stands in it
 pub read_at : {A : Type 0} (xs : List A) (k : ℕ) (x : A) → slice_get xs k ≡ Some x → slice_index_or xs k x ≡ x
@@ -133,6 +138,16 @@ adds_plain old new V.Close g s l = adds_one old new V.Close I.Close g s l refl
 adds_plain old new V.Finish g s l = adds_one old new V.Finish I.Finish g s l refl
 adds_plain old new (V.PartialCommit a) g s l = adds_one old new (V.PartialCommit a) (I.PartialCommit a) g s l refl
 adds_plain old new V.Halt g s l = adds_one old new V.Halt I.Halt g s l refl
+
+-- one that names a set, and one that names a text
+pub adds_set : (old new : Draft) (u : SetUse) (k : ℕ) (s : List Range) → new.code ≡ old.code ++ numbered_set u k ∷ [] → Keeps old.sets (s ∷ []) new.sets → new.labels ≡ old.labels → slice_get new.sets k ≡ Some s → Adds old new (with_set u s ∷ [])
+adds_set old new S.Set k s grown sets labels is = adds_one old new (V.Set k) (I.Set s) grown sets labels (ap (option_map I.Set) is)
+adds_set old new S.Span k s grown sets labels is = adds_one old new (V.Span k) (I.Span s) grown sets labels (ap (option_map I.Span) is)
+adds_set old new (S.Test other) k s grown sets labels is = adds_one old new (V.TestSet other k) (I.TestSet other s) grown sets labels (ap (option_map (I.TestSet other)) is)
+
+pub adds_text : (old new : Draft) (u : TextUse) (k : ℕ) (x : List ℕ) → new.code ≡ old.code ++ numbered_text u k ∷ [] → new.sets ≡ old.sets → Keeps old.labels (x ∷ []) new.labels → slice_get new.labels k ≡ Some x → Adds old new (with_text u x ∷ [])
+adds_text old new T.Open k x grown sets labels is = adds_one old new (V.Open k) (I.Open x) grown sets labels (ap (option_map I.Open) is)
+adds_text old new T.Note k x grown sets labels is = adds_one old new (V.Note k) (I.Note x) grown sets labels (ap (option_map I.Note) is)
 
 -- what the uses of two codes are together
 sets_append : (x y : List Instr) → sets_in (x ++ y) ≡ sets_in x ++ sets_in y

@@ -20,9 +20,55 @@ pub struct Draft {
     ghost labels_few: { length labels ≤ length code },
 }
 
+/// What an instruction does with its set.
+#[derive(Clone, Copy)]
+enum SetUse {
+    Set,
+    Span,
+    /// With the address where it goes on where no character of the set follows.
+    Test(u32),
+}
+
+impl SetUse {
+    ghost use Rattle.rpl_intern.specs.inside.Uses.{numbered_set};
+
+    /// The instruction, with the number of its set.
+    fn instr(self, number: u32) -> Instr
+        ensures { result ≡ numbered_set self number }
+    {
+        match self {
+            SetUse::Set => Instr::Set(number),
+            SetUse::Span => Instr::Span(number),
+            SetUse::Test(other) => Instr::TestSet(other, number),
+        }
+    }
+}
+
+/// What an instruction does with its text.
+#[derive(Clone, Copy)]
+enum TextUse {
+    Open,
+    Note,
+}
+
+impl TextUse {
+    ghost use Rattle.rpl_intern.specs.inside.Uses.{numbered_text};
+
+    /// The instruction, with the number of its text.
+    fn instr(self, number: u32) -> Instr
+        ensures { result ≡ numbered_text self number }
+    {
+        match self {
+            TextUse::Open => Instr::Open(number),
+            TextUse::Note => Instr::Note(number),
+        }
+    }
+}
+
 impl Draft {
     ghost use Rattle.rpl_core.specs.Instr as I;
     ghost use Rattle.rpl_intern.specs.Written.{Adds, plain};
+    ghost use Rattle.rpl_intern.specs.inside.Uses.{with_set, with_text};
 
     /// Nothing yet.
     pub fn new(alloc: Global) -> Draft
@@ -61,14 +107,7 @@ impl Draft {
         ensures adds { OnOk result (Adds self.old self.new (I.Set set.now ∷ [])) }
         ensures err { OnErr result (self.new ≡ self.old) }
     {
-        let count = self.sets.len();
-        let number = self.sets.keep(alloc, set)?;
-        put_with_set(
-            &mut self.code,
-            &mut self.sets,
-            Instr::Set(number as u32),
-            count,
-        )
+        self.use_set(alloc, set, SetUse::Set)
     }
 
     /// Writes `span`. Where memory runs out, nothing changes.
@@ -77,14 +116,7 @@ impl Draft {
         ensures adds { OnOk result (Adds self.old self.new (I.Span set.now ∷ [])) }
         ensures err { OnErr result (self.new ≡ self.old) }
     {
-        let count = self.sets.len();
-        let number = self.sets.keep(alloc, set)?;
-        put_with_set(
-            &mut self.code,
-            &mut self.sets,
-            Instr::Span(number as u32),
-            count,
-        )
+        self.use_set(alloc, set, SetUse::Span)
     }
 
     /// Writes `testset`, which goes to `other` where no character of the set follows. Where memory
@@ -94,14 +126,7 @@ impl Draft {
         ensures adds { OnOk result (Adds self.old self.new (I.TestSet other set.now ∷ [])) }
         ensures err { OnErr result (self.new ≡ self.old) }
     {
-        let count = self.sets.len();
-        let number = self.sets.keep(alloc, set)?;
-        put_with_set(
-            &mut self.code,
-            &mut self.sets,
-            Instr::TestSet(other, number as u32),
-            count,
-        )
+        self.use_set(alloc, set, SetUse::Test(other))
     }
 
     /// Writes `open`. Where memory runs out, nothing changes.
@@ -110,14 +135,7 @@ impl Draft {
         ensures adds { OnOk result (Adds self.old self.new (I.Open label.now ∷ [])) }
         ensures err { OnErr result (self.new ≡ self.old) }
     {
-        let count = self.labels.len();
-        let number = self.labels.keep(alloc, label)?;
-        put_with_text(
-            &mut self.code,
-            &mut self.labels,
-            Instr::Open(number as u32),
-            count,
-        )
+        self.use_text(alloc, label, TextUse::Open)
     }
 
     /// Writes `note`. Where memory runs out, nothing changes.
@@ -126,14 +144,31 @@ impl Draft {
         ensures adds { OnOk result (Adds self.old self.new (I.Note text.now ∷ [])) }
         ensures err { OnErr result (self.new ≡ self.old) }
     {
+        self.use_text(alloc, text, TextUse::Note)
+    }
+
+    /// Writes an instruction with its set. Where memory runs out, nothing changes.
+    fn use_set(&mut self, alloc: Global, set: &Set, as_what: SetUse) -> Result<(), NoMemory>
+        requires { length self.old.code < 1048576 }
+        ensures adds { OnOk result (Adds self.old self.new (with_set as_what set.now ∷ [])) }
+        ensures err { OnErr result (self.new ≡ self.old) }
+    {
+        let count = self.sets.len();
+        let number = self.sets.keep(alloc, set)?;
+        let instr = as_what.instr(number as u32);
+        put_with_set(&mut self.code, &mut self.sets, instr, count)
+    }
+
+    /// Writes an instruction with its text. Where memory runs out, nothing changes.
+    fn use_text(&mut self, alloc: Global, text: &Chars, as_what: TextUse) -> Result<(), NoMemory>
+        requires { length self.old.code < 1048576 }
+        ensures adds { OnOk result (Adds self.old self.new (with_text as_what text.now ∷ [])) }
+        ensures err { OnErr result (self.new ≡ self.old) }
+    {
         let count = self.labels.len();
         let number = self.labels.keep(alloc, text)?;
-        put_with_text(
-            &mut self.code,
-            &mut self.labels,
-            Instr::Note(number as u32),
-            count,
-        )
+        let instr = as_what.instr(number as u32);
+        put_with_text(&mut self.code, &mut self.labels, instr, count)
     }
 }
 

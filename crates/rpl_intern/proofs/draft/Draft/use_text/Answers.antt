@@ -1,10 +1,8 @@
 use Rattle.std.proofs.Common.{◌≡◌, [], ◌∷◌, ◌++◌, length, refl, sym, ap, subst, ◌∙◌, arith}
-use Rattle.std.specs.Prelude.{option_map, slice_get}
-use Rattle.rpl_core.specs.Instr as I
-use Rattle.rpl_core.specs.declared.instr.Instr.TheVariants as V
+use Rattle.std.specs.Prelude.{slice_get}
 use Rattle.rpl_intern.specs.Uses.{Keeps}
-use Rattle.rpl_intern.proofs.Adding.{adds_one, code_few, number_within, on_both, others_few, still_few}
-use Rattle.rpl_intern.proofs.draft.Draft.put_note.Goals as goal
+use Rattle.rpl_intern.proofs.Adding.{adds_text, code_few, number_within, on_both, others_few, still_few}
+use Rattle.rpl_intern.proofs.draft.Draft.use_text.Goals as goal
 
 pub overflow_cast-number : goal.overflow_cast-number
 overflow_cast-number c =
@@ -12,9 +10,11 @@ overflow_cast-number c =
 
 pub returns-clause-adds : goal.returns-clause-adds
 returns-clause-adds c =
-    on_both c.put_with_text.result (λ (code : c.put_with_text.new.code ≡ c.args.self.now.code ++ V.Note c.in_ok-number.number ∷ []) (kept : c.put_with_text.new.labels ≡ c.keep.new.self).
-    adds_one c.args.self.now _ (V.Note c.in_ok-number.number) (I.Note c.args.text.now) code refl (subst (Keeps c.args.self.now.labels (c.args.text.now ∷ [])) (sym kept) c.in_ok-number.ensures.kept)
-    (ap (λ l. option_map I.Note (slice_get l c.in_ok-number.number)) kept ∙ ap (option_map I.Note) c.in_ok-number.ensures.number))
+    let d = c.args.self.now in
+    let k = c.in_ok-number.number in
+    on_both c.put_with_text.result (λ (code : c.put_with_text.new.code ≡ d.code ++ c.instr-instr.result ∷ []) (kept : c.put_with_text.new.labels ≡ c.keep.new.self).
+    adds_text d _ c.args.as_what k c.args.text.now (code ∙ ap (λ i. d.code ++ i ∷ []) c.instr-instr.ensures) refl (subst (Keeps d.labels (c.args.text.now ∷ [])) (sym kept) c.in_ok-number.ensures.kept)
+    (ap (λ l. slice_get l k) kept ∙ c.in_ok-number.ensures.number))
     c.put_with_text.ensures.code c.put_with_text.ensures.labels
 
 pub invariant_of-self-2 : goal.invariant_of-self-2

@@ -1,10 +1,8 @@
 use Rattle.std.proofs.Common.{◌≡◌, [], ◌∷◌, ◌++◌, length, refl, sym, ap, subst, ◌∙◌, arith}
-use Rattle.std.specs.Prelude.{option_map, slice_get}
-use Rattle.rpl_core.specs.Instr as I
-use Rattle.rpl_core.specs.declared.instr.Instr.TheVariants as V
+use Rattle.std.specs.Prelude.{slice_get}
 use Rattle.rpl_intern.specs.Uses.{Keeps}
-use Rattle.rpl_intern.proofs.Adding.{adds_one, code_few, number_within, on_both, others_few, still_few}
-use Rattle.rpl_intern.proofs.draft.Draft.put_set.Goals as goal
+use Rattle.rpl_intern.proofs.Adding.{adds_set, code_few, number_within, on_both, others_few, still_few}
+use Rattle.rpl_intern.proofs.draft.Draft.use_set.Goals as goal
 
 pub overflow_cast-number : goal.overflow_cast-number
 overflow_cast-number c =
@@ -12,9 +10,11 @@ overflow_cast-number c =
 
 pub returns-clause-adds : goal.returns-clause-adds
 returns-clause-adds c =
-    on_both c.put_with_set.result (λ (code : c.put_with_set.new.code ≡ c.args.self.now.code ++ V.Set c.in_ok-number.number ∷ []) (kept : c.put_with_set.new.sets ≡ c.keep.new.self).
-    adds_one c.args.self.now _ (V.Set c.in_ok-number.number) (I.Set c.args.set.now) code (subst (Keeps c.args.self.now.sets (c.args.set.now ∷ [])) (sym kept) c.in_ok-number.ensures.kept) refl
-    (ap (λ l. option_map I.Set (slice_get l c.in_ok-number.number)) kept ∙ ap (option_map I.Set) c.in_ok-number.ensures.number))
+    let d = c.args.self.now in
+    let k = c.in_ok-number.number in
+    on_both c.put_with_set.result (λ (code : c.put_with_set.new.code ≡ d.code ++ c.instr-instr.result ∷ []) (kept : c.put_with_set.new.sets ≡ c.keep.new.self).
+    adds_set d _ c.args.as_what k c.args.set.now (code ∙ ap (λ i. d.code ++ i ∷ []) c.instr-instr.ensures) (subst (Keeps d.sets (c.args.set.now ∷ [])) (sym kept) c.in_ok-number.ensures.kept) refl
+    (ap (λ l. slice_get l k) kept ∙ c.in_ok-number.ensures.number))
     c.put_with_set.ensures.code c.put_with_set.ensures.sets
 
 pub invariant_of-self-2 : goal.invariant_of-self-2
