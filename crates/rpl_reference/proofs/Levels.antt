@@ -1,6 +1,6 @@
 -- The meaning at a depth is one level over that below.
 use Rattle.std.proofs.Common.{◌≡◌, ℕ, zero, suc, ◌+◌, ◌-◌, ◌<◌, ◌≤◌, List, refl, ap, ◌∙◌, arith}
-use Rattle.std.specs.Prelude.{true, nat_le, if◌then◌else◌}
+use Rattle.std.specs.Prelude.{true, false, nat_le, if◌then◌else◌}
 use Rattle.std.proofs.lemmas.Bool.Decides.{nat_tests}
 use Rattle.rpl_core.specs.Core.{Core}
 use Rattle.rpl_core.specs.Meaning.{Outcome, peg, lengths, ends_here, more}
@@ -27,3 +27,13 @@ length_here (suc n) k body i lt le =
     let so : nat_le k i ≡ true = grind (arith, nat_tests) in
     ap (λ b. if b then ends_here (body (i - k)) i (lengths n (k + 1) body i) else more 1 (lengths n (k + 1) body i)) so
     ∙ ap (λ m. ends_here (body (i - k)) i (lengths m (k + 1) body i)) down
+
+-- a length for which there are too few, and the others
+pub length_past : (n k : ℕ) (body : ℕ → Outcome) (i : ℕ) → 0 < n → i < k
+    → lengths n k body i ≡ more 1 (lengths (n - 1) (k + 1) body i)
+length_past zero k body i lt past = absurd (omega arith)
+length_past (suc n) k body i lt past =
+    let down : n ≡ suc n - 1 = omega arith in
+    let no : nat_le k i ≡ false = grind (arith, nat_tests) in
+    ap (λ b. if b then ends_here (body (i - k)) i (lengths n (k + 1) body i) else more 1 (lengths n (k + 1) body i)) no
+    ∙ ap (λ m. more 1 (lengths m (k + 1) body i)) down

@@ -18,27 +18,26 @@ use std::alloc::{AllocError, Global};
 /// The outcome of a pattern at a place of the text, the number of a character, with the work that
 /// it takes; `depth` is how many further turns and calls may stand one in the other. Work counts to
 /// `u64::MAX` at most.
-pub fn evaluate(
-    alloc: Global,
-    depth: u32,
-    rules: &Rules,
-    text: &[char],
-    e: &Peg,
-    place: usize,
-) -> Result<Outcome, AllocError>
-    ensures { IfOk result (IsOutcome (M.peg depth (bodies_in rules.now) text.now (core_of e.now)
-        place)) }
+pub fn evaluate(over: &Over<'_>, depth: u32, e: &Peg, place: usize) -> Result<Outcome, AllocError>
+    ensures { IfOk result (IsOutcome (M.peg depth (bodies_in over.now.rules.now) over.now.text.now
+        (core_of e.now) place)) }
 {
-    let over = Over { alloc, rules, text };
-    evaluate_core(&over, depth, e, place)
+    evaluate_core(over, depth, e, place)
 }
 
 /// What is evaluated over: the rules that are called, and the text.
 #[derive(Clone, Copy)]
-struct Over<'a> {
-    alloc: Global,
-    rules: &'a Rules,
-    text: &'a [char],
+pub struct Over<'a> {
+    pub alloc: Global,
+    pub rules: &'a Rules,
+    pub text: &'a [char],
+}
+
+/// So many lengths, from this one on.
+#[derive(Clone, Copy)]
+struct Lengths {
+    count: usize,
+    first: usize,
 }
 
 /// One character, if it is in the set.
@@ -76,8 +75,9 @@ fn evaluate_core(over: &Over<'_>, depth: u32, e: &Peg, place: usize) -> Result<O
             Ok(if_matches(o, place))
         }
         Peg::Behind { least, most, body } => {
-            let count = (*most as usize + 1).saturating_sub(*least as usize);
-            let o = evaluate_lengths(over, depth, body, count, *least as usize, place)?;
+            let first = *least as usize;
+            let count = (*most as usize + 1).saturating_sub(first);
+            let o = evaluate_lengths(over, depth, body, Lengths { count, first }, place)?;
             Ok(more(1, o))
         }
         Peg::Call(rule) => evaluate_call(over, depth, *rule, place),
@@ -232,29 +232,33 @@ fn evaluate_first(
     }
 }
 
-/// The body from `length` characters back, and then from one more, `count` lengths in all.
+/// The body from the first length in characters back, and then from one more, as many as there are.
 #[cycle(evaluate)]
 fn evaluate_lengths(
     over: &Over<'_>,
     depth: u32,
     body: &Peg,
-    count: usize,
-    length: usize,
+    lengths: Lengths,
     place: usize,
 ) -> Result<Outcome, AllocError>
-    requires { length + count < 2 ^ 64 }
-    ensures { IfOk result (IsOutcome (M.lengths count length
+    requires { lengths.first + lengths.count < 2 ^ 64 }
+    ensures { IfOk result (IsOutcome (M.lengths lengths.count lengths.first
         (core_at depth (bodies_in over.now.rules.now) over.now.text.now (core_of body.now))
         place)) }
 {
+    let Lengths { count, first } = lengths;
     if count == 0 {
         return Ok(Outcome::Fail { work: 0 });
     }
-    if place < length {
-        let rest = evaluate_lengths(over, depth, body, count - 1, length + 1, place)?;
+    let others = Lengths {
+        count: count - 1,
+        first: first + 1,
+    };
+    if place < first {
+        let rest = evaluate_lengths(over, depth, body, others, place)?;
         return Ok(more(1, rest));
     }
-    let o = evaluate_core(over, depth, body, place - length)?;
-    let rest = evaluate_lengths(over, depth, body, count - 1, length + 1, place)?;
+    let o = evaluate_core(over, depth, body, place - first)?;
+    let rest = evaluate_lengths(over, depth, body, others, place)?;
     Ok(ends_here(o, place, rest))
 }

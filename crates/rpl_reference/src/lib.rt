@@ -8,7 +8,7 @@ mod forest;
 mod machine;
 mod outcome;
 
-pub use evaluation::evaluate;
+pub use evaluation::{Over, evaluate};
 pub use forest::Forest;
 pub use machine::{Answer, Caught, run};
 pub use outcome::Outcome;

@@ -4,7 +4,7 @@ ghost use Rattle.std.specs.Prelude.{OnOk, IfOk};
 ghost use Rattle.std.specs.Prelude.{Some, None, [], ◌∷◌, ◌++◌, length, take, map, reverse};
 ghost use Rattle.std.specs.Prelude.{slice_get, slice_index_or};
 ghost use Rattle.rpl_core.specs.Core.{fits};
-ghost use Rattle.rpl_core.specs.Forest.{Finish, begins, finishes};
+ghost use Rattle.rpl_core.specs.Forest.{Begin, Finish, begins, finishes};
 ghost use Rattle.rpl_core.specs.Machine as M;
 ghost use Rattle.rpl_core.specs.Run as Run;
 ghost use Rattle.rpl_core.specs.Numbers.{instr_of};
@@ -52,6 +52,14 @@ pub struct Machine {
     stage: Stage,
     stack: Vec<Entry>,
     caught: Vec<Caught>,
+}
+
+/// What a run goes over: the program and the text.
+#[derive(Clone, Copy)]
+struct Over<'a> {
+    alloc: Global,
+    program: &'a Program,
+    text: &'a [char],
 }
 
 /// How a run ended, after how many steps.
@@ -340,11 +348,10 @@ impl Machine {
 
     /// The step of `halt`, which stands at the address.
     fn halt(&mut self, address: usize, place: usize) -> Result<(), AllocError>
-        ensures { OnOk result (state_of self.new ≡
-            (if nat_lt (finishes (captures_of self.old)) (begins (captures_of self.old))
-            then M.Going address place (stack_of self.old) (captures_of self.old
-            ++ Finish place ∷ [])
-            else M.Ended place (captures_of self.old))) }
+        ensures { let seen = captures_of self.old in OnOk result (state_of self.new ≡
+            (if nat_lt (finishes seen) (begins seen)
+            then M.Going address place (stack_of self.old) (seen ++ Finish place ∷ [])
+            else M.Ended place seen)) }
     {
         if count_finishes(&self.caught) < count_begins(&self.caught) {
             self.note(Caught::Finish { place }, address, place)
@@ -354,12 +361,38 @@ impl Machine {
         }
     }
 
+    /// The step of `choice`: a failure goes on at `to`.
+    fn choose(&mut self, to: usize, after: usize, place: usize) -> Result<(), AllocError>
+        ensures { OnOk result (state_of self.new ≡
+            M.Going after place
+            (M.Retry to place (length (captures_of self.old)) ∷ stack_of self.old)
+            (captures_of self.old)) }
+    {
+        let entry = Entry::Retry(to, place, self.caught.len());
+        self.enter(entry, after, place)
+    }
+
+    /// The step of `open`: a tree of the type with this number begins.
+    fn open(
+        &mut self,
+        over: &Over<'_>,
+        label: u32,
+        after: usize,
+        place: usize,
+    ) -> Result<(), AllocError>
+        ensures { OnOk result (state_of self.new ≡
+            M.Going after place (stack_of self.old)
+            (captures_of self.old
+            ++ Begin (slice_index_or (labels_of over.now.program.now) label []) place ∷ [])) }
+    {
+        let label = text_of(over.alloc, over.program, label)?;
+        self.note(Caught::Begin { label, place }, after, place)
+    }
+
     /// One step of the instruction, which stands at the address.
     fn act(
         &mut self,
-        alloc: Global,
-        program: &Program,
-        text: &[char],
+        over: &Over<'_>,
         instr: Instr,
         address: usize,
         place: usize,
@@ -367,9 +400,10 @@ impl Machine {
         requires { address + 1 < 2 ^ 64 }
         ensures { OnOk result (state_of self.new ≡
             M.act
-            (Some (instr_of (sets_of program.now) (labels_of program.now) instr))
-            text.now address place (stack_of self.old) (captures_of self.old)) }
+            (Some (instr_of (sets_of over.now.program.now) (labels_of over.now.program.now) instr))
+            over.now.text.now address place (stack_of self.old) (captures_of self.old)) }
     {
+        let (program, text) = (over.program, over.text);
         let after = address + 1;
         match instr {
             Instr::Set(set) => match next(program, set, text, place) {
@@ -378,10 +412,7 @@ impl Machine {
             },
             Instr::Start => self.go_if(place == 0, after, place),
             Instr::End => self.go_if(place == text.len(), after, place),
-            Instr::Choice(to) => {
-                let entry = Entry::Retry(to as usize, place, self.caught.len());
-                self.enter(entry, after, place)?;
-            }
+            Instr::Choice(to) => self.choose(to as usize, after, place)?,
             Instr::Commit(to) => self.commit(to as usize, place),
             Instr::FailTwice => self.fail_twice(),
             Instr::BackCommit(to) => self.back_commit(to as usize),
@@ -393,13 +424,10 @@ impl Machine {
             Instr::Meet(to) => self.meet(to as usize, place),
             Instr::Call(to) => self.enter(Entry::ReturnTo(after), to as usize, place)?,
             Instr::Return => self.go_back(place),
-            Instr::Open(label) => {
-                let label = text_of(alloc, program, label)?;
-                self.note(Caught::Begin { label, place }, after, place)?;
-            }
+            Instr::Open(label) => self.open(over, label, after, place)?,
             Instr::Close => self.note(Caught::Finish { place }, after, place)?,
             Instr::Note(text) => {
-                let text = text_of(alloc, program, text)?;
+                let text = text_of(over.alloc, program, text)?;
                 self.note(Caught::Note { text, place }, after, place)?;
             }
             Instr::Finish => self.end(place),
@@ -418,17 +446,17 @@ impl Machine {
     }
 
     /// One step; a run that is over stays.
-    fn step(&mut self, alloc: Global, program: &Program, text: &[char]) -> Result<(), AllocError>
-        ensures { OnOk result (state_of self.new ≡ M.step (instructions program.now) text.now
-            (state_of self.old)) }
+    fn step(&mut self, over: &Over<'_>) -> Result<(), AllocError>
+        ensures { OnOk result (state_of self.new ≡
+            M.step (instructions over.now.program.now) over.now.text.now (state_of self.old)) }
     {
         match self.stage {
             Stage::Ended { .. } => {}
             Stage::Failing => self.resume(),
             Stage::Going { address, place } => {
-                let code = program.code();
+                let code = over.program.code();
                 if address < code.len() {
-                    self.act(alloc, program, text, code[address], address, place)?;
+                    self.act(over, code[address], address, place)?;
                 } else {
                     self.stop();
                 }
@@ -473,13 +501,18 @@ pub fn run(
 ) -> Result<Option<Answer>, AllocError>
     ensures { IfOk result (IsAnswer (Run.run (instructions program.now) text.now budget)) }
 {
+    let over = Over {
+        alloc,
+        program,
+        text,
+    };
     let mut machine = Machine::new(alloc);
     let mut steps = 0;
     'steps: while !machine.is_over() {
         if steps == budget {
             return Ok(None);
         }
-        machine.step(alloc, program, text)?;
+        machine.step(&over)?;
         steps += 1;
     }
     Ok(Some(machine.answer(steps)))

@@ -7,7 +7,7 @@ use rpl_check::{CheckFault, check, check_pattern};
 use rpl_codegen::compile;
 use rpl_core::{Peg, Program, Rules, calls_are_rules, is_in_order};
 use rpl_machine::{Answer, RunFault, Scratch, Steps, run};
-use rpl_reference::{Outcome, evaluate};
+use rpl_reference::{Outcome, Over, evaluate};
 use rpl_text::Text;
 use std::alloc::{AllocError, Global};
 use std::marker::Brand;
@@ -50,7 +50,12 @@ pub(crate) fn meant(
     line: &str,
 ) -> Result<Ending, AllocError> {
     let chars = characters(alloc, line)?;
-    let outcome = evaluate(alloc, DEPTH, rules, &chars, goal, 0)?;
+    let over = Over {
+        alloc,
+        rules,
+        text: &chars,
+    };
+    let outcome = evaluate(&over, DEPTH, goal, 0)?;
     let cost = match &outcome {
         Outcome::Open => 0,
         Outcome::Fail { work } | Outcome::At { work, .. } | Outcome::HaltAt { work, .. } => *work,

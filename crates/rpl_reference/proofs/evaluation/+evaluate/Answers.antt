@@ -12,7 +12,7 @@ use Rattle.rpl_core.proofs.Rows.{seq_view, choice_view}
 use Rattle.rpl_reference.specs.Outcomes.{outcome_of, forest_of, capped}
 use Rattle.rpl_reference.specs.inside.Below.{below, core_at, all_at, first_at}
 use Rattle.rpl_reference.proofs.Capped.{capped_more, first_fails, first_matches, first_halts, turn_matches, one_length}
-use Rattle.rpl_reference.proofs.Levels.{below_is, length_here}
+use Rattle.rpl_reference.proofs.Levels.{below_is, length_here, length_past}
 use Rattle.rpl_reference.proofs.Parts.{first_more}
 use Rattle.rpl_reference.proofs.Weights.{weight, weight_all, weight_in, deeper_less}
 use Rattle.rpl_reference.proofs.evaluation.+evaluate.Goals as goal
@@ -149,10 +149,20 @@ evaluate_lengths-returns t c =
     let R = bodies_of (rules_of c.args.over.now.rules.now) in
     let at = core_at c.args.depth R c.args.over.now.text.now (core_of c.args.body.now) in
     let i = c.args.place in
-    let k = c.args.length in
-    let some : 0 < c.args.count = let ne = c.if-count-eq0.false in omega arith in
-    let enough : k ≤ i = let no = c.if-place-length.false in omega arith in
-    let others = M.lengths (c.args.count - 1) (k + 1) at i in
+    let k = c.args.lengths.first in
+    let some : 0 < c.args.lengths.count = let ne = c.if-count-eq0.false in omega arith in
+    let enough : k ≤ i = let no = c.if-place-first.false in omega arith in
+    let others = M.lengths (c.args.lengths.count - 1) (k + 1) at i in
     c.ends_here.ensures ∙ ap (λ x. capped (M.ends_here x i (outcome_of c.in_ok-rest-2.rest))) c.in_ok-o.ensures
     ∙ ap (λ x. capped (M.ends_here (capped (at (i - k))) i x)) c.in_ok-rest-2.ensures
-    ∙ one_length (at (i - k)) others i ∙ sym (ap capped (length_here c.args.count k at i some enough))
+    ∙ one_length (at (i - k)) others i ∙ sym (ap capped (length_here c.args.lengths.count k at i some enough))
+
+pub evaluate_lengths-returns-then-place-first : goal.evaluate_lengths-returns-then-place-first
+evaluate_lengths-returns-then-place-first t c =
+    let R = bodies_of (rules_of c.args.over.now.rules.now) in
+    let at = core_at c.args.depth R c.args.over.now.text.now (core_of c.args.body.now) in
+    let k = c.args.lengths.first in
+    let some : 0 < c.args.lengths.count = let ne = c.if-count-eq0.false in omega arith in
+    let others = M.lengths (c.args.lengths.count - 1) (k + 1) at c.args.place in
+    c.more.ensures ∙ ap (λ x. capped (M.more 1 x)) c.in_ok-rest.ensures ∙ capped_more 1 1 others refl
+    ∙ sym (ap capped (length_past c.args.lengths.count k at c.args.place some c.if-place-first.true))

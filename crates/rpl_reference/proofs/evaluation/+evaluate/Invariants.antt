@@ -21,7 +21,7 @@ decreases-evaluate_first l =
 
 abbrev pub decreases-evaluate_lengths : goal.decreases-evaluate_lengths
 decreases-evaluate_lengths l =
-    reach (bodies_of (rules_of l.over.now.rules.now)) l.depth (weight (core_of l.body.now) + l.count + 1)
+    reach (bodies_of (rules_of l.over.now.rules.now)) l.depth (weight (core_of l.body.now) + l.lengths.count + 1)
 
 abbrev pub decreases-evaluate_turns : goal.decreases-evaluate_turns
 decreases-evaluate_turns l = reach (bodies_of (rules_of l.over.now.rules.now)) l.depth (weight (core_of l.body.now) + 1)
