@@ -10,7 +10,8 @@ use Rattle.rpl_encode.specs.inside.Children.{is_hit_by, is_printed, printed_text
 use Rattle.rpl_encode.specs.Labels.{label_in}
 use Rattle.rpl_encode.specs.Texts.{texts}
 use Rattle.rpl_encode.specs.inside.Walk.{text_by, text_at}
-use Rattle.rpl_encode.proofs.Nodes.{forest_of-cons, drop_within, drop_got, drop_capped, got_none}
+use Rattle.rpl_tree.proofs.Trees.{forest_of-cons}
+use Rattle.rpl_encode.proofs.Nodes.{drop_within, drop_got, drop_capped, got_none}
 use Rattle.rpl_encode.proofs.Walking.{stepped}
 
 abbrev pub trees : List (List ℕ) → List Node → Forest

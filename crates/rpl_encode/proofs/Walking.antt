@@ -11,7 +11,8 @@ use Rattle.std.proofs.lemmas.List.{append-nil, drop-drop, drop_all, take_all, re
 use Rattle.std.proofs.lemmas.Bool.{false≢true}
 use Rattle.std.specs.Prelude.{slice_get, reverse, IsTrue, ◌↔◌, if◌then◌else◌}
 use Rattle.rpl_encode.specs.Answer.{line_by_line}
-use Rattle.rpl_encode.proofs.Nodes.{forest_of-cons, take_within, drop_within, drop_behind, drop_got, drop_capped, got_none}
+use Rattle.rpl_tree.proofs.Trees.{forest_of-cons}
+use Rattle.rpl_encode.proofs.Nodes.{take_within, drop_within, drop_behind, drop_got, drop_capped, got_none}
 
 -- the objects below a node; a note has none
 abbrev pub below_of : Option ℕ → List (List ℕ) → List (List ℕ)

@@ -7,8 +7,10 @@
 
 mod building;
 mod forest;
+mod laws;
 mod node;
 
 pub use forest::{Forest, build};
+pub use laws::trees_by_first_node;
 pub use node::Node;
 pub use rpl_core::{Caught, NoMemory};
