@@ -7,7 +7,7 @@ use Rattle.rosie_run.specs.Tallies.{tally_of}
 use Rattle.rosie_run.specs.declared.ended.Ended.{Ended}
 use Rattle.rosie_run.specs.declared.ended.ReadStop.{ReadStop}
 use Rattle.rosie_run.specs.declared.tally.Tally.{Tally}
-use Rattle.std.specs.Prelude.{◌++◌, ◌≡◌, Err, List, Ok, Result, false, length, string_bytes, ℕ, ◌≤◌, ◌⊎◌, ◌+◌}
+use Rattle.std.specs.Prelude.{◌++◌, ◌≡◌, Err, List, Ok, Result, false, length, string_bytes, ℕ, ◌≤◌, ◌⊎◌}
 use Rattle.rosie_io.specs.Counts.{Rose}
 use Rattle.rosie_run.specs.Sources.{Moment, NoFewer, RoseIn, Still, TookMany}
 use Rattle.rosie_run.specs.declared.ended.ReadStop.TheVariants as Y

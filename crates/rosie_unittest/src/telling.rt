@@ -66,10 +66,12 @@ impl Suite {
         err: &mut E,
     ) -> Result<Tally, Ended>
         ensures runs { (n : ℕ) → Runs result (telling O.Sink E.Sink)
-            (T.piece_of (bench_of self.now).file judged.entry.test.now judged.entry.verdict 0 ∷ []) Nowhere
+            (T.piece_of (bench_of self.now).file judged.entry.test.now judged.entry.verdict 0 ∷ [])
+            Nowhere
             (shown O.Sink E.Sink out.old err.old n)
             (shown O.Sink E.Sink out.new err.new n) }
-        ensures stops { IfOk result (λ tally. tally.stop ≡ is_stop (T.mark_of judged.entry.verdict)) }
+        ensures stops { IfOk result (λ tally. tally.stop
+            ≡ is_stop (T.mark_of judged.entry.verdict)) }
         ensures no_cut { IfErr result IsNoCut }
         ensures sinks { WritesCause result (O.faults out.old) (O.faults out.new) (E.faults err.old)
             (E.faults err.new) }

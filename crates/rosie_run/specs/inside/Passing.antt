@@ -96,7 +96,8 @@ MakesLine (Err e) makes r file old now left0 left1 out err steps0 steps1 = Reads
 abbrev pub MakesNext : Result (Option Made) Trouble → Makes → List ℕ → Reader → Reader → (rest0 rest1 out err : List ℕ)
     → ℕ → ℕ → Type 0
 MakesNext result makes file old now rest0 rest1 out err steps0 steps1 =
-    MakesLine result makes (reading_of old) file old now (left old.held rest0) (left now.held rest1) out err steps0 steps1
+    MakesLine result makes (reading_of old) file old now (left old.held rest0) (left now.held rest1) out err
+    steps0 steps1
 
 -- how many lines were passed, and whether there may be more
 abbrev pub CountsLine : {A : Type 0} → Result (Option A) Trouble → Reader → Reader → Type 0

@@ -15,12 +15,6 @@ use Rattle.rosie_run.specs.Where.{InFile, InNamed}
 abbrev pub InFileNamed : List ℕ → List (List ℕ × List ℕ) → Bool → Moment → Moment → ReadStop → List ℕ → ℕ → Type 0
 InFileNamed name tree whole f0 f1 why file k = (file ≡ name) × InFile tree whole f0 f1 why file k
 
--- the run over a file: its pieces are written, or it breaks off
-abbrev pub RunsFile : Result Tally Ended → Makes → Reading → List ℕ → List (List ℕ × List ℕ) → Span → Showing → Type 0
-RunsFile result makes r path tree files w =
-    Runs result w.tells (file_pieces makes r path (file_of path tree))
-    (InFileNamed path tree r.whole files.before files.after) w.before w.after
-
 -- and in one input: the standard input, which was not read before, or a file
 pub data InOne (name : List ℕ) (read : Bool) (tree : List (List ℕ × List ℕ)) (whole : Bool) (i0 i1 f0 f1 : Moment)
     (why : ReadStop) (file : List ℕ) (k : ℕ) : Type 0 where
@@ -28,6 +22,12 @@ pub data InOne (name : List ℕ) (read : Bool) (tree : List (List ℕ × List �
       → InOne name read tree whole i0 i1 f0 f1 why file k
   of_file : is_standard name ≡ false → InFileNamed name tree whole f0 f1 why file k
       → InOne name read tree whole i0 i1 f0 f1 why file k
+
+-- the run over a file: its pieces are written, or it breaks off
+abbrev pub RunsFile : Result Tally Ended → Makes → Reading → List ℕ → List (List ℕ × List ℕ) → Span → Showing → Type 0
+RunsFile result makes r path tree files w =
+    Runs result w.tells (file_pieces makes r path (file_of path tree))
+    (InFileNamed path tree r.whole files.before files.after) w.before w.after
 
 -- the run over one input
 abbrev pub RunsOne : Result Tally Ended → Makes → Reading → List ℕ → Bool → List (List ℕ × List ℕ)
