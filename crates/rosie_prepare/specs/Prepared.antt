@@ -47,7 +47,11 @@ OrLine A = Result A Line
 
 -- ---- the first pass
 
--- all roots, then the pattern, whose text is read as `parse`
+-- the text of the pattern is read as `parse`
+abbrev pub IsReadAs : PatternRequest → (parse : Or Expr) → Type 0
+IsReadAs w parse = ReadsGoal w.fixed w.find w.text parse
+
+-- all roots, then the pattern
 abbrev pub loaded : Tree → PatternRequest → (parse : Or Expr) → Outcome (Expr × Packages)
 loaded tree w parse = and_then (load (world tree w.folders) w.roots) (λ p. load_pattern (world tree w.folders) p parse)
 
@@ -107,6 +111,6 @@ Comes (Ok l) r = Passes l.1 (too_large l.1 l.0) (unsound l.1 l.0) (ready l.1 l.0
 -- What is wanted comes to r over the tree of files, and the paths `asked`, in bytes, are asked for on the way.
 pub record IsPrepared (tree : Tree) (w : PatternRequest) (asked : List (List ℕ)) (r : OrLine Ready) : Type 0 where
   pub parse : Or Expr
-  pub reads : ReadsGoal w.fixed w.find w.text parse
+  pub reads : IsReadAs w parse
   pub paths : asked ≡ map encode_utf8_all (loaded tree w parse).asked
   pub comes : Comes (loaded tree w parse).answer r

@@ -2,7 +2,7 @@
 ghost use Rattle.std.specs.Prelude.{◌≡◌, ℕ, List, IfErr, IfOk, encode_utf8_all, false, length, map};
 ghost use Rattle.rosie_io.specs.Loading.{NotFewer};
 ghost use Rattle.rosie_prepare.specs.Answers.{HasCause, IsAsked, Prepares, set_of};
-ghost use Rattle.rosie_prepare.specs.Prepared.{IsPrepared, OrLine, Ready, TableComes};
+ghost use Rattle.rosie_prepare.specs.Prepared.{IsPrepared, IsReadAs, OrLine, Ready, TableComes};
 ghost use Rattle.rosie_prepare.specs.Views.{ready_seen, request_seen};
 ghost use Rattle.rosie_run.specs.Sources.{moment};
 ghost use Rattle.rpl_check.specs.Checked.{IsWhole};
@@ -13,7 +13,6 @@ ghost use Rattle.rpl_expand.specs.Sets.{table_of};
 ghost use Rattle.rpl_forms.specs.Rows.{rows_of};
 ghost use Rattle.rosie_prepare.specs.inside.Steps.{Leads};
 ghost use Rattle.rpl_load_laws.specs.Laws.{Resolves};
-ghost use Rattle.rpl_package.specs.Goals.{ReadsGoal};
 ghost use Rattle.rpl_package.specs.Loading.{world};
 ghost use Rattle.rpl_package.specs.Patterns.{HasNoFault, load_pattern};
 ghost use Rattle.rpl_package.specs.Roots.{Packages, load};
@@ -63,7 +62,7 @@ fn load_goal<F: Files>(
     request: &PatternRequest<'_>,
 ) -> Result<Expr, Unready>
     ensures gives { F.tells → (parse : Or ParsedExpr)
-        → ReadsGoal request.now.fixed request.now.find request.now.text.now parse
+        → IsReadAs (request_seen request.now) parse
         → Leads (λ e. (expr_of e, set_seen set.new)) result
         (load_pattern (world (F.tree files.old) request.now.folders.now) (set_seen set.old) parse) }
     ensures right { IfOk result (λ e. HasNoFault (expr_of e) (set_seen set.new)) }

@@ -1,10 +1,9 @@
 // The second and the third pass: expansion and check.
-ghost use Rattle.std.specs.Prelude.{◌≡◌, ◌<◌, ℕ, List, IfErr, IfOk, None, Some, length, true};
+ghost use Rattle.std.specs.Prelude.{◌≡◌, ◌<◌, ℕ, List, IfErr, IfOk, None, Ok, Some, length, true};
 ghost use Rattle.std.specs.Option.{option_map};
 ghost use Rattle.rosie_prepare.specs.Lines as L;
-ghost use Rattle.rosie_prepare.specs.Prepared.{OrLine, Passes, Ready, goal_in, ready};
-ghost use Rattle.rosie_prepare.specs.Prepared.{table_too_large, table_unsound};
-ghost use Rattle.rosie_prepare.specs.Prepared.{too_large, unsound};
+ghost use Rattle.rosie_prepare.specs.Prepared.{Comes, OrLine, Ready, TableComes};
+ghost use Rattle.rosie_prepare.specs.Prepared.{goal_in, table_too_large};
 ghost use Rattle.rosie_prepare.specs.Answers.{Prepares};
 ghost use Rattle.rosie_prepare.specs.Views.{ready_seen};
 ghost use Rattle.rosie_prepare.specs.inside.Steps.{Finds, IsOwn, both_seen};
@@ -106,8 +105,7 @@ fn checked_core(
 /// The rules of a set, unless one is too large or the check finds a fault.
 pub(crate) fn pass_rules(alloc: Global, set: PackageSet) -> Result<PreparedRules, Unready>
     ensures prepares { (r : OrLine Packages)
-        → Passes (set_seen set) (table_too_large (set_seen set)) (table_unsound (set_seen set))
-        (set_seen set) r
+        → TableComes (Ok (set_seen set)) r
         → Prepares (λ p. set_seen p.set) result r }
     ensures table { IfOk result (λ p. rows_of p.rules ≡ table_of (set_seen p.set)) }
     ensures set { IfOk result (λ p. set_seen p.set ≡ set_seen set) }
@@ -122,9 +120,7 @@ pub(crate) fn pass_rules(alloc: Global, set: PackageSet) -> Result<PreparedRules
 /// check finds a fault.
 fn pass_both(alloc: Global, set: &PackageSet, expr: &Expr) -> Result<(Checked, CheckedPeg), Unready>
     ensures prepares { (r : OrLine Ready)
-        → Passes (set_seen set.now) (too_large (set_seen set.now) (expr_of expr.now))
-        (unsound (set_seen set.now) (expr_of expr.now))
-        (ready (set_seen set.now) (expr_of expr.now)) r
+        → Comes (Ok (expr_of expr.now, set_seen set.now)) r
         → Prepares (both_seen (set_seen set.now) (expr_of expr.now)) result r }
     ensures whole { IfOk result (λ both. IsWhole (bodies_of both.0) (core_of (peg_of both.1))) }
     ensures root { IfOk result (λ both. (label : List ℕ)
@@ -141,9 +137,7 @@ fn pass_both(alloc: Global, set: &PackageSet, expr: &Expr) -> Result<(Checked, C
 /// A pattern over a set, unless something is too large or the check finds a fault.
 pub(crate) fn pass_goal(alloc: Global, set: PackageSet, expr: Expr) -> Result<Prepared, Unready>
     ensures prepares { (r : OrLine Ready)
-        → Passes (set_seen set) (too_large (set_seen set) (expr_of expr))
-        (unsound (set_seen set) (expr_of expr))
-        (ready (set_seen set) (expr_of expr)) r
+        → Comes (Ok (expr_of expr, set_seen set)) r
         → Prepares ready_seen result r }
     ensures whole { IfOk result (λ p. IsWhole (bodies_of p.rules) (core_of (peg_of p.goal))) }
     ensures root { IfOk result (λ p. (label : List ℕ) ×
