@@ -1,24 +1,30 @@
--- What a map finds is what is found in its list.
-use Rattle.std.proofs.Common.{◌≡◌, ℕ, zero, suc, List, [], ◌∷◌, ◌++◌, map, Some, None, refl, ap, ◌∙◌, String}
-use Rattle.std.specs.Prelude.{if◌then◌else◌, chars, IsUtf8, slice_get}
+-- What is found under names by their numbers is what is found in the list of their pairs.
+use Rattle.std.proofs.Common.{◌≡◌, ℕ, zero, suc, Bool, true, false, List, [], ◌∷◌, ◌++◌, map, length, Some, None, refl, sym, ap, ◌∙◌, subst, inl, inr, arith, String}
+use Rattle.std.specs.Prelude.{Option, Result, Ok, Err, OnOk, OnErr, cond, ◌⊎◌, ◌||◌, if◌then◌else◌, chars, IsUtf8, slice_get}
+use Rattle.std.specs.BTreeMap.{BTreeMap, get, get_by_text, is_at, UpdatesBy}
+use Rattle.std.specs.Cmp.{Equal-is}
+use Rattle.std.specs.Cmp.Lexicographic.{slice_cmp}
+use Rattle.std.specs.List.{AllByRecursion, IsDistinct, list_any}
+use Rattle.std.specs.Map.{keys_of, lookup}
 use Rattle.std.specs.Option.{option_map}
-use Rattle.std.specs.Map.{lookup}
-use Rattle.std.specs.String.{string_bytes, string_eq}
+use Rattle.std.specs.Ordering.{nat_cmp}
 use Rattle.std.specs.Str.{bytes_eq}
+use Rattle.std.specs.String.{string_bytes, string_cmp, string_eq, string_eq_equiv}
+use Rattle.std.proofs.lemmas.Bool.{false_from_ne_true}
+use Rattle.std.proofs.lemmas.List.{map-append}
+use Rattle.std.proofs.lemmas.Map.Entries.{lookup_from_place, place_from_lookup}
+use Rattle.std.proofs.lemmas.Map.Keys.{IsDistinct-push}
+use Rattle.std.proofs.lemmas.Map.Lookups.{exact_unsigned}
+use Rattle.std.proofs.lemmas.Map.Text.{btree_map_updates_text}
+use Rattle.std.proofs.lemmas.Option.{none-some, slice_get_within}
+use Rattle.std.proofs.lemmas.Slice.Eq.{bytes_eq-Decides}
 use Rattle.std.proofs.lemmas.Str.{IsUtf8-string_bytes}
-use Rattle.indexmap.specs.IndexMap.{IndexMap, insert_entry}
-use Rattle.indexmap.proofs.CallerLemmas.{insert_entry-new}
 use Rattle.rpl_scope.specs.Packages.{first_of, nth}
+use Rattle.rpl_scope.specs.inside.Numbers.{Finds, IsNumbered, hash, value_at, value_if}
 use Rattle.rpl_scope.proofs.Characters.{same_chars}
 
 abbrev pub seen : {Z A : Type 0} → List (String Z × A) → List (List ℕ × A)
 seen es = map (λ p. (chars (string_bytes p.0), p.1)) es
-
-pub finds : {Z A : Type 0} (n : List ℕ) → IsUtf8 n → (es : List (String Z × A)) → lookup (λ k. bytes_eq n (string_bytes k)) es ≡ first_of (chars n) (seen es)
-finds n u [] = refl
-finds n u (e ∷ es) =
-    ap (λ b. if b then Some e.1 else lookup (λ k. bytes_eq n (string_bytes k)) es) (same_chars n (string_bytes e.0) u (IsUtf8-string_bytes e.0))
-    ∙ ap (λ o. if bytes_eq (chars n) (chars (string_bytes e.0)) then Some e.1 else o) (finds n u es)
 
 pub seen_end : {Z A : Type 0} (es : List (String Z × A)) (k : String Z) (v : A) → seen (es ++ (k, v) ∷ []) ≡ seen es ++ (chars (string_bytes k), v) ∷ []
 seen_end [] k v = refl
@@ -30,6 +36,157 @@ seen_at [] i = refl
 seen_at (e ∷ es) zero = refl
 seen_at (e ∷ es) (suc i) = seen_at es i
 
--- a key that isn't there is put at the end
-pub put_last : {Z S A : Type 0} (m : IndexMap (String Z) A S) (k : String Z) (v : A) → first_of (chars (string_bytes k)) (seen m.entries) ≡ None → seen (insert_entry string_eq m.entries k v) ≡ seen m.entries ++ (chars (string_bytes k), v) ∷ []
-put_last m k v h = ap seen (insert_entry-new string_eq m k v (finds (string_bytes k) (IsUtf8-string_bytes k) m.entries ∙ h)) ∙ seen_end m.entries k v
+-- what stands under the name of these bytes
+abbrev pub under : {Z A : Type 0} → List ℕ → List (String Z × A) → Option A
+under bs ps = lookup (λ k. bytes_eq bs (string_bytes k)) ps
+
+pub finds : {Z A : Type 0} (bs : List ℕ) → IsUtf8 bs → (ps : List (String Z × A)) → under bs ps ≡ first_of (chars bs) (seen ps)
+finds bs u [] = refl
+finds bs u (p ∷ ps) =
+    ap (λ b. if b then Some p.1 else under bs ps) (same_chars bs (string_bytes p.0) u (IsUtf8-string_bytes p.0))
+    ∙ ap (λ o. if bytes_eq (chars bs) (chars (string_bytes p.0)) then Some p.1 else o) (finds bs u ps)
+
+-- ---- what a look-up comes to
+
+-- a value at a number that has the name is what stands under it
+pub right : {Z A : Type 0} (bs : List ℕ) (o : Option ℕ) (ps : List (String Z × A)) (v : A) → IsDistinct string_eq (keys_of ps) → value_at bs o ps ≡ Some v → under bs ps ≡ Some v
+right bs None ps v d e = absurd (none-some v e)
+right {Z} {A} bs (Some i) ps v d e = by (slice_get ps i) refl e
+  where
+    same : (p : String Z × A) → slice_get ps i ≡ Some p → (b : Bool) → bytes_eq bs (string_bytes p.0) ≡ b → (if b then Some p.1 else None) ≡ Some v → under bs ps ≡ Some v
+    same p at true f h = ap (λ x. under x ps) ((bytes_eq-Decides bs (string_bytes p.0)).0 f) ∙ lookup_from_place string_eq_equiv ps i p.0 p.1 d at ∙ h
+    same p at false f h = absurd (none-some v h)
+
+    by : (o : Option (String Z × A)) → slice_get ps i ≡ o → value_if bs o ≡ Some v → under bs ps ≡ Some v
+    by None at h = absurd (none-some v h)
+    by (Some p) at h = same p at (bytes_eq bs (string_bytes p.0)) refl h
+
+-- where no value is found by a hash and none by a name, nothing stands under it
+pub absent : {Z A : Type 0} (bs : List ℕ) (ps : List (String Z × A)) (hashes : BTreeMap ℕ ℕ) (others : BTreeMap (String Z) ℕ) → IsNumbered ps hashes others → value_at bs (get nat_cmp hashes (hash bs)) ps ≡ None → value_at bs (get_by_text others bs) ps ≡ None → under bs ps ≡ None
+absent {Z} {A} bs ps hashes others n a b = by (under bs ps) refl
+  where
+    here : (i : ℕ) (k : String Z) (v : A) (o : Option ℕ) → o ≡ Some i → slice_get ps i ≡ Some (k, v) → bytes_eq bs (string_bytes k) ≡ true → value_at bs o ps ≡ None → ⊥
+    here i k v o e at f none =
+        none-some v (sym none ∙ ap (λ x. value_at bs x ps) e ∙ ap (value_if bs) at ∙ ap (λ c. if c then Some v else None) f)
+
+    by : (o : Option A) → under bs ps ≡ o → under bs ps ≡ None
+    by None e = e
+    by (Some v) e =
+        let p = place_from_lookup (λ k. bytes_eq bs (string_bytes k)) ps v e in
+        let is : bs ≡ string_bytes p.1 = (bytes_eq-Decides bs (string_bytes p.1)).0 p.3 in
+        absurd (
+        elim (subst (λ x. Finds hashes others x p.0) (sym is) (n.finds p.0 (p.1, v) p.2)) [
+          | inl h ↦ here p.0 p.1 v (get nat_cmp hashes (hash bs)) h p.2 p.3 a
+          | inr h ↦ here p.0 p.1 v (get_by_text others bs) h p.2 p.3 b
+        ])
+
+-- where no value is found by a hash, what is found by a name is what stands under it
+pub found : {Z A : Type 0} (bs : List ℕ) (ps : List (String Z × A)) (hashes : BTreeMap ℕ ℕ) (others : BTreeMap (String Z) ℕ) → IsNumbered ps hashes others → (o p : Option ℕ) → o ≡ get nat_cmp hashes (hash bs) → p ≡ get_by_text others bs → value_at bs o ps ≡ None → (r : Option A) → r ≡ value_at bs p ps → r ≡ under bs ps
+found bs ps hashes others n o p by_hash by_name none None e =
+    sym (absent bs ps hashes others n (ap (λ x. value_at bs x ps) (sym by_hash) ∙ none) (ap (λ x. value_at bs x ps) (sym by_name) ∙ sym e))
+found bs ps hashes others n o p by_hash by_name none (Some v) e = sym (right bs p ps v n.apart (sym e))
+
+-- ---- no pairs
+
+pub none_numbered : {Z A : Type 0} (ps : List (String Z × A)) (hashes : BTreeMap ℕ ℕ) (others : BTreeMap (String Z) ℕ) → ps ≡ [] → IsNumbered ps hashes others
+unfolding IsDistinct
+none_numbered ps hashes others none =
+    record {
+      finds = λ i p at. absurd (none-some p (ap (λ l. slice_get l i) (sym none) ∙ at));
+      apart = rw none tt;
+    }
+
+-- ---- one pair more at the end
+
+keys_end : {Z A : Type 0} (ps : List (String Z × A)) (p : String Z × A) → keys_of (ps ++ p ∷ []) ≡ keys_of ps ++ p.0 ∷ []
+keys_end ps p = map-append (λ q. q.0) ps (p ∷ [])
+
+-- under a name that is none of the names nothing stands
+apart_from : {Z A : Type 0} (l : String Z) (ps : List (String Z × A)) → under (string_bytes l) ps ≡ None → list_any (string_eq l) (keys_of ps) ≡ false
+apart_from l [] h = refl
+apart_from l (p ∷ ps) h = by (string_eq l p.0) refl (apart_from l ps)
+  where
+    by : (b : Bool) → string_eq l p.0 ≡ b → (under (string_bytes l) ps ≡ None → list_any (string_eq l) (keys_of ps) ≡ false) → list_any (string_eq l) (keys_of (p ∷ ps)) ≡ false
+    by true e rest = absurd (none-some p.1 (sym h ∙ ap (λ b. cond b (Some p.1) (under (string_bytes l) ps)) e))
+    by false e rest =
+        ap (λ b. b || list_any (string_eq l) (keys_of ps)) e ∙ rest (ap (λ b. cond b (Some p.1) (under (string_bytes l) ps)) (sym e) ∙ h)
+
+-- an item of a list with one more is an item of the list, or that one
+item_end : {X : Type 0} (xs : List X) (x : X) (i : ℕ) (y : X) → slice_get (xs ++ x ∷ []) i ≡ Some y → (slice_get xs i ≡ Some y) ⊎ ((i ≡ length xs) × (x ≡ y))
+item_end [] x zero y e = inr (refl, grind (arith, e))
+item_end [] x (suc i) y e = absurd (none-some y e)
+item_end (z ∷ xs) x zero y e = inl e
+item_end (z ∷ xs) x (suc i) y e = elim (item_end xs x i y e) [ inl h ↦ inl h | inr h ↦ inr (omega (arith, h.0), h.1) ]
+
+item_before : {X : Type 0} (xs : List X) (x : X) (i : ℕ) (y : X) → slice_get xs i ≡ Some y → slice_get (xs ++ x ∷ []) i ≡ Some y
+item_before [] x i y e = absurd (none-some y e)
+item_before (z ∷ xs) x zero y e = e
+item_before (z ∷ xs) x (suc i) y e = item_before xs x i y e
+
+-- names without the new one keep their numbers where those of other bytes are kept
+pub kept_numbered : {Z A : Type 0} (ps : List (String Z × A)) (h0 h1 : BTreeMap ℕ ℕ) (o0 o1 : BTreeMap (String Z) ℕ) (bs : List ℕ) → IsUtf8 bs → first_of (chars bs) (seen ps) ≡ None → IsNumbered ps h0 o0 → ((cs : List ℕ) (i : ℕ) → ¬ (cs ≡ bs) → Finds h0 o0 cs i → Finds h1 o1 cs i) → IsNumbered ps h1 o1
+kept_numbered {Z} {A} ps h0 h1 o0 o1 bs u none n keeps =
+    record {
+      finds = λ i p at. keeps (string_bytes p.0) i (other i p at) (n.finds i p at);
+      apart = n.apart;
+    }
+  where
+    other : (i : ℕ) (p : String Z × A) → slice_get ps i ≡ Some p → ¬ (string_bytes p.0 ≡ bs)
+    other i p at same = none-some p.1 (sym none ∙ sym (finds bs u ps) ∙ ap (λ x. under x ps) (sym same) ∙ lookup_from_place string_eq_equiv ps i p.0 p.1 n.apart at)
+
+pub with_last : {Z A : Type 0} (ps : List (String Z × A)) (hashes : BTreeMap ℕ ℕ) (others : BTreeMap (String Z) ℕ) (l : String Z) (v : A) → first_of (chars (string_bytes l)) (seen ps) ≡ None → IsNumbered ps hashes others → Finds hashes others (string_bytes l) (length ps) → IsNumbered (ps ++ (l, v) ∷ []) hashes others
+with_last {Z} {A} ps hashes others l v none n new =
+    record {
+      finds = λ i p at. elim (item_end ps (l, v) i p at) [
+        | inl h ↦ n.finds i p h
+        | inr h ↦ subst (λ j. Finds hashes others (string_bytes p.0) j) (sym h.0) (subst (λ (q : String Z × A). Finds hashes others (string_bytes q.0) (length ps)) h.1 new)
+      ];
+      apart = subst (IsDistinct string_eq) (sym (keys_end ps (l, v))) (IsDistinct-push string_eq_equiv (keys_of ps) l n.apart (apart_from l ps (finds (string_bytes l) (IsUtf8-string_bytes l) ps ∙ none)));
+    }
+
+-- ---- without the last pair
+
+distinct_before : {Z A : Type 0} (ps : List (String Z × A)) (p : String Z × A) → IsDistinct string_eq (keys_of (ps ++ p ∷ [])) → IsDistinct string_eq (keys_of ps)
+unfolding IsDistinct
+distinct_before [] p d = tt
+distinct_before (x ∷ ps) p d = (before ps d.0, distinct_before ps p d.1)
+  where
+    before : (qs : List _) → AllByRecursion (λ y. string_eq x.0 y ≡ false) (keys_of (qs ++ p ∷ [])) → AllByRecursion (λ y. string_eq x.0 y ≡ false) (keys_of qs)
+    before [] a = tt
+    before (q ∷ qs) a = (a.0, before qs a.1)
+
+-- the names before the last keep their numbers where all but the last number are kept
+pub without_last : {Z A : Type 0} (ps : List (String Z × A)) (p : String Z × A) (h0 h1 : BTreeMap ℕ ℕ) (o0 o1 : BTreeMap (String Z) ℕ) → IsNumbered (ps ++ p ∷ []) h0 o0 → ((bs : List ℕ) (i : ℕ) → ¬ (i ≡ length ps) → Finds h0 o0 bs i → Finds h1 o1 bs i) → IsNumbered ps h1 o1
+without_last ps p h0 h1 o0 o1 n keeps =
+    record {
+      finds = λ i q at. keeps (string_bytes q.0) i (λ e. let h = slice_get_within ps i q at in omega (arith, h, e)) (n.finds i q (item_before ps p i q at));
+      apart = distinct_before ps p n.apart;
+    }
+
+-- ---- a change in a map of texts
+
+-- what stands under other bytes stays
+pub other_text : {Z X : Type 0} (bs cs : List ℕ) (m n : BTreeMap (String Z) X) (w : Option X) → UpdatesBy string_cmp (λ k. slice_cmp nat_cmp bs (string_bytes k)) m n w → ¬ (cs ≡ bs) → get_by_text n cs ≡ get_by_text m cs
+other_text bs cs m n w updates other =
+    let apart : bytes_eq bs cs ≡ false = false_from_ne_true (bytes_eq bs cs) (λ e. other (sym ((bytes_eq-Decides bs cs).0 e))) in
+    btree_map_updates_text bs m n w updates cs ∙ ap (λ b. cond b w (get_by_text m cs)) apart
+
+-- ---- a change in a map of hashes
+
+-- what stands under another hash stays
+pub other_number : (k q : ℕ) (m n : BTreeMap ℕ ℕ) (w : Option ℕ) → UpdatesBy nat_cmp (nat_cmp k) m n w → ¬ (q ≡ k) → get nat_cmp n q ≡ get nat_cmp m q
+other_number k q m n w updates other =
+    updates.2 q (false_from_ne_true (is_at (nat_cmp k) q) (λ e. other (sym (exact_unsigned k q ((Equal-is (nat_cmp k q)).0 e)))))
+
+-- a number that is put in the place of another, and the other again, leaves the map as it was
+pub put_back : {E : Type 0} (h0 h1 h2 : BTreeMap ℕ ℕ) (k v old : ℕ) (r : Result (Option ℕ) E) → UpdatesBy nat_cmp (nat_cmp k) h0 h1 (Some v) → get nat_cmp h0 k ≡ Some old → OnOk r (UpdatesBy nat_cmp (nat_cmp k) h1 h2 (Some old)) → OnErr r (get nat_cmp h1 k ≡ None) → (q : ℕ) → get nat_cmp h2 q ≡ get nat_cmp h0 q
+put_back h0 h1 h2 k v old (Err e) put was again none q = absurd (none-some v (sym none ∙ put.1))
+put_back h0 h1 h2 k v old (Ok x) put was again none q = by (is_at (nat_cmp k) q) refl
+  where
+    by : (b : Bool) → is_at (nat_cmp k) q ≡ b → get nat_cmp h2 q ≡ get nat_cmp h0 q
+    by true e =
+        let same : k ≡ q = exact_unsigned k q ((Equal-is (nat_cmp k q)).0 e) in
+        again.0 q ∙ ap (λ b. cond b (Some old) (get nat_cmp h1 q)) e ∙ sym (ap (get nat_cmp h0) (sym same) ∙ was)
+    by false e =
+        again.0 q ∙ ap (λ b. cond b (Some old) (get nat_cmp h1 q)) e
+        ∙ put.0 q ∙ ap (λ b. cond b (Some v) (get nat_cmp h0 q)) e

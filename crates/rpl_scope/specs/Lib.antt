@@ -7,3 +7,4 @@ pub mod Packages
 pub mod Pairs
 pub mod Seen
 pub mod Statements
+pub mod inside
