@@ -21,13 +21,13 @@ use Rattle.rpl_syntax.specs.declared.token.Token.TheVariants as T
 use Rattle.rpl_syntax.specs.Expression.{Expr}
 use Rattle.rpl_syntax.specs.Grammar.{Reads}
 use Rattle.rpl_syntax.specs.Printed.{printed}
-use Rattle.rpl_syntax.specs.Braces.{again, plain}
 use Rattle.rpl_syntax.specs.Texts.{Allowed, Says, Say, IsReadAs, HasFewTokens}
 use Rattle.rpl_syntax.specs.Bounds.{least_of}
 use Rattle.rpl_syntax.proofs.Back.{printed_reads_back}
 use Rattle.rpl_syntax.proofs.Held.{read_held}
 use Rattle.rpl_parser.specs.Levels.{ground_level, too_deep}
 use Rattle.rpl_parser.specs.Patterns.{IsPattern}
+use Rattle.rpl_parser.specs.Printing.{IsPrintedAgain}
 use Rattle.rpl_parser.specs.Tokens.{capped, capped_most, is_bad, class_token, class_fault, token_by, tokens_of, fault_by, first_bad}
 use Rattle.rpl_parser.specs.declared.fault.ParseFault.{ParseFault}
 
@@ -146,9 +146,8 @@ read_pattern s ts x c d h =
     record { shallow = d; reads = subst (λ us. Reads us x) t.0 h.reads; good = t.1 }
 
 -- what is printed of a pattern is that pattern again
-pub printed_again : (s : List ℕ) (ts us : List Token) (x : Expr) → IsUtf8 s → IsCut s ts → IsPattern s ts x → HasFewTokens x → IsCut (encode_utf8_all (printed x)) us → too_deep (encode_utf8_all (printed x)) ground_level us ≡ None
-    → (y : Expr) × IsPattern (encode_utf8_all (printed x)) us y × (plain y ≡ plain (again x))
-printed_again s ts us x u c h few d shallow =
+pub printed_again : (s : List ℕ) (ts : List Token) (x : Expr) → IsUtf8 s → IsCut s ts → IsPattern s ts x → HasFewTokens x → IsPrintedAgain x
+printed_again s ts x u c h few us d shallow =
     let w = read_held s x u (pattern_read s ts x c h) in
     let b = printed_reads_back x w.0 w.1 few in
     (b.0, read_pattern (encode_utf8_all (printed x)) us b.0 d shallow b.1, b.2)

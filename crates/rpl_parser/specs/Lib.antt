@@ -1,6 +1,7 @@
 pub mod Levels
 pub mod Tokens
 pub mod Patterns
+pub mod Printing
 pub mod Statements
 pub mod Spelling
 pub mod Lines

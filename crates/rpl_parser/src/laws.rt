@@ -1,12 +1,9 @@
 // What holds of patterns, of the grammar of statements and of modules.
 ghost use Rattle.std.specs.Prelude.{◌≡◌, ◌⊎◌, ℕ, List, Some, None, Ok, Err, IsUtf8};
-ghost use Rattle.std.specs.Prelude.{encode_utf8_all};
 ghost use Rattle.rpl_lexer.specs.Cut.{IsCut};
 ghost use Rattle.rpl_lexer.specs.declared.token.Token.{Token as Lexeme};
 ghost use Rattle.rpl_syntax.specs.Expression.{Expr};
 ghost use Rattle.rpl_syntax.specs.Modules.{ParsedModule};
-ghost use Rattle.rpl_syntax.specs.Printed.{printed};
-ghost use Rattle.rpl_syntax.specs.Braces.{again, plain};
 ghost use Rattle.rpl_syntax.specs.Texts.{IsReadAs, HasFewTokens};
 ghost use Rattle.rpl_syntax.specs.declared.token.Token.{Token};
 ghost use Rattle.rpl_parser.specs.Bodies.{BodiesWritten};
@@ -15,6 +12,7 @@ ghost use Rattle.rpl_parser.specs.Lines.{line_of};
 ghost use Rattle.rpl_parser.specs.ModuleFaults.{IsModuleFault};
 ghost use Rattle.rpl_parser.specs.Order.{ReadsModule, IsModule};
 ghost use Rattle.rpl_parser.specs.Patterns.{IsPattern, IsPatternFault};
+ghost use Rattle.rpl_parser.specs.Printing.{IsPrintedAgain};
 ghost use Rattle.rpl_parser.specs.Spelling as S;
 ghost use Rattle.rpl_parser.specs.Spelling.{Spells};
 ghost use Rattle.rpl_parser.specs.Walks.{module_of};
@@ -44,11 +42,8 @@ pub fn patterns_are_readings()
 /// What is printed of a pattern is that pattern with the braces that printing adds, where it isn't
 /// nested too deep; but for the places of names, nothing else changes.
 pub fn printed_again()
-    ensures { (s : List ℕ) (ts us : List Lexeme) (x : Expr) →
-        IsUtf8 s → IsCut s ts → IsPattern s ts x → HasFewTokens x →
-        IsCut (encode_utf8_all (printed x)) us →
-        too_deep (encode_utf8_all (printed x)) ground_level us ≡ None →
-        (y : Expr) × IsPattern (encode_utf8_all (printed x)) us y × (plain y ≡ plain (again x)) }
+    ensures { (s : List ℕ) (ts : List Lexeme) (x : Expr) →
+        IsUtf8 s → IsCut s ts → IsPattern s ts x → HasFewTokens x → IsPrintedAgain x }
 {}
 
 /// The body of each rule of a module can be written, as what a whole text is read as.

@@ -23,7 +23,7 @@ use crate::line::{Line, read_line};
 use crate::pattern::start_of;
 use crate::piece::first_piece;
 use crate::refusal::Refusal;
-use crate::walk::Walk;
+use crate::walk::{Rest, Walk};
 use rpl_lexer::{Token as Lexeme, Tokens};
 use rpl_syntax::Module;
 use std::alloc::Global;
@@ -86,7 +86,8 @@ fn past(
 {
     let (line, bad) = read_piece(alloc, text, piece)?;
     let at = start_of(piece);
-    checked(at, bad, walk.place(alloc, at, line, text, rest))
+    let rest = Rest { text, tokens: rest };
+    checked(at, bad, walk.place(alloc, at, line, rest))
 }
 
 /// All pieces in turn.

@@ -45,6 +45,13 @@ pub struct Numbered {
     pub minor: u64,
 }
 
+/// The tokens of a text that are still to come.
+#[derive(Clone, Copy)]
+pub struct Rest<'a> {
+    pub text: &'a str,
+    pub tokens: &'a [Token],
+}
+
 /// What a module says so far.
 #[derive(Drop)]
 pub struct Walk {
@@ -202,12 +209,12 @@ impl Walk {
         alloc: Global,
         at: usize,
         line: Line,
-        text: &str,
-        rest: &[Token],
+        rest: Rest<'_>,
     ) -> Result<(), Refusal>
-        requires { AllStand text.now rest.now }
+        requires { AllStand rest.text.now rest.tokens.now }
         ensures { Gives (λ _. walk_of self.new) result
-            (place (walk_of self.old) at (closes_later (tokens_of text.now rest.now))
+            (place (walk_of self.old) at
+            (closes_later (tokens_of rest.entry.text.now rest.entry.tokens.now))
             (line_seen line)) }
     {
         match line {
@@ -230,7 +237,7 @@ impl Walk {
                 alias,
                 body,
             }),
-            Line::Opens => self.open(alloc, closes(text, rest)),
+            Line::Opens => self.open(alloc, closes(rest.text, rest.tokens)),
             Line::Splits => self.split(alloc),
             Line::Closes => self.close(alloc),
         }
