@@ -65,8 +65,8 @@ Makes (Ok None) w n s0 s1 ended left0 left1 steps0 steps1 = (left0 ≡ []) × (l
 Makes (Err session_end) w n s0 s1 ended left0 left1 steps0 steps1 = MakesEnd session_end w n s0 left0 steps0 steps1
 
 -- and so by the reader, and by what is left of the input
-abbrev pub MakesNext : Result (Option Reply) SessionEnd → Loading → Reader → Reader → Session → Session → List ℕ → List ℕ
-    → ℕ → ℕ → Type 0
+abbrev pub MakesNext :
+    Result (Option Reply) SessionEnd → Loading → Reader → Reader → Session → Session → List ℕ → List ℕ → ℕ → ℕ → Type 0
 MakesNext result w r0 r1 s0 s1 rest0 rest1 steps0 steps1 =
     Makes result w r0.number s0 s1 r1.held.ended (left r0.held rest0) (left r1.held rest1) steps0 steps1
 

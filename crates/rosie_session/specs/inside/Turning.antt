@@ -72,7 +72,8 @@ change_of w n s e = change_turn w n s e (changed e s)
 
 -- and a change that was made, to whatever the session was before it
 abbrev pub TurnsMade : Result Reply SessionEnd → Loading → Edit → (made now : Session) → Type 0
-TurnsMade result w e made now = (before : Session) → changed e before ≡ Some made → Turns result (loaded w e before made) now
+TurnsMade result w e made now =
+    (before : Session) → changed e before ≡ Some made → Turns result (loaded w e before made) now
 
 -- the steps that were made
 abbrev pub EndSteps : SessionEnd → ℕ → ℕ → Type 0
