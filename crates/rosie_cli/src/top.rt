@@ -5,7 +5,8 @@ ghost use Rattle.std.specs.Prelude.{◌≡◌, ◌≢◌, ◌∷◌, [], ℕ, tr
 ghost use Rattle.rosie_jobs.specs.Lines.{reading};
 ghost use Rattle.rosie_run.specs.Causes.{IsFlushed};
 ghost use Rattle.rosie_run.specs.Runs.{SourcesCause, WritesCause, Runs, GoesOn, IsNoCut};
-ghost use Rattle.rosie_run.specs.Outputs.{shown, telling};
+ghost use Rattle.rosie_run.specs.Inputs.{SameInputs};
+ghost use Rattle.rosie_run.specs.Outputs.{SameOutputs, shown, telling};
 ghost use Rattle.rosie_run.specs.Report.{stop_piece};
 ghost use Rattle.rosie_run.specs.Sources.{moment_of};
 ghost use Rattle.rosie_run.specs.Where.{Nowhere};
@@ -17,7 +18,7 @@ ghost use Rattle.rosie_cli.specs.Report.{KnowsFiles, KnowsFor, KnowsInputs};
 ghost use Rattle.rosie_cli.specs.Rosie.{Answers, call};
 ghost use Rattle.rosie_cli.specs.Words.{asks, IsRefused, IsIdle, is_idle};
 ghost use Rattle.rosie_cli.specs.inside.Planning.{plan_of, IsSaid};
-ghost use Rattle.rosie_cli.specs.inside.Running.{course, OfPlans, RunsPlan, RunsPlanned};
+ghost use Rattle.rosie_cli.specs.inside.Running.{call_over, course, OfPlans, RunsPlan, RunsPlanned};
 
 use crate::asked::{Asked, ask};
 use crate::plan::Plan;
@@ -25,7 +26,10 @@ use crate::planning::plan_command;
 use rosie_io::{Files, Sink, Source};
 use rosie_jobs::MAX_LINE_BYTES;
 use rosie_prepare::Unready;
-use rosie_run::{Ended, Mark, ReadStop, Reading, Status, Tally, cut, finish, run_inputs, say};
+use rosie_run::{
+    Ended, Inputs, Mark, Outputs, ReadStop, Reading, Status, Tally, Wanted, cut, finish,
+    run_inputs, say,
+};
 use rosie_session::run_session;
 use rosie_words::{Command, What};
 use rpl_machine::Steps;
@@ -42,6 +46,22 @@ fn reading(whole: bool) -> Reading
         whole,
         most: MAX_LINE_BYTES,
     }
+}
+
+/// What a run writes on, of its parts.
+fn outputs_of<'a, O: Sink, E: Sink, L: Ledger>(
+    out: &'a mut O,
+    err: &'a mut E,
+    steps: &'a mut Steps<L>,
+) -> Outputs<'a, O, E, L>
+    ensures same_out { result.out.ghost_name ≡ out.entry.ghost_name }
+    ensures same_err { result.err.ghost_name ≡ err.entry.ghost_name }
+    ensures same_steps { result.steps.ghost_name ≡ steps.entry.ghost_name }
+    ensures out { result.out.now ≡ out.old }
+    ensures err { result.err.now ≡ err.old }
+    ensures steps { result.steps.now ≡ steps.old }
+{
+    Outputs { out, err, steps }
 }
 
 /// Refuses the words, with this line.
@@ -61,48 +81,47 @@ fn refuse<O: Sink, E: Sink>(line: String, out: &mut O, err: &mut E) -> Result<Ta
 fn run_plan<F: Files, I: Source, O: Sink, E: Sink, L: Ledger>(
     alloc: Global,
     plan: &mut Plan,
-    files: &mut F,
-    input: &mut I,
-    out: &mut O,
-    err: &mut E,
-    steps: &mut Steps<L>,
+    inputs: &mut Inputs<'_, F, I>,
+    outputs: &mut Outputs<'_, O, E, L>,
 ) -> Result<Tally, Ended>
+    ensures same_inputs { SameInputs inputs.old inputs.new }
+    ensures same_outputs { SameOutputs outputs.old outputs.new }
     ensures runs { RunsPlan result (plan_of plan.old)
-        (course F.Source I.Source O.Sink E.Sink files.old files.new
-        input.old input.new out.old out.new err.old err.new steps.old steps.new) }
+        (course F.Source I.Source O.Sink E.Sink inputs.old inputs.new outputs.old outputs.new) }
     ensures rest { KnowsInputs (plan_of plan.old) F.tells I.tells → GoesOn result
-        (ReadsInput (plan_of plan.old) → I.rest input.new ≡ []) }
-    ensures cause { SourcesCause result (moment_of I.Source input.old)
-        (moment_of I.Source input.new)
-        (moment_of F.Source files.old)
-        (moment_of F.Source files.new) }
-    ensures sinks { WritesCause result (O.faults out.old) (O.faults out.new) (E.faults err.old)
-        (E.faults err.new) }
-    ensures untouched { IsSaid (plan_of plan.old) → (files.new ≡ files.old) ×
-        (input.new ≡ input.old) }
-    ensures unread { LeavesInput (plan_of plan.old) → input.new ≡ input.old }
-    ensures idle { IsIdlePlan (plan_of plan.old) → steps.new ≡ steps.old }
+        (ReadsInput (plan_of plan.old) → I.rest inputs.new.input.now ≡ []) }
+    ensures cause { SourcesCause result (moment_of I.Source inputs.old.input.now)
+        (moment_of I.Source inputs.new.input.now)
+        (moment_of F.Source inputs.old.files.now)
+        (moment_of F.Source inputs.new.files.now) }
+    ensures sinks { WritesCause result (O.faults outputs.old.out.now)
+        (O.faults outputs.new.out.now)
+        (E.faults outputs.old.err.now) (E.faults outputs.new.err.now) }
+    ensures untouched { IsSaid (plan_of plan.old) → (inputs.new.files.now ≡ inputs.old.files.now) ×
+        (inputs.new.input.now ≡ inputs.old.input.now) }
+    ensures unread { LeavesInput (plan_of plan.old) → inputs.new.input.now ≡ inputs.old.input.now }
+    ensures idle { IsIdlePlan (plan_of plan.old) → outputs.new.steps.now ≡ outputs.old.steps.now }
 {
     match plan {
-        Plan::Answer(text) => say(out, err, text.as_bytes(), &[], Mark::Hit),
-        Plan::Write(bytes) => say(out, err, bytes.as_slice(), &[], Mark::Hit),
-        Plan::Test(suite) => suite.run(alloc, out, err, steps),
+        Plan::Answer(text) => say(outputs.out, outputs.err, text.as_bytes(), &[], Mark::Hit),
+        Plan::Write(bytes) => say(outputs.out, outputs.err, bytes.as_slice(), &[], Mark::Hit),
+        Plan::Test(suite) => suite.run(alloc, outputs.out, outputs.err, outputs.steps),
         Plan::Match { job, whole, names } => {
             let reading = reading(*whole);
             let names = names.as_slice();
-            run_inputs(alloc, job, reading, names, files, input, out, err, steps)
+            run_inputs(alloc, job, Wanted { names, reading }, inputs, outputs)
         }
         Plan::Trace { job, whole, names } => {
             let reading = reading(*whole);
             let names = names.as_slice();
-            run_inputs(alloc, job, reading, names, files, input, out, err, steps)
+            run_inputs(alloc, job, Wanted { names, reading }, inputs, outputs)
         }
         Plan::Run { job, whole, names } => {
             let reading = reading(*whole);
             let names = names.as_slice();
-            run_inputs(alloc, job, reading, names, files, input, out, err, steps)
+            run_inputs(alloc, job, Wanted { names, reading }, inputs, outputs)
         }
-        Plan::Sample(run) => run.run(alloc, out, err, steps),
+        Plan::Sample(run) => run.run(alloc, outputs.out, outputs.err, outputs.steps),
     }
 }
 
@@ -110,38 +129,59 @@ fn run_plan<F: Files, I: Source, O: Sink, E: Sink, L: Ledger>(
 fn run_planned<F: Files, I: Source, O: Sink, E: Sink, L: Ledger>(
     alloc: Global,
     command: Command,
-    files: &mut F,
-    input: &mut I,
-    out: &mut O,
-    err: &mut E,
-    steps: &mut Steps<L>,
+    inputs: &mut Inputs<'_, F, I>,
+    outputs: &mut Outputs<'_, O, E, L>,
 ) -> Result<Tally, Ended>
     requires { command.what ≢ W.Repl }
-    ensures runs { OfPlans command F.tells (F.tree files.old) (RunsPlanned result
-        (course F.Source I.Source O.Sink E.Sink files.old files.new
-        input.old input.new out.old out.new err.old err.new steps.old steps.new)) }
-    ensures rest { OfPlans command F.tells (F.tree files.old) (λ p. KnowsInputs p.plan F.tells I.tells
-        → GoesOn result (ReadsInput p.plan → I.rest input.new ≡ [])) }
-    ensures unread { OfPlans command F.tells (F.tree files.old)
-        (λ p. LeavesInput p.plan → input.new ≡ input.old) }
-    ensures idle { is_idle command.what ≡ true → steps.new ≡ steps.old }
-    ensures unrun { OfPlans command F.tells (F.tree files.old)
-        (λ p. IsIdlePlan p.plan → steps.new ≡ steps.old) }
-    ensures cause { SourcesCause result (moment_of I.Source input.old)
-        (moment_of I.Source input.new)
-        (moment_of F.Source files.old)
-        (moment_of F.Source files.new) }
-    ensures sinks { WritesCause result (O.faults out.old) (O.faults out.new) (E.faults err.old)
-        (E.faults err.new) }
+    ensures same_inputs { SameInputs inputs.old inputs.new }
+    ensures same_outputs { SameOutputs outputs.old outputs.new }
+    ensures runs { OfPlans command F.tells (F.tree inputs.old.files.now) (RunsPlanned result
+        (course F.Source I.Source O.Sink E.Sink inputs.old inputs.new outputs.old outputs.new)) }
+    ensures rest { OfPlans command F.tells (F.tree inputs.old.files.now)
+        (λ p. KnowsInputs p.plan F.tells I.tells
+        → GoesOn result (ReadsInput p.plan → I.rest inputs.new.input.now ≡ [])) }
+    ensures unread { OfPlans command F.tells (F.tree inputs.old.files.now)
+        (λ p. LeavesInput p.plan → inputs.new.input.now ≡ inputs.old.input.now) }
+    ensures idle { is_idle command.what ≡ true → outputs.new.steps.now ≡ outputs.old.steps.now }
+    ensures unrun { OfPlans command F.tells (F.tree inputs.old.files.now)
+        (λ p. IsIdlePlan p.plan → outputs.new.steps.now ≡ outputs.old.steps.now) }
+    ensures cause { SourcesCause result (moment_of I.Source inputs.old.input.now)
+        (moment_of I.Source inputs.new.input.now)
+        (moment_of F.Source inputs.old.files.now)
+        (moment_of F.Source inputs.new.files.now) }
+    ensures sinks { WritesCause result (O.faults outputs.old.out.now)
+        (O.faults outputs.new.out.now)
+        (E.faults outputs.old.err.now) (E.faults outputs.new.err.now) }
 {
-    match plan_command(alloc, command, files) {
-        Ok(mut plan) => run_plan(alloc, &mut plan, files, input, out, err, steps),
+    match plan_command(alloc, command, inputs.files) {
+        Ok(mut plan) => run_plan(alloc, &mut plan, inputs, outputs),
         Err(unready) => match unready {
             Unready::NoMemory => Err(Ended::NoMemory),
-            Unready::Refused(line) => refuse(line, out, err),
+            Unready::Refused(line) => refuse(line, outputs.out, outputs.err),
             Unready::ReadFault(path) => Err(cut(alloc, ReadStop::ReadFault, text_of(&path))),
         },
     }
+}
+
+/// Runs a session to its end.
+fn replay<F: Files, I: Source, O: Sink, E: Sink, L: Ledger>(
+    alloc: Global,
+    folders: &LibPath,
+    inputs: &mut Inputs<'_, F, I>,
+    outputs: &mut Outputs<'_, O, E, L>,
+) -> Status
+    ensures same_inputs { SameInputs inputs.old inputs.new }
+    ensures same_outputs { SameOutputs outputs.old outputs.new }
+    ensures answers { Answers (call_over F.Source I.Source O.Sink E.Sink
+        (IsReplayed folders.now (F.tree inputs.old.files.now)) (KnowsFor W.Repl F.tells)
+        inputs.old inputs.new outputs.old outputs.new result) }
+    ensures out_flushed { O.counts → IsFlushed result (O.number outputs.new.out.now)
+        (O.flushed outputs.new.out.now) }
+    ensures err_flushed { E.counts → IsFlushed result (E.number outputs.new.err.now)
+        (E.flushed outputs.new.err.now) }
+{
+    let run = run_session(alloc, folders, inputs, outputs);
+    finish(outputs.out, outputs.err, run)
 }
 
 /// Runs a session: each line of the input is a command, and is answered before the next is waited
@@ -161,38 +201,80 @@ pub fn session<F: Files, I: Source, O: Sink, E: Sink, L: Ledger>(
     ensures out_flushed { O.counts → IsFlushed result (O.number out.new) (O.flushed out.new) }
     ensures err_flushed { E.counts → IsFlushed result (E.number err.new) (E.flushed err.new) }
 {
-    let run = run_session(alloc, folders, files, input, out, err, steps);
-    finish(out, err, run)
+    let mut inputs = Inputs { files, input };
+    let mut outputs = outputs_of(out, err, steps);
+    replay(alloc, folders, &mut inputs, &mut outputs)
 }
 
 /// Does what a command says. A session has no plan: it reads its files as its lines come.
 fn run_command<F: Files, I: Source, O: Sink, E: Sink, L: Ledger>(
     alloc: Global,
     command: Command,
-    files: &mut F,
-    input: &mut I,
-    out: &mut O,
-    err: &mut E,
-    steps: &mut Steps<L>,
+    inputs: &mut Inputs<'_, F, I>,
+    outputs: &mut Outputs<'_, O, E, L>,
 ) -> Status
-    ensures answers { Answers (call F.Source I.Source O.Sink E.Sink
-        (IsPlannedAs command command.what (F.tree files.old)) (KnowsFor command.what F.tells)
-        files.old files.new
-        input.old input.new out.old out.new err.old err.new steps.old steps.new result) }
-    ensures unread { OfPlans command F.tells (F.tree files.old)
-        (λ p. LeavesInput p.plan → input.new ≡ input.old) }
-    ensures idle { is_idle command.what ≡ true → steps.new ≡ steps.old }
-    ensures unrun { OfPlans command F.tells (F.tree files.old)
-        (λ p. IsIdlePlan p.plan → steps.new ≡ steps.old) }
-    ensures out_flushed { O.counts → IsFlushed result (O.number out.new) (O.flushed out.new) }
-    ensures err_flushed { E.counts → IsFlushed result (E.number err.new) (E.flushed err.new) }
+    ensures same_inputs { SameInputs inputs.old inputs.new }
+    ensures same_outputs { SameOutputs outputs.old outputs.new }
+    ensures answers { Answers (call_over F.Source I.Source O.Sink E.Sink
+        (IsPlannedAs command command.what (F.tree inputs.old.files.now))
+        (KnowsFor command.what F.tells)
+        inputs.old inputs.new outputs.old outputs.new result) }
+    ensures unread { OfPlans command F.tells (F.tree inputs.old.files.now)
+        (λ p. LeavesInput p.plan → inputs.new.input.now ≡ inputs.old.input.now) }
+    ensures idle { is_idle command.what ≡ true → outputs.new.steps.now ≡ outputs.old.steps.now }
+    ensures unrun { OfPlans command F.tells (F.tree inputs.old.files.now)
+        (λ p. IsIdlePlan p.plan → outputs.new.steps.now ≡ outputs.old.steps.now) }
+    ensures out_flushed { O.counts → IsFlushed result (O.number outputs.new.out.now)
+        (O.flushed outputs.new.out.now) }
+    ensures err_flushed { E.counts → IsFlushed result (E.number outputs.new.err.now)
+        (E.flushed outputs.new.err.now) }
 {
     match command.what {
-        What::Repl => session(alloc, files, &command.folders, input, out, err, steps),
+        What::Repl => replay(alloc, &command.folders, inputs, outputs),
         _ => {
-            let run = run_planned(alloc, command, files, input, out, err, steps);
-            finish(out, err, run)
+            let run = run_planned(alloc, command, inputs, outputs);
+            finish(outputs.out, outputs.err, run)
         }
+    }
+}
+
+/// Does what the words say, over inputs and outputs as one value each.
+fn run_words<F: Files, I: Source, O: Sink, E: Sink, L: Ledger>(
+    alloc: Global,
+    words: &[String],
+    inputs: &mut Inputs<'_, F, I>,
+    outputs: &mut Outputs<'_, O, E, L>,
+) -> Status
+    ensures same_inputs { SameInputs inputs.old inputs.new }
+    ensures same_outputs { SameOutputs outputs.old outputs.new }
+    ensures answers { Answers (call_over F.Source I.Source O.Sink E.Sink
+        (IsPlanned (asks words.now) (F.tree inputs.old.files.now))
+        (KnowsFiles (asks words.now) F.tells)
+        inputs.old inputs.new outputs.old outputs.new result) }
+    ensures unread { (p : Planned) → KnowsFiles (asks words.now) F.tells
+        → IsPlanned (asks words.now) (F.tree inputs.old.files.now) p → LeavesInput p.plan →
+        inputs.new.input.now ≡ inputs.old.input.now }
+    ensures untouched { IsRefused (asks words.now) →
+        (inputs.new.files.now ≡ inputs.old.files.now) ×
+        (inputs.new.input.now ≡ inputs.old.input.now) }
+    ensures idle { IsIdle (asks words.now) → outputs.new.steps.now ≡ outputs.old.steps.now }
+    ensures unrun { (p : Planned) → KnowsFiles (asks words.now) F.tells
+        → IsPlanned (asks words.now) (F.tree inputs.old.files.now) p → IsIdlePlan p.plan →
+        outputs.new.steps.now ≡ outputs.old.steps.now }
+    ensures out_flushed { O.counts → IsFlushed result (O.number outputs.new.out.now)
+        (O.flushed outputs.new.out.now) }
+    ensures err_flushed { E.counts → IsFlushed result (E.number outputs.new.err.now)
+        (E.flushed outputs.new.err.now) }
+{
+    match ask(alloc, words) {
+        Ok(asked) => match asked {
+            Asked::Refuse(text) => {
+                let run = refuse(text, outputs.out, outputs.err);
+                finish(outputs.out, outputs.err, run)
+            }
+            Asked::Do(command) => run_command(alloc, command, inputs, outputs),
+        },
+        Err(_) => finish(outputs.out, outputs.err, Err(Ended::NoMemory)),
     }
 }
 
@@ -246,14 +328,7 @@ pub fn rosie<F: Files, I: Source, O: Sink, E: Sink, L: Ledger>(
     ensures out_flushed { O.counts → IsFlushed result (O.number out.new) (O.flushed out.new) }
     ensures err_flushed { E.counts → IsFlushed result (E.number err.new) (E.flushed err.new) }
 {
-    match ask(alloc, words) {
-        Ok(asked) => match asked {
-            Asked::Refuse(text) => {
-                let run = refuse(text, out, err);
-                finish(out, err, run)
-            }
-            Asked::Do(command) => run_command(alloc, command, files, input, out, err, steps),
-        },
-        Err(_) => finish(out, err, Err(Ended::NoMemory)),
-    }
+    let mut inputs = Inputs { files, input };
+    let mut outputs = outputs_of(out, err, steps);
+    run_words(alloc, words, &mut inputs, &mut outputs)
 }

@@ -3,3 +3,4 @@ pub mod Causes
 pub mod Passing
 pub mod Reaching
 pub mod Where
+pub mod SameLines

@@ -6,24 +6,41 @@ ghost use Rattle.std.specs.Str.{bytes_eq};
 ghost use Rattle.rosie_io.specs.Answering.{Keeps};
 ghost use Rattle.rosie_run.specs.Runs.{FilesCause, SourcesCause, WritesCause, GoesOn};
 ghost use Rattle.rosie_run.specs.Inputs.{is_standard, left_after};
-ghost use Rattle.rosie_run.specs.Inputs.{AreTold, reads_standard, names_of};
+ghost use Rattle.rosie_run.specs.Inputs.{AreTold, SameInputs, reads_standard, names_of};
 ghost use Rattle.rosie_run.specs.Lines.{reading_of};
-ghost use Rattle.rosie_run.specs.Outputs.{showing};
+ghost use Rattle.rosie_run.specs.Outputs.{SameOutputs, shows};
 ghost use Rattle.rosie_run.specs.Sources.{moment_of, span_of};
 ghost use Rattle.rosie_run.specs.Where.{RunsInputs, RunsSource};
 ghost use Rattle.rosie_run.specs.inside.Where.{RunsFile, RunsOne};
 ghost use Rattle.rosie_run.specs.inside.Causes.{IsEndedBy};
+ghost use Rattle.rosie_run.specs.inside.SameLines.{SameLines};
 
 use crate::line_job::LineJob;
-use crate::lines::{Reading, run_input};
+use crate::lines::{Lines, Reading, run_input};
 use crate::saying::{cut, say};
 use crate::write::input_fault;
-use crate::{Ended, Mark, ReadStop, Tally, Trouble};
+use crate::{Ended, Mark, Outputs, ReadStop, Tally, Trouble};
 use rosie_io::{Files, LineReader, PathAnswer, Sink, Source};
-use rpl_machine::Steps;
 use rpl_text::Chars;
 use std::alloc::Global;
 use std::sync::ledger::Ledger;
+
+/// What a run reads from.
+#[derive(Drop)]
+pub struct Inputs<'a, F, I> {
+    /// The files.
+    pub files: &'a mut F,
+    /// The standard input.
+    pub input: &'a mut I,
+}
+
+/// Which inputs a run is over, and how their lines are read.
+#[derive(Clone, Copy, Debug)]
+pub struct Wanted<'a> {
+    /// Their names, in turn.
+    pub names: &'a [Chars],
+    pub reading: Reading,
+}
 
 /// The end of a run, by what ended the run over an input.
 fn ended_by(alloc: Global, trouble: Trouble, file: &str) -> Ended
@@ -38,65 +55,63 @@ fn ended_by(alloc: Global, trouble: Trouble, file: &str) -> Ended
 }
 
 /// Runs on each line of a source that is open.
-pub fn run_source<J: LineJob, S: Source, O: Sink, E: Sink, L: Ledger>(
-    alloc: Global,
-    job: &mut J,
-    reader: &mut LineReader,
+fn run_source<J: LineJob, S: Source, O: Sink, E: Sink, L: Ledger>(
+    lines: &mut Lines<'_, J>,
     file: &str,
     source: &mut S,
-    pending: &mut bool,
-    out: &mut O,
-    err: &mut E,
-    steps: &mut Steps<L>,
+    outputs: &mut Outputs<'_, O, E, L>,
 ) -> Result<Tally, Ended>
-    ensures keeps { Keeps reader.old reader.new }
-    ensures same { J.makes job.new ≡ J.makes job.old }
-    ensures runs { S.tells → RunsSource result (J.makes job.old) (reading_of reader.old) file.now
+    ensures same_lines { SameLines lines.old lines.new }
+    ensures same_outputs { SameOutputs outputs.old outputs.new }
+    ensures keeps { Keeps lines.old.reader.now lines.new.reader.now }
+    ensures same { J.makes lines.new.job.now ≡ J.makes lines.old.job.now }
+    ensures runs { S.tells → RunsSource result (J.makes lines.old.job.now)
+        (reading_of lines.old.reader.now) file.now
         (span_of S.Source source.old source.new)
-        (showing O.Sink E.Sink out.old err.old steps.old out.new err.new steps.new) }
+        (shows O.Sink E.Sink outputs.old outputs.new) }
     ensures rest { S.tells → GoesOn result (S.rest source.new ≡ []) }
     ensures cause { FilesCause result (moment_of S.Source source.old)
         (moment_of S.Source source.new) }
-    ensures sinks { WritesCause result (O.faults out.old) (O.faults out.new) (E.faults err.old)
-        (E.faults err.new) }
+    ensures sinks { WritesCause result (O.faults outputs.old.out.now)
+        (O.faults outputs.new.out.now)
+        (E.faults outputs.old.err.now) (E.faults outputs.new.err.now) }
     ensures taken { S.taken source.new < 2 ^ 64 - 1 → S.taken source.old ≤ S.taken source.new }
     ensures tree { S.tree source.new ≡ S.tree source.old }
     ensures opens { S.failed_opens source.new ≡ S.failed_opens source.old }
 {
-    match run_input(alloc, job, file, reader, source, pending, out, err, steps) {
+    match run_input(lines, file, source, outputs) {
         Ok(tally) => Ok(tally),
-        Err(trouble) => Err(ended_by(alloc, trouble, file)),
+        Err(trouble) => Err(ended_by(lines.alloc, trouble, file)),
     }
 }
 
 /// Runs on each line of a file; where there is none, it is said, and the run ends.
 fn run_file<J: LineJob, F: Files, O: Sink, E: Sink, L: Ledger>(
-    alloc: Global,
-    job: &mut J,
-    reader: &mut LineReader,
+    lines: &mut Lines<'_, J>,
     path: &str,
     files: &mut F,
-    pending: &mut bool,
-    out: &mut O,
-    err: &mut E,
-    steps: &mut Steps<L>,
+    outputs: &mut Outputs<'_, O, E, L>,
 ) -> Result<Tally, Ended>
-    ensures runs { F.tells → RunsFile result (J.makes job.old) (reading_of reader.old) path.now
+    ensures same_lines { SameLines lines.old lines.new }
+    ensures same_outputs { SameOutputs outputs.old outputs.new }
+    ensures runs { F.tells → RunsFile result (J.makes lines.old.job.now)
+        (reading_of lines.old.reader.now) path.now
         (F.tree files.old) (span_of F.Source files.old files.new)
-        (showing O.Sink E.Sink out.old err.old steps.old out.new err.new steps.new) }
+        (shows O.Sink E.Sink outputs.old outputs.new) }
     ensures cause { FilesCause result (moment_of F.Source files.old)
         (moment_of F.Source files.new) }
-    ensures sinks { WritesCause result (O.faults out.old) (O.faults out.new) (E.faults err.old)
-        (E.faults err.new) }
+    ensures sinks { WritesCause result (O.faults outputs.old.out.now)
+        (O.faults outputs.new.out.now)
+        (E.faults outputs.old.err.now) (E.faults outputs.new.err.now) }
     ensures taken { F.taken files.new < 2 ^ 64 - 1 → F.taken files.old ≤ F.taken files.new }
     ensures closed { IfOk result (λ _. F.is_open files.new ≡ false) }
     ensures tree { F.tree files.new ≡ F.tree files.old }
-    ensures keeps { Keeps reader.old reader.new }
-    ensures same { J.makes job.new ≡ J.makes job.old }
+    ensures keeps { Keeps lines.old.reader.now lines.new.reader.now }
+    ensures same { J.makes lines.new.job.now ≡ J.makes lines.old.job.now }
 {
     match files.open_path(path) {
         PathAnswer::Opened => {
-            match run_source(alloc, job, reader, path, files, pending, out, err, steps) {
+            match run_source(lines, path, files, outputs) {
                 Ok(tally) => {
                     files.close();
                     Ok(tally)
@@ -104,59 +119,62 @@ fn run_file<J: LineJob, F: Files, O: Sink, E: Sink, L: Ledger>(
                 Err(ended) => Err(ended),
             }
         }
-        PathAnswer::Missing => match input_fault(alloc, path, "no such file") {
-            Ok(text) => say(out, err, &[], text.as_bytes(), Mark::Stop),
+        PathAnswer::Missing => match input_fault(lines.alloc, path, "no such file") {
+            Ok(text) => say(outputs.out, outputs.err, &[], text.as_bytes(), Mark::Stop),
             Err(_) => Err(Ended::NoMemory),
         },
-        PathAnswer::Failed => Err(cut(alloc, ReadStop::ReadFault, path)),
+        PathAnswer::Failed => Err(cut(lines.alloc, ReadStop::ReadFault, path)),
     }
 }
 
 /// Runs on each line of one input. The standard input is read once; `read` tells whether it was.
 fn run_one<J: LineJob, F: Files, I: Source, O: Sink, E: Sink, L: Ledger>(
-    alloc: Global,
-    job: &mut J,
-    reader: &mut LineReader,
+    lines: &mut Lines<'_, J>,
     name: &str,
     read: &mut bool,
-    files: &mut F,
-    input: &mut I,
-    pending: &mut bool,
-    out: &mut O,
-    err: &mut E,
-    steps: &mut Steps<L>,
+    inputs: &mut Inputs<'_, F, I>,
+    outputs: &mut Outputs<'_, O, E, L>,
 ) -> Result<Tally, Ended>
+    ensures same_lines { SameLines lines.old lines.new }
+    ensures same_inputs { SameInputs inputs.old inputs.new }
+    ensures same_outputs { SameOutputs outputs.old outputs.new }
     ensures runs { (is_standard name.now ≡ false → F.tells) →
         (is_standard name.now ≡ true → I.tells)
-        → (read.old ≡ true → I.rest input.old ≡ [])
-        → RunsOne result (J.makes job.old) (reading_of reader.old) name.now read.old
-        (F.tree files.old)
-        (span_of I.Source input.old input.new) (span_of F.Source files.old files.new)
-        (showing O.Sink E.Sink out.old err.old steps.old out.new err.new steps.new) }
+        → (read.old ≡ true → I.rest inputs.old.input.now ≡ [])
+        → RunsOne result (J.makes lines.old.job.now) (reading_of lines.old.reader.now) name.now
+        read.old
+        (F.tree inputs.old.files.now)
+        (span_of I.Source inputs.old.input.now inputs.new.input.now)
+        (span_of F.Source inputs.old.files.now inputs.new.files.now)
+        (shows O.Sink E.Sink outputs.old outputs.new) }
     ensures rest { (is_standard name.now ≡ true → I.tells) →
-        (read.old ≡ true → I.rest input.old ≡ []) → GoesOn result
-        (I.rest input.new ≡ left_after name.now (I.rest input.old)) }
-    ensures cause { SourcesCause result (moment_of I.Source input.old)
-        (moment_of I.Source input.new)
-        (moment_of F.Source files.old) (moment_of F.Source files.new) }
-    ensures sinks { WritesCause result (O.faults out.old) (O.faults out.new) (E.faults err.old)
-        (E.faults err.new) }
-    ensures input_taken { I.taken input.new < 2 ^ 64 - 1 → I.taken input.old ≤ I.taken input.new }
-    ensures files_taken { F.taken files.new < 2 ^ 64 - 1 → F.taken files.old ≤ F.taken files.new }
-    ensures tree { F.tree files.new ≡ F.tree files.old }
+        (read.old ≡ true → I.rest inputs.old.input.now ≡ []) → GoesOn result
+        (I.rest inputs.new.input.now ≡ left_after name.now (I.rest inputs.old.input.now)) }
+    ensures cause { SourcesCause result (moment_of I.Source inputs.old.input.now)
+        (moment_of I.Source inputs.new.input.now)
+        (moment_of F.Source inputs.old.files.now) (moment_of F.Source inputs.new.files.now) }
+    ensures sinks { WritesCause result (O.faults outputs.old.out.now)
+        (O.faults outputs.new.out.now)
+        (E.faults outputs.old.err.now) (E.faults outputs.new.err.now) }
+    ensures input_taken { I.taken inputs.new.input.now < 2 ^ 64 - 1 →
+        I.taken inputs.old.input.now ≤ I.taken inputs.new.input.now }
+    ensures files_taken { F.taken inputs.new.files.now < 2 ^ 64 - 1 →
+        F.taken inputs.old.files.now ≤ F.taken inputs.new.files.now }
+    ensures tree { F.tree inputs.new.files.now ≡ F.tree inputs.old.files.now }
     ensures reads { is_standard name.now ≡ true → read.new ≡ true }
-    ensures stays { is_standard name.now ≡ false → (read.new ≡ read.old) × (input.new ≡ input.old) }
-    ensures keeps { Keeps reader.old reader.new }
-    ensures same { J.makes job.new ≡ J.makes job.old }
+    ensures stays { is_standard name.now ≡ false → (read.new ≡ read.old) ×
+        (inputs.new.input.now ≡ inputs.old.input.now) }
+    ensures keeps { Keeps lines.old.reader.now lines.new.reader.now }
+    ensures same { J.makes lines.new.job.now ≡ J.makes lines.old.job.now }
 {
     if name == "-" {
         if *read {
             return Ok(Tally::new());
         }
         *read = true;
-        return run_source(alloc, job, reader, name, input, pending, out, err, steps);
+        return run_source(lines, name, inputs.input, outputs);
     }
-    run_file(alloc, job, reader, name, files, pending, out, err, steps)
+    run_file(lines, name, inputs.files, outputs)
 }
 
 /// The bytes of a name.
@@ -170,52 +188,48 @@ fn text_of(name: &Chars) -> &str
 pub fn run_inputs<J: LineJob, F: Files, I: Source, O: Sink, E: Sink, L: Ledger>(
     alloc: Global,
     job: &mut J,
-    reading: Reading,
-    names: &[Chars],
-    files: &mut F,
-    input: &mut I,
-    out: &mut O,
-    err: &mut E,
-    steps: &mut Steps<L>,
+    wanted: Wanted,
+    inputs: &mut Inputs<'_, F, I>,
+    outputs: &mut Outputs<'_, O, E, L>,
 ) -> Result<Tally, Ended>
-    requires { reading.most ≤ 2 ^ 30 }
+    requires { wanted.reading.most ≤ 2 ^ 30 }
+    ensures same_inputs { SameInputs inputs.old inputs.new }
+    ensures same_outputs { SameOutputs outputs.old outputs.new }
     ensures same { J.makes job.new ≡ J.makes job.old }
-    ensures runs { let all = names_of encode_utf8_all names.now in AreTold all F.tells I.tells
-        → RunsInputs result (J.makes job.old) reading all (F.tree files.old)
-        (span_of I.Source input.old input.new) (span_of F.Source files.old files.new)
-        (showing O.Sink E.Sink out.old err.old steps.old out.new err.new steps.new) }
-    ensures rest { AreTold (names_of encode_utf8_all names.now) F.tells I.tells → GoesOn result
-        (reads_standard (names_of encode_utf8_all names.now) ≡ true → I.rest input.new ≡ []) }
-    ensures unread { reads_standard (names_of encode_utf8_all names.now) ≡ false →
-        input.new ≡ input.old }
-    ensures cause { SourcesCause result (moment_of I.Source input.old)
-        (moment_of I.Source input.new)
-        (moment_of F.Source files.old)
-        (moment_of F.Source files.new) }
-    ensures sinks { WritesCause result (O.faults out.old) (O.faults out.new) (E.faults err.old)
-        (E.faults err.new) }
-    ensures tree { F.tree files.new ≡ F.tree files.old }
+    ensures runs { let all = names_of encode_utf8_all wanted.entry.names.now in
+        AreTold all F.tells I.tells
+        → RunsInputs result (J.makes job.old) wanted.entry.reading all (F.tree inputs.old.files.now)
+        (span_of I.Source inputs.old.input.now inputs.new.input.now)
+        (span_of F.Source inputs.old.files.now inputs.new.files.now)
+        (shows O.Sink E.Sink outputs.old outputs.new) }
+    ensures rest { AreTold (names_of encode_utf8_all wanted.entry.names.now) F.tells I.tells →
+        GoesOn result
+        (reads_standard (names_of encode_utf8_all wanted.entry.names.now) ≡ true →
+        I.rest inputs.new.input.now ≡ []) }
+    ensures unread { reads_standard (names_of encode_utf8_all wanted.entry.names.now) ≡ false →
+        inputs.new.input.now ≡ inputs.old.input.now }
+    ensures cause { SourcesCause result (moment_of I.Source inputs.old.input.now)
+        (moment_of I.Source inputs.new.input.now)
+        (moment_of F.Source inputs.old.files.now)
+        (moment_of F.Source inputs.new.files.now) }
+    ensures sinks { WritesCause result (O.faults outputs.old.out.now)
+        (O.faults outputs.new.out.now)
+        (E.faults outputs.old.err.now) (E.faults outputs.new.err.now) }
+    ensures tree { F.tree inputs.new.files.now ≡ F.tree inputs.old.files.now }
 {
-    let Ok(mut reader) = LineReader::new(alloc, reading.whole, reading.most) else {
+    let Ok(mut reader) = LineReader::new(alloc, wanted.reading.whole, wanted.reading.most) else {
         return Err(Ended::NoMemory);
+    };
+    let mut lines = Lines {
+        alloc,
+        job,
+        reader: &mut reader,
+        pending: false,
     };
     let mut tally = Tally::new();
     let mut read = false;
-    let mut pending = false;
-    'inputs: for name in names {
-        match run_one(
-            alloc,
-            job,
-            &mut reader,
-            text_of(name),
-            &mut read,
-            files,
-            input,
-            &mut pending,
-            out,
-            err,
-            steps,
-        ) {
+    'inputs: for name in wanted.names {
+        match run_one(&mut lines, text_of(name), &mut read, inputs, outputs) {
             Ok(part) => {
                 tally = tally.and(part);
                 if tally.stop {

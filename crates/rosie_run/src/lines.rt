@@ -7,17 +7,18 @@ ghost use Rattle.rosie_io.specs.Appending.{Appends};
 ghost use Rattle.rosie_io.specs.Counts.{capped};
 ghost use Rattle.rosie_io.specs.Gathering.{Reads};
 ghost use Rattle.rosie_run.specs.Lines.{line_fault, reading_of};
-ghost use Rattle.rosie_run.specs.Outputs.{showing};
+ghost use Rattle.rosie_run.specs.Outputs.{SameOutputs, shows};
 ghost use Rattle.rosie_run.specs.Closing.{OutFirst};
 ghost use Rattle.rosie_run.specs.inside.Causes.{BothCause, SinksCause, SourceCause, SpentCause};
 ghost use Rattle.rosie_run.specs.inside.Causes.{IsOfReading};
 ghost use Rattle.rosie_run.specs.inside.Passing.{MakesNext, CountsLine, StopsLine, RunsLines};
 ghost use Rattle.rosie_run.specs.inside.Passing.{ComesOf, SaysFault};
 ghost use Rattle.rosie_run.specs.inside.Passing.{made_out, made_err, made_mark};
+ghost use Rattle.rosie_run.specs.inside.SameLines.{SameLines};
 
 use crate::line_job::{InputLine, LineJob};
 use crate::write::{flush_before_wait, line_fault, write_both};
-use crate::{Mark, Tally, Trouble};
+use crate::{Mark, Outputs, Tally, Trouble};
 use rosie_io::{Line, LineFault, LineReader, Sink, Source, WriteFault};
 use rpl_machine::Steps;
 use std::alloc::Global;
@@ -32,6 +33,18 @@ pub struct Reading {
     pub most: usize,
 }
 
+/// A job over the lines of inputs.
+#[derive(Drop)]
+pub(crate) struct Lines<'a, J> {
+    pub(crate) alloc: Global,
+    /// Makes the piece of a line.
+    pub(crate) job: &'a mut J,
+    /// Gives the lines.
+    pub(crate) reader: &'a mut LineReader,
+    /// Something that was written isn't flushed.
+    pub(crate) pending: bool,
+}
+
 /// What was made of a line.
 #[derive(Drop)]
 enum Made {
@@ -43,70 +56,73 @@ enum Made {
 
 /// Goes on to the next line of an input and makes its piece. `None` where there is no further line.
 fn make_line<J: LineJob, S: Source, L: Ledger>(
-    alloc: Global,
-    job: &mut J,
+    lines: &mut Lines<'_, J>,
     file: &str,
-    reader: &mut LineReader,
     source: &mut S,
     steps: &mut Steps<L>,
 ) -> Result<Option<Made>, Trouble>
-    requires { reader.old.done ≡ false }
-    ensures same { J.makes job.new ≡ J.makes job.old }
-    ensures makes { S.tells → MakesNext result (J.makes job.old) file.now reader.old reader.new
+    requires { lines.old.reader.now.done ≡ false }
+    ensures same_lines { SameLines lines.old lines.new }
+    ensures same { J.makes lines.new.job.now ≡ J.makes lines.old.job.now }
+    ensures makes { S.tells → MakesNext result (J.makes lines.old.job.now) file.now
+        lines.old.reader.now lines.new.reader.now
         (S.rest source.old) (S.rest source.new)
-        (J.out_text job.new) (J.err_text job.new) steps.old steps.new }
-    ensures numbers { CountsLine result reader.old reader.new }
-    ensures fits { reader.new.number ≤ 2 ^ 48 }
-    ensures keeps { Keeps reader.old reader.new }
-    ensures stops { StopsLine result S.tells reader.old reader.new (S.rest source.old)
+        (J.out_text lines.new.job.now) (J.err_text lines.new.job.now) steps.old steps.new }
+    ensures numbers { CountsLine result lines.old.reader.now lines.new.reader.now }
+    ensures fits { lines.new.reader.now.number ≤ 2 ^ 48 }
+    ensures keeps { Keeps lines.old.reader.now lines.new.reader.now }
+    ensures stops { StopsLine result S.tells lines.old.reader.now lines.new.reader.now
+        (S.rest source.old)
         (S.rest source.new) }
     ensures of_reading { IfErr result IsOfReading }
     ensures cause { SourceCause result (S.faults source.old) (S.faults source.new) }
-    ensures reads { Reads S.tells reader.old.held reader.new.held (S.rest source.old)
+    ensures reads { Reads S.tells lines.old.reader.now.held lines.new.reader.now.held
+        (S.rest source.old)
         (S.rest source.new)
         (S.taken source.old) (S.taken source.new) }
-    ensures at_end { S.tells → reader.old.held.ended ≡ false → reader.new.held.ended ≡ true →
+    ensures at_end { S.tells → lines.old.reader.now.held.ended ≡ false →
+        lines.new.reader.now.held.ended ≡ true →
         S.rest source.new ≡ [] }
-    ensures ended { reader.old.held.ended ≡ true → source.new ≡ source.old }
+    ensures ended { lines.old.reader.now.held.ended ≡ true → source.new ≡ source.old }
     ensures tree { S.tree source.new ≡ S.tree source.old }
     ensures opens { S.failed_opens source.new ≡ S.failed_opens source.old }
 {
-    let found = reader.next(source);
-    make_of(alloc, job, file, reader, found, steps)
+    let found = lines.reader.next(source);
+    make_of(lines, file, found, steps)
 }
 
 /// Makes the piece of what the reader answered. `None` where there is no further line.
 #[inline(always)]
 fn make_of<J: LineJob, L: Ledger>(
-    alloc: Global,
-    job: &mut J,
+    lines: &mut Lines<'_, J>,
     file: &str,
-    reader: &LineReader,
     found: Result<Line, LineFault>,
     steps: &mut Steps<L>,
 ) -> Result<Option<Made>, Trouble>
-    requires { length reader.now.text ≤ 2 ^ 30 }
-    ensures same { J.makes job.new ≡ J.makes job.old }
-    ensures comes { ComesOf result found (J.makes job.old) file.now reader.now.number
-        reader.now.text
-        (J.out_text job.new) (J.err_text job.new) steps.old steps.new }
+    requires { length lines.old.reader.now.text ≤ 2 ^ 30 }
+    ensures same_lines { SameLines lines.old lines.new }
+    ensures same { J.makes lines.new.job.now ≡ J.makes lines.old.job.now }
+    ensures reader { lines.new.reader.now ≡ lines.old.reader.now }
+    ensures comes { ComesOf result found (J.makes lines.old.job.now) file.now
+        lines.old.reader.now.number lines.old.reader.now.text
+        (J.out_text lines.new.job.now) (J.err_text lines.new.job.now) steps.old steps.new }
 {
     match found {
         Ok(Line::Text) => {
             let line = InputLine {
                 file,
-                number: reader.number(),
-                text: reader.line(),
-                is_ascii: reader.is_ascii(),
+                number: lines.reader.number(),
+                text: lines.reader.line(),
+                is_ascii: lines.reader.is_ascii(),
             };
-            match job.answer(line, steps) {
+            match lines.job.answer(line, steps) {
                 Ok(mark) => Ok(Some(Made::Answer(mark))),
                 Err(_) => Err(Trouble::NoMemory),
             }
         }
         Ok(Line::End) => Ok(None),
-        Err(LineFault::TooLong { line }) => fault_of(alloc, file, line, "line too long"),
-        Err(LineFault::NotText { line }) => fault_of(alloc, file, line, "not UTF-8"),
+        Err(LineFault::TooLong { line }) => fault_of(lines.alloc, file, line, "line too long"),
+        Err(LineFault::NotText { line }) => fault_of(lines.alloc, file, line, "not UTF-8"),
         Err(LineFault::NoMemory) => Err(Trouble::NoMemory),
         Err(LineFault::ReadFault) => Err(Trouble::ReadFault),
         Err(LineFault::Spent) => Err(Trouble::Spent),
@@ -166,38 +182,41 @@ fn write_made<J: LineJob, O: Sink, E: Sink>(
 
 /// Runs on each line of one input, which faults call `file`, up to the line that ends the run.
 pub(crate) fn run_input<J: LineJob, S: Source, O: Sink, E: Sink, L: Ledger>(
-    alloc: Global,
-    job: &mut J,
+    lines: &mut Lines<'_, J>,
     file: &str,
-    reader: &mut LineReader,
     source: &mut S,
-    pending: &mut bool,
-    out: &mut O,
-    err: &mut E,
-    steps: &mut Steps<L>,
+    outputs: &mut Outputs<'_, O, E, L>,
 ) -> Result<Tally, Trouble>
-    ensures same { J.makes job.new ≡ J.makes job.old }
-    ensures runs { S.tells → RunsLines result (J.makes job.old) (reading_of reader.old) file.now
+    ensures same_lines { SameLines lines.old lines.new }
+    ensures same_outputs { SameOutputs outputs.old outputs.new }
+    ensures same { J.makes lines.new.job.now ≡ J.makes lines.old.job.now }
+    ensures runs { S.tells → RunsLines result (J.makes lines.old.job.now)
+        (reading_of lines.old.reader.now) file.now
         (S.rest source.old) (S.rest source.new)
-        (showing O.Sink E.Sink out.old err.old steps.old out.new err.new steps.new) }
-    ensures keeps { Keeps reader.old reader.new }
+        (shows O.Sink E.Sink outputs.old outputs.new) }
+    ensures keeps { Keeps lines.old.reader.now lines.new.reader.now }
     ensures cause { SourceCause result (S.faults source.old) (S.faults source.new) }
-    ensures sinks { SinksCause result (O.faults out.old) (O.faults out.new) (E.faults err.old)
-        (E.faults err.new) }
+    ensures sinks { SinksCause result (O.faults outputs.old.out.now) (O.faults outputs.new.out.now)
+        (E.faults outputs.old.err.now) (E.faults outputs.new.err.now) }
     ensures spent { SpentCause result (S.taken source.old) (S.taken source.new) }
     ensures taken { S.taken source.new < 2 ^ 64 - 1 → S.taken source.old ≤ S.taken source.new }
     ensures tree { S.tree source.new ≡ S.tree source.old }
     ensures opens { S.failed_opens source.new ≡ S.failed_opens source.old }
 {
-    reader.restart();
+    lines.reader.restart();
     let mut tally = Tally::new();
     'lines: loop {
         // What was written appears before the reader waits for input.
-        match flush_before_wait(pending, reader.is_ready(), out, err) {
+        match flush_before_wait(
+            &mut lines.pending,
+            lines.reader.is_ready(),
+            outputs.out,
+            outputs.err,
+        ) {
             Ok(()) => {}
             Err(_) => return Err(Trouble::WriteFault),
         }
-        let found = match make_line(alloc, job, file, reader, source, steps) {
+        let found = match make_line(lines, file, source, outputs.steps) {
             Ok(found) => found,
             Err(trouble) => return Err(trouble),
         };
@@ -205,7 +224,13 @@ pub(crate) fn run_input<J: LineJob, S: Source, O: Sink, E: Sink, L: Ledger>(
             Some(made) => made,
             None => return Ok(tally),
         };
-        let mark = match write_made(job, made, pending, out, err) {
+        let mark = match write_made(
+            lines.job,
+            made,
+            &mut lines.pending,
+            outputs.out,
+            outputs.err,
+        ) {
             Ok(mark) => mark,
             Err(_) => return Err(Trouble::WriteFault),
         };

@@ -7,6 +7,8 @@ use Rattle.rosie_run.specs.Outputs.{Telling, Texts, shown, telling}
 use Rattle.rosie_run.specs.Runs.{Runs}
 use Rattle.rosie_run.specs.Sources.{Span, span_of}
 use Rattle.rosie_run.specs.declared.ended.Ended.{Ended}
+use Rattle.rosie_run.specs.declared.inputs.Inputs.{Inputs}
+use Rattle.rosie_run.specs.declared.outputs.Outputs.{Outputs}
 use Rattle.rosie_run.specs.declared.tally.Tally.{Tally}
 use Rattle.rosie_session.specs.Loading.{IsLoading, Loading}
 use Rattle.rosie_session.specs.Replay.{replay}
@@ -23,19 +25,19 @@ pub record Course : Type 1 where
   pub before : Texts
   pub after : Texts
 
--- the run whose files, standard input and outputs are these before and after, with so many steps
+-- the run whose inputs and outputs are these before and after
 abbrev pub course :
-    {F I O E : Type 0} → S.Ghosts F → S.Ghosts I → K.Ghosts O → K.Ghosts E → F → F → I → I → O → O → E → E → ℕ → ℕ
-    → Course
-course F I O E f f' i i' o o' e e' n n' = record {
-  tree = F.tree f;
+    {F I O E L : Type 0} → S.Ghosts F → S.Ghosts I → K.Ghosts O → K.Ghosts E → Inputs F I → Inputs F I
+    → Outputs O E L → Outputs O E L → Course
+course F I O E i i' o o' = record {
+  tree = F.tree i.files.now;
   files_tell = F.tells;
   input_tells = I.tells;
   tells = telling O E;
-  files = span_of F f f';
-  input = span_of I i i';
-  before = shown O E o e n;
-  after = shown O E o' e' n';
+  files = span_of F i.files.now i'.files.now;
+  input = span_of I i.input.now i'.input.now;
+  before = shown O E o.out.now o.err.now o.steps.now;
+  after = shown O E o'.out.now o'.err.now o'.steps.now;
 }
 
 -- what is said to each line of a session is written, or the run breaks off, where files and input are told

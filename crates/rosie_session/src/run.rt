@@ -9,10 +9,13 @@ ghost use Rattle.rosie_io.specs.Loading.{NotFewer};
 ghost use Rattle.rosie_repl.specs.States.{session_of};
 ghost use Rattle.rosie_run.specs.Runs.{SourcesCause, WritesCause, GoesOn};
 ghost use Rattle.rosie_run.specs.Closing.{OutFirst};
+ghost use Rattle.rosie_run.specs.Inputs.{SameInputs};
+ghost use Rattle.rosie_run.specs.Outputs.{SameOutputs};
 ghost use Rattle.rosie_run.specs.Sources.{moment_of};
 ghost use Rattle.rosie_run.specs.inside.Causes.{BothCause};
 ghost use Rattle.rosie_session.specs.Course.{course, RunsSession};
 ghost use Rattle.rosie_session.specs.Loading.{IsLoading, Loading};
+ghost use Rattle.rosie_session.specs.inside.Kept.{SameKept};
 ghost use Rattle.rosie_session.specs.inside.Passing.{Counts, InputCause, IsOfReading, MakesNext};
 ghost use Rattle.rosie_session.specs.inside.Passing.{RunsTold, SinksCause, SpentCause, Stops};
 ghost use Rattle.rosie_session.specs.inside.Turning.{FilesBy};
@@ -22,7 +25,7 @@ use crate::session_end::{SessionEnd, ended_by};
 use crate::turn::{Base, answer};
 use rosie_io::{Files, Line, LineFault, LineReader, Sink, Source, WriteFault};
 use rosie_repl::State;
-use rosie_run::{Ended, Tally, Trouble, flush_both, write_both};
+use rosie_run::{Ended, Inputs, Outputs, Tally, Trouble, flush_both, write_both};
 use rpl_machine::Steps;
 use rpl_package::LibPath;
 use std::alloc::Global;
@@ -31,50 +34,61 @@ use std::sync::ledger::Ledger;
 /// The longest line of a session, in bytes.
 const MAX_COMMAND_BYTES: usize = 1_048_576;
 
+/// What a session keeps from line to line.
+#[derive(Drop)]
+struct Kept<'a> {
+    alloc: Global,
+    state: &'a mut State,
+    /// Gives the lines.
+    reader: &'a mut LineReader,
+}
+
 /// Goes on to the next line and makes what is said to it. `None` where there is no further line.
 fn next_turn<F: Files, I: Source, L: Ledger>(
-    alloc: Global,
     folders: &LibPath,
-    state: &mut State,
-    reader: &mut LineReader,
-    files: &mut F,
-    input: &mut I,
+    kept: &mut Kept<'_>,
+    inputs: &mut Inputs<'_, F, I>,
     steps: &mut Steps<L>,
 ) -> Result<Option<Reply>, SessionEnd>
-    requires open { reader.old.done ≡ false }
-    requires lines { reader.old.whole ≡ false }
-    requires most { reader.old.most ≡ 1048576 }
-    ensures makes { F.tells → I.tells → (w : Loading) → IsLoading (F.tree files.old) folders.now w
-        → MakesNext result w reader.old reader.new (session_of state.old) (session_of state.new)
-        (I.rest input.old) (I.rest input.new)
+    requires open { kept.old.reader.now.done ≡ false }
+    requires lines { kept.old.reader.now.whole ≡ false }
+    requires most { kept.old.reader.now.most ≡ 1048576 }
+    ensures same_kept { SameKept kept.old kept.new }
+    ensures same_inputs { SameInputs inputs.old inputs.new }
+    ensures makes { F.tells → I.tells → (w : Loading) → IsLoading (F.tree inputs.old.files.now)
+        folders.now w → MakesNext result w kept.old.reader.now kept.new.reader.now
+        (session_of kept.old.state.now) (session_of kept.new.state.now)
+        (I.rest inputs.old.input.now) (I.rest inputs.new.input.now)
         steps.old steps.new }
-    ensures numbers { Counts result reader.old reader.new }
-    ensures fits { reader.new.number ≤ 2 ^ 48 }
-    ensures keeps { Keeps reader.old reader.new }
-    ensures stops { Stops result I.tells reader.old reader.new (I.rest input.old)
-        (I.rest input.new) }
+    ensures numbers { Counts result kept.old.reader.now kept.new.reader.now }
+    ensures fits { kept.new.reader.now.number ≤ 2 ^ 48 }
+    ensures keeps { Keeps kept.old.reader.now kept.new.reader.now }
+    ensures stops { Stops result I.tells kept.old.reader.now kept.new.reader.now
+        (I.rest inputs.old.input.now) (I.rest inputs.new.input.now) }
     ensures of_reading { IfErr result IsOfReading }
-    ensures cause { InputCause result (I.faults input.old) (I.faults input.new) }
-    ensures files { FilesBy result (moment_of F.Source files.old) (moment_of F.Source files.new) }
-    ensures reads { Reads I.tells reader.old.held reader.new.held (I.rest input.old)
-        (I.rest input.new)
-        (I.taken input.old) (I.taken input.new) }
-    ensures at_end { I.tells → reader.old.held.ended ≡ false → reader.new.held.ended ≡ true →
-        I.rest input.new ≡ [] }
-    ensures ended { reader.old.held.ended ≡ true → input.new ≡ input.old }
-    ensures opens { I.failed_opens input.new ≡ I.failed_opens input.old }
-    ensures tree { F.tree files.new ≡ F.tree files.old }
+    ensures cause { InputCause result (I.faults inputs.old.input.now)
+        (I.faults inputs.new.input.now) }
+    ensures files { FilesBy result (moment_of F.Source inputs.old.files.now)
+        (moment_of F.Source inputs.new.files.now) }
+    ensures reads { Reads I.tells kept.old.reader.now.held kept.new.reader.now.held
+        (I.rest inputs.old.input.now) (I.rest inputs.new.input.now)
+        (I.taken inputs.old.input.now) (I.taken inputs.new.input.now) }
+    ensures at_end { I.tells → kept.old.reader.now.held.ended ≡ false →
+        kept.new.reader.now.held.ended ≡ true → I.rest inputs.new.input.now ≡ [] }
+    ensures ended { kept.old.reader.now.held.ended ≡ true →
+        inputs.new.input.now ≡ inputs.old.input.now }
+    ensures opens { I.failed_opens inputs.new.input.now ≡ I.failed_opens inputs.old.input.now }
+    ensures tree { F.tree inputs.new.files.now ≡ F.tree inputs.old.files.now }
 {
-    match reader.next(input) {
+    match kept.reader.next(inputs.input) {
         Ok(line) => match line {
             Line::Text => {
-                let number = reader.number();
                 let base = Base {
-                    alloc,
+                    alloc: kept.alloc,
                     folders,
-                    number,
+                    number: kept.reader.number(),
                 };
-                match answer(&base, state, reader.line(), files, steps) {
+                match answer(&base, kept.state, kept.reader.line(), inputs.files, steps) {
                     Ok(reply) => Ok(Some(reply)),
                     Err(session_end) => Err(session_end),
                 }
@@ -82,8 +96,8 @@ fn next_turn<F: Files, I: Source, L: Ledger>(
             Line::End => Ok(None),
         },
         Err(fault) => match fault {
-            LineFault::TooLong { line } => Ok(Some(wrong(alloc, line, "line too long")?)),
-            LineFault::NotText { line } => Ok(Some(wrong(alloc, line, "not UTF-8")?)),
+            LineFault::TooLong { line } => Ok(Some(wrong(kept.alloc, line, "line too long")?)),
+            LineFault::NotText { line } => Ok(Some(wrong(kept.alloc, line, "not UTF-8")?)),
             LineFault::NoMemory => Err(SessionEnd::Run(Trouble::NoMemory)),
             LineFault::ReadFault => Err(SessionEnd::Run(Trouble::ReadFault)),
             LineFault::Spent => Err(SessionEnd::Run(Trouble::Spent)),
@@ -130,34 +144,40 @@ fn flush_reply<O: Sink, E: Sink>(ready: bool, out: &mut O, err: &mut E) -> Resul
 fn run_lines<F: Files, I: Source, O: Sink, E: Sink, L: Ledger>(
     alloc: Global,
     folders: &LibPath,
-    files: &mut F,
-    input: &mut I,
-    out: &mut O,
-    err: &mut E,
-    steps: &mut Steps<L>,
+    inputs: &mut Inputs<'_, F, I>,
+    outputs: &mut Outputs<'_, O, E, L>,
 ) -> Result<Tally, SessionEnd>
-    ensures runs { RunsTold result folders.now (course F.Source I.Source O.Sink E.Sink files.old
-        files.new input.old input.new out.old out.new err.old err.new steps.old steps.new) }
-    ensures cause { InputCause result (I.faults input.old) (I.faults input.new) }
-    ensures spent { SpentCause result (I.taken input.old) (I.taken input.new) }
-    ensures files { FilesBy result (moment_of F.Source files.old) (moment_of F.Source files.new) }
-    ensures rest { I.tells → IfOk result (λ _. I.rest input.new ≡ []) }
-    ensures sinks { SinksCause result (O.faults out.old) (O.faults out.new) (E.faults err.old)
-        (E.faults err.new) }
-    ensures opens { I.failed_opens input.new ≡ I.failed_opens input.old }
-    ensures tree { F.tree files.new ≡ F.tree files.old }
+    ensures same_inputs { SameInputs inputs.old inputs.new }
+    ensures same_outputs { SameOutputs outputs.old outputs.new }
+    ensures runs { RunsTold result folders.now (course F.Source I.Source O.Sink E.Sink
+        inputs.old inputs.new outputs.old outputs.new) }
+    ensures cause { InputCause result (I.faults inputs.old.input.now)
+        (I.faults inputs.new.input.now) }
+    ensures spent { SpentCause result (I.taken inputs.old.input.now) (I.taken inputs.new.input.now) }
+    ensures files { FilesBy result (moment_of F.Source inputs.old.files.now)
+        (moment_of F.Source inputs.new.files.now) }
+    ensures rest { I.tells → IfOk result (λ _. I.rest inputs.new.input.now ≡ []) }
+    ensures sinks { SinksCause result (O.faults outputs.old.out.now) (O.faults outputs.new.out.now)
+        (E.faults outputs.old.err.now) (E.faults outputs.new.err.now) }
+    ensures opens { I.failed_opens inputs.new.input.now ≡ I.failed_opens inputs.old.input.now }
+    ensures tree { F.tree inputs.new.files.now ≡ F.tree inputs.old.files.now }
 {
     let mut reader = LineReader::new(alloc, false, MAX_COMMAND_BYTES)?;
     let mut state = State::new(alloc);
+    let mut kept = Kept {
+        alloc,
+        state: &mut state,
+        reader: &mut reader,
+    };
     let mut tally = Tally::new();
     'lines: loop {
-        match flush_reply(reader.is_ready(), out, err) {
+        match flush_reply(kept.reader.is_ready(), outputs.out, outputs.err) {
             Ok(()) => {}
             Err(_) => return Err(SessionEnd::Run(Trouble::WriteFault)),
         }
-        match next_turn(alloc, folders, &mut state, &mut reader, files, input, steps) {
+        match next_turn(folders, &mut kept, inputs, outputs.steps) {
             Ok(found) => match found {
-                Some(reply) => match write_reply(&reply, out, err) {
+                Some(reply) => match write_reply(&reply, outputs.out, outputs.err) {
                     Ok(()) => tally = tally.with(reply.mark),
                     Err(_) => return Err(SessionEnd::Run(Trouble::WriteFault)),
                 },
@@ -176,24 +196,24 @@ fn run_lines<F: Files, I: Source, O: Sink, E: Sink, L: Ledger>(
 pub fn run_session<F: Files, I: Source, O: Sink, E: Sink, L: Ledger>(
     alloc: Global,
     folders: &LibPath,
-    files: &mut F,
-    input: &mut I,
-    out: &mut O,
-    err: &mut E,
-    steps: &mut Steps<L>,
+    inputs: &mut Inputs<'_, F, I>,
+    outputs: &mut Outputs<'_, O, E, L>,
 ) -> Result<Tally, Ended>
-    ensures runs { RunsSession result folders.now (course F.Source I.Source O.Sink E.Sink files.old
-        files.new input.old input.new out.old out.new err.old err.new steps.old steps.new) }
-    ensures rest { F.tells → I.tells → GoesOn result (I.rest input.new ≡ []) }
-    ensures cause { SourcesCause result (moment_of I.Source input.old)
-        (moment_of I.Source input.new)
-        (moment_of F.Source files.old)
-        (moment_of F.Source files.new) }
-    ensures sinks { WritesCause result (O.faults out.old) (O.faults out.new) (E.faults err.old)
-        (E.faults err.new) }
-    ensures tree { F.tree files.new ≡ F.tree files.old }
+    ensures same_inputs { SameInputs inputs.old inputs.new }
+    ensures same_outputs { SameOutputs outputs.old outputs.new }
+    ensures runs { RunsSession result folders.now (course F.Source I.Source O.Sink E.Sink
+        inputs.old inputs.new outputs.old outputs.new) }
+    ensures rest { F.tells → I.tells → GoesOn result (I.rest inputs.new.input.now ≡ []) }
+    ensures cause { SourcesCause result (moment_of I.Source inputs.old.input.now)
+        (moment_of I.Source inputs.new.input.now)
+        (moment_of F.Source inputs.old.files.now)
+        (moment_of F.Source inputs.new.files.now) }
+    ensures sinks { WritesCause result (O.faults outputs.old.out.now)
+        (O.faults outputs.new.out.now) (E.faults outputs.old.err.now)
+        (E.faults outputs.new.err.now) }
+    ensures tree { F.tree inputs.new.files.now ≡ F.tree inputs.old.files.now }
 {
-    match run_lines(alloc, folders, files, input, out, err, steps) {
+    match run_lines(alloc, folders, inputs, outputs) {
         Ok(tally) => Ok(tally),
         Err(session_end) => Err(ended_by(alloc, session_end)),
     }

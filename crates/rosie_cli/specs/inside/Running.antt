@@ -1,5 +1,5 @@
 -- How contracts see the run of a plan.
-use Rattle.std.specs.Prelude.{ℕ, List, Result}
+use Rattle.std.specs.Prelude.{Result}
 use Rattle.rosie_io.specs.declared.outside.Sink as K
 use Rattle.rosie_io.specs.declared.outside.Source as S
 use Rattle.rosie_prepare.specs.Prepared.{Tree}
@@ -7,11 +7,15 @@ use Rattle.rosie_run.specs.Outputs.{Telling, Texts, shown, telling}
 use Rattle.rosie_run.specs.Runs.{Runs}
 use Rattle.rosie_run.specs.Sources.{Span, span_of}
 use Rattle.rosie_run.specs.declared.ended.Ended.{Ended}
+use Rattle.rosie_run.specs.declared.inputs.Inputs.{Inputs}
+use Rattle.rosie_run.specs.declared.outputs.Outputs.{Outputs}
+use Rattle.rosie_run.specs.declared.status.Status.{Status}
 use Rattle.rosie_run.specs.declared.tally.Tally.{Tally}
 use Rattle.rosie_words.specs.declared.command.Command.{Command}
 use Rattle.rosie_cli.specs.Planned.{IsPlannedAs}
 use Rattle.rosie_cli.specs.Plans.{Plan, Planned, among, pieces, stood}
 use Rattle.rosie_cli.specs.Report.{KnowsFor, KnowsInputs}
+use Rattle.rosie_cli.specs.Rosie.{Call, call}
 
 -- What the files and the streams of a run tell, and where they stand before and after, with the machine's steps.
 pub record Course : Type 1 where
@@ -25,18 +29,26 @@ pub record Course : Type 1 where
   pub after : Texts
 
 abbrev pub course :
-    {F I O E : Type 0} → S.Ghosts F → S.Ghosts I → K.Ghosts O → K.Ghosts E → F → F → I → I → O → O → E → E → ℕ → ℕ
-    → Course
-course F I O E f f' i i' o o' e e' n n' = record {
-  tree = F.tree f;
+    {F I O E L : Type 0} → S.Ghosts F → S.Ghosts I → K.Ghosts O → K.Ghosts E → Inputs F I → Inputs F I
+    → Outputs O E L → Outputs O E L → Course
+course F I O E i i' o o' = record {
+  tree = F.tree i.files.now;
   files_tell = F.tells;
   input_tells = I.tells;
   tells = telling O E;
-  files = span_of F f f';
-  input = span_of I i i';
-  before = shown O E o e n;
-  after = shown O E o' e' n';
+  files = span_of F i.files.now i'.files.now;
+  input = span_of I i.input.now i'.input.now;
+  before = shown O E o.out.now o.err.now o.steps.now;
+  after = shown O E o'.out.now o'.err.now o'.steps.now;
 }
+
+-- the call whose inputs and outputs are these before and after
+abbrev pub call_over :
+    {F I O E L : Type 0} → S.Ghosts F → S.Ghosts I → K.Ghosts O → K.Ghosts E → (comes : Planned → Type 0)
+    → (known : Type 0) → Inputs F I → Inputs F I → Outputs O E L → Outputs O E L → Status → Call
+call_over F I O E comes known i i' o o' answer =
+    call F I O E comes known i.files.now i'.files.now i.input.now i'.input.now o.out.now o'.out.now o.err.now o'.err.now
+    o.steps.now o'.steps.now answer
 
 -- the pieces of a plan are written, or the run breaks off, where what is read for it is told
 abbrev pub RunsPlan : Result Tally Ended → Plan → Course → Type 0

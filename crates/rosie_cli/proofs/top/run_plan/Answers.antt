@@ -22,7 +22,7 @@ returns-in-Write-clause-rest g c = λ knows.
 pub returns-in-Test-clause-runs : goal.returns-in-Test-clause-runs
 returns-in-Test-clause-runs g c = λ knows.
     test-runs c.run.result _ (bench_of c.in-Test.suite) (trials_of c.in-Test.suite) (plan_of c.args.plan.now)
-    (g.F.Source.tree c.args.files.now) _ _ _ _ (ap plan_of c.in-Test.is) c.run.ensures.runs
+    (g.F.Source.tree c.args.inputs.now.files.now) _ _ _ _ (ap plan_of c.in-Test.is) c.run.ensures.runs
 
 pub returns-in-Test-clause-rest : goal.returns-in-Test-clause-rest
 returns-in-Test-clause-rest g c = λ knows.
@@ -39,7 +39,7 @@ returns-in-Match-clause-runs g c = λ knows.
     let tells = subst (λ x. KnowsInputs (plan_of x) g.F.Source.tells g.I.Source.tells) m.is knows in
     match-runs c.run_inputs.result _ (matcher_of m.job) m.whole (names_of encode_utf8_all m.names)
     (names_of encode_utf8_all c.as_slice-names.result.now) _ (plan_of c.args.plan.now)
-    (g.F.Source.tree c.args.files.now) _ _ _ _ (ap plan_of m.is)
+    (g.F.Source.tree c.args.inputs.now.files.now) _ _ _ _ (ap plan_of m.is)
     (ap (names_of encode_utf8_all) c.as_slice-names.ensures) c.reading-reading.ensures
     (c.run_inputs.ensures.runs (told-names _ _ _ _ (ap (names_of encode_utf8_all) c.as_slice-names.ensures) tells))
 
@@ -49,7 +49,7 @@ returns-in-Trace-clause-runs g c = λ knows.
     let tells = subst (λ x. KnowsInputs (plan_of x) g.F.Source.tells g.I.Source.tells) m.is knows in
     match-runs c.run_inputs-in-Trace.result _ (tracer_of m.job) m.whole (names_of encode_utf8_all m.names)
     (names_of encode_utf8_all c.as_slice-names-in-Trace.result.now) _ (plan_of c.args.plan.now)
-    (g.F.Source.tree c.args.files.now) _ _ _ _ (ap plan_of m.is)
+    (g.F.Source.tree c.args.inputs.now.files.now) _ _ _ _ (ap plan_of m.is)
     (ap (names_of encode_utf8_all) c.as_slice-names-in-Trace.ensures) c.reading-reading-in-Trace.ensures
     (c.run_inputs-in-Trace.ensures.runs (told-names _ _ _ _ (ap (names_of encode_utf8_all) c.as_slice-names-in-Trace.ensures) tells))
 
@@ -59,7 +59,7 @@ returns-in-Run-clause-runs g c = λ knows.
     let tells = subst (λ x. KnowsInputs (plan_of x) g.F.Source.tells g.I.Source.tells) m.is knows in
     match-runs c.run_inputs-in-Run.result _ (runner_of m.job) m.whole (names_of encode_utf8_all m.names)
     (names_of encode_utf8_all c.as_slice-names-in-Run.result.now) _ (plan_of c.args.plan.now)
-    (g.F.Source.tree c.args.files.now) _ _ _ _ (ap plan_of m.is)
+    (g.F.Source.tree c.args.inputs.now.files.now) _ _ _ _ (ap plan_of m.is)
     (ap (names_of encode_utf8_all) c.as_slice-names-in-Run.ensures) c.reading-reading-in-Run.ensures
     (c.run_inputs-in-Run.ensures.runs (told-names _ _ _ _ (ap (names_of encode_utf8_all) c.as_slice-names-in-Run.ensures) tells))
 

@@ -31,7 +31,7 @@ pub returns-in-Refused-clause-runs : goal.returns-in-Refused-clause-runs
 returns-in-Refused-clause-runs g c = λ t p is inputs.
     let plans = rw c.in-Refused.is at (c.in-Err.ensures.plans t p is) in
     refused-runs c.refuse.result _ p (string_bytes c.in-Refused.line) _ _ _ _ _ plans.0
-    (c.refuse.ensures.runs c.args.steps.now)
+    (c.refuse.ensures.runs c.args.outputs.now.steps.now)
 
 pub returns-in-Refused-clause-rest : goal.returns-in-Refused-clause-rest
 returns-in-Refused-clause-rest g c = λ t p is inputs.
@@ -43,7 +43,7 @@ pub returns-in-ReadFault-clause-runs : goal.returns-in-ReadFault-clause-runs
 returns-in-ReadFault-clause-runs g c = λ t p is inputs.
     let cause = rw c.in-ReadFault.is at c.in-Err.ensures.leaves.cause in
     let plans = rw c.in-ReadFault.is at (c.in-Err.ensures.plans t p is) in
-    unread c.cut.result _ p _ c.text_of.result.now _ _ _ (g.met.O.Sink.number_fits c.args.out.now) c.cut.ensures
+    unread c.cut.result _ p _ c.text_of.result.now _ _ _ (g.met.O.Sink.number_fits c.args.outputs.now.out.now) c.cut.ensures
     (subst (Contains p.asked) (sym c.text_of.ensures) plans.1) cause.1
 
 pub returns-in-Ok-clause-unread : goal.returns-in-Ok-clause-unread

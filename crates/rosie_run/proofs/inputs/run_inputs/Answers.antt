@@ -9,10 +9,13 @@ use Rattle.rosie_run.proofs.inputs.run_inputs.Goals as goal
 
 pub inputs-init : goal.inputs-init
 inputs-init g c = record {
+  same_lines = (refl, refl);
+  same_inputs = (refl, refl);
+  same_outputs = (refl, refl, refl);
   parts = ap (λ (x : Reader). x.whole) c.in-Ok.ensures;
   most = ap (λ (x : Reader). x.most) c.in-Ok.ensures;
   same = refl;
-  reached = λ k. reached-start _ _ _ _ _ _ _ _ _ _ refl refl (g.met.O.Sink.number_fits c.args.out.now) c.new-tally.ensures;
+  reached = λ k. reached-start _ _ _ _ _ _ _ _ _ _ refl refl (g.met.O.Sink.number_fits c.args.outputs.now.out.now) c.new-tally.ensures;
   once = λ k e. absurd (cc);
   untouched = λ _. refl;
   unread = λ _. refl;
@@ -31,24 +34,27 @@ pub inputs-preserved : goal.inputs-preserved
 inputs-preserved g c =
     let e = c.in-Ok-run_one.ensures in
     let i = c.inputs.invariant in
-    let next = names-next (encode_utf8_all) c.args.names.now c.inputs.name-index c.name-item.result c.text_of.result.now c.inputs-test.true c.name-item.is c.text_of.ensures in
-    let files : AreTold (names_of encode_utf8_all c.args.names.now) g.F.Source.tells g.I.Source.tells → is_standard c.text_of.result.now ≡ false → g.F.Source.tells =
-    λ k n. k.of_files (file-there (encode_utf8_all) c.args.names.now c.inputs.name-index c.text_of.result.now _ next n) in
-    let input : AreTold (names_of encode_utf8_all c.args.names.now) g.F.Source.tells g.I.Source.tells → is_standard c.text_of.result.now ≡ true → g.I.Source.tells =
-    λ k n. k.of_input (standard-there (encode_utf8_all) c.args.names.now c.inputs.name-index c.text_of.result.now _ next n) in
+    let next = names-next (encode_utf8_all) c.args.wanted.names.now c.inputs.name-index c.name-item.result c.text_of.result.now c.inputs-test.true c.name-item.is c.text_of.ensures in
+    let files : AreTold (names_of encode_utf8_all c.args.wanted.names.now) g.F.Source.tells g.I.Source.tells → is_standard c.text_of.result.now ≡ false → g.F.Source.tells =
+    λ k n. k.of_files (file-there (encode_utf8_all) c.args.wanted.names.now c.inputs.name-index c.text_of.result.now _ next n) in
+    let input : AreTold (names_of encode_utf8_all c.args.wanted.names.now) g.F.Source.tells g.I.Source.tells → is_standard c.text_of.result.now ≡ true → g.I.Source.tells =
+    λ k n. k.of_input (standard-there (encode_utf8_all) c.args.wanted.names.now c.inputs.name-index c.text_of.result.now _ next n) in
     record {
+      same_lines = (e.same_lines.0 ∙ i.same_lines.0, e.same_lines.1 ∙ i.same_lines.1);
+      same_inputs = (e.same_inputs.0 ∙ i.same_inputs.0, e.same_inputs.1 ∙ i.same_inputs.1);
+      same_outputs = (e.same_outputs.0 ∙ i.same_outputs.0, e.same_outputs.1 ∙ i.same_outputs.1, e.same_outputs.2 ∙ i.same_outputs.2);
       parts = e.keeps.whole ∙ i.parts;
       most = e.keeps.most ∙ i.most;
       same = e.same ∙ i.same;
       reached = λ k.
           let w = rw (i.same, i.tree, i.parts, i.most) at (e.runs (files k) (input k) (i.once k)) in
-          reached-on _ _ _ _ _ _ (g.I.Source.rest c.inputs.input) c.text_of.result.now _ _ c.inputs.read c.inputs.tally _ _ (i.reached k) next _ c.in-Ok-run_one.part c.and-tally.result w c.and-tally.ensures (g.I.Source.rest c.run_one.new.input) c.run_one.new.read c.if-tally.false (e.rest (input k) (i.once k)) e.reads (λ n. (e.stays n).0);
+          reached-on _ _ _ _ _ _ (g.I.Source.rest c.inputs.inputs.input.now) c.text_of.result.now _ _ c.inputs.read c.inputs.tally _ _ (i.reached k) next _ c.in-Ok-run_one.part c.and-tally.result w c.and-tally.ensures (g.I.Source.rest c.run_one.new.inputs.input.now) c.run_one.new.read c.if-tally.false (e.rest (input k) (i.once k)) e.reads (λ n. (e.stays n).0);
       once = λ k is.
           let w = rw (i.same, i.tree, i.parts, i.most) at (e.runs (files k) (input k) (i.once k)) in
-          let off = part-goes _ _ _ _ _ _ (g.I.Source.rest c.inputs.input) c.text_of.result.now _ _ c.inputs.read c.inputs.tally _ _ (i.reached k) next _ c.in-Ok-run_one.part c.and-tally.result w c.and-tally.ensures c.if-tally.false in
-          once-on c.text_of.result.now (g.I.Source.rest c.inputs.input) _ c.inputs.read c.run_one.new.read (e.rest (input k) (i.once k) off) (λ n. (e.stays n).0) (i.once k) is;
+          let off = part-goes _ _ _ _ _ _ (g.I.Source.rest c.inputs.inputs.input.now) c.text_of.result.now _ _ c.inputs.read c.inputs.tally _ _ (i.reached k) next _ c.in-Ok-run_one.part c.and-tally.result w c.and-tally.ensures c.if-tally.false in
+          once-on c.text_of.result.now (g.I.Source.rest c.inputs.inputs.input.now) _ c.inputs.read c.run_one.new.read (e.rest (input k) (i.once k) off) (λ n. (e.stays n).0) (i.once k) is;
       untouched = untouched-on (is_standard c.text_of.result.now) c.inputs.read c.run_one.new.read _ _ _ e.reads e.stays i.untouched;
-      unread = λ n. (e.stays (not-standard (encode_utf8_all) c.args.names.now c.inputs.name-index c.text_of.result.now _ next n)).1 ∙ i.unread n;
+      unread = λ n. (e.stays (not-standard (encode_utf8_all) c.args.wanted.names.now c.inputs.name-index c.text_of.result.now _ next n)).1 ∙ i.unread n;
       input_faults = e.cause.0.faults ∙ i.input_faults;
       input_opens = e.cause.0.opens ∙ i.input_opens;
       files_faults = e.cause.1.faults ∙ i.files_faults;
@@ -64,39 +70,39 @@ pub returns-then-tally-clause-runs : goal.returns-then-tally-clause-runs
 returns-then-tally-clause-runs g c = λ k.
     let e = c.in-Ok-run_one.ensures in
     let i = c.inputs.invariant in
-    let next = names-next (encode_utf8_all) c.args.names.now c.inputs.name-index c.name-item.result c.text_of.result.now c.inputs-test.true c.name-item.is c.text_of.ensures in
-    let files : AreTold (names_of encode_utf8_all c.args.names.now) g.F.Source.tells g.I.Source.tells → is_standard c.text_of.result.now ≡ false → g.F.Source.tells =
-    λ k n. k.of_files (file-there (encode_utf8_all) c.args.names.now c.inputs.name-index c.text_of.result.now _ next n) in
-    let input : AreTold (names_of encode_utf8_all c.args.names.now) g.F.Source.tells g.I.Source.tells → is_standard c.text_of.result.now ≡ true → g.I.Source.tells =
-    λ k n. k.of_input (standard-there (encode_utf8_all) c.args.names.now c.inputs.name-index c.text_of.result.now _ next n) in
+    let next = names-next (encode_utf8_all) c.args.wanted.names.now c.inputs.name-index c.name-item.result c.text_of.result.now c.inputs-test.true c.name-item.is c.text_of.ensures in
+    let files : AreTold (names_of encode_utf8_all c.args.wanted.names.now) g.F.Source.tells g.I.Source.tells → is_standard c.text_of.result.now ≡ false → g.F.Source.tells =
+    λ k n. k.of_files (file-there (encode_utf8_all) c.args.wanted.names.now c.inputs.name-index c.text_of.result.now _ next n) in
+    let input : AreTold (names_of encode_utf8_all c.args.wanted.names.now) g.F.Source.tells g.I.Source.tells → is_standard c.text_of.result.now ≡ true → g.I.Source.tells =
+    λ k n. k.of_input (standard-there (encode_utf8_all) c.args.wanted.names.now c.inputs.name-index c.text_of.result.now _ next n) in
     let w = rw (i.same, i.tree, i.parts, i.most) at (e.runs (files k) (input k) (i.once k)) in
-    reached-stop _ _ _ _ _ _ (g.I.Source.rest c.inputs.input) c.text_of.result.now _ _ c.inputs.read c.inputs.tally _ _ (i.reached k) next _ c.in-Ok-run_one.part c.and-tally.result w c.and-tally.ensures c.if-tally.true
+    reached-stop _ _ _ _ _ _ (g.I.Source.rest c.inputs.inputs.input.now) c.text_of.result.now _ _ c.inputs.read c.inputs.tally _ _ (i.reached k) next _ c.in-Ok-run_one.part c.and-tally.result w c.and-tally.ensures c.if-tally.true
 
 pub returns-in-Err-clause-runs : goal.returns-in-Err-clause-runs
 returns-in-Err-clause-runs g c = λ k.
     let i = c.inputs.invariant in
-    let next = names-next (encode_utf8_all) c.args.names.now c.inputs.name-index c.name-item.result c.text_of.result.now c.inputs-test.true c.name-item.is c.text_of.ensures in
-    let files : AreTold (names_of encode_utf8_all c.args.names.now) g.F.Source.tells g.I.Source.tells → is_standard c.text_of.result.now ≡ false → g.F.Source.tells =
-    λ k n. k.of_files (file-there (encode_utf8_all) c.args.names.now c.inputs.name-index c.text_of.result.now _ next n) in
-    let input : AreTold (names_of encode_utf8_all c.args.names.now) g.F.Source.tells g.I.Source.tells → is_standard c.text_of.result.now ≡ true → g.I.Source.tells =
-    λ k n. k.of_input (standard-there (encode_utf8_all) c.args.names.now c.inputs.name-index c.text_of.result.now _ next n) in
+    let next = names-next (encode_utf8_all) c.args.wanted.names.now c.inputs.name-index c.name-item.result c.text_of.result.now c.inputs-test.true c.name-item.is c.text_of.ensures in
+    let files : AreTold (names_of encode_utf8_all c.args.wanted.names.now) g.F.Source.tells g.I.Source.tells → is_standard c.text_of.result.now ≡ false → g.F.Source.tells =
+    λ k n. k.of_files (file-there (encode_utf8_all) c.args.wanted.names.now c.inputs.name-index c.text_of.result.now _ next n) in
+    let input : AreTold (names_of encode_utf8_all c.args.wanted.names.now) g.F.Source.tells g.I.Source.tells → is_standard c.text_of.result.now ≡ true → g.I.Source.tells =
+    λ k n. k.of_input (standard-there (encode_utf8_all) c.args.wanted.names.now c.inputs.name-index c.text_of.result.now _ next n) in
     let w = rw (i.same, i.tree, i.parts, i.most) at (c.in-Err.ensures.runs (files k) (input k) (i.once k)) in
-    reached-break _ _ _ _ _ _ (g.I.Source.rest c.inputs.input) c.text_of.result.now _ _ c.inputs.read c.inputs.tally _ _ (i.reached k) next _ _ _ _ (moment g.F.Source.rest g.F.Source.taken g.F.Source.faults g.F.Source.failed_opens c.inputs.files) _
+    reached-break _ _ _ _ _ _ (g.I.Source.rest c.inputs.inputs.input.now) c.text_of.result.now _ _ c.inputs.read c.inputs.tally _ _ (i.reached k) next _ _ _ _ (moment g.F.Source.rest g.F.Source.taken g.F.Source.faults g.F.Source.failed_opens c.inputs.inputs.files.now) _
     (λ n. ap (moment g.I.Source.rest g.I.Source.taken g.I.Source.faults g.I.Source.failed_opens) (i.untouched n)) i.files_faults i.files_opens i.files_taken c.in-Err.ended _ w
 
 pub returns-clause-runs : goal.returns-clause-runs
 returns-clause-runs g c = λ k.
-    reached-end _ _ _ _ _ _ _ _ _ _ _ _ (c.inputs.invariant.reached k) (names-none (encode_utf8_all) c.args.names.now c.inputs.name-index c.inputs-test.false)
+    reached-end _ _ _ _ _ _ _ _ _ _ _ _ (c.inputs.invariant.reached k) (names-none (encode_utf8_all) c.args.wanted.names.now c.inputs.name-index c.inputs-test.false)
 
 pub returns-in_default-clause-runs : goal.returns-in_default-clause-runs
 returns-in_default-clause-runs g c = λ k. fronts-none _ _ _
 
 pub returns-then-tally-clause-unread : goal.returns-then-tally-clause-unread
 returns-then-tally-clause-unread g c = λ n.
-    let next = names-next (encode_utf8_all) c.args.names.now c.inputs.name-index c.name-item.result c.text_of.result.now c.inputs-test.true c.name-item.is c.text_of.ensures in
-    (c.in-Ok-run_one.ensures.stays (not-standard (encode_utf8_all) c.args.names.now c.inputs.name-index c.text_of.result.now _ next n)).1 ∙ c.inputs.invariant.unread n
+    let next = names-next (encode_utf8_all) c.args.wanted.names.now c.inputs.name-index c.name-item.result c.text_of.result.now c.inputs-test.true c.name-item.is c.text_of.ensures in
+    (c.in-Ok-run_one.ensures.stays (not-standard (encode_utf8_all) c.args.wanted.names.now c.inputs.name-index c.text_of.result.now _ next n)).1 ∙ c.inputs.invariant.unread n
 
 pub returns-in-Err-clause-unread : goal.returns-in-Err-clause-unread
 returns-in-Err-clause-unread g c = λ n.
-    let next = names-next (encode_utf8_all) c.args.names.now c.inputs.name-index c.name-item.result c.text_of.result.now c.inputs-test.true c.name-item.is c.text_of.ensures in
-    (c.in-Err.ensures.stays (not-standard (encode_utf8_all) c.args.names.now c.inputs.name-index c.text_of.result.now _ next n)).1 ∙ c.inputs.invariant.unread n
+    let next = names-next (encode_utf8_all) c.args.wanted.names.now c.inputs.name-index c.name-item.result c.text_of.result.now c.inputs-test.true c.name-item.is c.text_of.ensures in
+    (c.in-Err.ensures.stays (not-standard (encode_utf8_all) c.args.wanted.names.now c.inputs.name-index c.text_of.result.now _ next n)).1 ∙ c.inputs.invariant.unread n

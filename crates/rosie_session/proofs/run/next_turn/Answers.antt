@@ -14,9 +14,9 @@ pub returns-in-Ok-answer-clause-makes : goal.returns-in-Ok-answer-clause-makes
 returns-in-Ok-answer-clause-makes g c = λ ft it w is.
     let sp = rw (c.in-Text.is, c.requires.lines, c.requires.most) at (c.in-Ok.ensures.passes it) in
     let count = rw c.in-Text.is at c.in-Ok.ensures.numbers in
-    let s0 = session_of c.args.state.now in
+    let s0 = session_of c.args.kept.now.state.now in
     let s1 = session_of c.answer.new.state in
-    let n = c.number-number.result in
+    let n = c.number.result in
     let reply = c.in-Ok-answer.reply in
     let says = subst (λ (x : List ℕ). Says reply (edit_turn w n s0 (edit_of x)) s1) c.line.ensures
     (c.in-Ok-answer.ensures.turns ft w is) in
@@ -24,19 +24,19 @@ returns-in-Ok-answer-clause-makes g c = λ ft it w is.
     let steps = subst
     (λ (x : List ℕ). StepsBy made (edit_turn w n s0 (edit_of x)) c.args.steps.now c.answer.new.steps) c.line.ensures
     (c.in-Ok-answer.ensures.steps ft w is) in
-    makes-text w c.args.reader.now.number n s0 s1 _ _ _ (c.number-number.ensures ∙ count.0) c.next.new.self.text sp.0
+    makes-text w c.args.kept.now.reader.now.number n s0 s1 _ _ _ (c.number.ensures ∙ count.0) c.next.new.self.text sp.0
     sp.1 sp.2 reply _ _ says steps
 
 pub returns-in-Err-answer-clause-makes : goal.returns-in-Err-answer-clause-makes
 returns-in-Err-answer-clause-makes g c = λ ft it w is.
     let sp = rw (c.in-Text.is, c.requires.lines, c.requires.most) at (c.in-Ok.ensures.passes it) in
     let count = rw c.in-Text.is at c.in-Ok.ensures.numbers in
-    let s0 = session_of c.args.state.now in
-    let n = c.number-number.result in
+    let s0 = session_of c.args.kept.now.state.now in
+    let n = c.number.result in
     let session_end = c.in-Err-answer.session_end in
     let halted = subst (λ (x : List ℕ). IsEndOf session_end (edit_turn w n s0 (edit_of x))) c.line.ensures
     (c.in-Err-answer.ensures.turns ft w is) in
-    makes-session_end w c.args.reader.now.number n s0 s0 _ _ _ (c.number-number.ensures ∙ count.0) c.next.new.self.text sp.0
+    makes-session_end w c.args.kept.now.reader.now.number n s0 s0 _ _ _ (c.number.ensures ∙ count.0) c.next.new.self.text sp.0
     sp.1 sp.2 session_end _ _ halted (c.in-Err-answer.ensures.steps ft w is)
 
 pub returns-in-Err-answer-clause-stops : goal.returns-in-Err-answer-clause-stops
@@ -53,14 +53,14 @@ pub returns-in_ok-wrong-in-TooLong-clause-makes : goal.returns-in_ok-wrong-in-To
 returns-in_ok-wrong-in-TooLong-clause-makes g c = λ ft it w is.
     let sp = rw (c.in-TooLong.is, c.requires.lines, c.requires.most) at (c.in-Err.ensures.passes it) in
     let count = rw c.in-TooLong.is at c.in-Err.ensures.numbers in
-    let s0 = session_of c.args.state.now in
-    makes-long w c.args.reader.now.number c.in-TooLong.line s0 s0 _ _ _ (count.0 ∙ count.1) sp.0
+    let s0 = session_of c.args.kept.now.state.now in
+    makes-long w c.args.kept.now.reader.now.number c.in-TooLong.line s0 s0 _ _ _ (count.0 ∙ count.1) sp.0
     c.in_ok-wrong-in-TooLong.field-0 _ _ sp.1 sp.2 c.in_ok-wrong-in-TooLong.ensures refl refl
 
 pub returns-in_ok-wrong-in-NotText-clause-makes : goal.returns-in_ok-wrong-in-NotText-clause-makes
 returns-in_ok-wrong-in-NotText-clause-makes g c = λ ft it w is.
     let sp = rw (c.in-NotText.is, c.requires.lines, c.requires.most) at (c.in-Err.ensures.passes it) in
     let count = rw c.in-NotText.is at c.in-Err.ensures.numbers in
-    let s0 = session_of c.args.state.now in
-    makes-no-text w c.args.reader.now.number c.in-NotText.line s0 s0 _ _ _ (count.0 ∙ count.1) sp.0
+    let s0 = session_of c.args.kept.now.state.now in
+    makes-no-text w c.args.kept.now.reader.now.number c.in-NotText.line s0 s0 _ _ _ (count.0 ∙ count.1) sp.0
     c.in_ok-wrong-in-NotText.field-0 _ _ sp.1 sp.2 sp.3 c.in_ok-wrong-in-NotText.ensures refl refl

@@ -15,11 +15,14 @@ use Rattle.rosie_session.proofs.run.run_lines.Goals as goal
 
 pub lines-init : goal.lines-init
 lines-init g c = let e = c.in_ok-reader.ensures in rw e (record {
+  same_kept = (refl, refl);
+  same_inputs = (refl, refl);
+  same_outputs = (refl, refl, refl);
   opened = refl;
   parts = refl;
   most = refl;
   passed = λ ft it w is. passed-start _ w _ (session_of c.new-state.result) _ _ _ c.new-state.ensures refl
-      (g.met.O.Sink.number_fits c.args.out.now) c.new-tally.ensures;
+      (g.met.O.Sink.number_fits c.args.outputs.now.out.now) c.new-tally.ensures;
   input_faults = refl;
   files_still = record { faults = refl; opens = refl };
   out_faults = refl;
@@ -36,20 +39,23 @@ lines-preserved g c =
     let e = c.in-Ok-next_turn.ensures in
     let o = c.in-Ok-write_reply.ensures in
     let numbers = rw c.in-Some.is at e.numbers in record {
+      same_kept = (e.same_kept.0 ∙ c.lines.invariant.same_kept.0, e.same_kept.1 ∙ c.lines.invariant.same_kept.1);
+      same_inputs = (e.same_inputs.0 ∙ c.lines.invariant.same_inputs.0, e.same_inputs.1 ∙ c.lines.invariant.same_inputs.1);
+      same_outputs = c.lines.invariant.same_outputs;
       opened = numbers.1;
       parts = e.keeps.whole ∙ c.lines.invariant.parts;
       most = e.keeps.most ∙ c.lines.invariant.most;
       passed = λ ft it w is.
           let is' = subst (λ (x : Tree). IsLoading x c.args.folders.now w) (sym c.lines.invariant.tree) is in
           let m = rw c.in-Some.is at (e.makes ft it w is') in
-          let a = texts g.O.Sink.written g.O.Sink.number g.E.Sink.written c.flush_reply.new.out c.flush_reply.new.err c.lines.steps in
+          let a = texts g.O.Sink.written g.O.Sink.number g.E.Sink.written c.flush_reply.new.out c.flush_reply.new.err c.lines.outputs.steps.now in
           let b =
           texts g.O.Sink.written g.O.Sink.number g.E.Sink.written c.write_reply.new.out c.write_reply.new.err
           c.next_turn.new.steps in
           passed-line _ w _ _ _ _ _ _ _ _ (passed-still _ w _ _ _ _ _ _ _ _ (c.lines.invariant.passed ft it w is) a
           (record { out = c.in-Ok.ensures.out; err = c.in-Ok.ensures.err; number = c.in-Ok.ensures.number; steps = refl }))
-          c.next_turn.new.reader.number (session_of c.next_turn.new.state) c.next_turn.new.reader.held
-          (g.I.Source.rest c.next_turn.new.input) m.line b _ _ m.splits numbers.0 m.says.1 m.says.0.marks
+          c.next_turn.new.kept.reader.now.number (session_of c.next_turn.new.kept.state.now) c.next_turn.new.kept.reader.now.held
+          (g.I.Source.rest c.next_turn.new.inputs.input.now) m.line b _ _ m.splits numbers.0 m.says.1 m.says.0.marks
           (wrote-one _ _ a b _ _ _ m.says.0 o.out o.err o.number m.steps) c.with-tally.ensures (e.reads.behind it)
           (e.reads.bytes it) e.reads.ended
           (end-next _ _ _ _ (c.lines.invariant.at_end it) (e.at_end it) (λ x. ap g.I.Source.rest (e.ended x)));
@@ -81,7 +87,7 @@ pub returns-in-None-clause-runs : goal.returns-in-None-clause-runs
 returns-in-None-clause-runs g c = λ ft it w is.
     let is' = subst (λ (x : Tree). IsLoading x c.args.folders.now w) (sym c.lines.invariant.tree) is in
     let p = rw c.in-None.is at (c.in-Ok-next_turn.ensures.makes ft it w is') in
-    let a = texts g.O.Sink.written g.O.Sink.number g.E.Sink.written c.flush_reply.new.out c.flush_reply.new.err c.lines.steps in
+    let a = texts g.O.Sink.written g.O.Sink.number g.E.Sink.written c.flush_reply.new.out c.flush_reply.new.err c.lines.outputs.steps.now in
     let b =
     texts g.O.Sink.written g.O.Sink.number g.E.Sink.written c.flush_reply.new.out c.flush_reply.new.err c.next_turn.new.steps in
     passed-end _ w _ _ _ _ _ _ _ _ (passed-still _ w _ _ _ _ _ _ _ _ (c.lines.invariant.passed ft it w is) a
@@ -98,18 +104,18 @@ pub returns-in-Err-next_turn-clause-runs : goal.returns-in-Err-next_turn-clause-
 returns-in-Err-next_turn-clause-runs g c = λ ft it w is.
     let e = c.in-Err-next_turn.ensures in
     let is' = subst (λ (x : Tree). IsLoading x c.args.folders.now w) (sym c.lines.invariant.tree) is in
-    let a = texts g.O.Sink.written g.O.Sink.number g.E.Sink.written c.flush_reply.new.out c.flush_reply.new.err c.lines.steps in
+    let a = texts g.O.Sink.written g.O.Sink.number g.E.Sink.written c.flush_reply.new.out c.flush_reply.new.err c.lines.outputs.steps.now in
     let b =
     texts g.O.Sink.written g.O.Sink.number g.E.Sink.written c.flush_reply.new.out c.flush_reply.new.err c.next_turn.new.steps in
     passed-session_end _ w _ _ _ _ _ _ _ _ (passed-still _ w _ _ _ _ _ _ _ _ (c.lines.invariant.passed ft it w is) a
     (record { out = c.in-Ok.ensures.out; err = c.in-Ok.ensures.err; number = c.in-Ok.ensures.number; steps = refl }))
-    c.in-Err-next_turn.session_end _ it c.lines.reader c.next_turn.new.reader _ b refl c.lines.invariant.parts e.stops
-    (breaks-none _ w _ (session_of c.lines.state) _ a b c.in-Err-next_turn.session_end (e.makes ft it w is') refl refl refl
+    c.in-Err-next_turn.session_end _ it c.lines.kept.reader.now c.next_turn.new.kept.reader.now _ b refl c.lines.invariant.parts e.stops
+    (breaks-none _ w _ (session_of c.lines.kept.state.now) _ a b c.in-Err-next_turn.session_end (e.makes ft it w is') refl refl refl
     (g.met.O.Sink.number_fits c.flush_reply.new.out)) (e.reads.bytes it)
 
 pub returns-in-Err-next_turn-clause-cause : goal.returns-in-Err-next_turn-clause-cause
 returns-in-Err-next_turn-clause-cause g c =
-    subst (λ x. InputEnds c.in-Err-next_turn.session_end x (g.I.Source.faults c.next_turn.new.input)) c.lines.invariant.input_faults
+    subst (λ x. InputEnds c.in-Err-next_turn.session_end x (g.I.Source.faults c.next_turn.new.inputs.input.now)) c.lines.invariant.input_faults
     c.in-Err-next_turn.ensures.cause
 
 pub returns-in-Err-next_turn-clause-spent : goal.returns-in-Err-next_turn-clause-spent
@@ -130,7 +136,7 @@ returns-in-Err-next_turn-clause-sinks g c =
     let session_end = c.in-Err-next_turn.session_end in
     let o1 = g.O.Sink.faults c.flush_reply.new.out in
     let r1 = g.E.Sink.faults c.flush_reply.new.err in
-    subst (λ x. SinksBy session_end x o1 (g.E.Sink.faults c.args.err.now) r1)
+    subst (λ x. SinksBy session_end x o1 (g.E.Sink.faults c.args.outputs.now.err.now) r1)
     (c.in-Ok.ensures.cause.0 ∙ c.lines.invariant.out_faults)
     (subst (λ x. SinksBy session_end o1 o1 x r1) (c.in-Ok.ensures.cause.1 ∙ c.lines.invariant.err_faults)
     (sinks-none session_end o1 r1 c.in-Err-next_turn.ensures.of_reading))
@@ -141,10 +147,10 @@ returns-in-Err-write_reply-clause-runs g c = λ ft it w is.
     let o = c.in-Err-write_reply.ensures in
     let is' = subst (λ (x : Tree). IsLoading x c.args.folders.now w) (sym c.lines.invariant.tree) is in
     let m = rw c.in-Some.is at (e.makes ft it w is') in
-    let a = texts g.O.Sink.written g.O.Sink.number g.E.Sink.written c.flush_reply.new.out c.flush_reply.new.err c.lines.steps in
+    let a = texts g.O.Sink.written g.O.Sink.number g.E.Sink.written c.flush_reply.new.out c.flush_reply.new.err c.lines.outputs.steps.now in
     passed-front _ w _ _ _ _ _ _ _ _ (passed-still _ w _ _ _ _ _ _ _ _ (c.lines.invariant.passed ft it w is) a
     (record { out = c.in-Ok.ensures.out; err = c.in-Ok.ensures.err; number = c.in-Ok.ensures.number; steps = refl })) _
-    (fronts-turn _ w c.lines.reader.number (session_of c.lines.state) _ a _ m.line _ _ _ _ m.splits.lines m.says.0
+    (fronts-turn _ w c.lines.kept.reader.now.number (session_of c.lines.kept.state.now) _ a _ m.line _ _ _ _ m.splits.lines m.says.0
     o.out o.err)
 
 pub returns-in-Err-write_reply-clause-files : goal.returns-in-Err-write_reply-clause-files
@@ -158,7 +164,7 @@ pub returns-in-Err-write_reply-clause-sinks : goal.returns-in-Err-write_reply-cl
 returns-in-Err-write_reply-clause-sinks g c =
     let o1 = g.O.Sink.faults c.write_reply.new.out in
     let r1 = g.E.Sink.faults c.write_reply.new.err in
-    subst (λ x. WriteRose x o1 (g.E.Sink.faults c.args.err.now) r1)
+    subst (λ x. WriteRose x o1 (g.E.Sink.faults c.args.outputs.now.err.now) r1)
     (c.in-Ok.ensures.cause.0 ∙ c.lines.invariant.out_faults)
     (subst (λ x. WriteRose (g.O.Sink.faults c.flush_reply.new.out) o1 x r1) (c.in-Ok.ensures.cause.1 ∙ c.lines.invariant.err_faults)
     c.in-Err-write_reply.ensures.cause)

@@ -14,15 +14,15 @@ returns-in-Ok-clause-cause g c =
 
 pub returns-in-Err-clause-runs : goal.returns-in-Err-clause-runs
 returns-in-Err-clause-runs g c = λ ft it w is.
-    let i0 = moment_of g.I.Source c.args.input.now in
-    let i1 = moment_of g.I.Source c.run_lines.new.input in
+    let i0 = moment_of g.I.Source c.args.inputs.now.input.now in
+    let i1 = moment_of g.I.Source c.run_lines.new.inputs.input.now in
     breaks-session_end _ w i0 i1 _ _ _ _ c.in-Err.session_end c.ended_by.result c.ended_by.ensures c.in-Err.ensures.cause
     c.in-Err.ensures.spent c.in-Err.ensures.files (c.in-Err.ensures.runs ft it w is)
 
 pub returns-in-Err-clause-cause : goal.returns-in-Err-clause-cause
 returns-in-Err-clause-cause g c =
-    let i0 = moment_of g.I.Source c.args.input.now in
-    let i1 = moment_of g.I.Source c.run_lines.new.input in
+    let i0 = moment_of g.I.Source c.args.inputs.now.input.now in
+    let i1 = moment_of g.I.Source c.run_lines.new.inputs.input.now in
     sources-session_end i0 i1 _ _ c.in-Err.ensures.opens c.in-Err.session_end c.ended_by.result c.ended_by.ensures
     c.in-Err.ensures.cause c.in-Err.ensures.spent c.in-Err.ensures.files
 

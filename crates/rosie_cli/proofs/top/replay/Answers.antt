@@ -4,12 +4,12 @@ use Rattle.rosie_cli.specs.Report.{KnowsInputs}
 use Rattle.rosie_cli.proofs.Calls.{answers-of}
 use Rattle.rosie_cli.proofs.Paying.{pays_session}
 use Rattle.rosie_cli.proofs.Whole.{session-goes, session-runs}
-use Rattle.rosie_cli.proofs.top.session.Goals as goal
+use Rattle.rosie_cli.proofs.top.replay.Goals as goal
 
 pub returns-clause-answers : goal.returns-clause-answers
 returns-clause-answers g c =
     let e = c.run_session-run.ensures in
-    answers-of _ c.run_session-run.result _ _ (c.finish.ensures.closes c.run_session-run.new.steps) e.cause e.sinks
+    answers-of _ c.run_session-run.result _ _ (c.finish.ensures.closes c.run_session-run.new.outputs.steps.now) e.cause e.sinks
     c.finish.ensures.cause
     (λ p t s inputs.
     let tells = subst (λ (q : Planned). KnowsInputs q.plan g.F.Source.tells g.I.Source.tells) s.plan inputs in

@@ -9,7 +9,7 @@ use Rattle.rosie_cli.specs.Words.{asked}
 use Rattle.rosie_cli.proofs.Calls.{answers-by, answers-of, untouched-cause}
 use Rattle.rosie_cli.proofs.Paying.{promise_holds}
 use Rattle.rosie_cli.proofs.Whole.{do-goes-on, do-knows, do-planned, planned-goes, refused-plan, refused-runs, said-goes}
-use Rattle.rosie_cli.proofs.top.rosie.Goals as goal
+use Rattle.rosie_cli.proofs.top.run_words.Goals as goal
 
 pub returns-in-Refuse-clause-answers : goal.returns-in-Refuse-clause-answers
 returns-in-Refuse-clause-answers g c =
@@ -17,17 +17,17 @@ returns-in-Refuse-clause-answers g c =
     let a = asked (words_of c.args.words.now) in
     let e = rw c.in-Refuse.is at c.in-Ok.ensures in
     let r = c.refuse-run.result in
-    answers-of _ r _ _ (c.finish.ensures.closes c.args.steps.now) (untouched-cause r c.refuse-run.ensures.no_cut _ _)
+    answers-of _ r _ _ (c.finish.ensures.closes c.args.outputs.now.steps.now) (untouched-cause r c.refuse-run.ensures.no_cut _ _)
     c.refuse-run.ensures.sinks c.finish.ensures.cause
     (λ p known is inputs. refused-runs r _ p text _ _ _ _ _ (refused-plan a text _ p e is)
-    (c.refuse-run.ensures.runs c.args.steps.now))
+    (c.refuse-run.ensures.runs c.args.outputs.now.steps.now))
     (λ p known is inputs. planned-goes r p (refusal text) _ (refused-plan a text _ p e is) (said-goes r (refusal text) _ tt))
     (λ p is. promise_holds a _ p is)
 
 pub returns-in-Err-clause-answers : goal.returns-in-Err-clause-answers
 returns-in-Err-clause-answers g c =
-    answers-of _ (Err E.NoMemory) (shown g.O.Sink g.E.Sink c.args.out.now c.args.err.now c.args.steps.now)
-    (failures g.O.Sink g.E.Sink c.args.out.now c.args.err.now) (c.finish-in-Err.ensures.closes c.args.steps.now)
+    answers-of _ (Err E.NoMemory) (shown g.O.Sink g.E.Sink c.args.outputs.now.out.now c.args.outputs.now.err.now c.args.outputs.now.steps.now)
+    (failures g.O.Sink g.E.Sink c.args.outputs.now.out.now c.args.outputs.now.err.now) (c.finish-in-Err.ensures.closes c.args.outputs.now.steps.now)
     (untouched-cause (Err E.NoMemory) tt _ _) (refl, refl) c.finish-in-Err.ensures.cause
     (λ p known is inputs. fronts-none _ _ _) (λ p known is inputs. tt)
     (λ p is. promise_holds (asked (words_of c.args.words.now)) _ p is)
