@@ -48,7 +48,8 @@ fn reading(whole: bool) -> Reading
     }
 }
 
-/// What a run writes on, of its parts.
+/// What a run writes on, of its parts. It is made by a call: of three references in one value that
+/// is made in place, the checker proves nothing.
 fn outputs_of<'a, O: Sink, E: Sink, L: Ledger>(
     out: &'a mut O,
     err: &'a mut E,
