@@ -66,6 +66,13 @@ impl Program {
         self.sets.get(id as usize)
     }
 
+    /// The texts, the first with the number 0.
+    pub fn labels(&self) -> &[Chars]
+        ensures { result.now ≡ labels_of self.now }
+    {
+        self.labels.as_slice()
+    }
+
     /// The text with this number: the type of a tree, or a note.
     pub fn label(&self, id: u32) -> Option<&str>
         ensures { option_map chars (option_copied result) ≡ slice_get (labels_of self.now) id }
