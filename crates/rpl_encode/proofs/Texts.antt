@@ -1,7 +1,7 @@
 -- The texts of fronts, and what is written of a note.
 use Rattle.std.proofs.Common.{inl, inr, ◌≡◌, Bool, true, ltb, ℕ, suc, ◌+◌, List, [], ◌∷◌, ◌++◌, length, take, None, Some, refl, sym, ap, ap₂, ◌∙◌, arith, append_assoc}
 use Rattle.std.specs.Prelude.{map, chars, string_bytes, slice_get, option_map, get_or, decimal, codes, encode_utf8_all}
-use Rattle.std.proofs.lemmas.List.{map-append, take_all}
+use Rattle.std.proofs.lemmas.List.{map-append}
 use Rattle.std.proofs.lemmas.Option.{slice_get_cases, slice_get_read, get_or_from_slice_get, slice_get-map}
 use Rattle.std.proofs.lemmas.Str.{encodes-chars, IsUtf8-string_bytes}
 use Rattle.std.proofs.lemmas.Bool.{ltb-true}
@@ -28,14 +28,6 @@ one_more labels list front n text so_far got same =
           ∙ sym (take-suc labels n text w.1)
           ∙ ap (λ k. take k labels) (sym one)
       | inr w ↦ absurd (let e : None ≡ Some text = sym w.1 ∙ got in cc)
-    ]
-
--- past the last text all of them are there
-pub all_there : (labels : List (List ℕ)) (list : List Front) (n : ℕ) → texts_in list ≡ take n labels → slice_get labels n ≡ None → texts_in list ≡ labels
-all_there labels list n so_far past =
-    elim (slice_get_cases labels n).1 [
-      | inl w ↦ absurd (let e : Some w.0 ≡ None = sym w.2 ∙ past in cc)
-      | inr w ↦ so_far ∙ take_all n labels w.0
     ]
 
 -- the bytes of the text with a number are those of its front

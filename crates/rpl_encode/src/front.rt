@@ -12,7 +12,7 @@ use crate::escapes::put_bytes;
 use crate::page::Page;
 use rpl_core::{NoMemory, Program};
 use rpl_print::push_quoted;
-use std::alloc::{AllocError, Global};
+use std::alloc::Global;
 use std::marker::Model;
 
 /// The front of the objects of nodes of one type, which is written once.
@@ -65,18 +65,13 @@ impl Fronts {
     pub fn new(alloc: Global, program: &Program) -> Result<Fronts, NoMemory>
         ensures { IfOk result (λ fronts. fronts ≡ labels_of program.now) }
     {
+        let labels = program.labels();
         let mut list = Vec::new(alloc);
-        let mut number = 0;
-        while number < u32::MAX {
-            let Some(label) = program.label(number) else {
-                return Ok(Fronts { list });
-            };
-            let front = Front::new(alloc, label)?;
+        for label in labels {
+            let front = Front::new(alloc, label.as_str())?;
             list.push(front)?;
-            number += 1;
         }
-        // No memory holds so many texts.
-        Err(AllocError)
+        Ok(Fronts { list })
     }
 
     /// The text with this number.
