@@ -6,7 +6,7 @@ ghost use Rattle.rpl_encode.specs.inside.Walk.{ending};
 use itoa::write_digits;
 use rpl_core::NoMemory;
 use rpl_tree::Node;
-use std::alloc::{AllocError, Global};
+use std::alloc::Global;
 use std::marker::Model;
 
 /// A text that grows at its end, in memory that is kept when it is cleared. Contracts see its
@@ -137,9 +137,8 @@ fn lengthen(bytes: &mut Vec<u8>, len: usize, count: usize) -> Result<(), NoMemor
     ensures inside { len ≤ vec_len bytes.new }
     ensures room { OnOk result (len + count ≤ vec_len bytes.new) }
 {
-    let Some(least) = len.checked_add(count) else {
-        return Err(AllocError);
-    };
+    // Where a sum saturates, no `Vec` can have so many bytes, and `resize` fails.
+    let least = len.saturating_add(count);
     bytes.resize(least.saturating_add(STEP), 0)
 }
 
