@@ -1,7 +1,7 @@
 -- Steps of the search for an import's file.
 use Rattle.std.proofs.Common.{◌≡◌, ℕ, ◌+◌, ◌<◌, List, [], ◌∷◌, length, drop, get_or, None, sym, ap}
 use Rattle.std.proofs.Common.{subst, ◌∙◌}
-use Rattle.std.specs.Prelude.{encode_utf8_all}
+use Rattle.std.specs.Prelude.{encode_utf8_all, Result, Ok, Err, IsErrAnd}
 use Rattle.std.specs.List.{Contains}
 use Rattle.std.proofs.lemmas.List.Elements.{Contains-append_left, Contains-append_right}
 use Rattle.rosie_io.specs.Opening.{file_of}
@@ -11,7 +11,7 @@ use Rattle.rpl_scope.specs.declared.fault.LoadKind.TheVariants as K
 use Rattle.rpl_scope.specs.declared.fault.Stop.{Stop}
 use Rattle.rpl_scope.specs.declared.fault.Stop.TheVariants.{Memory, Fault}
 use Rattle.rpl_scope.proofs.Checking.{front}
-use Rattle.rpl_package.specs.Asking.{KindAsks, StopAsks}
+use Rattle.rpl_package.specs.Asking.{Asks, KindAsks, StopAsks}
 use Rattle.rpl_package.specs.Loading.{file_in, find, found_or, tried, tried_then}
 
 kind_asks : (k : LoadKind) (f : LoadFault) (xs ys : List (List ℕ)) → ((p : List ℕ) → Contains xs p → Contains ys p) → KindAsks k f xs → KindAsks k f ys
@@ -22,6 +22,11 @@ kind_asks _ f xs ys more h = tt
 pub asks_more : (s : Stop) (xs ys : List (List ℕ)) → ((p : List ℕ) → Contains xs p → Contains ys p) → StopAsks s xs → StopAsks s ys
 asks_more Memory xs ys more h = tt
 asks_more (Fault f) xs ys more h = kind_asks f.kind f xs ys more h
+
+-- what `?` returns asks as the call did
+pub asks_passed : {X : Type 0} (res : Result X Stop) (s : Stop) (xs : List (List ℕ)) → IsErrAnd res (λ t. t ≡ s) → StopAsks s xs → Asks res xs
+asks_passed (Ok x) s xs h k = absurd h
+asks_passed (Err t) s xs h k = subst (λ u. StopAsks u xs) (sym h) k
 
 module _ (tree : List (List ℕ × List ℕ)) (folders : List (List ℕ)) (path : List ℕ) (i : ℕ) (d : List ℕ) (lt : i < length folders) (is : d ≡ get_or folders i d) where
   rest : List (List ℕ)

@@ -1,6 +1,6 @@
 -- Steps of a loading, and what follows them.
 use Rattle.std.proofs.Common.{◌≡◌, ◌⊎◌, inl, inr, ℕ, List, [], ◌∷◌, refl, sym, ap, subst, ◌∙◌, false, true≢false, arith}
-use Rattle.std.specs.Prelude.{Result, Ok, Err}
+use Rattle.std.specs.Prelude.{Result, Ok, Err, IfOk, IfErr, IsErrAnd}
 use Rattle.std.specs.List.{Contains}
 use Rattle.std.proofs.lemmas.List.Elements.{Contains-append_cases, Contains-append_left, Contains-append_right}
 use Rattle.rpl_scope.specs.Faults.{Or, ◌>>=◌, is_silent, StopIs, Gives}
@@ -32,6 +32,24 @@ may_lead (Fault f) a b h e = explains_on f.kind f a b h e
 pub walks_lead : {X A : Type 0} (see : X → A) (res : Result X Stop) (a b : Outcome A) → Follows a b → Walks see res a → Walks see res b
 walks_lead see (Ok x) a b h e = sym h.0 ∙ e
 walks_lead see (Err s) a b h e = may_lead s a b h e
+
+-- what `?` returns stops as the call did
+pub err_passed : {X : Type 0} (P : Stop → Type 0) (res : Result X Stop) (s : Stop) → IsErrAnd res (λ t. t ≡ s) → P s → IfErr res P
+err_passed P (Ok x) s h k = tt
+err_passed P (Err t) s h k = subst P (sym h) k
+
+pub passed_on : {X A : Type 0} (see : X → A) (res : Result X Stop) (s : Stop) (o : Outcome A) → IsErrAnd res (λ t. t ≡ s) → MayStop s o → Walks see res o
+passed_on see (Ok x) s o h k = absurd h
+passed_on see (Err t) s o h k = subst (λ u. MayStop u o) (sym h) k
+
+-- what a call that is made last answers
+pub if_ok : {X : Type 0} (res : Result X Stop) (P : X → Type 0) → ((x : X) → res ≡ Ok x → P x) → IfOk res P
+if_ok (Ok x) P h = h x refl
+if_ok (Err s) P h = tt
+
+pub walks_last : {X A : Type 0} (see : X → A) (res : Result X Stop) (o : Outcome A) → IfErr res (λ s. s ≡ Memory) → ((x : X) → res ≡ Ok x → o.answer ≡ Ok (see x)) → Walks see res o
+walks_last see (Ok x) o h k = k x refl
+walks_last see (Err s) o h k = subst (λ t. MayStop t o) (sym h) tt
 
 explains_then : {A B : Type 0} (k : LoadKind) (f : LoadFault) (a : Outcome A) (next : A → Outcome B) → Explains k f a → Explains k f (and_then a next)
 explains_then K.NoMemory f a next e = tt

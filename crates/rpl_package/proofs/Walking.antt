@@ -4,7 +4,7 @@ use Rattle.std.proofs.Common.{refl, sym, ap, ap₂, ◌∙◌, true, false, arit
 use Rattle.std.specs.Prelude.{nat_lt, if◌then◌else◌, Ok}
 use Rattle.rpl_syntax.specs.Modules.{ParsedModule}
 use Rattle.rpl_syntax.specs.declared.module.Import.{Import}
-use Rattle.rpl_scope.specs.Faults.{fault, fault_at, ◌>>=◌, IsStop, StopIs}
+use Rattle.rpl_scope.specs.Faults.{fault, fault_at, IsStop, StopIs}
 use Rattle.rpl_scope.specs.Packages.{first_of}
 use Rattle.rpl_scope.specs.declared.fault.Stop.{Stop}
 use Rattle.rpl_scope.proofs.Stops.{told}

@@ -53,14 +53,8 @@ fn finish_set(
 {
     let mut stock = stock;
     stock.held.clear();
-    let top = match finish(alloc, &mut stock, own) {
-        Ok(top) => top,
-        Err(stop) => return Err(stop),
-    };
-    let table = match table_of(alloc, &stock.modules) {
-        Ok(table) => table,
-        Err(stop) => return Err(stop),
-    };
+    let top = finish(alloc, &mut stock, own)?;
+    let table = table_of(alloc, &stock.modules)?;
     Ok(PackageSet {
         stock,
         top,
@@ -82,8 +76,6 @@ pub fn load_set<F: Files>(
     ensures files { LeavesFiles F.Source result files.old files.new }
 {
     let mut state = begin(alloc)?;
-    match enter_roots(alloc, files, folders, &mut state, roots) {
-        Ok(into) => finish_set(alloc, state.stock, state.own, into),
-        Err(stop) => Err(stop),
-    }
+    let into = enter_roots(alloc, files, folders, &mut state, roots)?;
+    finish_set(alloc, state.stock, state.own, into)
 }

@@ -68,10 +68,8 @@ pub fn locate<F: Files>(
 {
     for folder in folders {
         let file = file_in(alloc, folder, path)?;
-        match read_in(alloc, files, &file) {
-            Err(stop) => return Err(stop),
-            Ok(Some(read)) => return Ok(Some(Located { file, read })),
-            Ok(None) => {}
+        if let Some(read) = read_in(alloc, files, &file)? {
+            return Ok(Some(Located { file, read }));
         }
     }
     Ok(None)

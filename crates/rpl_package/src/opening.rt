@@ -98,15 +98,11 @@ fn find_import<F: Files>(
         folders,
         ..
     } = walker.importer;
-    let found = match locate(alloc, files, folders, &import.path) {
-        Ok(Some(found)) => found,
-        Ok(None) => {
-            let kind = LoadKind::ImportMissing {
-                path: import.path.copy(alloc)?,
-            };
-            return Err(fault_at(alloc, file, import.at, kind));
-        }
-        Err(stop) => return Err(stop),
+    let Some(found) = locate(alloc, files, folders, &import.path)? else {
+        let kind = LoadKind::ImportMissing {
+            path: import.path.copy(alloc)?,
+        };
+        return Err(fault_at(alloc, file, import.at, kind));
     };
     if stock.modules.len() >= MAX_MODULES || MAX_MODULES - stock.modules.len() <= stock.held.len() {
         return Err(fault_at(alloc, file, import.at, LoadKind::TooManyPackages));
@@ -204,19 +200,13 @@ fn open_found(
     if walker.depth == 0 {
         return Err(fault_at(alloc, &file, 0, LoadKind::TooManyPackages));
     }
-    let text = match read_module(alloc, &file, read) {
-        Ok(text) => text,
-        Err(stop) => return Err(stop),
-    };
+    let text = read_module(alloc, &file, read)?;
     let head = imported_head(alloc, &text.package, path)?;
     let importer = Importer {
         file: &file,
         ..walker.importer
     };
-    let own = match open_own(stock, importer, head, &text) {
-        Ok(own) => own,
-        Err(stop) => return Err(stop),
-    };
+    let own = open_own(stock, importer, head, &text)?;
     let opened = boxed(alloc, ImportedText { file, text }, own)?;
     Ok(opened)
 }
@@ -243,14 +233,8 @@ pub fn open_import<F: Files>(
     ensures kept { stock_seen stock.new ≡ stock_seen stock.old }
     ensures files { LeavesFiles F.Source result files.old files.new }
 {
-    let found = match find_import(files, stock, walker, import) {
-        Ok(found) => found,
-        Err(stop) => return Err(stop),
-    };
-    match open_found(stock, walker, &import.path, found) {
-        Ok(opened) => Ok(opened),
-        Err(stop) => Err(stop),
-    }
+    let found = find_import(files, stock, walker, import)?;
+    open_found(stock, walker, &import.path, found)
 }
 
 /// The number of a module whose text is done, which is the last of those that were being loaded.

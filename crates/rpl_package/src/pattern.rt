@@ -191,14 +191,8 @@ fn enter_name<F: Files>(
         importer,
         depth: MAX_MODULES,
     };
-    let number = match load_import(files, stock, &walker, &import) {
-        Ok(number) => number,
-        Err(stop) => return Err(stop),
-    };
-    if let Err(stop) = put(stock, top, importer, &import, number) {
-        return Err(stop);
-    }
-    Ok(())
+    let number = load_import(files, stock, &walker, &import)?;
+    put(stock, top, importer, &import, number)
 }
 
 /// The packages that the names of a pattern ask for, in order.
@@ -222,9 +216,7 @@ fn enter_names<F: Files>(
     ensures files { LeavesFiles F.Source result files.old files.new }
 {
     for name in all {
-        if let Err(stop) = enter_name(files, stock, top, importer, name) {
-            return Err(stop);
-        }
+        enter_name(files, stock, top, importer, name)?;
     }
     Ok(())
 }
@@ -252,9 +244,7 @@ fn check_pattern(
         own,
         start,
     };
-    if let Err(stop) = check_names(alloc, file, scope, all) {
-        return Err(stop);
-    }
+    check_names(alloc, file, scope, all)?;
     let mut uses = Vec::new(alloc);
     push_uses(e, &mut uses)?;
     check_macros(alloc, file, &uses)
@@ -284,13 +274,8 @@ fn enter_expr<F: Files>(
 {
     let mut all = Vec::new(importer.alloc);
     push_names(e, &mut all)?;
-    if let Err(stop) = enter_names(files, stock, top, importer, &all) {
-        return Err(stop);
-    }
-    if let Err(stop) = check_pattern(stock, top, importer, &all, e) {
-        return Err(stop);
-    }
-    Ok(())
+    enter_names(files, stock, top, importer, &all)?;
+    check_pattern(stock, top, importer, &all, e)
 }
 
 /// The expression of a pattern, with all that it imports.
@@ -317,12 +302,7 @@ pub fn enter_pattern<F: Files>(
     ensures files { LeavesFiles F.Source result files.old files.new }
 {
     let Importer { alloc, file, .. } = importer;
-    let e = match read_goal(alloc, file, goal.text, goal.fixed, goal.find) {
-        Ok(e) => e,
-        Err(stop) => return Err(stop),
-    };
-    if let Err(stop) = enter_expr(files, stock, top, importer, &e) {
-        return Err(stop);
-    }
+    let e = read_goal(alloc, file, goal.text, goal.fixed, goal.find)?;
+    enter_expr(files, stock, top, importer, &e)?;
     Ok(e)
 }

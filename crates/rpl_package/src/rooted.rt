@@ -77,13 +77,8 @@ fn enter_named<F: Files>(
         importer,
         depth: MAX_MODULES,
     };
-    let number = match load_own(files, &mut state.stock, &walker, head, text) {
-        Ok(number) => number,
-        Err(stop) => return Err(stop),
-    };
-    if let Err(stop) = put_prefix(alloc, &mut state.own, &name.name, number) {
-        return Err(stop);
-    }
+    let number = load_own(files, &mut state.stock, &walker, head, text)?;
+    put_prefix(alloc, &mut state.own, &name.name, number)?;
     Ok(Some(number))
 }
 
@@ -112,9 +107,7 @@ pub fn enter_root<F: Files>(
                 importer,
                 depth: MAX_MODULES,
             };
-            if let Err(stop) = load_text(files, &mut state.stock, &mut state.own, &walker, text) {
-                return Err(stop);
-            }
+            load_text(files, &mut state.stock, &mut state.own, &walker, text)?;
             Ok(None)
         }
         Some(name) => {
@@ -157,10 +150,7 @@ pub fn enter_given<F: Files>(
     ensures within { IfOk result (λ n. IfSome n (λ i. i < length state.new.stock.modules.items)) }
     ensures files { LeavesFiles F.Source result files.old files.new }
 {
-    let said = match read_given(importer.alloc, importer.file, text) {
-        Ok(said) => said,
-        Err(stop) => return Err(stop),
-    };
+    let said = read_given(importer.alloc, importer.file, text)?;
     enter_root(files, state, importer, &said)
 }
 
@@ -183,24 +173,16 @@ pub fn enter_file<F: Files>(
     ensures within { IfOk result (λ n. IfSome n (λ i. i < length state.new.stock.modules.items)) }
     ensures files { LeavesFiles F.Source result files.old files.new }
 {
-    let read = match read_in(alloc, files, path) {
-        Ok(Some(read)) => read,
-        Ok(None) => return Err(fault_at(alloc, path, 0, LoadKind::RootMissing)),
-        Err(stop) => return Err(stop),
+    let Some(read) = read_in(alloc, files, path)? else {
+        return Err(fault_at(alloc, path, 0, LoadKind::RootMissing));
     };
-    let said = match read_module(alloc, path, read) {
-        Ok(said) => said,
-        Err(stop) => return Err(stop),
-    };
+    let said = read_module(alloc, path, read)?;
     let importer = Importer {
         alloc,
         file: path,
         folders,
     };
-    match enter_root(files, state, importer, &said) {
-        Ok(number) => Ok(number),
-        Err(stop) => Err(stop),
-    }
+    enter_root(files, state, importer, &said)
 }
 
 /// How many roots are given themselves, up to this one.
@@ -285,10 +267,7 @@ pub fn enter_roots<F: Files>(
     for root in roots {
         given = next(given, root);
         let turn = Turn { given, root };
-        let number = match enter_one(alloc, files, folders, state, turn) {
-            Ok(number) => number,
-            Err(stop) => return Err(stop),
-        };
+        let number = enter_one(alloc, files, folders, state, turn)?;
         into.push(number)?;
     }
     Ok(into)

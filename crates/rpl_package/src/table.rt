@@ -151,10 +151,7 @@ pub fn table_of(alloc: Global, modules: &[Module]) -> Result<Table, Stop>
             number: from,
             label: &module.label,
         };
-        blocks = match push_rules(alloc, &mut rows, owner, blocks, &module.rules) {
-            Ok(blocks) => blocks,
-            Err(stop) => return Err(stop),
-        };
+        blocks = push_rules(alloc, &mut rows, owner, blocks, &module.rules)?;
         from += 1;
     }
     Ok(Table { rows, firsts })

@@ -60,10 +60,7 @@ pub fn load_import<F: Files>(
     if let Some(number) = stock.paths.get(&import.path) {
         return Ok(number);
     }
-    let Opened { read, mut own } = match open_import(files, stock, walker, import) {
-        Ok(opened) => opened,
-        Err(stop) => return Err(stop),
-    };
+    let Opened { read, mut own } = open_import(files, stock, walker, import)?;
     let importer = Importer {
         file: &read.file,
         ..walker.importer
@@ -72,13 +69,8 @@ pub fn load_import<F: Files>(
         importer,
         depth: walker.depth - 1,
     };
-    if let Err(stop) = load_text(files, stock, &mut own, &inner, &read.text) {
-        return Err(stop);
-    }
-    match close(walker.importer.alloc, stock, own) {
-        Ok(number) => Ok(number),
-        Err(stop) => Err(stop),
-    }
+    load_text(files, stock, &mut own, &inner, &read.text)?;
+    close(walker.importer.alloc, stock, own)
 }
 
 /// A text of the module at work: its imports, and then its statements.
@@ -103,15 +95,10 @@ pub fn load_text<F: Files>(
     let Importer { alloc, file, .. } = walker.importer;
     let number = push_text(alloc, own, file)?;
     let imports = text.imports.as_slice();
-    if let Err(stop) = enter_imports(files, stock, own, walker, imports) {
-        return Err(stop);
-    }
+    enter_imports(files, stock, own, walker, imports)?;
     let items = text.items.as_slice();
     let place = ModuleText { file, number };
-    if let Err(stop) = enter_items(alloc, &stock.modules, own, place, items) {
-        return Err(stop);
-    }
-    Ok(())
+    enter_items(alloc, &stock.modules, own, place, items)
 }
 
 /// Import entries in order.
@@ -134,9 +121,7 @@ pub fn enter_imports<F: Files>(
     ensures files { LeavesFiles F.Source result files.old files.new }
 {
     for import in imports {
-        if let Err(stop) = enter_import(files, stock, own, walker, import) {
-            return Err(stop);
-        }
+        enter_import(files, stock, own, walker, import)?;
     }
     Ok(())
 }
@@ -160,19 +145,13 @@ fn enter_import<F: Files>(
         (state_seen stock.new own.new)) }
     ensures files { LeavesFiles F.Source result files.old files.new }
 {
-    let number = match load_import(files, stock, walker, import) {
-        Ok(number) => number,
-        Err(stop) => return Err(stop),
-    };
+    let number = load_import(files, stock, walker, import)?;
     let Importer { alloc, file, .. } = walker.importer;
     let from = Loaded {
         modules: &stock.modules,
         number,
     };
-    if let Err(stop) = take_in(alloc, own, file, import, from) {
-        return Err(stop);
-    }
-    Ok(())
+    take_in(alloc, own, file, import, from)
 }
 
 /// The number of the module of a text of its own, which is loaded now: its package name first.
@@ -193,16 +172,8 @@ pub fn load_own<F: Files>(
         (n, stock_seen stock.new)) }
     ensures files { LeavesFiles F.Source result files.old files.new }
 {
-    let mut own = match open_own(stock, walker.importer, head, text) {
-        Ok(own) => own,
-        Err(stop) => return Err(stop),
-    };
-    if let Err(stop) = load_text(files, stock, &mut own, walker, text) {
-        return Err(stop);
-    }
+    let mut own = open_own(stock, walker.importer, head, text)?;
+    load_text(files, stock, &mut own, walker, text)?;
     stock.held.pop();
-    match finish(walker.importer.alloc, stock, own) {
-        Ok(number) => Ok(number),
-        Err(stop) => Err(stop),
-    }
+    finish(walker.importer.alloc, stock, own)
 }

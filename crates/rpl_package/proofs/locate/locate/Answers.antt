@@ -3,19 +3,21 @@ use Rattle.std.specs.Prelude.{encode_utf8_all}
 use Rattle.std.specs.List.{Contains}
 use Rattle.rosie_io.specs.Opening.{file_of}
 use Rattle.rpl_package.proofs.Leaving.{after}
-use Rattle.rpl_package.proofs.Locating.{asks_more, asks_first, asks_next, finds_next}
+use Rattle.rpl_package.proofs.Locating.{asks_more, asks_passed, asks_first, asks_next, finds_next}
 use Rattle.rpl_package.proofs.locate.locate.Goals as goal
 
-pub returns-in-Err-clause-asks : goal.returns-in-Err-clause-asks
-returns-in-Err-clause-asks g c = λ tells.
+pub returns-in_err-read-clause-asks : goal.returns-in_err-read-clause-asks
+returns-in_err-read-clause-asks g c = λ tells.
     let T = g.F.Source.tree c.args.files.now in
     let ds = c.args.folders.now in
     let path = c.args.path.now in
     let i = c.loop-folder.folder-index in
-    asks_more c.in-Err.stop (c.in_ok-file.file ∷ []) _
+    let s = c.in_err-read.field-0.0 in
+    asks_passed c.from_residual-in_err-read.result s _ c.from_residual-in_err-read.ensures.1
+    (asks_more s (c.in_ok-file.file ∷ []) _
     (λ p h. c.loop-folder.invariant.more tells p
     (asks_first T ds path i c.folder-item.result c.loop-folder-test.true c.folder-item.is p (subst (λ f. Contains (f ∷ []) p) c.in_ok-file.ensures h)))
-    c.in-Err.ensures.asks
+    c.in_err-read.ensures.asks)
 
 pub loop-folder-preserved : goal.loop-folder-preserved
 loop-folder-preserved g c =
@@ -27,11 +29,11 @@ loop-folder-preserved g c =
     let inv = c.loop-folder.invariant in
     let here = ap₂ (λ f t. file_of (encode_utf8_all f) t) (sym c.in_ok-file.ensures) (sym inv.files.tree) in
     record {
-      files = after g.F.Source _ _ _ _ _ _ inv.files c.in-Ok-None.ensures.files;
+      files = after g.F.Source _ _ _ _ _ _ inv.files c.in_ok-read.ensures.files;
       more = λ tells p h.
-          let none = rw c.in-Ok-None.field-0-is at c.in-Ok-None.ensures.found tells in
+          let none = rw c.in_default.is at c.in_ok-read.ensures.found tells in
           inv.more tells p (asks_next T ds path i d c.loop-folder-test.true c.folder-item.is (here ∙ none) p h);
       left = λ tells.
-          let none = rw c.in-Ok-None.field-0-is at c.in-Ok-None.ensures.found tells in
+          let none = rw c.in_default.is at c.in_ok-read.ensures.found tells in
           finds_next T ds path i d c.loop-folder-test.true c.folder-item.is (here ∙ none) ∙ inv.left tells;
     }

@@ -6,21 +6,24 @@ use Rattle.rpl_scope.specs.Seen.{module_seen}
 use Rattle.rpl_package.specs.Loading.{world}
 use Rattle.rpl_package.specs.Stocks.{stock_seen, state_seen}
 use Rattle.rpl_package.proofs.Beginning.{import_goes}
+use Rattle.rpl_package.proofs.Outcomes.{if_ok}
 use Rattle.rpl_package.proofs.opening.open_import.Goals as goal
 
-pub returns-in-Ok-open_found-clause-goes : goal.returns-in-Ok-open_found-clause-goes
-returns-in-Ok-open_found-clause-goes g c = λ tells.
+pub returns-clause-goes : goal.returns-clause-goes
+returns-clause-goes g c = λ tells. if_ok c.open_found.result _ (λ o is.
     let k = c.args.walker.now in
     let W = world (g.F.Source.tree c.args.files.now) k.importer.folders.now in
     let S = stock_seen c.args.stock.now in
     let hs = c.args.stock.now.held.items in
-    let o = c.in-Ok-open_found.opened in
-    let e = c.in-Ok-open_found.ensures in
-    let found = c.in-Ok.ensures.found tells in
+    let file = rw is at c.open_found.ensures.file in
+    let said_read = rw is at c.open_found.ensures.read in
+    let deep = rw is at c.open_found.ensures.deep in
+    let begins = rw is at c.open_found.ensures.begins in
+    let found = c.in_ok-found.ensures.found tells in
     let bytes = found.0 in
-    let is = found.1 ∙ ap (λ x. Some (x, bytes)) (sym e.file) in
-    let read = subst (λ x. W.text x bytes ≡ Ok (said o.read.value.text)) (sym e.file) (e.read bytes found.2) in
+    let there = found.1 ∙ ap (λ x. Some (x, bytes)) (sym file) in
+    let read = subst (λ x. W.text x bytes ≡ Ok (said o.read.value.text)) (sym file) (said_read bytes found.2) in
     let count : length S.modules ≡ length c.args.stock.now.modules.items = length-map c.args.stock.now.modules.items module_seen in
-    let room = subst (λ n. nat_lt (n + length hs) 1024 ≡ true) (sym count) c.in-Ok.ensures.room in
+    let room = subst (λ n. nat_lt (n + length hs) 1024 ≡ true) (sym count) c.in_ok-found.ensures.room in
     import_goes W k.depth hs k.importer.file.now c.args.import.now S o.read.value.file bytes (said o.read.value.text) c.open_found.new.stock.held.items (state_seen c.open_found.new.stock o.own.value)
-    c.requires.free c.requires.new is room e.deep read e.begins
+    c.requires.free c.requires.new there room deep read begins)

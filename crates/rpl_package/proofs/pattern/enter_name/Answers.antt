@@ -7,46 +7,38 @@ use Rattle.rpl_package.specs.Patterns.{needed_at}
 use Rattle.rpl_package.specs.Stocks.{stock_seen}
 use Rattle.rpl_package.proofs.Bringing.{brought_leads, unreached}
 use Rattle.rpl_package.proofs.Building.{asks_at, puts_on}
-use Rattle.rpl_package.proofs.Outcomes.{may, may_lead}
+use Rattle.rpl_package.proofs.Outcomes.{gives_walks, if_ok, passed_on, walks_lead}
 use Rattle.rpl_package.proofs.Placing.{cuts_keeps}
 use Rattle.rpl_package.proofs.pattern.enter_name.Goals as goal
 
-pub returns-in-Err-clause-gives : goal.returns-in-Err-clause-gives
-returns-in-Err-clause-gives g c = λ tells.
+pub returns-in_err-number-clause-gives : goal.returns-in_err-number-clause-gives
+returns-in_err-number-clause-gives g c = λ tells.
     let W = world (g.F.Source.tree c.args.files.now) c.args.importer.folders.now in
     let asked = ap (λ l. needed_at c.args.name.now (nth (modules_seen l) c.args.top)) (sym c.deref.ensures.value) ∙ sym c.in_ok-asked.ensures ∙ c.in-Some.is in
-    unreached W c.args.importer.file.now c.args.top (stock_seen c.args.stock.now) c.args.name.now c.in-Some.import _ asked c.requires.idle c.in-Err.stop (c.in-Err.ensures.gives tells)
-
-pub returns-in-Err-put-clause-gives : goal.returns-in-Err-put-clause-gives
-returns-in-Err-put-clause-gives g c = λ tells.
-    let W = world (g.F.Source.tree c.args.files.now) c.args.importer.folders.now in
-    let asked = ap (λ l. needed_at c.args.name.now (nth (modules_seen l) c.args.top)) (sym c.deref.ensures.value) ∙ sym c.in_ok-asked.ensures ∙ c.in-Some.is in
-    let s = c.in-Err-put.stop in
-    may_lead s _ _ (brought_leads W c.args.importer.file.now c.args.top (stock_seen c.args.stock.now) c.args.name.now c.in-Some.import _ asked c.requires.idle _ (c.in-Ok.ensures.gives tells)) (may s _ c.in-Err-put.ensures.gives)
+    let s = c.in_err-number.field-0.0 in
+    passed_on _ c.from_residual-in_err-number.result s _ c.from_residual-in_err-number.ensures.1
+    (unreached W c.args.importer.file.now c.args.top (stock_seen c.args.stock.now) c.args.name.now c.in-Some.import _ asked c.requires.idle s (c.in_err-number.ensures.gives tells))
 
 pub returns-clause-gives : goal.returns-clause-gives
 returns-clause-gives g c = λ tells.
     let W = world (g.F.Source.tree c.args.files.now) c.args.importer.folders.now in
     let asked = ap (λ l. needed_at c.args.name.now (nth (modules_seen l) c.args.top)) (sym c.deref.ensures.value) ∙ sym c.in_ok-asked.ensures ∙ c.in-Some.is in
-    sym (brought_leads W c.args.importer.file.now c.args.top (stock_seen c.args.stock.now) c.args.name.now c.in-Some.import _ asked c.requires.idle _ (c.in-Ok.ensures.gives tells)).0 ∙ c.in_default-put.ensures.gives
+    walks_lead _ c.put.result _ _ (brought_leads W c.args.importer.file.now c.args.top (stock_seen c.args.stock.now) c.args.name.now c.in-Some.import _ asked c.requires.idle _ (c.in_ok-number.ensures.gives tells)) (gives_walks _ c.put.result _ c.put.ensures.gives)
 
-pub returns-in-Err-clause-kept : goal.returns-in-Err-clause-kept
-returns-in-Err-clause-kept g c = λ a h. cuts_keeps c.args.top a (stock_seen c.args.stock.now) (stock_seen c.load_import.new.stock) h c.in-Err.ensures.kept
-
-pub returns-in-Err-put-clause-kept : goal.returns-in-Err-put-clause-kept
-returns-in-Err-put-clause-kept g c = λ a h. c.in-Err-put.ensures.kept a (cuts_keeps c.args.top a (stock_seen c.args.stock.now) (stock_seen c.load_import.new.stock) h c.in-Ok.ensures.kept)
+pub returns-in_err-number-clause-kept : goal.returns-in_err-number-clause-kept
+returns-in_err-number-clause-kept g c = λ a h. cuts_keeps c.args.top a (stock_seen c.args.stock.now) (stock_seen c.load_import.new.stock) h c.in_err-number.ensures.kept
 
 pub returns-clause-kept : goal.returns-clause-kept
-returns-clause-kept g c = λ a h. c.in_default-put.ensures.kept a (cuts_keeps c.args.top a (stock_seen c.args.stock.now) (stock_seen c.load_import.new.stock) h c.in-Ok.ensures.kept)
+returns-clause-kept g c = λ a h. c.put.ensures.kept a (cuts_keeps c.args.top a (stock_seen c.args.stock.now) (stock_seen c.load_import.new.stock) h c.in_ok-number.ensures.kept)
 
 pub returns-clause-built : goal.returns-clause-built
 returns-clause-built g c =
     let S = stock_seen c.args.stock.now in
     let U = stock_seen c.load_import.new.stock in
     let wants = ap (λ l. needed_at c.args.name.now (nth (modules_seen l) c.args.top)) (sym c.deref.ensures.value) ∙ sym c.in_ok-asked.ensures ∙ c.in-Some.is in
-    puts_on c.args.top S (stock_seen c.put.new.stock) U c.in-Ok.number c.args.importer.file.now c.in-Some.import
+    if_ok c.put.result _ (λ x is. puts_on c.args.top S (stock_seen c.put.new.stock) U c.in_ok-number.number c.args.importer.file.now c.in-Some.import
     (asks_at c.args.name.now _ c.in-Some.import c.requires.goal wants)
-    (subst (λ h. Reaches h c.in-Some.import.path S (c.in-Ok.number, U)) c.requires.idle c.in-Ok.ensures.built) c.in_default-put.ensures.gives
+    (subst (λ h. Reaches h c.in-Some.import.path S (c.in_ok-number.number, U)) c.requires.idle c.in_ok-number.ensures.built) (rw is at c.put.ensures.gives))
 
 pub load_import-requires : goal.load_import-requires
 load_import-requires g c =

@@ -6,21 +6,22 @@ use Rattle.rpl_package.specs.Patterns.{pattern_name}
 use Rattle.rpl_package.specs.Stocks.{stock_seen}
 use Rattle.rpl_package.proofs.Building.{one_of}
 use Rattle.rpl_package.proofs.Leaving.{after}
-use Rattle.rpl_package.proofs.Outcomes.{same, may_lead, turn_on, turn_stop}
+use Rattle.rpl_package.proofs.Outcomes.{passed_on, same, may_lead, turn_on, turn_stop}
 use Rattle.rpl_package.proofs.pattern.enter_names.Goals as goal
 
-pub returns-in-Err-clause-gives : goal.returns-in-Err-clause-gives
-returns-in-Err-clause-gives g c = λ tells.
+pub returns-in_err-enter_name-clause-gives : goal.returns-in_err-enter_name-clause-gives
+returns-in_err-enter_name-clause-gives g c = λ tells.
     let ds = c.args.importer.folders.now in
     let f = c.args.importer.file.now in
     let i = c.args.top in
     let q = c.name-item.result in
     let s0 = stock_seen c.loop-name.stock in
     let inv = c.loop-name.invariant in
-    let s = c.in-Err.stop in
-    turn_stop (pattern_name (world (g.F.Source.tree c.args.files.now) ds) f i) _ _ q.now s0 _
+    let s = c.in_err-enter_name.field-0.0 in
+    passed_on _ c.from_residual.result s _ c.from_residual.ensures.1
+    (turn_stop (pattern_name (world (g.F.Source.tree c.args.files.now) ds) f i) _ _ q.now s0 _
     (ap (map (λ x. x.now)) (front c.args.all.now c.loop-name.name-index q c.loop-name-test.true c.name-item.is)) (inv.left tells) s
-    (may_lead s _ _ (same _ _ (ap (λ U. pattern_name (world U ds) f i q.now s0) inv.files.tree)) (c.in-Err.ensures.gives tells))
+    (may_lead s _ _ (same _ _ (ap (λ U. pattern_name (world U ds) f i q.now s0) inv.files.tree)) (c.in_err-enter_name.ensures.gives tells)))
 
 pub loop-name-preserved : goal.loop-name-preserved
 loop-name-preserved g c =
@@ -34,14 +35,14 @@ loop-name-preserved g c =
     let s0 = stock_seen c.loop-name.stock in
     let inv = c.loop-name.invariant in
     record {
-      files = after g.F.Source _ _ _ _ _ _ inv.files c.in_default.ensures.files;
-      held = c.in_default.ensures.held ∙ inv.held;
-      kept = λ a h. c.in_default.ensures.kept a (inv.kept a h);
-      built = λ rs h. c.in_default.ensures.built rs (inv.built rs h);
+      files = after g.F.Source _ _ _ _ _ _ inv.files c.in_ok-enter_name.ensures.files;
+      held = c.in_ok-enter_name.ensures.held ∙ inv.held;
+      kept = λ a h. c.in_ok-enter_name.ensures.kept a (inv.kept a h);
+      built = λ rs h. c.in_ok-enter_name.ensures.built rs (inv.built rs h);
       left = λ tells.
           turn_on (pattern_name W f i) (map (λ x. x.now) (drop n all)) (map (λ x. x.now) (drop (n + 1) all)) q.now s0 _
           (ap (map (λ x. x.now)) (front all n q c.loop-name-test.true c.name-item.is)) (inv.left tells) (stock_seen c.enter_name.new.stock)
-          (ap (λ U. (pattern_name (world U ds) f i q.now s0).answer) (sym inv.files.tree) ∙ c.in_default.ensures.gives tells);
+          (ap (λ U. (pattern_name (world U ds) f i q.now s0).answer) (sym inv.files.tree) ∙ c.in_ok-enter_name.ensures.gives tells);
     }
 
 pub enter_name-requires-clause-goal : goal.enter_name-requires-clause-goal

@@ -8,40 +8,37 @@ use Rattle.rpl_package.specs.Loading.{world}
 use Rattle.rpl_package.specs.Patterns.{enter_pattern, pattern_fault}
 use Rattle.rpl_scope.specs.Packages.{nth}
 use Rattle.rpl_package.specs.Stocks.{stock_seen}
-use Rattle.rpl_package.proofs.Leaving.{unread}
-use Rattle.rpl_package.proofs.Outcomes.{same, may_lead, may_then, then_follows}
+use Rattle.rpl_package.proofs.Outcomes.{passed_on, same, may_lead, may_then, then_follows}
 use Rattle.rpl_package.proofs.pattern.enter_pattern.Goals as goal
 
 pub read_goal-requires : goal.read_goal-requires
 read_goal-requires g c = c.requires.file
 
-pub returns-in-Err-clause-files : goal.returns-in-Err-clause-files
-returns-in-Err-clause-files g c = unread g.F.Source c.in-Err.stop _ c.in-Err.ensures.loud
-
-pub returns-in-Err-enter_expr-clause-gives : goal.returns-in-Err-enter_expr-clause-gives
-returns-in-Err-enter_expr-clause-gives g c = λ tells r h.
+pub returns-in_err-enter_expr-clause-gives : goal.returns-in_err-enter_expr-clause-gives
+returns-in_err-enter_expr-clause-gives g c = λ tells r h.
     let W = world (g.F.Source.tree c.args.files.now) c.args.importer.folders.now in
     let S = stock_seen c.args.stock.now in
     let i = c.args.top in
-    let x = expr_of c.in-Ok.e in
+    let x = expr_of c.in_ok-e.e in
     let file = c.requires.file in
-    let s = c.in-Err-enter_expr.stop in
-    may_lead s _ _ (then_follows (at_once r) x (λ e. and_then (enter_pattern W pattern_file i S e) (λ t. at_once (Ok (e, t)))) (c.in-Ok.ensures.gives r h))
+    let s = c.in_err-enter_expr.field-0.0 in
+    passed_on _ c.from_residual-in_err-enter_expr.result s _ c.from_residual-in_err-enter_expr.ensures.1
+    (may_lead s _ _ (then_follows (at_once r) x (λ e. and_then (enter_pattern W pattern_file i S e) (λ t. at_once (Ok (e, t)))) (c.in_ok-e.ensures.gives r h))
     (may_then s (enter_pattern W pattern_file i S x) (λ t. at_once (Ok (x, t)))
-    (may_lead s _ _ (same _ _ (ap (λ f. enter_pattern W f i S x) file)) (c.in-Err-enter_expr.ensures.gives tells)))
+    (may_lead s _ _ (same _ _ (ap (λ f. enter_pattern W f i S x) file)) (c.in_err-enter_expr.ensures.gives tells))))
 
 pub returns-clause-right : goal.returns-clause-right
 returns-clause-right g c =
     let file = c.requires.file in
     let S = stock_seen c.enter_expr.new.stock in
-    subst (λ f. pattern_fault f (expr_of c.in-Ok.e) S.modules (nth S.modules c.args.top) ≡ None) file c.in_default.ensures.right
+    subst (λ f. pattern_fault f (expr_of c.in_ok-e.e) S.modules (nth S.modules c.args.top) ≡ None) file c.in_ok-enter_expr.ensures.right
 
 pub returns-clause-gives : goal.returns-clause-gives
 returns-clause-gives g c = λ tells r h.
     let W = world (g.F.Source.tree c.args.files.now) c.args.importer.folders.now in
     let S = stock_seen c.args.stock.now in
     let i = c.args.top in
-    let x = expr_of c.in-Ok.e in
+    let x = expr_of c.in_ok-e.e in
     let file = c.requires.file in
-    ap (λ q. q >>= λ y. (and_then (enter_pattern W pattern_file i S y) (λ t. at_once (Ok (y, t)))).answer) (c.in-Ok.ensures.gives r h)
-    ∙ ap (λ q. q >>= λ t. Ok (x, t)) (ap (λ f. (enter_pattern W f i S x).answer) (sym file) ∙ c.in_default.ensures.gives tells)
+    ap (λ q. q >>= λ y. (and_then (enter_pattern W pattern_file i S y) (λ t. at_once (Ok (y, t)))).answer) (c.in_ok-e.ensures.gives r h)
+    ∙ ap (λ q. q >>= λ t. Ok (x, t)) (ap (λ f. (enter_pattern W f i S x).answer) (sym file) ∙ c.in_ok-enter_expr.ensures.gives tells)

@@ -1,6 +1,6 @@
-use Rattle.std.proofs.Common.{arith, length, ap, sym}
+use Rattle.std.proofs.Common.{arith, ap, sym}
 use Rattle.std.proofs.lemmas.List.{length-map}
-use Rattle.rpl_scope.specs.Seen.{modules_seen, rule_seen}
+use Rattle.rpl_scope.specs.Seen.{rule_seen}
 use Rattle.rpl_package.specs.Targets as T
 use Rattle.rpl_package.proofs.Numbering.{nth_seen, seen_past}
 use Rattle.rpl_package.proofs.resolve.rule_count.Goals as goal

@@ -4,12 +4,14 @@ use Rattle.rpl_package.specs.Loading.{world}
 use Rattle.rpl_package.specs.Roots.{root_text}
 use Rattle.rpl_package.specs.Stocks.{state_seen}
 use Rattle.rpl_package.specs.Texts.{module_text}
-use Rattle.rpl_package.proofs.Outcomes.{may, may_then}
+use Rattle.rpl_package.proofs.Outcomes.{may, may_then, passed_on}
 use Rattle.rpl_package.proofs.rooted.enter_given.Goals as goal
 
-pub returns-in-Err-clause-gives : goal.returns-in-Err-clause-gives
-returns-in-Err-clause-gives g c = λ tells.
+pub returns-in_err-said-clause-gives : goal.returns-in_err-said-clause-gives
+returns-in_err-said-clause-gives g c = λ tells.
     let W = world (g.F.Source.tree c.args.files.now) c.args.importer.folders.now in
     let s0 = state_seen c.args.state.now.stock c.args.state.now.own in
     let r = module_text c.args.importer.file.now (encode_utf8_all c.args.text.now) in
-    may_then c.in-Err.stop (at_once r) (λ t. root_text W c.args.importer.file.now t t.name s0) (may c.in-Err.stop r c.in-Err.ensures.gives)
+    let s = c.in_err-said.field-0.0 in
+    passed_on _ c.from_residual.result s _ c.from_residual.ensures.1
+    (may_then s (at_once r) (λ t. root_text W c.args.importer.file.now t t.name s0) (may s r c.in_err-said.ensures.gives))

@@ -8,13 +8,13 @@ use Rattle.rpl_package.specs.Built.{on, same as stays}
 use Rattle.rpl_package.specs.Roots.{Roots, top_head, counted, next, root_by, root_entry}
 use Rattle.rpl_package.specs.Stocks.{state_seen}
 use Rattle.rpl_package.proofs.Leaving.{after, still}
-use Rattle.rpl_package.proofs.Outcomes.{same, trail, may_lead, may_then, turn_on, turn_stop}
+use Rattle.rpl_package.proofs.Outcomes.{passed_on, same, trail, may_lead, may_then, turn_on, turn_stop}
 use Rattle.rpl_package.proofs.Rooting.{counted_front, next_few}
 use Rattle.rpl_package.proofs.Within.{grows_seen, within_none, within_push}
 use Rattle.rpl_package.proofs.rooted.enter_roots.Goals as goal
 
-pub returns-in-Err-clause-gives : goal.returns-in-Err-clause-gives
-returns-in-Err-clause-gives g c = λ tells.
+pub returns-in_err-number-clause-gives : goal.returns-in_err-number-clause-gives
+returns-in_err-number-clause-gives g c = λ tells.
     let ds = c.args.folders.now in
     let W = world (g.F.Source.tree c.args.files.now) ds in
     let r = c.root-item.result in
@@ -22,10 +22,11 @@ returns-in-Err-clause-gives g c = λ tells.
     let s0 = state_seen c.loop-root.state.stock c.loop-root.state.own in
     let st : Roots = record { roots = c.loop-root.into.items; state = s0 } in
     let inv = c.loop-root.invariant in
-    let stop = c.in-Err.stop in
-    turn_stop (root_entry W) _ _ (next k r, r) st _ (counted_front k c.args.roots.now c.loop-root.root-index r c.loop-root-test.true c.root-item.is) (inv.left tells) stop
+    let stop = c.in_err-number.field-0.0 in
+    passed_on _ c.from_residual.result stop _ c.from_residual.ensures.1
+    (turn_stop (root_entry W) _ _ (next k r, r) st _ (counted_front k c.args.roots.now c.loop-root.root-index r c.loop-root-test.true c.root-item.is) (inv.left tells) stop
     (may_then stop (root_by W (next k r) r s0) (λ t. at_once (Ok (record { roots = st.roots ++ t.0 ∷ []; state = t.1 })))
-    (may_lead stop _ _ (same _ _ (ap₂ (λ U j. root_by (world U ds) j r s0) inv.files.tree c.next-given.ensures)) (c.in-Err.ensures.gives tells)))
+    (may_lead stop _ _ (same _ _ (ap₂ (λ U j. root_by (world U ds) j r s0) inv.files.tree c.next-given.ensures)) (c.in_err-number.ensures.gives tells))))
 
 pub loop-root-preserved : goal.loop-root-preserved
 loop-root-preserved g c =
@@ -38,18 +39,18 @@ loop-root-preserved g c =
     let s0 = state_seen c.loop-root.state.stock c.loop-root.state.own in
     let s1 = state_seen c.enter_one.new.state.stock c.enter_one.new.state.own in
     let st : Roots = record { roots = c.loop-root.into.items; state = s0 } in
-    let st1 : Roots = record { roots = c.loop-root.into.items ++ c.in-Ok.number ∷ []; state = s1 } in
+    let st1 : Roots = record { roots = c.loop-root.into.items ++ c.in_ok-number.number ∷ []; state = s1 } in
     let inv = c.loop-root.invariant in
-    let pushed = ap length c.in_ok-push.ensures.items ∙ length-append c.loop-root.into.items (c.in-Ok.number ∷ []) in
+    let pushed = ap length c.in_ok-push.ensures.items ∙ length-append c.loop-root.into.items (c.in_ok-number.number ∷ []) in
     record {
-      files = after g.F.Source _ _ _ _ _ _ inv.files c.in-Ok.ensures.files;
-      held = c.in-Ok.ensures.held ∙ inv.held;
-      built = on (top_head ∷ []) _ s0 s1 inv.built c.in-Ok.ensures.built;
+      files = after g.F.Source _ _ _ _ _ _ inv.files c.in_ok-number.ensures.files;
+      held = c.in_ok-number.ensures.held ∙ inv.held;
+      built = on (top_head ∷ []) _ s0 s1 inv.built c.in_ok-number.ensures.built;
       few = omega (arith, inv.few, next_few k r, c.next-given.ensures);
       many = omega (arith, inv.many, pushed);
-      within = within_push c.loop-root.into.items _ c.in-Ok.number _ _ c.in_ok-push.ensures.items (grows_seen (top_head ∷ []) c.loop-root.state.stock c.enter_one.new.state.stock s0 s1 c.in-Ok.ensures.built refl refl) inv.within c.in-Ok.ensures.within;
+      within = within_push c.loop-root.into.items _ c.in_ok-number.number _ _ c.in_ok-push.ensures.items (grows_seen (top_head ∷ []) c.loop-root.state.stock c.enter_one.new.state.stock s0 s1 c.in_ok-number.ensures.built refl refl) inv.within c.in_ok-number.ensures.within;
       left = λ tells.
-          let one = ap₂ (λ U j. (root_by (world U ds) j r s0).answer) (sym inv.files.tree) (sym c.next-given.ensures) ∙ c.in-Ok.ensures.gives tells in
+          let one = ap₂ (λ U j. (root_by (world U ds) j r s0).answer) (sym inv.files.tree) (sym c.next-given.ensures) ∙ c.in_ok-number.ensures.gives tells in
           trail _ _ _
           (same _ _ (ap₂ (λ j xs. each_in_turn (root_entry W) (counted j (drop (n + 1) rs)) (record { roots = xs; state = s1 })) c.next-given.ensures c.in_ok-push.ensures.items))
           (turn_on (root_entry W) (counted k (drop n rs)) (counted (next k r) (drop (n + 1) rs)) (next k r, r) st _ (counted_front k rs n r c.loop-root-test.true c.root-item.is) (inv.left tells) st1

@@ -13,7 +13,7 @@ use Rattle.rpl_package.proofs.Building.{asks_by, brings, texts_on}
 use Rattle.rpl_package.proofs.Keeping.{keeps_same, keeps_trans}
 use Rattle.rpl_package.proofs.Leaving.{after, still}
 use Rattle.rpl_package.proofs.Beginning.{begins_on, held_back, inner_stops, inner_taken}
-use Rattle.rpl_package.proofs.Outcomes.{same, may_lead, may_then, turn_on, turn_stop}
+use Rattle.rpl_package.proofs.Outcomes.{if_ok, passed_on, walks_last, same, may_lead, may_then, turn_on, turn_stop}
 use Rattle.rpl_package.proofs.Walking.{reach_cycle}
 use Rattle.rpl_package.proofs.walk.+load.Goals as goal
 
@@ -31,37 +31,38 @@ load_import-open_import-requires g t c = record {
   new = sym c.get.ensures ∙ c.in_default.is;
 }
 
-pub load_import-returns-in-Err-load_text-clause-gives : goal.load_import-returns-in-Err-load_text-clause-gives
-load_import-returns-in-Err-load_text-clause-gives g t c = λ tells.
+pub load_import-returns-in_err-load_text-clause-gives : goal.load_import-returns-in_err-load_text-clause-gives
+load_import-returns-in_err-load_text-clause-gives g t c = λ tells.
     let k = c.args.walker.now in
-    let stop = c.in-Err-load_text.stop in
+    let stop = c.in_err-load_text.field-0.0 in
     let S = stock_seen c.open_import.new.stock in
-    inner_stops (g.F.Source.tree c.args.files.now) (g.F.Source.tree c.open_import.new.files) k.importer.folders.now (k.depth - 1) c.open_import.new.stock.held.items
-    (record { stock = S; own = module_seen c.in-Ok.opened.own.value }) (record { stock = S; own = module_seen c.deref_mut.result.now }) c.in-Ok.opened.read.value c.deref-2.result.now c.deref-3.result.now _
-    c.open_import.ensures.files.tree (ap (λ m. record { stock = S; own = module_seen m }) c.deref_mut.ensures.value) c.deref-2.ensures c.deref-3.ensures (c.in-Ok.ensures.goes tells) stop (c.in-Err-load_text.ensures.gives tells)
+    passed_on _ c.from_residual-in_err-load_text.result stop _ c.from_residual-in_err-load_text.ensures.1
+    (inner_stops (g.F.Source.tree c.args.files.now) (g.F.Source.tree c.open_import.new.files) k.importer.folders.now (k.depth - 1) c.open_import.new.stock.held.items
+    (record { stock = S; own = module_seen c.in_ok-read.field-0.own.value }) (record { stock = S; own = module_seen c.deref_mut.result.now }) c.in_ok-read.field-0.read.value c.deref-2.result.now c.deref-3.result.now _
+    c.open_import.ensures.files.tree (ap (λ m. record { stock = S; own = module_seen m }) c.deref_mut.ensures.value) c.deref-2.ensures c.deref-3.ensures (c.in_ok-read.ensures.goes tells) stop (c.in_err-load_text.ensures.gives tells))
 
-pub load_import-returns-in-Ok-close-clause-gives : goal.load_import-returns-in-Ok-close-clause-gives
-load_import-returns-in-Ok-close-clause-gives g t c = λ tells.
+pub load_import-returns-clause-gives : goal.load_import-returns-clause-gives
+load_import-returns-clause-gives g t c = λ tells.
     let k = c.args.walker.now in
     let S = stock_seen c.open_import.new.stock in
-    inner_taken (g.F.Source.tree c.args.files.now) (g.F.Source.tree c.open_import.new.files) k.importer.folders.now (k.depth - 1) c.open_import.new.stock.held.items
-    (record { stock = S; own = module_seen c.in-Ok.opened.own.value }) (record { stock = S; own = module_seen c.deref_mut.result.now }) c.in-Ok.opened.read.value c.deref-2.result.now c.deref-3.result.now _
-    c.open_import.ensures.files.tree (ap (λ m. record { stock = S; own = module_seen m }) c.deref_mut.ensures.value) c.deref-2.ensures c.deref-3.ensures (c.in-Ok.ensures.goes tells) _ (c.in_default-load_text.ensures.gives tells)
-    ∙ ap Ok (sym c.in-Ok-close.ensures.taken)
+    walks_last _ c.close.result _ c.close.ensures.memory (λ n is. inner_taken (g.F.Source.tree c.args.files.now) (g.F.Source.tree c.open_import.new.files) k.importer.folders.now (k.depth - 1) c.open_import.new.stock.held.items
+    (record { stock = S; own = module_seen c.in_ok-read.field-0.own.value }) (record { stock = S; own = module_seen c.deref_mut.result.now }) c.in_ok-read.field-0.read.value c.deref-2.result.now c.deref-3.result.now _
+    c.open_import.ensures.files.tree (ap (λ m. record { stock = S; own = module_seen m }) c.deref_mut.ensures.value) c.deref-2.ensures c.deref-3.ensures (c.in_ok-read.ensures.goes tells) _ (c.in_ok-load_text.ensures.gives tells)
+    ∙ ap Ok (sym (rw is at c.close.ensures.taken)))
 
-pub load_import-returns-in-Ok-close-clause-held : goal.load_import-returns-in-Ok-close-clause-held
-load_import-returns-in-Ok-close-clause-held g t c =
-    let b = c.in-Ok.ensures.begins in
-    c.in-Ok-close.ensures.held ∙ held_back c.args.stock.now.held.items c.load_text.new.stock.held.items _ (c.in_default-load_text.ensures.held ∙ b.held)
+pub load_import-returns-clause-held : goal.load_import-returns-clause-held
+load_import-returns-clause-held g t c =
+    let b = c.in_ok-read.ensures.begins in
+    if_ok c.close.result _ (λ n is. rw is at c.close.ensures.held ∙ held_back c.args.stock.now.held.items c.load_text.new.stock.held.items _ (c.in_ok-load_text.ensures.held ∙ b.held))
 
-pub load_import-returns-in-Ok-close-clause-built : goal.load_import-returns-in-Ok-close-clause-built
-load_import-returns-in-Ok-close-clause-built g t c =
-    let o = c.in-Ok.opened in
+pub load_import-returns-clause-built : goal.load_import-returns-clause-built
+load_import-returns-clause-built g t c =
+    let o = c.in_ok-read.field-0 in
     let v = state_seen c.load_text.new.stock c.load_text.new.own in
-    inr (v, begins_on c.args.stock.now.held.items c.args.import.now.path (stock_seen c.args.stock.now) (said o.read.value.text) c.open_import.new.stock.held.items (state_seen c.open_import.new.stock o.own.value) v c.in-Ok.ensures.begins (subst (λ m. Becomes c.open_import.new.stock.held.items (record { stock = stock_seen c.open_import.new.stock; own = module_seen m }) v) c.deref_mut.ensures.value c.in_default-load_text.ensures.built), c.in-Ok-close.ensures.taken)
+    if_ok c.close.result _ (λ n is. inr (v, begins_on c.args.stock.now.held.items c.args.import.now.path (stock_seen c.args.stock.now) (said o.read.value.text) c.open_import.new.stock.held.items (state_seen c.open_import.new.stock o.own.value) v c.in_ok-read.ensures.begins (subst (λ m. Becomes c.open_import.new.stock.held.items (record { stock = stock_seen c.open_import.new.stock; own = module_seen m }) v) c.deref_mut.ensures.value c.in_ok-load_text.ensures.built), rw is at c.close.ensures.taken))
 
-pub enter_imports-returns-in-Err-clause-gives : goal.enter_imports-returns-in-Err-clause-gives
-enter_imports-returns-in-Err-clause-gives g t c = λ tells.
+pub enter_imports-returns-in_err-enter_import-clause-gives : goal.enter_imports-returns-in_err-enter_import-clause-gives
+enter_imports-returns-in_err-enter_import-clause-gives g t c = λ tells.
     let ds = c.args.walker.now.importer.folders.now in
     let W = world (g.F.Source.tree c.args.files.now) ds in
     let d = c.args.walker.now.depth in
@@ -69,9 +70,11 @@ enter_imports-returns-in-Err-clause-gives g t c = λ tells.
     let i = c.import-item.result in
     let s0 = state_seen c.loop-import.stock c.loop-import.own in
     let inv = c.loop-import.invariant in
-    turn_stop (import_entry W (walk W d) c.args.stock.now.held.items f) _ _ i s0 _
-    (front c.args.imports.now c.loop-import.import-index i c.loop-import-test.true c.import-item.is) (inv.left tells) c.in-Err.stop
-    (may_lead c.in-Err.stop _ _ (same _ _ (ap₂ (λ U h. import_entry (world U ds) (walk (world U ds) d) h f i s0) inv.files.tree inv.held)) (c.in-Err.ensures.gives tells))
+    let s = c.in_err-enter_import.field-0.0 in
+    passed_on _ c.from_residual.result s _ c.from_residual.ensures.1
+    (turn_stop (import_entry W (walk W d) c.args.stock.now.held.items f) _ _ i s0 _
+    (front c.args.imports.now c.loop-import.import-index i c.loop-import-test.true c.import-item.is) (inv.left tells) s
+    (may_lead s _ _ (same _ _ (ap₂ (λ U h. import_entry (world U ds) (walk (world U ds) d) h f i s0) inv.files.tree inv.held)) (c.in_err-enter_import.ensures.gives tells)))
 
 pub enter_imports-loop-import-preserved : goal.enter_imports-loop-import-preserved
 enter_imports-loop-import-preserved g t c =
@@ -86,21 +89,21 @@ enter_imports-loop-import-preserved g t c =
     let s0 = state_seen c.loop-import.stock c.loop-import.own in
     let inv = c.loop-import.invariant in
     record {
-      files = after g.F.Source _ _ _ _ _ _ inv.files c.in_default.ensures.files;
-      held = c.in_default.ensures.held ∙ inv.held;
-      kept = keeps_trans _ _ _ inv.kept c.in_default.ensures.kept;
-      built = on hs _ s0 _ inv.built (subst (λ h. Becomes h s0 (state_seen c.enter_import.new.stock c.enter_import.new.own)) inv.held c.in_default.ensures.built);
+      files = after g.F.Source _ _ _ _ _ _ inv.files c.in_ok-enter_import.ensures.files;
+      held = c.in_ok-enter_import.ensures.held ∙ inv.held;
+      kept = keeps_trans _ _ _ inv.kept c.in_ok-enter_import.ensures.kept;
+      built = on hs _ s0 _ inv.built (subst (λ h. Becomes h s0 (state_seen c.enter_import.new.stock c.enter_import.new.own)) inv.held c.in_ok-enter_import.ensures.built);
       left = λ tells.
           turn_on (import_entry W (walk W d) hs f) (drop n is) (drop (n + 1) is) i s0 _ (front is n i c.loop-import-test.true c.import-item.is) (inv.left tells)
           (state_seen c.enter_import.new.stock c.enter_import.new.own)
-          (ap₂ (λ U h. (import_entry (world U ds) (walk (world U ds) d) h f i s0).answer) (sym inv.files.tree) (sym inv.held) ∙ c.in_default.ensures.gives tells);
+          (ap₂ (λ U h. (import_entry (world U ds) (walk (world U ds) d) h f i s0).answer) (sym inv.files.tree) (sym inv.held) ∙ c.in_ok-enter_import.ensures.gives tells);
     }
 
 pub enter_import-returns-clause-built : goal.enter_import-returns-clause-built
 enter_import-returns-clause-built g t c =
     let S = stock_seen c.load_import.new.stock in
-    brings c.args.stock.now.held.items c.args.walker.now.importer.file.now c.args.import.now (state_seen c.args.stock.now c.args.own.now) (c.in-Ok.number, S) (module_seen c.take_in.new.own) c.requires.asked c.in-Ok.ensures.built
-    (ap (λ l. take_in c.args.walker.now.importer.file.now c.args.import.now c.in-Ok.number (modules_seen l) (module_seen c.args.own.now)) (sym c.deref.ensures.value) ∙ c.in_default.ensures)
+    if_ok c.take_in.result _ (λ x is. brings c.args.stock.now.held.items c.args.walker.now.importer.file.now c.args.import.now (state_seen c.args.stock.now c.args.own.now) (c.in_ok-number.number, S) (module_seen c.take_in.new.own) c.requires.asked c.in_ok-number.ensures.built
+    (ap (λ l. take_in c.args.walker.now.importer.file.now c.args.import.now c.in_ok-number.number (modules_seen l) (module_seen c.args.own.now)) (sym c.deref.ensures.value) ∙ rw is at c.take_in.ensures))
 
 pub enter_imports-loop-import-init : goal.enter_imports-loop-import-init
 enter_imports-loop-import-init g t c = record {
@@ -111,17 +114,18 @@ enter_imports-loop-import-init g t c = record {
   left = λ tells. (refl, λ p h. h);
 }
 
-pub load_text-returns-in-Err-clause-gives : goal.load_text-returns-in-Err-clause-gives
-load_text-returns-in-Err-clause-gives g t c = λ tells.
+pub load_text-returns-in_err-enter_imports-clause-gives : goal.load_text-returns-in_err-enter_imports-clause-gives
+load_text-returns-in_err-enter_imports-clause-gives g t c = λ tells.
     let W = world (g.F.Source.tree c.args.files.now) c.args.walker.now.importer.folders.now in
     let d = c.args.walker.now.depth in
     let hs = c.args.stock.now.held.items in
     let f = c.args.walker.now.importer.file.now in
     let x = said c.args.text.now in
     let S = stock_seen c.args.stock.now in
-    let s = c.in-Err.stop in
-    may_then s (import_entries W (walk W d) hs f x.imports (record { stock = S; own = with_text (module_seen c.args.own.now) f })) (said_of f (length c.args.own.now.texts.items) x)
-    (may_lead s _ _ (same _ _ (ap₂ (λ is o. import_entries W (walk W d) hs f is (record { stock = S; own = o })) c.as_slice-imports.ensures c.in_ok-number.ensures.text)) (c.in-Err.ensures.gives tells))
+    let s = c.in_err-enter_imports.field-0.0 in
+    passed_on _ c.from_residual-in_err-enter_imports.result s _ c.from_residual-in_err-enter_imports.ensures.1
+    (may_then s (import_entries W (walk W d) hs f x.imports (record { stock = S; own = with_text (module_seen c.args.own.now) f })) (said_of f (length c.args.own.now.texts.items) x)
+    (may_lead s _ _ (same _ _ (ap₂ (λ is o. import_entries W (walk W d) hs f is (record { stock = S; own = o })) c.as_slice-imports.ensures c.in_ok-number.ensures.text)) (c.in_err-enter_imports.ensures.gives tells)))
 
 pub load_text-returns-clause-built : goal.load_text-returns-clause-built
 load_text-returns-clause-built g t c =
@@ -130,18 +134,20 @@ load_text-returns-clause-built g t c =
     let m = module_seen c.enter_items.new.own in
     let a = state_seen c.args.stock.now c.push_text.new.own in
     let b = state_seen c.enter_imports.new.stock c.enter_imports.new.own in
-    texts_on c.args.stock.now.held.items f c.in_ok-number.number (state_seen c.args.stock.now c.args.own.now) a b (said c.args.text.now) m c.requires.said
-    (ap (λ o. record { stock = S; own = o }) c.in_ok-number.ensures.text) c.in_default.ensures.built
-    (ap₂ (λ l is. statements f c.in_ok-number.number (modules_seen l) (entries_of is) (module_seen c.enter_imports.new.own)) (sym c.deref.ensures.value) (sym c.as_slice-items.ensures) ∙ c.in_default-enter_items.ensures)
+    if_ok c.enter_items.result _ (λ y is. texts_on c.args.stock.now.held.items f c.in_ok-number.number (state_seen c.args.stock.now c.args.own.now) a b (said c.args.text.now) m c.requires.said
+    (ap (λ o. record { stock = S; own = o }) c.in_ok-number.ensures.text) c.in_ok-enter_imports.ensures.built
+    (ap₂ (λ l is. statements f c.in_ok-number.number (modules_seen l) (entries_of is) (module_seen c.enter_imports.new.own)) (sym c.deref.ensures.value) (sym c.as_slice-items.ensures) ∙ rw is at c.enter_items.ensures))
 
-pub enter_import-returns-in-Err-clause-gives : goal.enter_import-returns-in-Err-clause-gives
-enter_import-returns-in-Err-clause-gives g t c = λ tells.
+pub enter_import-returns-in_err-number-clause-gives : goal.enter_import-returns-in_err-number-clause-gives
+enter_import-returns-in_err-number-clause-gives g t c = λ tells.
     let W = world (g.F.Source.tree c.args.files.now) c.args.walker.now.importer.folders.now in
     let hs = c.args.stock.now.held.items in
     let f = c.args.walker.now.importer.file.now in
     let i = c.args.import.now in
     let S = stock_seen c.args.stock.now in
-    may_then c.in-Err.stop (reached W (walk W c.args.walker.now.depth) hs f i S) (brought f i (module_seen c.args.own.now)) (c.in-Err.ensures.gives tells)
+    let s = c.in_err-number.field-0.0 in
+    passed_on _ c.from_residual.result s _ c.from_residual.ensures.1
+    (may_then s (reached W (walk W c.args.walker.now.depth) hs f i S) (brought f i (module_seen c.args.own.now)) (c.in_err-number.ensures.gives tells))
 
 pub enter_imports-enter_import-requires : goal.enter_imports-enter_import-requires
 enter_imports-enter_import-requires g t c = λ κs lives.

@@ -7,54 +7,56 @@ use Rattle.rpl_package.specs.Loading.{world, walk, own_text, taken_up}
 use Rattle.rpl_package.specs.Stocks.{stock_seen, state_seen}
 use Rattle.rpl_package.proofs.Beginning.{begun_free, own_goes, own_stops}
 use Rattle.rpl_package.proofs.Building.{makes_by}
-use Rattle.rpl_package.proofs.Outcomes.{may_lead, may_then}
+use Rattle.rpl_package.proofs.Outcomes.{if_ok, passed_on, walks_last, may_lead, may_then}
 use Rattle.rpl_package.proofs.walk.load_own.Goals as goal
 
-pub returns-in-Err-clause-gives : goal.returns-in-Err-clause-gives
-returns-in-Err-clause-gives g c = λ tells.
+pub returns-in_err-own-clause-gives : goal.returns-in_err-own-clause-gives
+returns-in_err-own-clause-gives g c = λ tells.
     let k = c.args.walker.now in
     let W = world (g.F.Source.tree c.args.files.now) k.importer.folders.now in
     let S = stock_seen c.args.stock.now in
     let hs = c.args.stock.now.held.items in
     let h = c.args.head in
     let t = said c.args.text.now in
-    let s = c.in-Err.stop in
-    may_then s (own_text W (walk W k.depth) S hs k.importer.file.now h.path h.label t) (λ u. at_once (Ok (taken_up u)))
-    (own_stops W (walk W k.depth) S hs k.importer.file.now h t s c.in-Err.ensures.gives)
+    let s = c.in_err-own.field-0.0 in
+    passed_on _ c.from_residual.result s _ c.from_residual.ensures.1
+    (may_then s (own_text W (walk W k.depth) S hs k.importer.file.now h.path h.label t) (λ u. at_once (Ok (taken_up u)))
+    (own_stops W (walk W k.depth) S hs k.importer.file.now h t s c.in_err-own.ensures.gives))
 
-pub returns-in-Err-load_text-clause-gives : goal.returns-in-Err-load_text-clause-gives
-returns-in-Err-load_text-clause-gives g c = λ tells.
+pub returns-in_err-load_text-clause-gives : goal.returns-in_err-load_text-clause-gives
+returns-in_err-load_text-clause-gives g c = λ tells.
     let k = c.args.walker.now in
     let W = world (g.F.Source.tree c.args.files.now) k.importer.folders.now in
     let S = stock_seen c.args.stock.now in
     let hs = c.args.stock.now.held.items in
     let h = c.args.head in
     let t = said c.args.text.now in
-    let s = c.in-Err-load_text.stop in
-    let led = own_goes W (walk W k.depth) S hs k.importer.file.now h t c.open_own.new.stock.held.items (state_seen c.open_own.new.stock c.in-Ok.own) c.in-Ok.ensures.gives c.in-Ok.ensures.held in
-    may_then s (own_text W (walk W k.depth) S hs k.importer.file.now h.path h.label t) (λ u. at_once (Ok (taken_up u)))
-    (may_lead s _ _ led (c.in-Err-load_text.ensures.gives tells))
+    let s = c.in_err-load_text.field-0.0 in
+    let led = own_goes W (walk W k.depth) S hs k.importer.file.now h t c.open_own.new.stock.held.items (state_seen c.open_own.new.stock c.in_ok-own.own) c.in_ok-own.ensures.gives c.in_ok-own.ensures.held in
+    passed_on _ c.from_residual-in_err-load_text.result s _ c.from_residual-in_err-load_text.ensures.1
+    (may_then s (own_text W (walk W k.depth) S hs k.importer.file.now h.path h.label t) (λ u. at_once (Ok (taken_up u)))
+    (may_lead s _ _ led (c.in_err-load_text.ensures.gives tells)))
 
-pub returns-in-Ok-finish-clause-gives : goal.returns-in-Ok-finish-clause-gives
-returns-in-Ok-finish-clause-gives g c = λ tells.
+pub returns-clause-gives : goal.returns-clause-gives
+returns-clause-gives g c = λ tells.
     let k = c.args.walker.now in
     let W = world (g.F.Source.tree c.args.files.now) k.importer.folders.now in
     let S = stock_seen c.args.stock.now in
     let hs = c.args.stock.now.held.items in
     let h = c.args.head in
     let t = said c.args.text.now in
-    let led = own_goes W (walk W k.depth) S hs k.importer.file.now h t c.open_own.new.stock.held.items (state_seen c.open_own.new.stock c.in-Ok.own) c.in-Ok.ensures.gives c.in-Ok.ensures.held in
-    ap (λ r. r >>= λ u. Ok (taken_up u)) (sym led.0 ∙ c.in_default.ensures.gives tells)
-    ∙ ap₂ (λ n s. Ok (n, s)) (sym c.in-Ok-finish.ensures.number) (sym c.in-Ok-finish.ensures.stock)
+    let led = own_goes W (walk W k.depth) S hs k.importer.file.now h t c.open_own.new.stock.held.items (state_seen c.open_own.new.stock c.in_ok-own.own) c.in_ok-own.ensures.gives c.in_ok-own.ensures.held in
+    walks_last _ c.finish.result _ c.finish.ensures.memory (λ n is. ap (λ r. r >>= λ u. Ok (taken_up u)) (sym led.0 ∙ c.in_ok-load_text.ensures.gives tells)
+    ∙ ap₂ (λ n s. Ok (n, s)) (sym (rw is at c.finish.ensures.number)) (sym (rw is at c.finish.ensures.stock)))
 
-pub returns-in-Ok-finish-clause-built : goal.returns-in-Ok-finish-clause-built
-returns-in-Ok-finish-clause-built g c =
+pub returns-clause-built : goal.returns-clause-built
+returns-clause-built g c =
     let S = stock_seen c.args.stock.now in
     let hs = c.args.stock.now.held.items in
     let h = c.args.head in
     let t = said c.args.text.now in
     let now = c.open_own.new.stock.held.items in
-    let u = state_seen c.open_own.new.stock c.in-Ok.own in
+    let u = state_seen c.open_own.new.stock c.in_ok-own.own in
     let v = state_seen c.load_text.new.stock c.load_text.new.own in
-    let b = begun_free S hs c.args.walker.now.importer.file.now h t u c.in-Ok.ensures.gives in
-    (v, makes_by hs now h.path h.label S u v b.0 c.in-Ok.ensures.held b.1 c.in_default.ensures.built, ap₂ (λ n s. (n, s)) c.in-Ok-finish.ensures.number c.in-Ok-finish.ensures.stock)
+    let b = begun_free S hs c.args.walker.now.importer.file.now h t u c.in_ok-own.ensures.gives in
+    if_ok c.finish.result _ (λ n is. (v, makes_by hs now h.path h.label S u v b.0 c.in_ok-own.ensures.held b.1 c.in_ok-load_text.ensures.built, ap₂ (λ n s. (n, s)) (rw is at c.finish.ensures.number) (rw is at c.finish.ensures.stock)))
