@@ -60,7 +60,7 @@ more_by : {A : Type 0} (b : Bool) (x y : A) (o e : Option A) → (o ≡ Some x �
 more_by true x y o e f h = h
 more_by false x y o e f h = f h
 
-first_more : {A : Type 0} (n : List ℕ) (ps qs : List (List ℕ × A)) (x : A) → first_of n ps ≡ Some x → first_of n (ps ++ qs) ≡ Some x
+pub first_more : {A : Type 0} (n : List ℕ) (ps qs : List (List ℕ × A)) (x : A) → first_of n ps ≡ Some x → first_of n (ps ++ qs) ≡ Some x
 first_more n [] qs x h = absurd (cc)
 first_more n (p ∷ ps) qs x h = more_by (bytes_eq n p.0) x p.1 (first_of n ps) (first_of n (ps ++ qs)) (first_more n ps qs x) h
 
@@ -69,7 +69,7 @@ last_by true y v o e f h = absurd (cc)
 last_by false y v o e f h = f h
 
 -- a new name stands for what was put after
-first_last : {A : Type 0} (n : List ℕ) (ps : List (List ℕ × A)) (v : A) → first_of n ps ≡ None → first_of n (ps ++ (n, v) ∷ []) ≡ Some v
+pub first_last : {A : Type 0} (n : List ℕ) (ps : List (List ℕ × A)) (v : A) → first_of n ps ≡ None → first_of n (ps ++ (n, v) ∷ []) ≡ Some v
 first_last n [] v h = ap (λ b. if b then Some v else None) ((bytes_eq-Decides n n).1 refl)
 first_last n (p ∷ ps) v h = last_by (bytes_eq n p.0) p.1 v (first_of n ps) (first_of n (ps ++ (n, v) ∷ [])) (first_last n ps v) h
 

@@ -9,4 +9,5 @@ pub mod Scopes
 pub mod Scoping
 pub mod Sharing
 pub mod Stops
+pub mod Taken
 pub mod Turns
