@@ -16,7 +16,7 @@ pub record Finds (test : ℕ → Bool) (old new : RuleSearch) : Type 0 where
   pub left : length new.waiting.items + btree_set_len old.found ≡ length old.waiting.items + btree_set_len new.found
   pub ordered : IsOrdered nat_cmp old.found → IsOrdered nat_cmp new.found
 
--- how far the search has come: what it has found is reached, and what a rule calls is found unless that rule still waits
+-- how far the search has come: what it has found is reached, and what a rule calls is found unless that rule waits
 pub record Reached (R : List Core) (g : Core) (s : RuleSearch) : Type 0 where
   pub ordered : IsOrdered nat_cmp s.found
   pub under : (r : ℕ) → has s.found r ≡ true → Reaches R g r
