@@ -2,6 +2,7 @@ pub mod Tests
 pub mod Least
 pub mod Exists
 pub mod Stay
+pub mod TooLong
 pub mod Settling
 pub mod Ordering
 pub mod Finding

@@ -1,8 +1,11 @@
 // What is wrong with look-behinds.
-ghost use Rattle.std.specs.Prelude.{◌≡◌};
+ghost use Rattle.std.specs.Option.{option_or};
+ghost use Rattle.std.specs.Prelude.{◌≡◌, nat_lt};
+ghost use Rattle.rpl_core.specs.Lengths.{greatest};
 ghost use Rattle.rpl_core.specs.View.{core_of, cores};
 ghost use Rattle.rpl_check.specs.Answers.{some_cause};
 ghost use Rattle.rpl_check.specs.Causes as C;
+ghost use Rattle.rpl_check.specs.inside.Behinds as B;
 
 use crate::fault::BehindCause;
 use rpl_core::{Peg, greatest_length, has_call, has_repetition};
@@ -10,15 +13,55 @@ use rpl_core::{Peg, greatest_length, has_call, has_repetition};
 /// The greatest number of characters that the body of a look-behind may take.
 const MAX_LENGTH: u32 = 255;
 
-/// What is wrong with the body of a look-behind.
-fn cause_of(body: &Peg) -> Option<BehindCause>
-    ensures { some_cause result ≡ C.cause_of (core_of body.now) }
+/// The body of a look-behind may take too many characters.
+fn is_too_long(body: &Peg) -> bool
+    ensures { result ≡ nat_lt 255 (greatest (core_of body.now)) }
+{
+    greatest_length(body) > MAX_LENGTH
+}
+
+/// Some look-behind in the pattern may take too many.
+#[cycle(long)]
+fn has_long_behind(peg: &Peg) -> bool
+    ensures { result ≡ B.has_long_behind (core_of peg.now) }
+{
+    match peg {
+        Peg::Set(_) | Peg::Call(_) | Peg::Note(_) | Peg::Start | Peg::End | Peg::Halt => false,
+        Peg::Many(body) | Peg::Not(body) | Peg::And(body) => has_long_behind(body),
+        Peg::Behind { body, .. } => is_too_long(body) || has_long_behind(body),
+        Peg::Capture(_, body) => has_long_behind(body),
+        Peg::Seq(parts) => any_has_long_behind(parts.as_slice()),
+        Peg::Choice(parts) => any_has_long_behind(parts.as_slice()),
+    }
+}
+
+/// Some look-behind in the parts may.
+#[cycle(long)]
+fn any_has_long_behind(parts: &[Peg]) -> bool
+    ensures { result ≡ B.any_has_long_behind (cores parts.now) }
+{
+    for part in parts {
+        if has_long_behind(part) {
+            return true;
+        }
+    }
+    false
+}
+
+/// What is wrong with the look-behind at this body, or else with the first bad one inside it.
+///
+/// A body that calls nothing and repeats nothing has no look-behind that does, so of those inside
+/// it only the lengths are asked, and a length stops at the next look-behind: each part is looked
+/// at a few times, however deep look-behinds stand in one another.
+fn behind_cause(body: &Peg) -> Option<BehindCause>
+    ensures { some_cause result ≡ option_or (C.cause_of (core_of body.now))
+        (C.first_cause (core_of body.now)) }
 {
     if has_call(body) {
         Some(BehindCause::Recursive)
     } else if has_repetition(body) {
         Some(BehindCause::Repetition)
-    } else if greatest_length(body) > MAX_LENGTH {
+    } else if is_too_long(body) || has_long_behind(body) {
         Some(BehindCause::TooLong)
     } else {
         None
@@ -34,10 +77,7 @@ pub(crate) fn first_cause(peg: &Peg) -> Option<BehindCause>
     match peg {
         Peg::Set(_) | Peg::Call(_) | Peg::Note(_) | Peg::Start | Peg::End | Peg::Halt => None,
         Peg::Many(body) | Peg::Not(body) | Peg::And(body) => first_cause(body),
-        Peg::Behind { body, .. } => match cause_of(body) {
-            Some(cause) => Some(cause),
-            None => first_cause(body),
-        },
+        Peg::Behind { body, .. } => behind_cause(body),
         Peg::Capture(_, body) => first_cause(body),
         Peg::Seq(parts) => first_cause_in(parts.as_slice()),
         Peg::Choice(parts) => first_cause_in(parts.as_slice()),
