@@ -111,6 +111,10 @@ module _ (marks : ℕ → Bool) where
       let x = some_at R k lt in
       ap (λ l. bodies_len marks l k) (drop_here R k x.0 lt (sym (read_at R k x.0 x.1))) ∙ ap (λ o. (if marks k then body_len o else 0) + bodies_len marks (drop (k + 1) R) (k + 1)) (sym x.1)
 
+  pub bodies_len_on : (R : List Core) (k : ℕ) → k < length R → marks k ≡ true → bodies_len marks (drop k R) k ≡ body_len (slice_get R k) + bodies_len marks (drop (k + 1) R) (k + 1)
+  bodies_len_on R k lt on =
+      bodies_len_here R k lt ∙ ap (λ b. (if b then body_len (slice_get R k) else 0) + bodies_len marks (drop (k + 1) R) (k + 1)) on
+
   -- what goes on over numbers that aren't marked
   module _ (R : List Core) where
     pub place_off : (a r : ℕ) → r < length R → marks r ≡ false → place_of marks R 0 a r ≡ place_of marks R 0 a (r + 1)

@@ -1,7 +1,7 @@
 -- How nodes are listed, and taken from the list.
 use Rattle.std.proofs.Common.{◌≡◌, ℕ, suc, ◌+◌, ◌<◌, List, [], ◌∷◌, ◌++◌, length, drop, get_or, refl, sym, ap, ◌∙◌, subst, append_assoc, arith, length-drop}
 use Rattle.std.proofs.lemmas.List.{append_cancel_left, set_at}
-use Rattle.std.specs.Prelude.{Bool, false, slice_get, slice_set}
+use Rattle.std.specs.Prelude.{Bool, true, false, slice_get, slice_set}
 use Rattle.rpl_core.specs.Core.{Core}
 use Rattle.rpl_core.specs.declared.peg.Peg.{Peg}
 use Rattle.rpl_core.specs.View.{core_of, cores}
@@ -71,12 +71,16 @@ pub last_here : (ps : List Peg) (k : ℕ) (p : Peg) → k + 1 ≡ length ps → 
 last_here ps k p last is = ap (λ l. choice_nodes (cores l)) (drop_last ps k p last is)
 
 -- one rule, and the others
-pub nodes_here : (marks : ℕ → Bool) (R : List Core) (k : ℕ) → k < length R → bodies_nodes marks (drop k R) k ≡ rule_nodes (marks k) (slice_get R k) ++ bodies_nodes marks (drop (k + 1) R) (k + 1)
+nodes_here : (marks : ℕ → Bool) (R : List Core) (k : ℕ) → k < length R → bodies_nodes marks (drop k R) k ≡ rule_nodes (marks k) (slice_get R k) ++ bodies_nodes marks (drop (k + 1) R) (k + 1)
 nodes_here marks R k lt =
     let x = some_at R k lt in
     ap (λ l. bodies_nodes marks l k) (drop_here R k x.0 lt (sym (read_at R k x.0 x.1))) ∙ ap (λ o. rule_nodes (marks k) o ++ bodies_nodes marks (drop (k + 1) R) (k + 1)) (sym x.1)
 
--- a rule that isn't marked
+-- a rule that is marked, and one that isn't
+pub nodes_on : (marks : ℕ → Bool) (R : List Core) (k : ℕ) → k < length R → marks k ≡ true → bodies_nodes marks (drop k R) k ≡ rule_nodes true (slice_get R k) ++ bodies_nodes marks (drop (k + 1) R) (k + 1)
+nodes_on marks R k lt on =
+    nodes_here marks R k lt ∙ ap (λ b. rule_nodes b (slice_get R k) ++ bodies_nodes marks (drop (k + 1) R) (k + 1)) on
+
 pub nodes_off : (marks : ℕ → Bool) (R : List Core) (k : ℕ) → k < length R → marks k ≡ false → bodies_nodes marks (drop k R) k ≡ bodies_nodes marks (drop (k + 1) R) (k + 1)
 nodes_off marks R k lt off = nodes_here marks R k lt ∙ ap (λ b. rule_nodes b (slice_get R k) ++ bodies_nodes marks (drop (k + 1) R) (k + 1)) off
 

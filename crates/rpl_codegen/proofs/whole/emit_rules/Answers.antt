@@ -1,18 +1,18 @@
 use Rattle.std.proofs.Common.{◌≡◌, ℕ, ◌<◌, ◌≤◌, ◌+◌, ◌++◌, ◌∙◌, ap, sym, subst, arith, length, drop}
 use Rattle.std.proofs.lemmas.List.{drop_all, length-map}
-use Rattle.std.specs.Prelude.{if◌then◌else◌, slice_get, true, false}
+use Rattle.std.specs.Prelude.{slice_get, true}
 use Rattle.rpl_core.specs.Listed.{rules_of}
 use Rattle.rpl_core.specs.Programs.{bodies}
 use Rattle.rpl_core.specs.Table.{bodies_of}
 use Rattle.rpl_core.specs.View.{core_of}
-use Rattle.rpl_codegen.specs.inside.Laid.{bodies_len, bodies_nodes, body_len, rule_code, rule_nodes}
+use Rattle.rpl_codegen.specs.inside.Laid.{bodies_len, bodies_nodes, rule_code, rule_nodes}
 use Rattle.rpl_core.specs.Marked.{has}
 use Rattle.rpl_codegen.specs.inside.Taken.{left}
 use Rattle.rpl_intern.specs.Written.{Adds}
 use Rattle.rpl_codegen.specs.inside.Written.{address_of}
 use Rattle.rpl_intern.proofs.Adding.{adds_none, adds_then}
-use Rattle.rpl_codegen.proofs.Layouts.{bodies_len_here, bodies_len_off, bodies_off, bodies_on, gap_to, rule_length}
-use Rattle.rpl_codegen.proofs.Taking.{as_begins, begins_behind, begins_front, nodes_here, nodes_off}
+use Rattle.rpl_codegen.proofs.Layouts.{bodies_len_off, bodies_len_on, bodies_off, bodies_on, gap_to, rule_length}
+use Rattle.rpl_codegen.proofs.Taking.{as_begins, begins_behind, begins_front, nodes_off, nodes_on}
 use Rattle.rpl_codegen.proofs.whole.emit_rules.Goals as goal
 
 pub loop-number-init : goal.loop-number-init
@@ -44,25 +44,20 @@ loop-number-init c =
 pub emit_rule-requires-clause-room : goal.emit_rule-requires-clause-room
 emit_rule-requires-clause-room c =
     let rules = rules_of c.args.rules.now in
-    let R = bodies_of rules in
-    let m = has c.args.reached.now in
     let k = c.loop-number.number in
-    let lt : k < length R = omega (arith, c.len-count.ensures.count, length-map rules (λ r. core_of r.body)) in
-    let on : m k ≡ true = c.loop-number.invariant.here (omega (arith, length-map rules (λ r. core_of r.body), lt)) in
-    let here =
-    bodies_len_here m R k lt ∙ ap (λ b. (if b then body_len (slice_get R k) else 0) + bodies_len m (drop (k + 1) R) (k + 1)) on in
-    omega (arith, here, c.loop-number.invariant.room)
+    let long = length-map rules (λ r. core_of r.body) in
+    let on = c.loop-number.invariant.here (omega (arith, c.loop-number-test.true, c.len-count.ensures.count)) in
+    let sum = bodies_len_on (has c.args.reached.now) (bodies_of rules) k (omega (arith, long, c.loop-number-test.true, c.len-count.ensures.count)) on in
+    omega (arith, sum, c.loop-number.invariant.room)
 
 pub emit_rule-requires-clause-nodes : goal.emit_rule-requires-clause-nodes
 emit_rule-requires-clause-nodes c =
-    let rules = rules_of c.args.rules.now in
-    let R = bodies_of rules in
-    let m = has c.args.reached.now in
+    let R = bodies_of (rules_of c.args.rules.now) in
     let k = c.loop-number.number in
-    let lt : k < length R = omega (arith, c.len-count.ensures.count, length-map rules (λ r. core_of r.body)) in
-    let on : m k ≡ true = c.loop-number.invariant.here (omega (arith, length-map rules (λ r. core_of r.body), lt)) in
-    let here = nodes_here m R k lt ∙ ap (λ b. rule_nodes b (slice_get R k) ++ bodies_nodes m (drop (k + 1) R) (k + 1)) on in
-    begins_front (left c.loop-number.nodes) _ _ (as_begins (left c.loop-number.nodes) _ _ here c.loop-number.invariant.nodes)
+    let left_here = left c.loop-number.nodes in
+    let lt : k < length R = omega (arith, c.len-count.ensures.count, length-map (rules_of c.args.rules.now) (λ r. core_of r.body)) in
+    let on = c.loop-number.invariant.here (omega (arith, c.loop-number-test.true, c.len-count.ensures.count)) in
+    begins_front left_here _ _ (as_begins left_here _ _ (nodes_on (has c.args.reached.now) R k lt on) c.loop-number.invariant.nodes)
 
 pub loop-number-preserved : goal.loop-number-preserved
 loop-number-preserved c =
@@ -90,10 +85,9 @@ loop-number-preserved c =
     λ i. gap_to (λ q. bodies m at (drop q R) q i) (k + 1) j first.from (λ q u v. bodies_off m at R q i (omega (arith, long, v, bound)) (first.between q u v)) in
     let nodes : bodies_nodes m (drop (k + 1) R) (k + 1) ≡ bodies_nodes m (drop j R) j =
     gap_to (λ q. bodies_nodes m (drop q R) q) (k + 1) j first.from (λ q u v. nodes_off m R q (omega (arith, long, v, bound)) (first.between q u v)) in
-    let all : bodies_len m (drop k R) k ≡ body_len (slice_get R k) + bodies_len m (drop (k + 1) R) (k + 1) =
-    bodies_len_here m R k lt ∙ ap (λ b. (if b then body_len (slice_get R k) else 0) + bodies_len m (drop (k + 1) R) (k + 1)) on in
+    let all = bodies_len_on m R k lt on in
     let here : bodies_nodes m (drop k R) k ≡ rule_nodes true (slice_get R k) ++ bodies_nodes m (drop j R) j =
-    nodes_here m R k lt ∙ ap (λ b. rule_nodes b (slice_get R k) ++ bodies_nodes m (drop (k + 1) R) (k + 1)) on ∙ ap (λ l. rule_nodes true (slice_get R k) ++ l) nodes in
+    nodes_on m R k lt on ∙ ap (λ l. rule_nodes true (slice_get R k) ++ l) nodes in
     record {
       within = bound;
       here = λ l. first.here (omega (arith, l, many));

@@ -18,7 +18,7 @@ use Rattle.rpl_codegen.specs.declared.starts.Start.{Start}
 use Rattle.rpl_codegen.proofs.Layouts.{gap_to, place_zero, place_off, place_turn, place_end, place_past, place_within}
 use Rattle.rpl_codegen.proofs.Lengths.{size_is}
 use Rattle.rpl_codegen.proofs.Starting.{start_past, start_up}
-use Rattle.rpl_codegen.proofs.Taking.{append_nil, nodes_here, nodes_off, listed_turn}
+use Rattle.rpl_codegen.proofs.Taking.{append_nil, nodes_off, nodes_on, listed_turn}
 use Rattle.rpl_codegen.proofs.layout.Layout.new.Goals as goal
 
 pub loop-number-init : goal.loop-number-init
@@ -80,7 +80,7 @@ loop-number-preserved c =
     let same : (r : ℕ) → k + 1 ≤ r → r ≤ j → place (k + 1) ≡ place r =
     λ r l le. gap_to place (k + 1) r l (λ q u v. place_off m R a q (omega (arith, long, le, v, bound)) (first.between q u (omega arith))) in
     let here : bodies_nodes m (drop k R) k ≡ rule_nodes true (slice_get R k) ++ bodies_nodes m (drop j R) j =
-    nodes_here m R k lt ∙ ap (λ b. rule_nodes b (slice_get R k) ++ bodies_nodes m (drop (k + 1) R) (k + 1)) on
+    nodes_on m R k lt on
     ∙ ap (λ l. rule_nodes true (slice_get R k) ++ l) (gap_to (λ q. bodies_nodes m (drop q R) q) (k + 1) j first.from (λ q u v. nodes_off m R q (omega (arith, long, v, bound)) (first.between q u v))) in
     let beyond : (r e : ℕ) → k < r → start_from now r e ≡ e =
     λ r e l. ap (λ ss. start_from ss r e) grown ∙ start_past was x r e l ∙ inv.past r e (omega arith) in
