@@ -1,15 +1,18 @@
 -- The parts of a sequence that make code: only these have nodes, and the others are passed over.
-use Rattle.std.proofs.Common.{◌≡◌, ℕ, zero, suc, ◌+◌, ◌-◌, ◌<◌, ◌≤◌, List, [], ◌++◌, length, drop, get_or, refl, sym, ap, ◌∙◌, subst, arith}
+use Rattle.std.proofs.Common.{◌≡◌, ℕ, zero, suc, ◌+◌, ◌-◌, ◌<◌, ◌≤◌, List, [], ◌∷◌, ◌++◌, length, drop, take, get_or, refl, sym, ap, ◌∙◌, subst, arith}
 use Rattle.std.proofs.lemmas.List.{drop_all, get_or_default, nil_from_length}
 use Rattle.rpl_core.specs.Code.{code, code_all}
 use Rattle.rpl_core.specs.declared.peg.Peg.{Peg}
 use Rattle.rpl_core.specs.View.{core_of, cores}
 use Rattle.rpl_core.proofs.Walk.{drop_here}
 use Rattle.rpl_codegen.specs.declared.size.Node.{Node}
-use Rattle.rpl_codegen.specs.inside.Nodes.{numbered_nodes, part_nodes, parts_nodes}
+use Rattle.rpl_codegen.specs.declared.size.Nodes.{Nodes}
+use Rattle.rpl_codegen.specs.inside.Nodes.{inner_nodes, numbered_nodes, part_node, part_nodes, parts_nodes}
 use Rattle.rpl_codegen.specs.inside.Sizes.{capped_len, len, len_all}
-use Rattle.rpl_codegen.specs.inside.Taken.{Begins, part_at, size_at}
+use Rattle.rpl_codegen.specs.inside.Taken.{Begins, Takes, left, part_at, size_at}
 use Rattle.rpl_codegen.proofs.Lengths.{code_length}
+use Rattle.rpl_codegen.proofs.Parts.{part_of}
+use Rattle.rpl_codegen.proofs.Taking.{as_begins, as_taken, begins_behind, takes_then}
 use Rattle.rpl_intern.proofs.Adding.{read_at, some_at}
 
 -- where the part p with this number comes next, after the first k parts: it has code, and those before it have none
@@ -119,3 +122,36 @@ steps at ps k ns le lt b =
 pub steps_as : (at : ℕ → ℕ) (ps : List Peg) (k number : ℕ) (ns : List Node) (p q : Peg) → Steps at ps k ns number p → q ≡ get_or ps number q → Steps at ps k ns number q
 steps_as at ps k number ns p q s is =
     subst (λ x. Steps at ps k ns number x) (s.comes.is ∙ get_or_default ps number p q s.comes.inside ∙ sym is) s
+
+-- The part that is read with the number of the first node is the one that comes next.
+pub read_next : (at : ℕ → ℕ) (ps row : List Peg) (k number : ℕ) (ns : List Node) (q : Peg) → row ≡ ps → k ≤ length ps → 0 < len_all (cores (drop k ps)) → Begins ns (parts_nodes k (cores (drop k ps))) → number ≡ part_at ns → q ≡ get_or row number q → Steps at ps k ns number q
+read_next at ps row k number ns q same le lt b part is =
+    let s = steps at ps k ns le lt b in
+    let e : s.0 ≡ number = sym (part ∙ s.2.part) in
+    let t : Steps at ps k ns number s.1 = subst (λ n. Steps at ps k ns n s.1) e s.2 in
+    steps_as at ps k number ns s.1 q t (part_of row ps number q same is)
+
+-- its number is within the row
+pub next_inside : (at : ℕ → ℕ) (ps row : List Peg) (k number : ℕ) (ns : List Node) → row ≡ ps → k ≤ length ps → 0 < len_all (cores (drop k ps)) → Begins ns (parts_nodes k (cores (drop k ps))) → number ≡ part_at ns → number < length row
+next_inside at ps row k number ns same le lt b part =
+    let s = steps at ps k ns le lt b in
+    let e : number ≡ s.0 = part ∙ s.2.part in
+    omega (arith, e, s.2.comes.inside, ap length same)
+
+-- the nodes in a part, and those of the parts after it
+abbrev pub after_node : ℕ → List Peg → Peg → List Node
+after_node number ps q = inner_nodes (core_of q) ++ parts_nodes (number + 1) (cores (drop (number + 1) ps))
+
+module _ (at : ℕ → ℕ) (ps : List Peg) (k number : ℕ) (ns tk : Nodes) (q : Peg) (s : Steps at ps k (left ns) number q) (t : Takes ns tk (take 1 (left ns))) where
+  one : take 1 (left ns) ≡ part_node number (core_of q) ∷ []
+  one = ap (take 1) s.begins.is
+
+  -- once its own node is taken, these are left
+  pub left_after : Begins (left tk) (after_node number ps q)
+  left_after =
+      begins_behind ns tk (take 1 (left ns)) (after_node number ps q) t (as_begins (left ns) _ _ (ap (λ l. l ++ after_node number ps q) (sym one)) s.begins)
+
+  -- with these, all nodes of the parts from k on are taken
+  pub takes_part : (y : Nodes) → Takes tk y (after_node number ps q) → Takes ns y (parts_nodes k (cores (drop k ps)))
+  takes_part y more =
+      as_taken ns y _ _ (ap (λ l. l ++ after_node number ps q) one ∙ sym s.comes.nodes) (takes_then ns tk y (take 1 (left ns)) (after_node number ps q) t more)

@@ -29,6 +29,13 @@ struct Look<'a> {
     end: u32,
 }
 
+/// Patterns that stand in a row, and where the code of all of them ends.
+#[derive(Clone, Copy)]
+struct Row<'a> {
+    parts: &'a Pegs,
+    end: u32,
+}
+
 /// Writes the code of the pattern.
 #[cycle(emit)]
 pub(crate) fn emit(
@@ -63,8 +70,8 @@ fn emit_inner(
 {
     match peg {
         Peg::Set(set) => draft.put_set(layout.alloc(), set),
-        Peg::Seq(parts) => emit_all(draft, layout, nodes, parts, end),
-        Peg::Choice(parts) => emit_first(draft, layout, nodes, parts, end),
+        Peg::Seq(parts) => emit_all(draft, layout, nodes, Row { parts, end }),
+        Peg::Choice(parts) => emit_first(draft, layout, nodes, Row { parts, end }),
         Peg::Many(body) => emit_many(draft, layout, nodes, body),
         Peg::Not(body) => emit_not(draft, layout, nodes, body),
         Peg::And(body) => emit_and(draft, layout, nodes, body),
@@ -93,19 +100,18 @@ fn emit_all(
     draft: &mut Draft,
     layout: &Layout,
     nodes: &mut Nodes,
-    parts: &Pegs,
-    end: u32,
+    row: Row<'_>,
 ) -> Result<(), NoMemory>
-    requires room { length draft.old.code + len (core_of (Peg.Seq parts.now)) ≤ 1048576 }
-    requires nodes { Begins (left nodes.old) (inner_nodes (core_of (Peg.Seq parts.now))) }
-    requires end { end ≡ length draft.old.code + len (core_of (Peg.Seq parts.now)) }
+    requires room { length draft.old.code + len (core_of (Peg.Seq row.parts.now)) ≤ 1048576 }
+    requires nodes { Begins (left nodes.old) (inner_nodes (core_of (Peg.Seq row.parts.now))) }
+    requires end { row.end ≡ length draft.old.code + len (core_of (Peg.Seq row.parts.now)) }
     ensures code { OnOk result (Writes draft.old draft.new
-        (code_in layout.now (Peg.Seq parts.now))) }
+        (code_in layout.now (Peg.Seq row.entry.parts.now))) }
     ensures nodes { OnOk result (Takes nodes.old nodes.new
-        (inner_nodes (core_of (Peg.Seq parts.now)))) }
+        (inner_nodes (core_of (Peg.Seq row.entry.parts.now)))) }
 {
-    let parts = parts.as_slice();
-    while draft.next() < end {
+    let parts = row.parts.as_slice();
+    while draft.next() < row.end {
         let number = nodes.part();
         // There always is one: the test is for the bound of the index alone.
         if number >= parts.len() {
@@ -123,24 +129,23 @@ fn emit_first(
     draft: &mut Draft,
     layout: &Layout,
     nodes: &mut Nodes,
-    parts: &Pegs,
-    end: u32,
+    row: Row<'_>,
 ) -> Result<(), NoMemory>
-    requires room { length draft.old.code + len (core_of (Peg.Choice parts.now)) ≤ 1048576 }
-    requires nodes { Begins (left nodes.old) (inner_nodes (core_of (Peg.Choice parts.now))) }
-    requires end { end ≡ length draft.old.code + len (core_of (Peg.Choice parts.now)) }
+    requires room { length draft.old.code + len (core_of (Peg.Choice row.parts.now)) ≤ 1048576 }
+    requires nodes { Begins (left nodes.old) (inner_nodes (core_of (Peg.Choice row.parts.now))) }
+    requires end { row.end ≡ length draft.old.code + len (core_of (Peg.Choice row.parts.now)) }
     ensures code { OnOk result (Writes draft.old draft.new
-        (code_in layout.now (Peg.Choice parts.now))) }
+        (code_in layout.now (Peg.Choice row.entry.parts.now))) }
     ensures nodes { OnOk result (Takes nodes.old nodes.new
-        (inner_nodes (core_of (Peg.Choice parts.now)))) }
+        (inner_nodes (core_of (Peg.Choice row.entry.parts.now)))) }
 {
-    let parts = parts.as_slice();
+    let parts = row.parts.as_slice();
     if parts.is_empty() {
         return draft.put(Instr::Fail);
     }
     let last = parts.len() - 1;
     for number in 0..last {
-        emit_tried(draft, layout, nodes, &parts[number], end)?;
+        emit_tried(draft, layout, nodes, &parts[number], row.end)?;
     }
     emit(draft, layout, nodes, &parts[last])
 }

@@ -1,4 +1,4 @@
-use Rattle.std.proofs.Common.{◌≡◌, ◌≢◌, ℕ, List, ◌<◌, ◌+◌, ◌-◌, ◌∙◌, suc, ◌≤◌, length, drop, take, get_or, refl, sym, ap, subst, arith, [], ◌∷◌, ◌++◌}
+use Rattle.std.proofs.Common.{◌≡◌, ◌≢◌, ℕ, List, ◌<◌, ◌+◌, ◌-◌, ◌∙◌, suc, ◌≤◌, length, drop, get_or, refl, sym, ap, subst, arith, [], ◌∷◌}
 use Rattle.std.proofs.lemmas.Bool.{eqb-true, eqb-false}
 use Rattle.std.proofs.lemmas.List.{nil_from_length}
 use Rattle.std.specs.Prelude.{OnOk}
@@ -10,7 +10,7 @@ use Rattle.rpl_core.specs.View.{core_of, cores, listed}
 use Rattle.rpl_core.specs.declared.peg.Peg.{Peg}
 use Rattle.rpl_core.proofs.Rows.{seq_view, choice_view}
 use Rattle.rpl_codegen.specs.inside.Sizes.{len, len_all, len_first, many_len, not_len}
-use Rattle.rpl_codegen.specs.inside.Nodes.{behind_nodes, choice_nodes, inner_nodes, nodes_in, part_node, parts_nodes, tested_nodes}
+use Rattle.rpl_codegen.specs.inside.Nodes.{behind_nodes, choice_nodes, inner_nodes, nodes_in, parts_nodes, tested_nodes}
 use Rattle.rpl_codegen.specs.inside.Taken.{Begins, head_at, left, size_at}
 use Rattle.rpl_intern.specs.Written.{Adds}
 use Rattle.rpl_codegen.specs.inside.Written.{address_of, test_code}
@@ -19,7 +19,7 @@ use Rattle.rpl_codegen.specs.declared.size.Node.{Node}
 use Rattle.rpl_intern.proofs.Adding.{adds_none, adds_then}
 use Rattle.rpl_codegen.proofs.Lengths.{all_length, code_length, first_length}
 use Rattle.rpl_codegen.proofs.Parts.{len_first_here, code_first_here, drop_last, no_parts, part_of}
-use Rattle.rpl_codegen.proofs.Passing.{no_nodes_left, steps, steps_as}
+use Rattle.rpl_codegen.proofs.Passing.{left_after, next_inside, no_nodes_left, read_next, steps, takes_part}
 use Rattle.rpl_codegen.proofs.Pieces.{on_ok, piece_loop, piece_refuse, piece_and, piece_capture, piece_choice, piece_length, piece_tried, test_length, behind_end, room_here, room_turn}
 use Rattle.rpl_codegen.proofs.Taking.{as_begins, as_taken, begins_behind, begins_front, last_here, more_lengths, takes_anew, takes_none, takes_then, tried_here}
 use Rattle.rpl_codegen.proofs.Weights.{seq_part, choice_part}
@@ -31,7 +31,7 @@ last_part row ps k p same some last is = (omega (arith, some, ap length same), p
 
 pub emit_all-loop-parts-init : goal.emit_all-loop-parts-init
 emit_all-loop-parts-init t c =
-    let ps = c.args.parts.now in
+    let ps = c.args.row.parts.now in
     let n = length c.args.draft.now.code in (
       0,
       omega arith,
@@ -43,120 +43,87 @@ emit_all-loop-parts-init t c =
 
 pub emit_all-part-number-requires : goal.emit_all-part-number-requires
 emit_all-part-number-requires t c =
-    let at = address_of c.args.layout.now in
-    let ps = listed c.args.parts.now in
     let i = c.loop-parts.invariant in
-    let ns = c.loop-parts.nodes in
-    let s = steps at ps i.0 (left ns) i.1 (omega (arith, i.2, c.loop-parts-test.true, c.next.ensures)) i.4 in
+    let s = steps (address_of c.args.layout.now) _ i.0 (left c.loop-parts.nodes) i.1 (omega (arith, i.2, c.loop-parts-test.true, c.next.ensures)) i.4 in
     s.2.some
 
 pub emit_all-returns-then-number-parts-clause-code : goal.emit_all-returns-then-number-parts-clause-code
 emit_all-returns-then-number-parts-clause-code t c =
-    let at = address_of c.args.layout.now in
-    let ps = listed c.args.parts.now in
     let i = c.loop-parts.invariant in
-    let ns = c.loop-parts.nodes in
-    let s = steps at ps i.0 (left ns) i.1 (omega (arith, i.2, c.loop-parts-test.true, c.next.ensures)) i.4 in
-    absurd (let number : c.part-number.result ≡ s.0 = c.part-number.ensures ∙ s.2.part in omega (arith, number, s.2.comes.inside, c.if-number-parts.true, ap length c.as_slice-parts.ensures))
+    let inside = next_inside (address_of c.args.layout.now) _ c.as_slice-parts.result.now i.0 c.part-number.result _ c.as_slice-parts.ensures i.1 (omega (arith, i.2, c.loop-parts-test.true, c.next.ensures)) i.4 c.part-number.ensures in
+    absurd (omega (arith, inside, c.if-number-parts.true))
 
 pub emit_all-returns-then-number-parts-clause-nodes : goal.emit_all-returns-then-number-parts-clause-nodes
 emit_all-returns-then-number-parts-clause-nodes t c =
-    let at = address_of c.args.layout.now in
-    let ps = listed c.args.parts.now in
     let i = c.loop-parts.invariant in
-    let ns = c.loop-parts.nodes in
-    let s = steps at ps i.0 (left ns) i.1 (omega (arith, i.2, c.loop-parts-test.true, c.next.ensures)) i.4 in
-    absurd (let number : c.part-number.result ≡ s.0 = c.part-number.ensures ∙ s.2.part in omega (arith, number, s.2.comes.inside, c.if-number-parts.true, ap length c.as_slice-parts.ensures))
+    let inside = next_inside (address_of c.args.layout.now) _ c.as_slice-parts.result.now i.0 c.part-number.result _ c.as_slice-parts.ensures i.1 (omega (arith, i.2, c.loop-parts-test.true, c.next.ensures)) i.4 c.part-number.ensures in
+    absurd (omega (arith, inside, c.if-number-parts.true))
 
 pub emit_all-take-requires : goal.emit_all-take-requires
 emit_all-take-requires t c =
-    let at = address_of c.args.layout.now in
-    let ps = listed c.args.parts.now in
     let i = c.loop-parts.invariant in
-    let ns = c.loop-parts.nodes in
-    let s = steps at ps i.0 (left ns) i.1 (omega (arith, i.2, c.loop-parts-test.true, c.next.ensures)) i.4 in
+    let s = steps (address_of c.args.layout.now) _ i.0 (left c.loop-parts.nodes) i.1 (omega (arith, i.2, c.loop-parts-test.true, c.next.ensures)) i.4 in
     s.2.some
 
 pub emit_all-overflow_add-behind : goal.emit_all-overflow_add-behind
 emit_all-overflow_add-behind t c =
-    let at = address_of c.args.layout.now in
-    let ps = listed c.args.parts.now in
     let i = c.loop-parts.invariant in
-    let ns = c.loop-parts.nodes in
-    let s = steps at ps i.0 (left ns) i.1 (omega (arith, i.2, c.loop-parts-test.true, c.next.ensures)) i.4 in
+    let s = steps (address_of c.args.layout.now) _ i.0 (left c.loop-parts.nodes) i.1 (omega (arith, i.2, c.loop-parts-test.true, c.next.ensures)) i.4 in
     omega (arith, c.next-in-loop-parts.ensures, c.take.ensures.size, s.2.size, i.2, s.2.comes.sum, c.requires.room, c.requires.end)
 
 pub emit_all-emit_inner-requires : goal.emit_all-emit_inner-requires
 emit_all-emit_inner-requires t c =
     let at = address_of c.args.layout.now in
-    let ps = listed c.args.parts.now in
+    let ps = listed c.args.row.parts.now in
     let i = c.loop-parts.invariant in
-    let ns = c.loop-parts.nodes in
-    let s = steps at ps i.0 (left ns) i.1 (omega (arith, i.2, c.loop-parts-test.true, c.next.ensures)) i.4 in
     let q = c.index-parts-number.result in
-    let number : c.part-number.result ≡ s.0 = c.part-number.ensures ∙ s.2.part in
-    let is : q ≡ get_or ps s.0 q = part_of c.as_slice-parts.result.now ps c.part-number.result q c.as_slice-parts.ensures c.index-parts-number.is ∙ ap (λ n. get_or ps n q) number in
-    let sq = steps_as at ps i.0 s.0 (left ns) s.1 q s.2 is in
-    let p = core_of q in
-    let tk = c.take.new.self in
-    let rest = parts_nodes (s.0 + 1) (cores (drop (s.0 + 1) ps)) in
-    let one : take 1 (left ns) ≡ part_node s.0 p ∷ [] = ap (take 1) sq.begins.is in
-    let behind = begins_behind ns tk (take 1 (left ns)) (inner_nodes p ++ rest) c.take.ensures.taken (as_begins (left ns) _ _ (ap (λ l. l ++ (inner_nodes p ++ rest)) (sym one)) sq.begins) in
-    let room : length c.loop-parts.draft.code + len p ≤ 1048576 = omega (arith, i.2, sq.comes.sum, c.requires.room, c.requires.end) in
-    (omega (arith, c.decreases, seq_part c.args.parts.now s.0 q sq.comes.inside is), (room, (begins_front (left tk) (inner_nodes p) rest behind, omega (arith, c.next-in-loop-parts.ensures, c.take.ensures.size, sq.size, room))))
+    let s = read_next at ps c.as_slice-parts.result.now i.0 c.part-number.result (left c.loop-parts.nodes) q c.as_slice-parts.ensures i.1 (omega (arith, i.2, c.loop-parts-test.true, c.next.ensures)) i.4 c.part-number.ensures c.index-parts-number.is in
+    let behind = left_after at ps i.0 _ c.loop-parts.nodes c.take.new.self q s c.take.ensures.taken in
+    let room : length c.loop-parts.draft.code + len (core_of q) ≤ 1048576 = omega (arith, i.2, s.comes.sum, c.requires.room, c.requires.end) in
+    (omega (arith, c.decreases, seq_part c.args.row.parts.now _ q s.comes.inside s.comes.is), (room, (begins_front (left c.take.new.self) (inner_nodes (core_of q)) _ behind, omega (arith, c.next-in-loop-parts.ensures, c.take.ensures.size, s.size, room))))
 
 pub emit_all-loop-parts-smaller : goal.emit_all-loop-parts-smaller
 emit_all-loop-parts-smaller t c =
-    let at = address_of c.args.layout.now in
-    let ps = listed c.args.parts.now in
     let i = c.loop-parts.invariant in
-    let ns = c.loop-parts.nodes in
-    let s = steps at ps i.0 (left ns) i.1 (omega (arith, i.2, c.loop-parts-test.true, c.next.ensures)) i.4 in
     let q = c.index-parts-number.result in
-    let number : c.part-number.result ≡ s.0 = c.part-number.ensures ∙ s.2.part in
-    let is : q ≡ get_or ps s.0 q = part_of c.as_slice-parts.result.now ps c.part-number.result q c.as_slice-parts.ensures c.index-parts-number.is ∙ ap (λ n. get_or ps n q) number in
-    let sq = steps_as at ps i.0 s.0 (left ns) s.1 q s.2 is in
     let e = c.in_ok-emit_inner.ensures.code in
-    omega (arith, e.long, code_length at (core_of q) (length c.loop-parts.draft.code), sq.comes.some, sq.comes.sum, i.2)
+    let at = address_of c.args.layout.now in
+    let s = read_next at _ c.as_slice-parts.result.now i.0 c.part-number.result (left c.loop-parts.nodes) q c.as_slice-parts.ensures i.1 (omega (arith, i.2, c.loop-parts-test.true, c.next.ensures)) i.4 c.part-number.ensures c.index-parts-number.is in
+    omega (arith, e.long, code_length at (core_of q) (length c.loop-parts.draft.code), s.comes.some, s.comes.sum, i.2)
 
 pub emit_all-loop-parts-preserved : goal.emit_all-loop-parts-preserved
 emit_all-loop-parts-preserved t c =
-    let at = address_of c.args.layout.now in
-    let ps = listed c.args.parts.now in
+    let ps = listed c.args.row.parts.now in
+    let k = c.part-number.result in
     let i = c.loop-parts.invariant in
     let ns = c.loop-parts.nodes in
-    let s = steps at ps i.0 (left ns) i.1 (omega (arith, i.2, c.loop-parts-test.true, c.next.ensures)) i.4 in
-    let q = c.index-parts-number.result in
-    let number : c.part-number.result ≡ s.0 = c.part-number.ensures ∙ s.2.part in
-    let is : q ≡ get_or ps s.0 q = part_of c.as_slice-parts.result.now ps c.part-number.result q c.as_slice-parts.ensures c.index-parts-number.is ∙ ap (λ n. get_or ps n q) number in
-    let sq = steps_as at ps i.0 s.0 (left ns) s.1 q s.2 is in
-    let p = core_of q in
     let tk = c.take.new.self in
-    let rest = parts_nodes (s.0 + 1) (cores (drop (s.0 + 1) ps)) in
-    let one : take 1 (left ns) ≡ part_node s.0 p ∷ [] = ap (take 1) sq.begins.is in
-    let behind = begins_behind ns tk (take 1 (left ns)) (inner_nodes p ++ rest) c.take.ensures.taken (as_begins (left ns) _ _ (ap (λ l. l ++ (inner_nodes p ++ rest)) (sym one)) sq.begins) in
+    let q = c.index-parts-number.result in
+    let at = address_of c.args.layout.now in
+    let s = read_next at ps c.as_slice-parts.result.now i.0 k (left ns) q c.as_slice-parts.ensures i.1 (omega (arith, i.2, c.loop-parts-test.true, c.next.ensures)) i.4 c.part-number.ensures c.index-parts-number.is in
+    let p = core_of q in
     let d = c.loop-parts.draft in
     let d1 = c.emit_inner.new.draft in
     let em = c.emit_inner.new.nodes in
     let n = length d.code in
     let x = C.code at p n in
-    let others = cores (drop (s.0 + 1) ps) in
+    let others = cores (drop (k + 1) ps) in
+    let rest = parts_nodes (k + 1) others in
     let e = c.in_ok-emit_inner.ensures.code in (
-      s.0 + 1,
-      omega (arith, sq.comes.inside),
-      omega (arith, i.2, sq.comes.sum, e.long, code_length at p n),
+      k + 1,
+      omega (arith, s.comes.inside),
+      omega (arith, i.2, s.comes.sum, e.long, code_length at p n),
       λ y more.
-          i.3 y (subst (λ l. Adds d y l) (sym (sq.comes.code n)) (adds_then d d1 y x (C.code_all at others (n + length x)) e (subst (λ m. Adds d1 y (C.code_all at others m)) e.long more))),
-      begins_behind tk em (inner_nodes p) rest c.in_ok-emit_inner.ensures.nodes behind,
+          i.3 y (subst (λ l. Adds d y l) (sym (s.comes.code n)) (adds_then d d1 y x (C.code_all at others (n + length x)) e (subst (λ m. Adds d1 y (C.code_all at others m)) e.long more))),
+      begins_behind tk em (inner_nodes p) rest c.in_ok-emit_inner.ensures.nodes (left_after at ps i.0 k ns tk q s c.take.ensures.taken),
       λ y more.
-          let all = takes_then ns tk y (take 1 (left ns)) (inner_nodes p ++ rest) c.take.ensures.taken (takes_then tk em y (inner_nodes p) rest c.in_ok-emit_inner.ensures.nodes more) in
-          i.5 y (as_taken ns y _ _ (sym sq.comes.nodes) (as_taken ns y _ _ (ap (λ l. l ++ (inner_nodes p ++ rest)) one) all)),
+          i.5 y (takes_part at ps i.0 k ns tk q s c.take.ensures.taken y (takes_then tk em y (inner_nodes p) rest c.in_ok-emit_inner.ensures.nodes more)),
     )
 
 pub emit_all-returns-clause-code : goal.emit_all-returns-clause-code
 emit_all-returns-clause-code t c =
     let at = address_of c.args.layout.now in
-    let ps = listed c.args.parts.now in
+    let ps = listed c.args.row.parts.now in
     let i = c.loop-parts.invariant in
     let d = c.loop-parts.draft in
     let others = cores (drop i.0 ps) in
@@ -166,7 +133,7 @@ emit_all-returns-clause-code t c =
 
 pub emit_all-returns-clause-nodes : goal.emit_all-returns-clause-nodes
 emit_all-returns-clause-nodes t c =
-    let ps = listed c.args.parts.now in
+    let ps = listed c.args.row.parts.now in
     let i = c.loop-parts.invariant in
     let ns = c.loop-parts.nodes in
     let zero : len_all (cores (drop i.0 ps)) ≡ 0 = omega (arith, i.2, c.loop-parts-test.false, c.next.ensures) in
@@ -248,17 +215,17 @@ emit_capture-returns-clause-code t c =
 
 pub emit_first-put-requires : goal.emit_first-put-requires
 emit_first-put-requires t c =
-    let e = ap len (no_parts c.args.parts.now (sym (ap length c.as_slice-parts.ensures) ∙ eqb-true (length c.as_slice-parts.result.now) 0 (sym c.is_empty.ensures ∙ c.if-is_empty.true))) in
+    let e = ap len (no_parts c.args.row.parts.now (sym (ap length c.as_slice-parts.ensures) ∙ eqb-true (length c.as_slice-parts.result.now) 0 (sym c.is_empty.ensures ∙ c.if-is_empty.true))) in
     record { room = omega (arith, e, c.requires.room); plain = refl }
 
 pub emit_first-returns-then-is_empty-clause-code : goal.emit_first-returns-then-is_empty-clause-code
 emit_first-returns-then-is_empty-clause-code t c =
-    let e = no_parts c.args.parts.now (sym (ap length c.as_slice-parts.ensures) ∙ eqb-true (length c.as_slice-parts.result.now) 0 (sym c.is_empty.ensures ∙ c.if-is_empty.true)) in
+    let e = no_parts c.args.row.parts.now (sym (ap length c.as_slice-parts.ensures) ∙ eqb-true (length c.as_slice-parts.result.now) 0 (sym c.is_empty.ensures ∙ c.if-is_empty.true)) in
     subst (λ x. OnOk c.put.result (Adds c.args.draft.now c.put.new.self (C.code (address_of c.args.layout.now) x (length c.args.draft.now.code)))) (sym e) c.put.ensures.adds
 
 pub emit_first-loop-number-init : goal.emit_first-loop-number-init
 emit_first-loop-number-init t c =
-    let ps = c.args.parts.now in
+    let ps = c.args.row.parts.now in
     let n = length c.args.draft.now.code in (
       omega (arith, ap len (choice_view ps), c.requires.end),
       λ x a. subst (λ e. Adds c.args.draft.now x (C.code (address_of c.args.layout.now) e n)) (sym (choice_view ps)) a,
@@ -268,19 +235,19 @@ emit_first-loop-number-init t c =
 
 pub emit_first-emit_tried-requires : goal.emit_first-emit_tried-requires
 emit_first-emit_tried-requires t c =
-    let ps = listed c.args.parts.now in
+    let ps = listed c.args.row.parts.now in
     let k = c.loop-number.number in
     let p = c.index-parts-number.result in
     let lt : k + 1 < length ps = omega (arith, ap length c.as_slice-parts.ensures) in
     let is = part_of c.as_slice-parts.result.now ps k p c.as_slice-parts.ensures c.index-parts-number.is in
     let here = len_first_here ps k p lt is in
     let more = tried_here ps k p lt is in
-    (omega (arith, c.decreases, choice_part c.args.parts.now k p (omega arith) is), (omega (arith, here, ap len (choice_view c.args.parts.now), c.requires.room, c.requires.end, c.loop-number.invariant.0), begins_front (left c.loop-number.nodes) (tested_nodes (core_of p)) (choice_nodes (cores (drop (k + 1) ps))) (as_begins (left c.loop-number.nodes) _ _ more c.loop-number.invariant.2)))
+    (omega (arith, c.decreases, choice_part c.args.row.parts.now k p (omega arith) is), (omega (arith, here, ap len (choice_view c.args.row.parts.now), c.requires.room, c.requires.end, c.loop-number.invariant.0), begins_front (left c.loop-number.nodes) (tested_nodes (core_of p)) (choice_nodes (cores (drop (k + 1) ps))) (as_begins (left c.loop-number.nodes) _ _ more c.loop-number.invariant.2)))
 
 pub emit_first-loop-number-preserved : goal.emit_first-loop-number-preserved
 emit_first-loop-number-preserved t c =
     let at = address_of c.args.layout.now in
-    let ps = listed c.args.parts.now in
+    let ps = listed c.args.row.parts.now in
     let k = c.loop-number.number in
     let p = c.index-parts-number.result in
     let d = c.loop-number.draft in
@@ -293,7 +260,7 @@ emit_first-loop-number-preserved t c =
     let s = c.loop-number.nodes in
     let s1 = c.emit_tried.new.nodes in
     let rest_nodes = choice_nodes rest in
-    let end : c.args.end ≡ length d1.code + len_first rest = omega (arith, len_first_here ps k p lt is, c.loop-number.invariant.0, c.in_ok-emit_tried.ensures.long) in (
+    let end : c.args.row.end ≡ length d1.code + len_first rest = omega (arith, len_first_here ps k p lt is, c.loop-number.invariant.0, c.in_ok-emit_tried.ensures.long) in (
       end,
       λ x more.
           c.loop-number.invariant.1 x (subst (λ l. Adds d x l) (sym (code_first_here at ps k p (length d.code) lt is)) (c.in_ok-emit_tried.ensures.goes_on q x (omega (arith, end, first_length at rest (length d1.code))) more)),
@@ -303,12 +270,12 @@ emit_first-loop-number-preserved t c =
 
 pub emit_first-emit-requires : goal.emit_first-emit-requires
 emit_first-emit-requires t c =
-    let ps = listed c.args.parts.now in
+    let ps = listed c.args.row.parts.now in
     let k = c.loop-number.number in
     let p = c.index-parts-last.result in
     let last = last_part c.as_slice-parts.result.now ps k p c.as_slice-parts.ensures (eqb-false (length c.as_slice-parts.result.now) 0 (sym c.is_empty.ensures ∙ c.if-is_empty.false)) (omega arith) c.index-parts-last.is in
     let here = ap (λ l. len_first (cores l)) (drop_last ps k p last.0 last.1) in
-    (omega (arith, c.decreases, choice_part c.args.parts.now k p (omega arith) last.1), (omega (arith, here, ap len (choice_view c.args.parts.now), c.requires.room, c.requires.end, c.loop-number.invariant.0), as_begins (left c.loop-number.nodes) _ _ (last_here ps k p last.0 last.1) c.loop-number.invariant.2))
+    (omega (arith, c.decreases, choice_part c.args.row.parts.now k p (omega arith) last.1), (omega (arith, here, ap len (choice_view c.args.row.parts.now), c.requires.room, c.requires.end, c.loop-number.invariant.0), as_begins (left c.loop-number.nodes) _ _ (last_here ps k p last.0 last.1) c.loop-number.invariant.2))
 
 pub emit_length-put-requires-3 : goal.emit_length-put-requires-3
 emit_length-put-requires-3 t c =
@@ -428,13 +395,13 @@ emit_behind-returns-clause-nodes t c =
 
 pub emit_first-returns-then-is_empty-clause-nodes : goal.emit_first-returns-then-is_empty-clause-nodes
 emit_first-returns-then-is_empty-clause-nodes t c =
-    let e = no_parts c.args.parts.now (sym (ap length c.as_slice-parts.ensures) ∙ eqb-true (length c.as_slice-parts.result.now) 0 (sym c.is_empty.ensures ∙ c.if-is_empty.true)) in
+    let e = no_parts c.args.row.parts.now (sym (ap length c.as_slice-parts.ensures) ∙ eqb-true (length c.as_slice-parts.result.now) 0 (sym c.is_empty.ensures ∙ c.if-is_empty.true)) in
     let s = c.args.nodes.now in
     on_ok c.put.result _ _ (λ w. as_taken s s _ _ (sym (ap inner_nodes e)) (takes_none s)) c.put.ensures.adds
 
 pub emit_first-returns-clause-nodes : goal.emit_first-returns-clause-nodes
 emit_first-returns-clause-nodes t c =
-    let ps = listed c.args.parts.now in
+    let ps = listed c.args.row.parts.now in
     let k = c.loop-number.number in
     let p = c.index-parts-last.result in
     let last = last_part c.as_slice-parts.result.now ps k p c.as_slice-parts.ensures (eqb-false (length c.as_slice-parts.result.now) 0 (sym c.is_empty.ensures ∙ c.if-is_empty.false)) (omega arith) c.index-parts-last.is in

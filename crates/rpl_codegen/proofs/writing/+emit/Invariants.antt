@@ -14,21 +14,21 @@ use Rattle.rpl_codegen.proofs.writing.+emit.Given as goal
 
 abbrev pub invariant-emit_all-loop-parts : goal.invariant-emit_all-loop-parts
 invariant-emit_all-loop-parts l =
-    (k : ℕ) × (k ≤ length (listed l.fn.parts))
-    × (l.end ≡ length l.draft.code + len_all (cores (drop k (listed l.fn.parts))))
-    × ((x : Draft) → Adds l.draft x (C.code_all (address_of l.layout) (cores (drop k (listed l.fn.parts))) (length l.draft.code)) → Adds l.fn.draft x (C.code (address_of l.layout) (core_of (V.Seq l.fn.parts)) (length l.fn.draft.code)))
-    × Begins (left l.nodes) (parts_nodes k (cores (drop k (listed l.fn.parts))))
-    × ((x : Nodes) → Takes l.nodes x (parts_nodes k (cores (drop k (listed l.fn.parts)))) → Takes l.fn.nodes x (inner_nodes (core_of (V.Seq l.fn.parts))))
+    (k : ℕ) × (k ≤ length (listed l.row.parts.now))
+    × (l.row.end ≡ length l.draft.code + len_all (cores (drop k (listed l.row.parts.now))))
+    × ((x : Draft) → Adds l.draft x (C.code_all (address_of l.layout) (cores (drop k (listed l.row.parts.now))) (length l.draft.code)) → Adds l.fn.draft x (C.code (address_of l.layout) (core_of (V.Seq l.row.parts.now)) (length l.fn.draft.code)))
+    × Begins (left l.nodes) (parts_nodes k (cores (drop k (listed l.row.parts.now))))
+    × ((x : Nodes) → Takes l.nodes x (parts_nodes k (cores (drop k (listed l.row.parts.now)))) → Takes l.fn.nodes x (inner_nodes (core_of (V.Seq l.row.parts.now))))
 
 abbrev pub decreases-emit_all-loop-parts : goal.decreases-emit_all-loop-parts
-decreases-emit_all-loop-parts l = l.end - length l.draft.code
+decreases-emit_all-loop-parts l = l.row.end - length l.draft.code
 
 abbrev pub invariant-emit_first-loop-number : goal.invariant-emit_first-loop-number
 invariant-emit_first-loop-number l =
-    (l.end ≡ length l.draft.code + len_first (cores (drop l.number (listed l.fn.parts))))
-    × ((x : Draft) → Adds l.draft x (C.code_first (address_of l.layout) (cores (drop l.number (listed l.fn.parts))) (length l.draft.code)) → Adds l.fn.draft x (C.code (address_of l.layout) (core_of (V.Choice l.fn.parts)) (length l.fn.draft.code)))
-    × Begins (left l.nodes) (choice_nodes (cores (drop l.number (listed l.fn.parts))))
-    × ((x : Nodes) → Takes l.nodes x (choice_nodes (cores (drop l.number (listed l.fn.parts)))) → Takes l.fn.nodes x (inner_nodes (core_of (V.Choice l.fn.parts))))
+    (l.row.end ≡ length l.draft.code + len_first (cores (drop l.number (listed l.row.parts.now))))
+    × ((x : Draft) → Adds l.draft x (C.code_first (address_of l.layout) (cores (drop l.number (listed l.row.parts.now))) (length l.draft.code)) → Adds l.fn.draft x (C.code (address_of l.layout) (core_of (V.Choice l.row.parts.now)) (length l.fn.draft.code)))
+    × Begins (left l.nodes) (choice_nodes (cores (drop l.number (listed l.row.parts.now))))
+    × ((x : Nodes) → Takes l.nodes x (choice_nodes (cores (drop l.number (listed l.row.parts.now)))) → Takes l.fn.nodes x (inner_nodes (core_of (V.Choice l.row.parts.now))))
 
 abbrev pub invariant-emit_behind-loop-back : goal.invariant-emit_behind-loop-back
 invariant-emit_behind-loop-back l =
@@ -44,10 +44,10 @@ abbrev pub decreases-emit_inner : goal.decreases-emit_inner
 decreases-emit_inner l = weight (core_of l.peg.now) + 1
 
 abbrev pub decreases-emit_all : goal.decreases-emit_all
-decreases-emit_all l = weight (core_of (V.Seq l.parts.now))
+decreases-emit_all l = weight (core_of (V.Seq l.row.parts.now))
 
 abbrev pub decreases-emit_first : goal.decreases-emit_first
-decreases-emit_first l = weight (core_of (V.Choice l.parts.now))
+decreases-emit_first l = weight (core_of (V.Choice l.row.parts.now))
 
 abbrev pub decreases-emit_tried : goal.decreases-emit_tried
 decreases-emit_tried l = weight (core_of l.part.now) + 3
