@@ -8,6 +8,7 @@ ghost use Rattle.json.specs.Print.{escape};
 ghost use Rattle.rpl_encode.specs.Labels.{label_in};
 ghost use Rattle.rpl_encode.specs.Texts.{fields};
 ghost use Rattle.rpl_encode.specs.inside.Escapes.{AreOf};
+ghost use Rattle.rpl_encode.specs.inside.Fronts.{after_front};
 ghost use Rattle.rpl_encode.specs.inside.Walk.{text_at, fields_at, comma, ending};
 
 use crate::escapes::put_bytes;
@@ -118,11 +119,8 @@ fn put_far(
         (out.new
         ≡ out.old
         ++ (front.now
-        ++ (decimal (node.start + 1)
-        ++ (codes ",\"e\":" ++ (decimal (node.end + 1)
-        ++ (codes ",\"data\":\""
-        ++ (escape (slice_range source.entry.line.now node.start node.end)
-        ++ 34 ∷ ending has_subs))))))) }
+        ++ after_front node.start node.end
+        (escape (slice_range source.entry.line.now node.start node.end)) has_subs)) }
 {
     out.put(front)?;
     put_places(out, node.start, node.end)?;

@@ -1,6 +1,7 @@
 // Text that is written at its end.
 ghost use Rattle.std.specs.Prelude.{◌≡◌, ◌+◌, ◌^◌, ◌<◌, ◌≤◌, ◌++◌, ◌∷◌, [], length, take, OnOk};
 ghost use Rattle.std.specs.Prelude.{vec_len, decimal, codes};
+ghost use Rattle.rpl_encode.specs.inside.Fronts.{after_front};
 ghost use Rattle.rpl_encode.specs.inside.Walk.{ending};
 
 use itoa::write_digits;
@@ -93,10 +94,7 @@ impl Page {
         ensures { OnOk result
             (self.new
             ≡ self.old
-            ++ (front.now
-            ++ (decimal (node.start + 1)
-            ++ (codes ",\"e\":" ++ (decimal (node.end + 1)
-            ++ (codes ",\"data\":\"" ++ (text.now ++ 34 ∷ ending has_subs))))))) }
+            ++ (front.now ++ after_front node.start node.end text.now has_subs)) }
     {
         let count = (front.len() + text.len()).saturating_add(MORE);
         make_room(&mut self.bytes, self.len, count)?;
