@@ -1,23 +1,15 @@
 -- Tables that find what they keep by a test of equality.
-use Rattle.std.proofs.Common.{◌≡◌, ℕ, zero, suc, ◌+◌, ◌<◌, take, List, [], ◌∷◌, ◌++◌, length, Some, refl, sym, ap, ap₂, subst, ◌∙◌, inl, inr, arith}
-use Rattle.std.specs.Prelude.{Bool, true, false, encode_utf8, encode_utf8_all, ◌||◌, ◌&&◌, ◌==◌, if◌then◌else◌, map, slice_get, slice_index_or}
+use Rattle.std.proofs.Common.{◌≡◌, ℕ, zero, suc, ◌+◌, ◌<◌, take, List, [], ◌∷◌, ◌++◌, length, Some, refl, sym, ap, subst, ◌∙◌, inl, inr, arith}
+use Rattle.std.specs.Prelude.{Bool, true, false, encode_utf8, encode_utf8_all, ◌||◌, if◌then◌else◌, map, slice_get, slice_index_or}
 use Rattle.std.specs.Bool.{Decides}
 use Rattle.std.specs.List.{All, Contains, list_any}
-use Rattle.std.proofs.lemmas.Bool.{and_parts, and_from, eqb-true, eq-eqb}
 use Rattle.std.proofs.lemmas.List.{map-append, length-map, append-nil}
 use Rattle.std.proofs.lemmas.List.Elements.{All-append}
 use Rattle.std.proofs.lemmas.Str.{encodes-append}
 use Rattle.std.proofs.Math.Seq.{take-suc}
 use Rattle.indexmap.specs.IndexSet.{insert_key}
-use Rattle.regex_class.specs.Ranges.{Range}
 use Rattle.rpl_intern.specs.Uses.{Keeps}
 use Rattle.rpl_intern.proofs.Adding.{held, some_at}
-
-pub range_decides : (x y : Range) → Decides ((x.0 == y.0) && (x.1 == y.1)) (x ≡ y)
-range_decides x y = (
-  λ e. let p = and_parts _ _ e in ap₂ {A = ℕ} {B = ℕ} {C = Range} (λ a b. (a, b)) (eqb-true x.0 y.0 p.0) (eqb-true x.1 y.1 p.1),
-  λ e. and_from _ _ (eq-eqb x.0 y.0 (ap (λ (r : Range). r.0) e)) (eq-eqb x.1 y.1 (ap (λ (r : Range). r.1) e)),
-)
 
 or_left : (a b : Bool) → a ≡ true → (a || b) ≡ true
 or_left true b e = refl

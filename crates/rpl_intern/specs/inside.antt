@@ -1,2 +1,3 @@
 -- Words of private functions alone. No public contract cites them.
+pub mod Pieces
 pub mod Uses

@@ -3,7 +3,7 @@ ghost use Rattle.std.specs.Prelude.{◌≡◌, ◌<◌, ◌≤◌, [], ◌∷◌
 ghost use Rattle.std.specs.Prelude.{length, take};
 
 use crate::NoMemory;
-use crate::tables::{LabelTable, SetTable};
+use crate::tables::{LabelTable, Piece, SetTable, Table};
 use rpl_classes::Set;
 use rpl_core::{Instr, Instrs};
 use rpl_text::Chars;
@@ -156,7 +156,7 @@ impl Draft {
         let count = self.sets.len();
         let number = self.sets.keep(alloc, set)?;
         let instr = as_what.instr(number as u32);
-        put_with_set(&mut self.code, &mut self.sets, instr, count)
+        put_with(&mut self.code, &mut self.sets, instr, count)
     }
 
     /// Writes an instruction with its text. Where memory runs out, nothing changes.
@@ -168,46 +168,26 @@ impl Draft {
         let count = self.labels.len();
         let number = self.labels.keep(alloc, text)?;
         let instr = as_what.instr(number as u32);
-        put_with_text(&mut self.code, &mut self.labels, instr, count)
+        put_with(&mut self.code, &mut self.labels, instr, count)
     }
 }
 
-/// Writes an instruction whose set was kept just now, where there were `count` of them. Where
+/// Writes an instruction whose row was kept just now, where there were `count` of them. Where
 /// memory runs out, only these stay.
-fn put_with_set(
+fn put_with<T: Piece>(
     code: &mut Instrs,
-    sets: &mut SetTable,
+    table: &mut Table<T>,
     instr: Instr,
     count: usize,
 ) -> Result<(), NoMemory>
     ensures code { OnOk result (code.new ≡ code.old ++ instr ∷ []) }
-    ensures sets { OnOk result (sets.new ≡ sets.old) }
+    ensures table { OnOk result (table.new ≡ table.old) }
     ensures code_err { OnErr result (code.new ≡ code.old) }
-    ensures sets_err { OnErr result (sets.new ≡ take count sets.old) }
+    ensures table_err { OnErr result (table.new ≡ take count table.old) }
 {
     let pushed = code.push(instr);
     if pushed.is_err() {
-        sets.truncate(count);
-    }
-    pushed
-}
-
-/// Writes an instruction whose text was kept just now, where there were `count` of them. Where
-/// memory runs out, only these stay.
-fn put_with_text(
-    code: &mut Instrs,
-    labels: &mut LabelTable,
-    instr: Instr,
-    count: usize,
-) -> Result<(), NoMemory>
-    ensures code { OnOk result (code.new ≡ code.old ++ instr ∷ []) }
-    ensures labels { OnOk result (labels.new ≡ labels.old) }
-    ensures code_err { OnErr result (code.new ≡ code.old) }
-    ensures labels_err { OnErr result (labels.new ≡ take count labels.old) }
-{
-    let pushed = code.push(instr);
-    if pushed.is_err() {
-        labels.truncate(count);
+        table.truncate(count);
     }
     pushed
 }

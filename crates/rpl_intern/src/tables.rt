@@ -1,6 +1,8 @@
 // Tables that keep each set and each text once, and find it by its hash.
 ghost use Rattle.std.specs.Prelude.{◌≡◌, [], ◌∷◌, IfOk, OnErr, Some, chars, length, slice_get};
-ghost use Rattle.std.specs.Prelude.{take};
+ghost use Rattle.std.specs.Prelude.{List, take, ⊤};
+ghost use Rattle.std.specs.Bool.{Decides};
+ghost use Rattle.rpl_classes.specs.Sets.{IsNormal};
 ghost use Rattle.rpl_intern.specs.Uses.{Keeps};
 
 use crate::NoMemory;
@@ -10,47 +12,77 @@ use rpl_classes::Set;
 use rpl_core::{Labels, Sets};
 use rpl_text::Chars;
 use std::alloc::Global;
+use std::hash::Hash;
 use std::marker::Model;
 
-/// Sets in the order of their first uses, each once. Contracts see the list of their lists of
-/// ranges.
-#[derive(Drop)]
-pub struct SetTable {
-    known: IndexSet<Vec<ClassRange>>,
+/// What the rows of a table are made of.
+pub trait Piece: Copy + Eq + Hash {
+    /// What holds of each row.
+    ghost is_row: { List Self → Type 0 };
+
+    /// Pieces that are equal are the same.
+    ghost decides: { (x y : Self) → Decides (Self.eq x y) (x ≡ y) };
 }
 
-impl Model for SetTable {
+impl Piece for ClassRange {
+    ghost use Rattle.rpl_intern.specs.inside.Pieces.{range_decides};
+
+    ghost is_row = { IsNormal };
+
+    ghost decides = { range_decides };
+}
+
+impl Piece for char {
+    ghost use Rattle.std.proofs.lemmas.Bool.Decides.{Decides-eqb};
+
+    ghost is_row = { λ _. ⊤ };
+
+    ghost decides = { Decides-eqb };
+}
+
+/// Rows in the order of their first uses, each once. Contracts see the list of the lists of their
+/// pieces.
+#[derive(Drop)]
+pub struct Table<T: Piece> {
+    known: IndexSet<Vec<T>>,
+}
+
+/// Sets, each as its ranges.
+pub type SetTable = Table<ClassRange>;
+
+/// Texts, each as its characters.
+pub type LabelTable = Table<char>;
+
+impl<T: Piece> Model for Table<T> {
     ghost use Rattle.std.specs.Prelude.{List, map};
     ghost use Rattle.std.specs.List.{All};
-    ghost use Rattle.regex_class.specs.Ranges.{Range};
-    ghost use Rattle.rpl_classes.specs.Sets.{IsNormal};
 
-    ghost Value = { List (List Range) };
+    ghost Value = { List (List T) };
 
     ghost view = { λ a. map (λ v. v.items) a.known.keys };
 
-    ghost invariant = { λ a. All IsNormal (map (λ v. v.items) a.known.keys) };
+    ghost invariant = { λ a. All T.is_row (map (λ v. v.items) a.known.keys) };
 }
 
-impl SetTable {
-    /// No sets.
-    pub fn new(alloc: Global) -> SetTable
+impl<T: Piece> Table<T> {
+    /// No rows.
+    pub fn new(alloc: Global) -> Table<T>
         ensures { result ≡ [] }
     {
-        SetTable {
+        Table {
             known: IndexSet::new(alloc),
         }
     }
 
-    /// The number of the set, which is added where it isn't there. Where memory runs out, nothing
+    /// The number of the row, which is added where it isn't there. Where memory runs out, nothing
     /// changes.
-    pub fn keep(&mut self, alloc: Global, set: &Set) -> Result<usize, NoMemory>
-        ensures kept { IfOk result (λ k. Keeps self.old (set.now ∷ []) self.new) }
-        ensures number { IfOk result (λ k. slice_get self.new k ≡ Some set.now) }
+    fn keep_row(&mut self, row: Vec<T>) -> Result<usize, NoMemory>
+        requires { T.is_row row.items }
+        ensures kept { IfOk result (λ k. Keeps self.old (row.items ∷ []) self.new) }
+        ensures number { IfOk result (λ k. slice_get self.new k ≡ Some row.items) }
         ensures err { OnErr result (self.new ≡ self.old) }
     {
-        let ranges = Vec::from_slice(alloc, set.ranges())?;
-        let (number, _) = self.known.insert_full(ranges)?;
+        let (number, _) = self.known.insert_full(row)?;
         Ok(number)
     }
 
@@ -67,6 +99,18 @@ impl SetTable {
     {
         self.known.truncate(count);
     }
+}
+
+impl Table<ClassRange> {
+    /// The number of the set, which is added where it isn't there. Where memory runs out, nothing
+    /// changes.
+    pub fn keep(&mut self, alloc: Global, set: &Set) -> Result<usize, NoMemory>
+        ensures kept { IfOk result (λ k. Keeps self.old (set.now ∷ []) self.new) }
+        ensures number { IfOk result (λ k. slice_get self.new k ≡ Some set.now) }
+        ensures err { OnErr result (self.new ≡ self.old) }
+    {
+        self.keep_row(Vec::from_slice(alloc, set.ranges())?)
+    }
 
     /// All of them, as the machine takes them.
     pub fn sets(&self, alloc: Global) -> Result<Sets, NoMemory>
@@ -78,21 +122,6 @@ impl SetTable {
         }
         Ok(sets)
     }
-}
-
-/// Texts in the order of their first uses, each once. Contracts see the list of their lists of
-/// characters.
-#[derive(Drop)]
-pub struct LabelTable {
-    known: IndexSet<Vec<char>>,
-}
-
-impl Model for LabelTable {
-    ghost use Rattle.std.specs.Prelude.{ℕ, List, map};
-
-    ghost Value = { List (List ℕ) };
-
-    ghost view = { λ a. map (λ v. v.items) a.known.keys };
 }
 
 /// The text's characters in a list.
@@ -117,16 +146,7 @@ fn text(alloc: Global, characters: &[char]) -> Result<Chars, NoMemory>
     Chars::from_str(alloc, text.as_str())
 }
 
-impl LabelTable {
-    /// No texts.
-    pub fn new(alloc: Global) -> LabelTable
-        ensures { result ≡ [] }
-    {
-        LabelTable {
-            known: IndexSet::new(alloc),
-        }
-    }
-
+impl Table<char> {
     /// The number of the text, which is added where it isn't there. Where memory runs out, nothing
     /// changes.
     pub fn keep(&mut self, alloc: Global, label: &Chars) -> Result<usize, NoMemory>
@@ -134,22 +154,7 @@ impl LabelTable {
         ensures number { IfOk result (λ k. slice_get self.new k ≡ Some label.now) }
         ensures err { OnErr result (self.new ≡ self.old) }
     {
-        let (number, _) = self.known.insert_full(characters(alloc, label.as_str())?)?;
-        Ok(number)
-    }
-
-    /// How many there are.
-    pub(crate) fn len(&self) -> usize
-        ensures { result ≡ length self.now }
-    {
-        self.known.len()
-    }
-
-    /// Only the first `count` stay.
-    pub(crate) fn truncate(&mut self, count: usize)
-        ensures { self.new ≡ take count self.old }
-    {
-        self.known.truncate(count);
+        self.keep_row(characters(alloc, label.as_str())?)
     }
 
     /// All of them, as the program takes them.

@@ -12,19 +12,19 @@ pub returns-clause-adds : goal.returns-clause-adds
 returns-clause-adds c =
     let d = c.args.self.now in
     let k = c.in_ok-number.number in
-    on_both c.put_with_set.result (λ (code : c.put_with_set.new.code ≡ d.code ++ c.instr-instr.result ∷ []) (kept : c.put_with_set.new.sets ≡ c.keep.new.self).
+    on_both c.put_with.result (λ (code : c.put_with.new.code ≡ d.code ++ c.instr-instr.result ∷ []) (kept : c.put_with.new.table ≡ c.keep.new.self).
     adds_set d _ c.args.as_what k c.args.set.now (code ∙ ap (λ i. d.code ++ i ∷ []) c.instr-instr.ensures) (subst (Keeps d.sets (c.args.set.now ∷ [])) (sym kept) c.in_ok-number.ensures.kept) refl
     (ap (λ l. slice_get l k) kept ∙ c.in_ok-number.ensures.number))
-    c.put_with_set.ensures.code c.put_with_set.ensures.sets
+    c.put_with.ensures.code c.put_with.ensures.table
 
 pub invariant_of-self-2 : goal.invariant_of-self-2
 invariant_of-self-2 c =
     let d = c.args.self.now in
-    let r = c.put_with_set.result in
-    let e = c.put_with_set.ensures in
-    let code = c.put_with_set.new.code in
+    let r = c.put_with.result in
+    let e = c.put_with.ensures in
+    let code = c.put_with.new.code in
     record {
       few = code_few r d.code code _ 1048576 c.requires e.code e.code_err;
-      sets_few = still_few r d.sets c.keep.new.self c.put_with_set.new.sets d.code code c.args.set.now _ c.len-count.result c.len-count.ensures c.in_ok-number.ensures.kept d.sets_few e.code e.sets e.code_err e.sets_err;
+      sets_few = still_few r d.sets c.keep.new.self c.put_with.new.table d.code code c.args.set.now _ c.len-count.result c.len-count.ensures c.in_ok-number.ensures.kept d.sets_few e.code e.table e.code_err e.table_err;
       labels_few = others_few r d.code code _ (length d.labels) d.labels_few e.code e.code_err;
     }

@@ -12,19 +12,19 @@ pub returns-clause-adds : goal.returns-clause-adds
 returns-clause-adds c =
     let d = c.args.self.now in
     let k = c.in_ok-number.number in
-    on_both c.put_with_text.result (λ (code : c.put_with_text.new.code ≡ d.code ++ c.instr-instr.result ∷ []) (kept : c.put_with_text.new.labels ≡ c.keep.new.self).
+    on_both c.put_with.result (λ (code : c.put_with.new.code ≡ d.code ++ c.instr-instr.result ∷ []) (kept : c.put_with.new.table ≡ c.keep.new.self).
     adds_text d _ c.args.as_what k c.args.text.now (code ∙ ap (λ i. d.code ++ i ∷ []) c.instr-instr.ensures) refl (subst (Keeps d.labels (c.args.text.now ∷ [])) (sym kept) c.in_ok-number.ensures.kept)
     (ap (λ l. slice_get l k) kept ∙ c.in_ok-number.ensures.number))
-    c.put_with_text.ensures.code c.put_with_text.ensures.labels
+    c.put_with.ensures.code c.put_with.ensures.table
 
 pub invariant_of-self-2 : goal.invariant_of-self-2
 invariant_of-self-2 c =
     let d = c.args.self.now in
-    let r = c.put_with_text.result in
-    let e = c.put_with_text.ensures in
-    let code = c.put_with_text.new.code in
+    let r = c.put_with.result in
+    let e = c.put_with.ensures in
+    let code = c.put_with.new.code in
     record {
       few = code_few r d.code code _ 1048576 c.requires e.code e.code_err;
-      labels_few = still_few r d.labels c.keep.new.self c.put_with_text.new.labels d.code code c.args.text.now _ c.len-count.result c.len-count.ensures c.in_ok-number.ensures.kept d.labels_few e.code e.labels e.code_err e.labels_err;
+      labels_few = still_few r d.labels c.keep.new.self c.put_with.new.table d.code code c.args.text.now _ c.len-count.result c.len-count.ensures c.in_ok-number.ensures.kept d.labels_few e.code e.table e.code_err e.table_err;
       sets_few = others_few r d.code code _ (length d.sets) d.sets_few e.code e.code_err;
     }

@@ -5,7 +5,7 @@ use Rattle.rpl_classes.proofs.Normal.{norm_normal_same}
 use Rattle.rpl_classes.specs.Norm.{norm}
 use Rattle.rpl_classes.specs.Sets.{IsNormal}
 use Rattle.rpl_intern.proofs.Keeping.{more_shown, holds_of}
-use Rattle.rpl_intern.proofs.tables.SetTable.sets.Goals as goal
+use Rattle.rpl_intern.proofs.tables.Table+ClassRange.sets.Goals as goal
 
 pub loop-ranges-preserved : goal.loop-ranges-preserved
 loop-ranges-preserved c =

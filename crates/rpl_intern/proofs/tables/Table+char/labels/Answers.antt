@@ -1,7 +1,7 @@
 use Rattle.std.proofs.Common.{[], ◌∷◌, ◌++◌, take, sym, ap, ◌∙◌}
 use Rattle.std.specs.Prelude.{map}
 use Rattle.rpl_intern.proofs.Keeping.{more_shown}
-use Rattle.rpl_intern.proofs.tables.LabelTable.labels.Goals as goal
+use Rattle.rpl_intern.proofs.tables.Table+char.labels.Goals as goal
 
 pub loop-characters-preserved : goal.loop-characters-preserved
 loop-characters-preserved c =
