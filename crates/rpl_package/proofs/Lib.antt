@@ -15,6 +15,7 @@ pub mod Returning
 pub mod Rooting
 pub mod Rows
 pub mod Sought
+pub mod Taking
 pub mod Walking
 pub mod Wanting
 pub mod Within

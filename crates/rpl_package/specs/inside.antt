@@ -10,3 +10,4 @@ pub mod Numbering
 pub mod Opening
 pub mod Reading
 pub mod Rooting
+pub mod Taken

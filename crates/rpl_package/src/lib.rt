@@ -25,6 +25,7 @@ mod rooted;
 mod set;
 mod stock;
 mod table;
+mod taken;
 mod targets;
 mod walk;
 

@@ -3,7 +3,7 @@ ghost use Rattle.std.specs.Prelude.{◌≡◌, All, OnOk, IfOk, IfErr, length};
 ghost use Rattle.rpl_syntax.specs.Modules.{said};
 ghost use Rattle.rpl_package.specs.Asking.{Walks};
 ghost use Rattle.rpl_package.specs.Built.{Becomes, IsAsked, IsSaid, Reaches};
-ghost use Rattle.rpl_package.specs.Loading.{checks, import_entries, import_entry, load_import};
+ghost use Rattle.rpl_package.specs.Loading.{checks, import_entries, load_import};
 ghost use Rattle.rpl_package.specs.Loading.{with_text};
 ghost use Rattle.rpl_package.specs.Stocks.{stock_seen, state_seen};
 ghost use Rattle.rpl_package.specs.inside.Kept.{Keeps};
@@ -14,8 +14,9 @@ ghost use Rattle.rpl_scope.specs.declared.fault.Stop.TheVariants.{Memory as OutO
 
 use crate::opening::{Importer, Opened, Walker, close, cycle_stop, open_import, open_own};
 use crate::stock::{Head, Stock, finish, is_loading};
+use crate::taken::bring;
 use rosie_io::Files;
-use rpl_scope::{Loaded, Module, ModuleText, Stop, enter_items, take_in};
+use rpl_scope::{Loaded, Module, ModuleText, Stop, enter_items};
 use rpl_syntax::{Import, Module as ParsedModule};
 use rpl_text::Chars;
 use std::alloc::Global;
@@ -38,7 +39,7 @@ fn push_text(alloc: Global, own: &mut Module, file: &Chars) -> Result<usize, Sto
 /// Of what it holds while the imported text's own imports are loaded, only pointers stand on the
 /// stack: it calls itself as often as files are read one inside the other.
 #[cycle(load)]
-#[tactic(auto, using(rpl_scope::proofs::Stops::told, crate::proofs::Outcomes::may, crate::proofs::Outcomes::quiet))]
+#[tactic(auto, using(rpl_scope::proofs::Stops::told))]
 pub fn load_import<F: Files>(
     files: &mut F,
     stock: &mut Stock,
@@ -120,38 +121,16 @@ pub fn enter_imports<F: Files>(
         (state_seen stock.new own.new)) }
     ensures files { LeavesFiles F.Source result files.old files.new }
 {
+    let mut taken = Vec::new(walker.importer.alloc);
     for import in imports {
-        enter_import(files, stock, own, walker, import)?;
+        let number = load_import(files, stock, walker, import)?;
+        let from = Loaded {
+            modules: &stock.modules,
+            number,
+        };
+        bring(own, &mut taken, walker.importer, import, from)?;
     }
     Ok(())
-}
-
-/// An import entry: the module that it names, and what that brings.
-#[cycle(load)]
-fn enter_import<F: Files>(
-    files: &mut F,
-    stock: &mut Stock,
-    own: &mut Module,
-    walker: &Walker<'_>,
-    import: &Import,
-) -> Result<(), Stop>
-    requires asked { IsAsked import.now }
-    ensures gives { F.tells → Walks (λ _. state_seen stock.new own.new) result (under import_entry
-        (F.tree files.old) walker.now stock.old.held.items import.now
-        (state_seen stock.old own.old)) }
-    ensures held { OnOk result (stock.new.held.items ≡ stock.old.held.items) }
-    ensures kept { Keeps (stock_seen stock.old) (stock_seen stock.new) }
-    ensures built { OnOk result (Becomes stock.old.held.items (state_seen stock.old own.old)
-        (state_seen stock.new own.new)) }
-    ensures files { LeavesFiles F.Source result files.old files.new }
-{
-    let number = load_import(files, stock, walker, import)?;
-    let Importer { alloc, file, .. } = walker.importer;
-    let from = Loaded {
-        modules: &stock.modules,
-        number,
-    };
-    take_in(alloc, own, file, import, from)
 }
 
 /// The number of the module of a text of its own, which is loaded now: its package name first.

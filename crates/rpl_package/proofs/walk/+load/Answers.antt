@@ -1,19 +1,23 @@
-use Rattle.std.proofs.Common.{drop, length, ◌+◌, ◌-◌, inr, refl, ap, ap₂, sym, subst, ◌∙◌, arith}
+use Rattle.std.proofs.Common.{ℕ, drop, length, ◌+◌, ◌-◌, inr, refl, ap, ap₂, sym, subst, ◌∙◌, arith}
 use Rattle.std.specs.Prelude.{Ok}
+use Rattle.std.specs.List.{All}
 use Rattle.std.proofs.lemmas.List.Elements.{All-get_or}
 use Rattle.rpl_syntax.specs.Modules.{said, entries_of}
+use Rattle.rpl_scope.specs.Faults.{StopIs}
 use Rattle.rpl_scope.specs.Imports.{take_in}
 use Rattle.rpl_scope.specs.Statements.{statements}
 use Rattle.rpl_scope.specs.Seen.{module_seen, modules_seen}
+use Rattle.rpl_scope.specs.inside.Taken.{HasAll}
 use Rattle.rpl_scope.proofs.Checking.{front}
 use Rattle.rpl_package.specs.Built.{Becomes, IsAsked, on, same as stays}
-use Rattle.rpl_package.specs.Loading.{is_loading, world, walk, load_import as reached, brought, import_entry, import_entries, said_of, with_text}
+use Rattle.rpl_package.specs.Loading.{Stock, is_loading, world, walk, load_import as reached, brought, import_entry, import_entries, said_of, with_text}
 use Rattle.rpl_package.specs.Stocks.{stock_seen, state_seen}
 use Rattle.rpl_package.proofs.Building.{asks_by, brings, texts_on}
 use Rattle.rpl_package.proofs.Keeping.{keeps_same, keeps_trans}
 use Rattle.rpl_package.proofs.Leaving.{after, still}
 use Rattle.rpl_package.proofs.Beginning.{begins_on, held_back, inner_stops, inner_taken}
 use Rattle.rpl_package.proofs.Outcomes.{if_ok, passed_on, walks_last, same, may_lead, may_then, turn_on, turn_stop}
+use Rattle.rpl_package.proofs.Taking.{all_on, entry_comes, entry_stops}
 use Rattle.rpl_package.proofs.Walking.{reach_cycle}
 use Rattle.rpl_package.proofs.walk.+load.Goals as goal
 
@@ -61,20 +65,49 @@ load_import-returns-clause-built g t c =
     let v = state_seen c.load_text.new.stock c.load_text.new.own in
     if_ok c.close.result _ (λ n is. inr (v, begins_on c.args.stock.now.held.items c.args.import.now.path (stock_seen c.args.stock.now) (said o.read.value.text) c.open_import.new.stock.held.items (state_seen c.open_import.new.stock o.own.value) v c.in_ok-read.ensures.begins (subst (λ m. Becomes c.open_import.new.stock.held.items (record { stock = stock_seen c.open_import.new.stock; own = module_seen m }) v) c.deref_mut.ensures.value c.in_ok-load_text.ensures.built), rw is at c.close.ensures.taken))
 
-pub enter_imports-returns-in_err-enter_import-clause-gives : goal.enter_imports-returns-in_err-enter_import-clause-gives
-enter_imports-returns-in_err-enter_import-clause-gives g t c = λ tells.
+pub enter_imports-returns-in_err-number-clause-gives : goal.enter_imports-returns-in_err-number-clause-gives
+enter_imports-returns-in_err-number-clause-gives g t c = λ tells.
     let ds = c.args.walker.now.importer.folders.now in
     let W = world (g.F.Source.tree c.args.files.now) ds in
     let d = c.args.walker.now.depth in
+    let hs = c.args.stock.now.held.items in
     let f = c.args.walker.now.importer.file.now in
     let i = c.import-item.result in
     let s0 = state_seen c.loop-import.stock c.loop-import.own in
     let inv = c.loop-import.invariant in
-    let s = c.in_err-enter_import.field-0.0 in
+    let s = c.in_err-number.field-0.0 in
     passed_on _ c.from_residual.result s _ c.from_residual.ensures.1
-    (turn_stop (import_entry W (walk W d) c.args.stock.now.held.items f) _ _ i s0 _
+    (turn_stop (import_entry W (walk W d) hs f) _ _ i s0 _
     (front c.args.imports.now c.loop-import.import-index i c.loop-import-test.true c.import-item.is) (inv.left tells) s
-    (may_lead s _ _ (same _ _ (ap₂ (λ U h. import_entry (world U ds) (walk (world U ds) d) h f i s0) inv.files.tree inv.held)) (c.in_err-enter_import.ensures.gives tells)))
+    (may_then s (reached W (walk W d) hs f i s0.stock) (brought f i s0.own)
+    (may_lead s _ _ (same _ _ (ap₂ (λ U h. reached (world U ds) (walk (world U ds) d) h f i s0.stock) inv.files.tree inv.held)) (c.in_err-number.ensures.gives tells))))
+
+pub enter_imports-returns-in_err-bring-clause-gives : goal.enter_imports-returns-in_err-bring-clause-gives
+enter_imports-returns-in_err-bring-clause-gives g t c = λ tells.
+    let ds = c.args.walker.now.importer.folders.now in
+    let W = world (g.F.Source.tree c.args.files.now) ds in
+    let d = c.args.walker.now.depth in
+    let hs = c.args.stock.now.held.items in
+    let f = c.args.walker.now.importer.file.now in
+    let i = c.import-item.result in
+    let s0 = state_seen c.loop-import.stock c.loop-import.own in
+    let inv = c.loop-import.invariant in
+    let n = c.in_ok-number.number in
+    let comes = ap₂ (λ U h. (reached (world U ds) (walk (world U ds) d) h f i s0.stock).answer) (sym inv.files.tree) (sym inv.held) ∙ c.in_ok-number.ensures.gives tells in
+    let s = c.in_err-bring.field-0.0 in
+    passed_on _ c.from_residual-in_err-bring.result s _ c.from_residual-in_err-bring.ensures.1
+    (turn_stop (import_entry W (walk W d) hs f) _ _ i s0 _
+    (front c.args.imports.now c.loop-import.import-index i c.loop-import-test.true c.import-item.is) (inv.left tells) s
+    (entry_stops W (walk W d) hs f i s0 (n, stock_seen c.load_import.new.stock) comes s
+    (subst (λ l. StopIs s (take_in f i n (modules_seen l) s0.own)) c.deref.ensures.value c.in_err-bring.ensures.gives)))
+
+pub enter_imports-bring-requires : goal.enter_imports-bring-requires
+enter_imports-bring-requires g t c =
+    let l = c.loop-import in
+    record {
+      there = subst (λ ms. All (HasAll (modules_seen ms) (module_seen l.own)) l.taken.items) (sym c.deref.ensures.value)
+          (all_on (modules_seen l.stock.modules.items) (modules_seen c.load_import.new.stock.modules.items) (module_seen l.own) l.taken.items c.load_import.ensures.kept.modules.1 l.invariant.taken);
+    }
 
 pub enter_imports-loop-import-preserved : goal.enter_imports-loop-import-preserved
 enter_imports-loop-import-preserved g t c =
@@ -84,26 +117,26 @@ enter_imports-loop-import-preserved g t c =
     let hs = c.args.stock.now.held.items in
     let f = c.args.walker.now.importer.file.now in
     let is = c.args.imports.now in
-    let n = c.loop-import.import-index in
+    let k = c.loop-import.import-index in
     let i = c.import-item.result in
     let s0 = state_seen c.loop-import.stock c.loop-import.own in
     let inv = c.loop-import.invariant in
+    let n = c.in_ok-number.number in
+    let m = module_seen c.bring.new.own in
+    let r : ℕ × Stock = (n, stock_seen c.load_import.new.stock) in
+    let takes = ap (λ l. take_in f i n (modules_seen l) s0.own) (sym c.deref.ensures.value) ∙ c.in_ok-bring.ensures.gives in
+    let asked = subst IsAsked (sym c.import-item.is) (All-get_or IsAsked is k i c.loop-import-test.true c.requires.asked) in
     record {
-      files = after g.F.Source _ _ _ _ _ _ inv.files c.in_ok-enter_import.ensures.files;
-      held = c.in_ok-enter_import.ensures.held ∙ inv.held;
-      kept = keeps_trans _ _ _ inv.kept c.in_ok-enter_import.ensures.kept;
-      built = on hs _ s0 _ inv.built (subst (λ h. Becomes h s0 (state_seen c.enter_import.new.stock c.enter_import.new.own)) inv.held c.in_ok-enter_import.ensures.built);
+      files = after g.F.Source _ _ _ _ _ _ inv.files c.in_ok-number.ensures.files;
+      held = c.in_ok-number.ensures.held ∙ inv.held;
+      kept = keeps_trans _ _ _ inv.kept c.load_import.ensures.kept;
+      built = on hs _ s0 _ inv.built (subst (λ h. Becomes h s0 (state_seen c.load_import.new.stock c.bring.new.own)) inv.held (brings c.loop-import.stock.held.items f i s0 r m asked c.in_ok-number.ensures.built takes));
+      taken = subst (λ l. All (HasAll (modules_seen l) m) c.bring.new.taken.items) c.deref.ensures.value c.in_ok-bring.ensures.there;
       left = λ tells.
-          turn_on (import_entry W (walk W d) hs f) (drop n is) (drop (n + 1) is) i s0 _ (front is n i c.loop-import-test.true c.import-item.is) (inv.left tells)
-          (state_seen c.enter_import.new.stock c.enter_import.new.own)
-          (ap₂ (λ U h. (import_entry (world U ds) (walk (world U ds) d) h f i s0).answer) (sym inv.files.tree) (sym inv.held) ∙ c.in_ok-enter_import.ensures.gives tells);
+          let comes = ap₂ (λ U h. (reached (world U ds) (walk (world U ds) d) h f i s0.stock).answer) (sym inv.files.tree) (sym inv.held) ∙ c.in_ok-number.ensures.gives tells in
+          turn_on (import_entry W (walk W d) hs f) (drop k is) (drop (k + 1) is) i s0 _ (front is k i c.loop-import-test.true c.import-item.is) (inv.left tells)
+          (state_seen c.load_import.new.stock c.bring.new.own) (entry_comes W (walk W d) hs f i s0 r comes m takes);
     }
-
-pub enter_import-returns-clause-built : goal.enter_import-returns-clause-built
-enter_import-returns-clause-built g t c =
-    let S = stock_seen c.load_import.new.stock in
-    if_ok c.take_in.result _ (λ x is. brings c.args.stock.now.held.items c.args.walker.now.importer.file.now c.args.import.now (state_seen c.args.stock.now c.args.own.now) (c.in_ok-number.number, S) (module_seen c.take_in.new.own) c.requires.asked c.in_ok-number.ensures.built
-    (ap (λ l. take_in c.args.walker.now.importer.file.now c.args.import.now c.in_ok-number.number (modules_seen l) (module_seen c.args.own.now)) (sym c.deref.ensures.value) ∙ rw is at c.take_in.ensures))
 
 pub enter_imports-loop-import-init : goal.enter_imports-loop-import-init
 enter_imports-loop-import-init g t c = record {
@@ -111,8 +144,15 @@ enter_imports-loop-import-init g t c = record {
   held = refl;
   kept = keeps_same _ _ refl;
   built = stays _ _;
+  taken = rw c.new-taken.ensures.items (λ k d lt. absurd (omega (arith, lt)));
   left = λ tells. (refl, λ p h. h);
 }
+
+pub enter_imports-load_import-requires : goal.enter_imports-load_import-requires
+enter_imports-load_import-requires g t c = λ κs lives.
+    let i = c.import-item.result in
+    let asked = subst IsAsked (sym c.import-item.is) (All-get_or IsAsked c.args.imports.now c.loop-import.import-index i c.loop-import-test.true c.requires.asked) in
+    (omega (arith, c.decreases), (lives, asked))
 
 pub load_text-returns-in_err-enter_imports-clause-gives : goal.load_text-returns-in_err-enter_imports-clause-gives
 load_text-returns-in_err-enter_imports-clause-gives g t c = λ tells.
@@ -137,23 +177,6 @@ load_text-returns-clause-built g t c =
     if_ok c.enter_items.result _ (λ y is. texts_on c.args.stock.now.held.items f c.in_ok-number.number (state_seen c.args.stock.now c.args.own.now) a b (said c.args.text.now) m c.requires.said
     (ap (λ o. record { stock = S; own = o }) c.in_ok-number.ensures.text) c.in_ok-enter_imports.ensures.built
     (ap₂ (λ l is. statements f c.in_ok-number.number (modules_seen l) (entries_of is) (module_seen c.enter_imports.new.own)) (sym c.deref.ensures.value) (sym c.as_slice-items.ensures) ∙ rw is at c.enter_items.ensures))
-
-pub enter_import-returns-in_err-number-clause-gives : goal.enter_import-returns-in_err-number-clause-gives
-enter_import-returns-in_err-number-clause-gives g t c = λ tells.
-    let W = world (g.F.Source.tree c.args.files.now) c.args.walker.now.importer.folders.now in
-    let hs = c.args.stock.now.held.items in
-    let f = c.args.walker.now.importer.file.now in
-    let i = c.args.import.now in
-    let S = stock_seen c.args.stock.now in
-    let s = c.in_err-number.field-0.0 in
-    passed_on _ c.from_residual.result s _ c.from_residual.ensures.1
-    (may_then s (reached W (walk W c.args.walker.now.depth) hs f i S) (brought f i (module_seen c.args.own.now)) (c.in_err-number.ensures.gives tells))
-
-pub enter_imports-enter_import-requires : goal.enter_imports-enter_import-requires
-enter_imports-enter_import-requires g t c = λ κs lives.
-    let i = c.import-item.result in
-    let asked = subst IsAsked (sym c.import-item.is) (All-get_or IsAsked c.args.imports.now c.loop-import.import-index i c.loop-import-test.true c.requires.asked) in
-    (omega (arith, c.decreases), (lives, asked))
 
 pub load_text-enter_imports-requires : goal.load_text-enter_imports-requires
 load_text-enter_imports-requires g t c = λ κs lives.

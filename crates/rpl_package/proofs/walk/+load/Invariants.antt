@@ -1,5 +1,8 @@
 use Rattle.std.proofs.Common.{◌≡◌, ◌+◌, ◌*◌, drop}
 use Rattle.std.specs.Prelude.{Ok}
+use Rattle.std.specs.List.{All}
+use Rattle.rpl_scope.specs.Seen.{module_seen, modules_seen}
+use Rattle.rpl_scope.specs.inside.Taken.{HasAll}
 use Rattle.rpl_package.specs.Loading.{import_entries}
 use Rattle.rpl_package.specs.Built.{Becomes}
 use Rattle.rpl_package.specs.Stocks.{stock_seen, state_seen}
@@ -10,16 +13,13 @@ use Rattle.rpl_package.specs.inside.Opening.{under}
 use Rattle.rpl_package.proofs.walk.+load.Given as goal
 
 abbrev pub decreases-load_import : goal.decreases-load_import
-decreases-load_import g l = 4 * l.walker.now.depth + 0
-
-abbrev pub decreases-enter_import : goal.decreases-enter_import
-decreases-enter_import g l = 4 * l.walker.now.depth + 1
+decreases-load_import g l = 3 * l.walker.now.depth + 0
 
 abbrev pub decreases-enter_imports : goal.decreases-enter_imports
-decreases-enter_imports g l = 4 * l.walker.now.depth + 2
+decreases-enter_imports g l = 3 * l.walker.now.depth + 1
 
 abbrev pub decreases-load_text : goal.decreases-load_text
-decreases-load_text g l = 4 * l.walker.now.depth + 3
+decreases-load_text g l = 3 * l.walker.now.depth + 2
 
 abbrev pub invariant-enter_imports-loop-import : goal.invariant-enter_imports-loop-import
 invariant-enter_imports-loop-import g l =
@@ -28,6 +28,7 @@ invariant-enter_imports-loop-import g l =
       held : l.stock.held.items ≡ l.fn.stock.held.items;
       kept : Keeps (stock_seen l.fn.stock) (stock_seen l.stock);
       built : Becomes l.fn.stock.held.items (state_seen l.fn.stock l.fn.own) (state_seen l.stock l.own);
+      taken : All (HasAll (modules_seen l.stock.modules.items) (module_seen l.own)) l.taken.items;
       left : g.F.Source.tells → Follows
           (under import_entries (g.F.Source.tree l.fn.files) l.walker l.fn.stock.held.items (drop l.import-index l.imports) (state_seen l.stock l.own))
           (under import_entries (g.F.Source.tree l.fn.files) l.walker l.fn.stock.held.items l.imports (state_seen l.fn.stock l.fn.own));

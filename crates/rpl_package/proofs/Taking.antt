@@ -1,0 +1,85 @@
+-- Imports that are entered, where the names of some modules are all there already.
+use Rattle.std.proofs.Common.{◌≡◌, ℕ, zero, suc, ◌<◌, List, [], ◌∷◌, ◌++◌, length, Some, true, refl, sym, ap, subst, ◌∙◌, arith}
+use Rattle.std.specs.Prelude.{Ok, nat_eq, take}
+use Rattle.std.specs.List.{All, list_any}
+use Rattle.std.proofs.lemmas.Bool.{eqb-true}
+use Rattle.std.proofs.lemmas.List.{length-map}
+use Rattle.std.proofs.lemmas.List.Elements.{All-get_or, All-push, All-weaker}
+use Rattle.std.proofs.lemmas.Map.Views.{Contains-from_any}
+use Rattle.rpl_syntax.specs.declared.module.Import.{Import}
+use Rattle.rpl_syntax.specs.declared.module.ImportAs.{ImportAs}
+use Rattle.rpl_syntax.specs.declared.module.ImportAs.TheVariants.{Last, Named, Plain}
+use Rattle.rpl_scope.specs.Faults.{◌>>=◌, StopIs}
+use Rattle.rpl_scope.specs.Imports.{numbered, take_in}
+use Rattle.rpl_scope.specs.Packages.{Module, nth}
+use Rattle.rpl_scope.specs.Seen.{module_seen, modules_seen}
+use Rattle.rpl_scope.specs.declared.fault.Stop.{Stop}
+use Rattle.rpl_scope.specs.declared.module.Module.{Module as Declared}
+use Rattle.rpl_scope.specs.inside.Taken.{Grows, HasAll}
+use Rattle.rpl_scope.proofs.Stops.{stops}
+use Rattle.rpl_scope.proofs.Taken.{grows, has_more, plain_taken}
+use Rattle.rpl_package.specs.Asking.{MayStop}
+use Rattle.rpl_package.specs.Loading.{World, Walk, Stock, State, brought, import_entry, load_import}
+use Rattle.rpl_package.specs.declared.stock.Head.{Head}
+use Rattle.rpl_package.specs.inside.Taken.{is_plain}
+use Rattle.rpl_package.proofs.Outcomes.{may, may_lead, then_follows}
+
+pub plain : (a : ImportAs) → is_plain a ≡ true → a ≡ Plain
+plain Last h = absurd (cc)
+plain (Named p) h = absurd (cc)
+plain Plain h = refl
+
+-- ---- the modules whose names are all there
+
+-- a module of these is one of them
+pub is_taken : (ms : List Module) (m : Module) (js : List ℕ) (j : ℕ) → All (HasAll ms m) js → list_any (λ i. nat_eq i j) js ≡ true → HasAll ms m j
+is_taken ms m js j h e =
+    let c = Contains-from_any {eq = λ x y. nat_eq y x} (λ x y t. sym (eqb-true y x t)) j js e in
+    subst (HasAll ms m) c.2 (All-get_or (HasAll ms m) js c.0 j c.1 h)
+
+-- they stay so while names are added
+pub all_more : (ms : List Module) (m n : Module) (js : List ℕ) → Grows m n → All (HasAll ms m) js → All (HasAll ms n) js
+all_more ms m n js g h =
+    All-weaker (HasAll ms m) (HasAll ms n) (λ j x. (x.0, x.1, has_more j (numbered 0 x.0.rules) m n g x.2)) js h
+
+-- and while modules are loaded
+nth_same : {A : Type 0} (xs ys : List A) (j : ℕ) (x : A) → take (length xs) ys ≡ xs → nth xs j ≡ Some x → nth ys j ≡ Some x
+nth_same [] ys j x e h = absurd (cc)
+nth_same (a ∷ xs) [] j x e h = absurd (cc)
+nth_same (a ∷ xs) (b ∷ ys) zero x e h = cc
+nth_same (a ∷ xs) (b ∷ ys) (suc j) x e h = nth_same xs ys j x (cc) h
+
+pub all_on : (ms ns : List Module) (m : Module) (js : List ℕ) → take (length ms) ns ≡ ms → All (HasAll ms m) js → All (HasAll ns m) js
+all_on ms ns m js e h = All-weaker (HasAll ms m) (HasAll ns m) (λ j x. (x.0, nth_same ms ns j x.0 e x.1, x.2)) js h
+
+-- what an import brings leaves them so
+pub stay : (f : List ℕ) (i : Import) (j : ℕ) (ms : List Module) (m n : Module) (js : List ℕ) → take_in f i j ms m ≡ Ok n → All (HasAll ms m) js → All (HasAll ms n) js
+stay f i j ms m n js e h = all_more ms m n js (grows f i j ms m n e) h
+
+nth_some : {A : Type 0} (xs : List A) (j : ℕ) → j < length xs → (x : A) × (nth xs j ≡ Some x)
+nth_some [] j lt = absurd (omega (arith, lt))
+nth_some (x ∷ xs) zero lt = (x, refl)
+nth_some (x ∷ xs) (suc j) lt = nth_some xs j (omega (arith, lt))
+
+-- and where it brings names without a prefix, its module is one of them
+pub stay_with : (f : List ℕ) (i : Import) (j : ℕ) (ms : List Declared) (m n : Module) (js : List ℕ) → is_plain i.name ≡ true → j < length ms → take_in f i j (modules_seen ms) m ≡ Ok n
+    → All (HasAll (modules_seen ms) m) js → All (HasAll (modules_seen ms) n) (js ++ j ∷ [])
+stay_with f i j ms m n js is lt e h =
+    let count = length-map ms module_seen in
+    let from = nth_some (modules_seen ms) j (omega (arith, lt, count)) in
+    All-push (HasAll (modules_seen ms) n) js j (stay f i j (modules_seen ms) m n js e h)
+    (plain_taken f i j (modules_seen ms) m n from.0 (plain i.name is) from.1 e)
+
+-- ---- an import entry, whose module is reached
+
+module _ (w : World) (below : Walk) (hs : List Head) (f : List ℕ) (i : Import) (s : State) (r : ℕ × Stock) (reached : (load_import w below hs f i s.stock).answer ≡ Ok r) where
+  -- what stops what it brings stops the entry
+  pub entry_stops : (stop : Stop) → StopIs stop (take_in f i r.0 r.1.modules s.own) → MayStop stop (import_entry w below hs f i s)
+  entry_stops stop h =
+      may_lead stop _ _ (then_follows (load_import w below hs f i s.stock) r (brought f i s.own) reached)
+      (may stop _ (stops stop (take_in f i r.0 r.1.modules s.own) (λ n. Ok (record { stock = r.1; own = n })) h))
+
+  pub entry_comes : (m : Module) → take_in f i r.0 r.1.modules s.own ≡ Ok m → (import_entry w below hs f i s).answer ≡ Ok (record { stock = r.1; own = m })
+  entry_comes m h =
+      sym (then_follows (load_import w below hs f i s.stock) r (brought f i s.own) reached).0
+      ∙ ap (λ x. x >>= λ n. Ok (record { stock = r.1; own = n })) h
