@@ -1,15 +1,15 @@
 -- Each code is safe, or isn't: the shapes that are forced are found one by one, until no further one is, or until two
 -- clash.
 use Rattle.std.proofs.Common.{◌≡◌, ℕ, zero, suc, ◌<◌, ◌≤◌, List, [], ◌∷◌, length, get_or, set, replicate, Option, Some, None, refl, sym, ap, ◌∙◌, subst, arith, inl, inr, ⊎_elim, length-set, get_or-set_same, get_or-set_other}
-use Rattle.std.proofs.lemmas.Bool.{cases_eq, cases_lt, eq-eqb, eqb-true}
+use Rattle.std.proofs.lemmas.Bool.{cases_eq, cases_lt, eq-eqb}
 use Rattle.std.proofs.lemmas.Option.{slice_get_past}
 use Rattle.std.specs.Prelude.{◌⊎◌, Bool, true, false, slice_get}
 use Rattle.rpl_core.specs.Instr.{Instr}
 use Rattle.rpl_core.specs.Instr as I
 use Rattle.rpl_safe.specs.Safe.{Left, Shape, Shapes, Given, fresh, given_by, next_in, AreIn, Avoids, IsKept, IsOpen, IsTree, CallsTree, IsSafe}
-use Rattle.rpl_safe.specs.inside.Marks.{HasNone, is_finish, is_return, is_open, is_call, holds, called_by, call_at}
+use Rattle.rpl_safe.specs.inside.Marks.{HasNone, is_finish, is_return, is_open, is_call, holds, call_at}
 use Rattle.rpl_safe.proofs.Stacks.{same_some}
-use Rattle.rpl_safe.proofs.Testing.{open_of}
+use Rattle.rpl_safe.proofs.Testing.{finish_of, return_of, call_of, opens_there, call_there}
 
 -- it holds, or it doesn't
 abbrev pub Dec : Type 0 → Type 0
@@ -271,32 +271,6 @@ begun code lt = record {
     there = get_or-set_same (none_yet (length code)) 0 (Some (fresh 0)) None (omega (arith, lt, first_long (length code)))
 
 -- ---- the last test
-
-finish_of : (i : Instr) → is_finish i ≡ true → i ≡ I.Finish
-finish_of I.Finish e = refl
-finish_of _ e = absurd (cc)
-
-return_of : (i : Instr) → is_return i ≡ true → i ≡ I.Return
-return_of I.Return e = refl
-return_of _ e = absurd (cc)
-
-call_of : (c : ℕ) (i : Instr) → is_call c i ≡ true → i ≡ I.Call c
-call_of c (I.Call l) e = ap I.Call (eqb-true l c e)
-call_of c _ e = absurd (cc)
-
-opens_there : (code : List Instr) (a : ℕ) (o : Option Instr) → slice_get code a ≡ o → holds is_open o ≡ true
-    → (l : List ℕ) × (slice_get code a ≡ Some (I.Open l))
-opens_there code a None e q = absurd (cc)
-opens_there code a (Some i) e q = let l = open_of i q in (l.0, e ∙ ap Some l.1)
-
-called_of : (i : Instr) (c : ℕ) → called_by i ≡ Some c → i ≡ I.Call c
-called_of (I.Call l) c e = let z : l ≡ c = cc in ap I.Call z
-called_of _ c e = absurd (cc)
-
-call_there : (code : List Instr) (o : Option Instr) (c : ℕ) → slice_get code 0 ≡ o → call_at o ≡ Some c
-    → slice_get code 0 ≡ Some (I.Call c)
-call_there code None c e q = absurd (cc)
-call_there code (Some i) c e q = e ∙ ap Some (called_of i c q)
 
 instr_dec : (test : Instr → Bool) (end : Instr) → ((i : Instr) → test i ≡ true → i ≡ end) → test end ≡ true
     → (o : Option Instr) → Dec (o ≡ Some end)

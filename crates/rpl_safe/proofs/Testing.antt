@@ -45,15 +45,15 @@ or_to true y h = refl
 or_to false y (inl e) = absurd (cc)
 or_to false y (inr e) = e
 
-finish_of : (i : Instr) → is_finish i ≡ true → i ≡ I.Finish
+pub finish_of : (i : Instr) → is_finish i ≡ true → i ≡ I.Finish
 finish_of I.Finish e = refl
 finish_of _ e = absurd (cc)
 
-return_of : (i : Instr) → is_return i ≡ true → i ≡ I.Return
+pub return_of : (i : Instr) → is_return i ≡ true → i ≡ I.Return
 return_of I.Return e = refl
 return_of _ e = absurd (cc)
 
-call_of : (c : ℕ) (i : Instr) → is_call c i ≡ true → i ≡ I.Call c
+pub call_of : (c : ℕ) (i : Instr) → is_call c i ≡ true → i ≡ I.Call c
 call_of c (I.Call l) e = ap I.Call (eqb-true l c e)
 call_of c _ e = absurd (cc)
 
@@ -249,7 +249,7 @@ head_long [] None h = let x = h.1 in absurd (cc)
 head_long [] (Some c) h = let x = h.0 in absurd (cc)
 head_long (i ∷ code) o h = omega arith
 
-opens_there : (code : List Instr) (a : ℕ) (o : Option Instr) → slice_get code a ≡ o → holds is_open o ≡ true → (l : List ℕ) × (slice_get code a ≡ Some (I.Open l))
+pub opens_there : (code : List Instr) (a : ℕ) (o : Option Instr) → slice_get code a ≡ o → holds is_open o ≡ true → (l : List ℕ) × (slice_get code a ≡ Some (I.Open l))
 opens_there code a None e q = absurd (cc)
 opens_there code a (Some i) e q = let l = open_of i q in (l.0, e ∙ ap Some l.1)
 
@@ -261,7 +261,7 @@ called_of : (i : Instr) (c : ℕ) → called_by i ≡ Some c → i ≡ I.Call c
 called_of (I.Call l) c e = let z : l ≡ c = cc in ap I.Call z
 called_of _ c e = absurd (cc)
 
-call_there : (code : List Instr) (o : Option Instr) (c : ℕ) → slice_get code 0 ≡ o → call_at o ≡ Some c → slice_get code 0 ≡ Some (I.Call c)
+pub call_there : (code : List Instr) (o : Option Instr) (c : ℕ) → slice_get code 0 ≡ o → call_at o ≡ Some c → slice_get code 0 ≡ Some (I.Call c)
 call_there code None c e q = absurd (cc)
 call_there code (Some i) c e q = e ∙ ap Some (called_of i c q)
 
