@@ -45,77 +45,82 @@ pub(crate) fn is_cooked(e: &Expr) -> bool
     matches!(e, Expr::Cooked(_))
 }
 
+/// Where an expression stands, what is known of what stands for each rule in a look-behind, and
+/// whether the expression is in one.
+#[derive(Clone, Copy)]
+pub(crate) struct Around<'a> {
+    pub(crate) scope: &'a Scope<'a>,
+    pub(crate) known: &'a [Option<Inner>],
+    pub(crate) in_lookbehind: bool,
+}
+
+impl Around<'_> {
+    /// The size and the depth of a call of a rule, or of what stands for it in a look-behind.
+    fn call(&self, rule: u32) -> Count
+        ensures { (I : Inners) → KnowsInners self.now.known.now I
+            → Counts result (seen self.now.in_lookbehind I (C.Call rule)) }
+    {
+        count_call(self.known, self.in_lookbehind, rule)
+    }
+}
+
 /// The size and the depth of an expression's core, or of what stands for it in a look-behind.
 #[cycle(measure)]
-pub(crate) fn measure(
-    scope: &Scope<'_>,
-    known: &[Option<Inner>],
-    in_lookbehind: bool,
-    e: &Expr,
-) -> Count
-    ensures { (c : Casing) (I : Inners) → KnowsInners known.now I
-        → Counts result (seen in_lookbehind I (core c (scope_seen scope.now I) (expr_of e.now))) }
+pub(crate) fn measure(around: &Around<'_>, e: &Expr) -> Count
+    ensures { (c : Casing) (I : Inners) → KnowsInners around.now.known.now I
+        → Counts result (seen around.now.in_lookbehind I
+        (core c (scope_seen around.now.scope.now I) (expr_of e.now))) }
 {
     match e {
         Expr::Text(chars) => text(characters(chars.as_str())),
         Expr::Class { .. } | Expr::Any | Expr::Start | Expr::End | Expr::Note(_) => leaf(),
-        Expr::Boundary => count_call(known, in_lookbehind, scope.boundary),
-        Expr::Name(name) => count_call(known, in_lookbehind, scope.rule(name)),
-        Expr::Cooked(items) => measure_cooked(scope, known, in_lookbehind, items.as_slice()),
-        Expr::Raw(items) => measure_raw(scope, known, in_lookbehind, items.as_slice()),
-        Expr::Choice(parts) => {
-            let all = measure_all(scope, known, in_lookbehind, parts.as_slice());
-            node(all)
-        }
+        Expr::Boundary => around.call(around.scope.boundary),
+        Expr::Name(name) => around.call(around.scope.rule(name)),
+        Expr::Cooked(items) => measure_cooked(around, items.as_slice()),
+        Expr::Raw(items) => measure_raw(around, items.as_slice()),
+        Expr::Choice(parts) => node(measure_all(around, parts.as_slice())),
         Expr::Both(first, second) => {
-            let before = node(measure(scope, known, in_lookbehind, first));
-            let last = measure(scope, known, in_lookbehind, second);
+            let before = node(measure(around, first));
+            let last = measure(around, second);
             pair(before, last)
         }
         Expr::Prefix(Sign::Behind, item) => {
-            let body = measure(scope, known, true, item);
-            node(body)
+            let inside = Around {
+                in_lookbehind: true,
+                ..*around
+            };
+            node(measure(&inside, item))
         }
-        Expr::Prefix(_, item) => {
-            let body = measure(scope, known, in_lookbehind, item);
-            node(body)
-        }
+        Expr::Prefix(_, item) => node(measure(around, item)),
         Expr::Repeat { body, least, most } => {
-            let of = measure(scope, known, in_lookbehind, body);
+            let of = measure(around, body);
             if is_cooked(body) {
-                let boundary = count_call(known, in_lookbehind, scope.boundary);
+                let boundary = around.call(around.scope.boundary);
                 cooked_repeat(boundary, of, *least, *most)
             } else {
                 repeat(of, *least, *most)
             }
         }
         Expr::Macro { name, arg } => {
-            let of = measure(scope, known, in_lookbehind, arg);
-            applied(known, in_lookbehind, Macro::named(name.name.as_str()), of)
+            let of = measure(around, arg);
+            let kind = Macro::named(name.name.as_str());
+            applied(around.known, around.in_lookbehind, kind, of)
         }
-        Expr::Marked(_, body) => {
-            let of = measure(scope, known, in_lookbehind, body);
-            capture(in_lookbehind, of)
-        }
+        Expr::Marked(_, body) => capture(around.in_lookbehind, measure(around, body)),
     }
 }
 
 /// A raw group.
 #[cycle(measure)]
-fn measure_raw(
-    scope: &Scope<'_>,
-    known: &[Option<Inner>],
-    in_lookbehind: bool,
-    items: &[Expr],
-) -> Count
-    ensures { (c : Casing) (I : Inners) → KnowsInners known.now I
-        → Counts result (seen in_lookbehind I
-        (seq_of (cores c (scope_seen scope.now I) (exprs_all items.now)))) }
+fn measure_raw(around: &Around<'_>, items: &[Expr]) -> Count
+    ensures { (c : Casing) (I : Inners) → KnowsInners around.now.known.now I
+        → Counts result (seen around.now.in_lookbehind I
+        (seq_of (cores c (scope_seen around.now.scope.now I) (exprs_all items.now)))) }
 {
     match items {
-        [item] => measure(scope, known, in_lookbehind, item),
+        [item] => measure(around, item),
         _ => {
-            let all = measure_all(scope, known, in_lookbehind, items);
+            let all = measure_all(around, items);
             node(all)
         }
     }
@@ -123,20 +128,15 @@ fn measure_raw(
 
 /// A cooked group.
 #[cycle(measure)]
-fn measure_cooked(
-    scope: &Scope<'_>,
-    known: &[Option<Inner>],
-    in_lookbehind: bool,
-    items: &[Expr],
-) -> Count
-    ensures { (c : Casing) (I : Inners) → KnowsInners known.now I
-        → Counts result (seen in_lookbehind I
-        (seq_of (spaced c (scope_seen scope.now I) (exprs_all items.now)))) }
+fn measure_cooked(around: &Around<'_>, items: &[Expr]) -> Count
+    ensures { (c : Casing) (I : Inners) → KnowsInners around.now.known.now I
+        → Counts result (seen around.now.in_lookbehind I
+        (seq_of (spaced c (scope_seen around.now.scope.now I) (exprs_all items.now)))) }
 {
     match items {
-        [item] => measure(scope, known, in_lookbehind, item),
+        [item] => measure(around, item),
         _ => {
-            let all = measure_spaced(scope, known, in_lookbehind, items);
+            let all = measure_spaced(around, items);
             node(all)
         }
     }
@@ -144,39 +144,29 @@ fn measure_cooked(
 
 /// Some expressions together.
 #[cycle(measure)]
-fn measure_all(
-    scope: &Scope<'_>,
-    known: &[Option<Inner>],
-    in_lookbehind: bool,
-    parts: &[Expr],
-) -> Count
-    ensures { (c : Casing) (I : Inners) → KnowsInners known.now I
-        → CountsAll result (seen_all in_lookbehind I
-        (cores c (scope_seen scope.now I) (exprs_all parts.now))) }
+fn measure_all(around: &Around<'_>, parts: &[Expr]) -> Count
+    ensures { (c : Casing) (I : Inners) → KnowsInners around.now.known.now I
+        → CountsAll result (seen_all around.now.in_lookbehind I
+        (cores c (scope_seen around.now.scope.now I) (exprs_all parts.now))) }
 {
     let mut sum = none();
     for part in parts {
-        sum = add(sum, measure(scope, known, in_lookbehind, part));
+        sum = add(sum, measure(around, part));
     }
     sum
 }
 
 /// The items of a cooked group with the boundaries between them.
 #[cycle(measure)]
-fn measure_spaced(
-    scope: &Scope<'_>,
-    known: &[Option<Inner>],
-    in_lookbehind: bool,
-    items: &[Expr],
-) -> Count
-    ensures { (c : Casing) (I : Inners) → KnowsInners known.now I
-        → CountsAll result (seen_all in_lookbehind I
-        (spaced c (scope_seen scope.now I) (exprs_all items.now))) }
+fn measure_spaced(around: &Around<'_>, items: &[Expr]) -> Count
+    ensures { (c : Casing) (I : Inners) → KnowsInners around.now.known.now I
+        → CountsAll result (seen_all around.now.in_lookbehind I
+        (spaced c (scope_seen around.now.scope.now I) (exprs_all items.now))) }
 {
     let mut sum = none();
-    let boundary = count_call(known, in_lookbehind, scope.boundary);
+    let boundary = around.call(around.scope.boundary);
     for number in 0..items.len() {
-        let item = measure(scope, known, in_lookbehind, &items[number]);
+        let item = measure(around, &items[number]);
         sum = add_item(sum, item, boundary, stands_alone(items, number));
     }
     sum

@@ -30,7 +30,7 @@ use crate::build::build;
 use crate::built_in::built_in;
 use crate::fault::ExpandFault;
 use crate::growing::Growing;
-use crate::measure::measure;
+use crate::measure::{Around, measure};
 use crate::mode::Mode;
 use crate::scope::Scope;
 use crate::statement::Statement;
@@ -147,7 +147,12 @@ pub fn expand(alloc: Global, set: &PackageSet) -> Result<Rules, ExpandFault>
         let Some(statement) = Statement::of(set, number) else {
             unreachable!()
         };
-        let own = measure(&statement.scope, &table.known, false, statement.body);
+        let around = Around {
+            scope: &statement.scope,
+            known: &table.known,
+            in_lookbehind: false,
+        };
+        let own = measure(&around, statement.body);
         if let Err(fault) = check_size(Some(number), counts_under(statement.captures, own)) {
             return Err(fault);
         }
@@ -168,7 +173,12 @@ fn check_goal_size(
         (captured captures (codes "*") (core Plain (scope_seen scope.now I) (expr_of e.now))))
         result }
 {
-    let own = measure(scope, known, false, e);
+    let around = Around {
+        scope,
+        known,
+        in_lookbehind: false,
+    };
+    let own = measure(&around, e);
     check_size(None, counts_under(captures, own))
 }
 

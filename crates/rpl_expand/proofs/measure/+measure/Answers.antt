@@ -24,16 +24,16 @@ use Rattle.rpl_expand.proofs.measure.+measure.Goals as goal
 
 pub measure-returns-in-Text : goal.measure-returns-in-Text
 measure-returns-in-Text t c = λ k I h.
-    let b = c.args.in_lookbehind in
-    let s = scope_seen c.args.scope.now I in
+    let b = c.args.around.now.in_lookbehind in
+    let s = scope_seen c.args.around.now.scope.now I in
     let long = sym (c.characters.ensures ∙ ap length c.as_str.ensures) in
     let same = ap (λ e. seen b I (core k s (expr_of e))) c.in-Text.is ∙ seen_text b I k c.in-Text.chars in
     subst (Counts c.text.result) (sym same) (c.text.ensures k c.in-Text.chars long)
 
 pub measure-returns-in-Cooked : goal.measure-returns-in-Cooked
 measure-returns-in-Cooked t c = λ k I h.
-    let b = c.args.in_lookbehind in
-    let s = scope_seen c.args.scope.now I in
+    let b = c.args.around.now.in_lookbehind in
+    let s = scope_seen c.args.around.now.scope.now I in
     let view = ap expr_of c.in-Cooked.is ∙ cooked_view c.in-Cooked.items in
     let same = ap (λ e. seen b I (core k s e)) view
     ∙ ap (λ l. seen b I (seq_of (spaced k s (exprs_all l)))) (sym c.as_slice.ensures) in
@@ -41,8 +41,8 @@ measure-returns-in-Cooked t c = λ k I h.
 
 pub measure-returns-in-Raw : goal.measure-returns-in-Raw
 measure-returns-in-Raw t c = λ k I h.
-    let b = c.args.in_lookbehind in
-    let s = scope_seen c.args.scope.now I in
+    let b = c.args.around.now.in_lookbehind in
+    let s = scope_seen c.args.around.now.scope.now I in
     let view = ap expr_of c.in-Raw.is ∙ raw_view c.in-Raw.items in
     let same = ap (λ e. seen b I (core k s e)) view
     ∙ ap (λ l. seen b I (seq_of (cores k s (exprs_all l)))) (sym c.as_slice-in-Raw.ensures) in
@@ -50,18 +50,18 @@ measure-returns-in-Raw t c = λ k I h.
 
 pub measure-returns-in-Choice : goal.measure-returns-in-Choice
 measure-returns-in-Choice t c = λ k I h.
-    let b = c.args.in_lookbehind in
-    let s = scope_seen c.args.scope.now I in
+    let b = c.args.around.now.in_lookbehind in
+    let s = scope_seen c.args.around.now.scope.now I in
     let view = ap expr_of c.in-Choice.is ∙ choice_view c.in-Choice.parts in
     let same = ap (λ e. seen b I (core k s e)) view
     ∙ ap (λ l. seen b I (Choice (cores k s (exprs_all l)))) (sym c.as_slice-in-Choice.ensures)
     ∙ seen_choice b I _ in
-    subst (Counts c.node.result) (sym same) (c.node.ensures.choice _ (c.measure_all-all.ensures k I h))
+    subst (Counts c.node.result) (sym same) (c.node.ensures.choice _ (c.measure_all.ensures k I h))
 
 pub measure-returns-in-Both : goal.measure-returns-in-Both
 measure-returns-in-Both t c = λ k I h.
-    let b = c.args.in_lookbehind in
-    let s = scope_seen c.args.scope.now I in
+    let b = c.args.around.now.in_lookbehind in
+    let s = scope_seen c.args.around.now.scope.now I in
     let p = core k s (expr_of c.in-Both.first.value) in
     let q = core k s (expr_of c.in-Both.second.value) in
     let one = subst (λ e. Counts c.measure.result (seen b I (core k s (expr_of e)))) c.deref.ensures
@@ -83,20 +83,20 @@ repeat_seen b I k s body least most cooked test =
 
 pub measure-returns-then-is_cooked : goal.measure-returns-then-is_cooked
 measure-returns-then-is_cooked t c = λ k I h.
-    let s = scope_seen c.args.scope.now I in
+    let s = scope_seen c.args.around.now.scope.now I in
     let r = c.in-Repeat in
-    let of = subst (λ e. Counts c.measure-of.result (seen c.args.in_lookbehind I (core k s (expr_of e))))
+    let of = subst (λ e. Counts c.measure-of.result (seen c.args.around.now.in_lookbehind I (core k s (expr_of e))))
     c.deref-in-Repeat.ensures (c.measure-of.ensures k I h) in
     let test = ap (λ e. is_cooked (expr_of e)) (sym c.deref-in-Repeat-2.ensures) ∙ sym c.is_cooked.ensures in
-    let same = ap (λ e. seen c.args.in_lookbehind I (core k s (expr_of e))) r.is
-    ∙ repeat_seen c.args.in_lookbehind I k s (expr_of r.body.value) r.least r.most true (test ∙ c.if-is_cooked.true) in
+    let same = ap (λ e. seen c.args.around.now.in_lookbehind I (core k s (expr_of e))) r.is
+    ∙ repeat_seen c.args.around.now.in_lookbehind I k s (expr_of r.body.value) r.least r.most true (test ∙ c.if-is_cooked.true) in
     subst (Counts c.cooked_repeat.result) (sym same)
-    (c.cooked_repeat.ensures _ _ (c.count_call-boundary.ensures I h) of)
+    (c.cooked_repeat.ensures _ _ (c.call-boundary.ensures I h) of)
 
 pub measure-returns-else-is_cooked : goal.measure-returns-else-is_cooked
 measure-returns-else-is_cooked t c = λ k I h.
-    let b = c.args.in_lookbehind in
-    let s = scope_seen c.args.scope.now I in
+    let b = c.args.around.now.in_lookbehind in
+    let s = scope_seen c.args.around.now.scope.now I in
     let r = c.in-Repeat in
     let not_cooked =
     ap (λ e. is_cooked (expr_of e)) (sym c.deref-in-Repeat-2.ensures) ∙ sym c.is_cooked.ensures ∙ c.if-is_cooked.false in
@@ -108,8 +108,8 @@ measure-returns-else-is_cooked t c = λ k I h.
 
 pub measure_cooked-returns-in_default : goal.measure_cooked-returns-in_default
 measure_cooked-returns-in_default t c = λ k I h.
-    let b = c.args.in_lookbehind in
-    let s = scope_seen c.args.scope.now I in
+    let b = c.args.around.now.in_lookbehind in
+    let s = scope_seen c.args.around.now.scope.now I in
     let es = c.args.items.now in
     let many : length es ≢ 1 =
     elim c.in_default.branch [
@@ -121,8 +121,8 @@ measure_cooked-returns-in_default t c = λ k I h.
 
 pub measure_raw-returns-in_default : goal.measure_raw-returns-in_default
 measure_raw-returns-in_default t c = λ k I h.
-    let b = c.args.in_lookbehind in
-    let s = scope_seen c.args.scope.now I in
+    let b = c.args.around.now.in_lookbehind in
+    let s = scope_seen c.args.around.now.scope.now I in
     let es = c.args.items.now in
     let many : length es ≢ 1 =
     elim c.in_default.branch [
@@ -134,13 +134,13 @@ measure_raw-returns-in_default t c = λ k I h.
 
 pub measure_all-returns : goal.measure_all-returns
 measure_all-returns t c = λ k I h.
-    adds_done _ _ _ (none_left c.args.in_lookbehind I k (scope_seen c.args.scope.now I) c.args.parts.now
+    adds_done _ _ _ (none_left c.args.around.now.in_lookbehind I k (scope_seen c.args.around.now.scope.now I) c.args.parts.now
     c.loop-part.part-index c.loop-part-test.false) (c.loop-part.invariant k I h)
 
 pub measure_all-loop-part-preserved : goal.measure_all-loop-part-preserved
 measure_all-loop-part-preserved t c = λ k I h.
-    let b = c.args.in_lookbehind in
-    let s = scope_seen c.args.scope.now I in
+    let b = c.args.around.now.in_lookbehind in
+    let s = scope_seen c.args.around.now.scope.now I in
     let es = c.args.parts.now in
     let i = c.loop-part.part-index in
     let e = c.part-item.result in
@@ -153,13 +153,13 @@ measure_all-loop-part-preserved t c = λ k I h.
 
 pub measure_spaced-returns : goal.measure_spaced-returns
 measure_spaced-returns t c = λ k I h.
-    adds_done _ _ _ (none_spaced c.args.in_lookbehind I k (scope_seen c.args.scope.now I) c.args.items.now
+    adds_done _ _ _ (none_spaced c.args.around.now.in_lookbehind I k (scope_seen c.args.around.now.scope.now I) c.args.items.now
     c.loop-number.number c.loop-number-test.false) (c.loop-number.invariant k I h)
 
 pub measure_spaced-loop-number-preserved : goal.measure_spaced-loop-number-preserved
 measure_spaced-loop-number-preserved t c = λ k I h.
-    let b = c.args.in_lookbehind in
-    let s = scope_seen c.args.scope.now I in
+    let b = c.args.around.now.in_lookbehind in
+    let s = scope_seen c.args.around.now.scope.now I in
     let es = c.args.items.now in
     let i = c.loop-number.number in
     let e = c.index-items-number.result in
@@ -169,5 +169,5 @@ measure_spaced-loop-number-preserved t c = λ k I h.
     let whole = seen_all b I (items k s es) in
     let here = items_seen b I k s es i e c.loop-number-test.true c.index-items-number.is
     ∙ ap (λ a. Then p (between a q rest)) (sym c.stands_alone.ensures) in
-    c.add_item-sum.ensures p q rest whole (c.measure-item.ensures k I h) (c.count_call-boundary.ensures I h)
+    c.add_item-sum.ensures p q rest whole (c.measure-item.ensures k I h) (c.call-boundary.ensures I h)
     (subst (λ r. Adds c.loop-number.sum r whole) here (c.loop-number.invariant k I h))

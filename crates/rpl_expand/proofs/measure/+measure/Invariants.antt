@@ -8,12 +8,12 @@ use Rattle.rpl_expand.proofs.measure.+measure.Given as goal
 
 abbrev pub invariant-measure_all-loop-part : goal.invariant-measure_all-loop-part
 invariant-measure_all-loop-part l =
-    (c : Casing) (I : Inners) → KnowsInners l.known I
-    → Adds l.sum (seen_all l.in_lookbehind I (parts c (scope_seen l.scope I) (drop l.part-index l.parts)))
-    (seen_all l.in_lookbehind I (parts c (scope_seen l.scope I) l.parts))
+    (c : Casing) (I : Inners) → KnowsInners l.around.known.now I
+    → Adds l.sum (seen_all l.around.in_lookbehind I (parts c (scope_seen l.around.scope.now I) (drop l.part-index l.parts)))
+    (seen_all l.around.in_lookbehind I (parts c (scope_seen l.around.scope.now I) l.parts))
 
 abbrev pub invariant-measure_spaced-loop-number : goal.invariant-measure_spaced-loop-number
 invariant-measure_spaced-loop-number l =
-    (c : Casing) (I : Inners) → KnowsInners l.known I
-    → Adds l.sum (seen_all l.in_lookbehind I (items c (scope_seen l.scope I) (drop l.number l.items)))
-    (seen_all l.in_lookbehind I (items c (scope_seen l.scope I) l.items))
+    (c : Casing) (I : Inners) → KnowsInners l.around.known.now I
+    → Adds l.sum (seen_all l.around.in_lookbehind I (items c (scope_seen l.around.scope.now I) (drop l.number l.items)))
+    (seen_all l.around.in_lookbehind I (items c (scope_seen l.around.scope.now I) l.items))
