@@ -25,25 +25,34 @@ use rpl_macro::Macro;
 use rpl_syntax::{Expr, Sign};
 use std::alloc::Global;
 
-/// No turn is asked for or allowed.
-fn is_never(least: u32, most: Option<u32>) -> bool
-    ensures least { IsTrue result → least ≡ 0 }
-    ensures most { IsTrue result → most ≡ Some 0 }
-{
-    match most {
-        Some(most) => least == 0 && most == 0,
-        None => false,
-    }
+/// How many turns a repetition asks for, and how many it allows, if not any number.
+#[derive(Clone, Copy)]
+struct Turns {
+    least: u32,
+    most: Option<u32>,
 }
 
-/// A cooked group is asked for once at most, so that no boundary stands between turns.
-fn is_once(least: u32, most: Option<u32>) -> bool
-    ensures least { IsTrue result → least ≤ 1 }
-    ensures most { IsTrue result → most ≡ Some 1 }
-{
-    match most {
-        Some(most) => least <= 1 && most == 1,
-        None => false,
+impl Turns {
+    /// No turn is asked for or allowed.
+    fn is_never(self) -> bool
+        ensures least { IsTrue result → self.least ≡ 0 }
+        ensures most { IsTrue result → self.most ≡ Some 0 }
+    {
+        match self.most {
+            Some(most) => self.least == 0 && most == 0,
+            None => false,
+        }
+    }
+
+    /// A cooked group is asked for once at most, so that no boundary stands between turns.
+    fn is_once(self) -> bool
+        ensures least { IsTrue result → self.least ≤ 1 }
+        ensures most { IsTrue result → self.most ≡ Some 1 }
+    {
+        match self.most {
+            Some(most) => self.least <= 1 && most == 1,
+            None => false,
+        }
     }
 }
 
@@ -112,15 +121,15 @@ pub(crate) fn build(alloc: Global, base: &Base<'_>, mode: Mode, e: &Expr) -> Res
             let last = build(alloc, base, mode, second)?;
             pair(alloc, before, last)
         }
-        Expr::Prefix(Sign::Behind, item) => {
-            let body = build(alloc, base, mode.behind(), item)?;
-            behind(alloc, body)
+        Expr::Prefix(Sign::Behind, item) => behind(alloc, build(alloc, base, mode.behind(), item)?),
+        Expr::Prefix(sign, item) => predicate(alloc, *sign, build(alloc, base, mode, item)?),
+        Expr::Repeat { body, least, most } => {
+            let turns = Turns {
+                least: *least,
+                most: *most,
+            };
+            build_repeat(alloc, base, mode, body, turns)
         }
-        Expr::Prefix(sign, item) => {
-            let body = build(alloc, base, mode, item)?;
-            predicate(alloc, *sign, body)
-        }
-        Expr::Repeat { body, least, most } => build_repeat(alloc, base, mode, body, *least, *most),
         Expr::Macro { name, arg } => {
             let kind = Macro::named(name.name.as_str());
             build_macro(alloc, base, mode, kind, arg)
@@ -140,27 +149,26 @@ fn build_repeat(
     base: &Base<'_>,
     mode: Mode,
     body: &Expr,
-    least: u32,
-    most: Option<u32>,
+    turns: Turns,
 ) -> Result<Peg, NoMemory>
     requires { Knows base.now }
     ensures { IfOk result (λ p. core_of p
         ≡ shown base.now mode.in_lookbehind
         (F.repeated (E.is_cooked (expr_of body.now)) (C.Call base.now.scope.boundary)
-        (E.core mode.casing (base_scope base.now) (expr_of body.now)) least most)) }
+        (E.core mode.casing (base_scope base.now) (expr_of body.now)) turns.least turns.most)) }
 {
-    if is_never(least, most) {
+    if turns.is_never() {
         return Ok(seq(Pegs::new(alloc)));
     }
     let turn = build(alloc, base, mode, body)?;
     if !is_cooked(body) {
-        return repeat(alloc, turn, least, most);
+        return repeat(alloc, turn, turns.least, turns.most);
     }
-    if is_once(least, most) {
-        return cooked_once(alloc, turn, least);
+    if turns.is_once() {
+        return cooked_once(alloc, turn, turns.least);
     }
     let boundary = base.call(alloc, mode.in_lookbehind, base.scope.boundary)?;
-    cooked_repeat(alloc, boundary, turn, least, most)
+    cooked_repeat(alloc, boundary, turn, turns.least, turns.most)
 }
 
 /// A macro of an argument.

@@ -194,8 +194,8 @@ repeat_at base mode body l m cooked test =
 
 pub build_repeat-returns-then-not-is_cooked : goal.build_repeat-returns-then-not-is_cooked
 build_repeat-returns-then-not-is_cooked t c =
-    let l = c.args.least in
-    let m = c.args.most in
+    let l = c.args.turns.least in
+    let m = c.args.turns.most in
     let test = sym c.is_cooked.ensures ∙ c.if-not-is_cooked.true in
     let same = repeat_at c.args.base.now c.args.mode (expr_of c.args.body.now) l m false test in
     subst (λ w. IfOk c.repeat.result (λ r. core_of r ≡ w)) (ap (λ x. F.repeat x l m) c.in_ok-turn.ensures ∙ sym same)
@@ -205,19 +205,19 @@ pub build_repeat-returns-then-is_once : goal.build_repeat-returns-then-is_once
 build_repeat-returns-then-is_once t c =
     let base = c.args.base.now in
     let body = expr_of c.args.body.now in
-    let l = c.args.least in
+    let l = c.args.turns.least in
     let q = shown base c.args.mode.in_lookbehind (C.Call base.scope.boundary) in
     let test = sym c.is_cooked.ensures ∙ c.if-not-is_cooked.false in
-    let most : c.args.most ≡ Some 1 = c.is_once.ensures.most c.if-is_once.true in
-    let same = repeat_at base c.args.mode body l c.args.most true test
+    let most : c.args.turns.most ≡ Some 1 = c.is_once.ensures.most c.if-is_once.true in
+    let same = repeat_at base c.args.mode body l c.args.turns.most true test
     ∙ ap (λ n. F.repeated true q (core_at base c.args.mode body) l n) most in
     IfOk-weaker c.cooked_once.result _ _ (λ r e. e q
     ∙ ap (λ x. F.cooked_bounded q x l 1) c.in_ok-turn.ensures ∙ sym same) c.cooked_once.ensures
 
 pub build_repeat-returns : goal.build_repeat-returns
 build_repeat-returns t c =
-    let l = c.args.least in
-    let m = c.args.most in
+    let l = c.args.turns.least in
+    let m = c.args.turns.most in
     let test = sym c.is_cooked.ensures ∙ c.if-not-is_cooked.false in
     let same = repeat_at c.args.base.now c.args.mode (expr_of c.args.body.now) l m true test in
     subst (λ w. IfOk c.cooked_repeat.result (λ r. core_of r ≡ w))
