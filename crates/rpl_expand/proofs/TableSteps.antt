@@ -1,5 +1,5 @@
 -- The table, one rule after the other.
-use Rattle.std.proofs.Common.{◌≡◌, ℕ, zero, suc, ◌+◌, List, [], ◌∷◌, ◌++◌, length, map, refl, sym, ap, subst, ◌∙◌}
+use Rattle.std.proofs.Common.{◌≡◌, ℕ, zero, suc, ◌+◌, ◌<◌, List, [], ◌∷◌, ◌++◌, length, map, refl, sym, ap, subst, ◌∙◌}
 use Rattle.std.proofs.Common.{arith, append_assoc}
 use Rattle.std.proofs.lemmas.List.{map-append}
 use Rattle.std.specs.Prelude.{Option, Some, None, slice_get}
@@ -7,12 +7,16 @@ use Rattle.std.proofs.lemmas.Option.{slice_get_within}
 use Rattle.std.specs.Option.{option_or}
 use Rattle.rpl_core.specs.Table.{AreDistinct, IsNew, names_of}
 use Rattle.rpl_core.specs.declared.rules.Rule.{Rule}
+use Rattle.rpl_package.specs.Roots.{Packages}
+use Rattle.rpl_package.specs.Tables as P
 use Rattle.rpl_expand.specs.Faults.{Fault, size_fault, table_fault}
 use Rattle.rpl_expand.specs.Answers.{IsDue}
 use Rattle.rpl_forms.specs.Inlining.{inner}
 use Rattle.rpl_forms.specs.Rows.{Row, row_at, rows_of, inners_of}
+use Rattle.rpl_expand.specs.Sets.{statement_at}
 use Rattle.rpl_expand.specs.Table.{Statement, row_of, rows}
 use Rattle.rpl_forms.proofs.InnerCounts.{rows_more, inners_more}
+use Rattle.rpl_expand.proofs.Standing.{from, from_here}
 
 -- the rows of a statement and those after it, once its rule is r
 pub rows_turn : (rs : List Rule) (s : Statement) (ss : List Statement) (r : Rule) → row_at r ≡ row_of (inners_of rs) s
@@ -21,6 +25,13 @@ rows_turn rs s ss r made =
     let I = inners_of rs in
     ap (λ x. x ∷ rows (I ++ inner I x.block x.body ∷ []) ss) (sym made)
     ∙ ap (λ J. row_at r ∷ rows J ss) (sym (inners_more rs r))
+
+-- the same of the statements of a set from the n-th rule on
+pub rows_from_here : (p : Packages) (rs : List Rule) (n : ℕ) (s : Statement) (r : Rule)
+    → n < 2 + length (P.rows p.stock.modules) → statement_at p n ≡ Some s → row_at r ≡ row_of (inners_of rs) s
+    → rows (inners_of rs) (from p n) ≡ row_at r ∷ rows (inners_of (rs ++ r ∷ [])) (from p (n + 1))
+rows_from_here p rs n s r within there made =
+    ap (rows (inners_of rs)) (from_here p n s within there) ∙ rows_turn rs s (from p (n + 1)) r made
 
 pub table_turn : (rs : List Rule) (r : Rule) (old new : List Row) (whole : List Row) → old ≡ row_at r ∷ new
     → rows_of rs ++ old ≡ whole → rows_of (rs ++ r ∷ []) ++ new ≡ whole

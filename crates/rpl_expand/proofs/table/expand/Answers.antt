@@ -17,7 +17,7 @@ use Rattle.rpl_expand.specs.Table.{body_of, built_in, row_of, rows, scope_at}
 use Rattle.rpl_expand.specs.inside.Statements.{statement_found, statement_seen}
 use Rattle.rpl_expand.proofs.Ordering.{in_order}
 use Rattle.rpl_expand.proofs.Standing.{from, from_end, from_first, from_here, has_statement}
-use Rattle.rpl_expand.proofs.TableSteps.{due_found, fault_turn, next_is_new, rows_turn, table_turn}
+use Rattle.rpl_expand.proofs.TableSteps.{due_found, fault_turn, next_is_new, rows_from_here, table_turn}
 use Rattle.rpl_expand.proofs.Whole.{apart, two_rules, whole_fault, whole_table}
 use Rattle.rpl_expand.proofs.table.expand.Goals as goal
 
@@ -92,8 +92,7 @@ loop-number-preserved c =
     let none : size_fault (Some n) (row_at r).body ≡ None = ap (λ x. size_fault (Some n) x.body) made ∙ fits in
     let old = rows I (from p n) in
     let new = rows (inners_of (rs ++ r ∷ [])) (from p (n + 1)) in
-    let e : old ≡ row_at r ∷ new =
-    ap (rows I) (from_here p n s within there) ∙ rows_turn rs s (from p (n + 1)) r made in
+    let e : old ≡ row_at r ∷ new = rows_from_here p rs n s r within there made in
     let is = c.in_ok-table-2.ensures.rules in
     record {
       table_is = subst (λ l. rows_of l ++ rows (inners_of l) (from p (n + 1)) ≡ table_of p) (sym is)
@@ -109,17 +108,13 @@ pub with-requires-clause-new_name : goal.with-requires-clause-new_name
 with-requires-clause-new_name c =
     let p = set_seen c.args.set.now in
     let rs = rules_of c.loop-number.table.rules in
-    let I = inners_of rs in
     let n = c.loop-number.number in
     let s = statement_seen c.in-Some.statement in
-    let r = c.in_ok-rule.rule in
     let there : statement_at p n ≡ Some s = sym c.of.ensures ∙ ap statement_found c.in-Some.is in
     let within : n < 2 + length (P.rows p.stock.modules) =
     omega (arith, c.loop-number-test.true, c.rules-number-end.ensures) in
-    let new = rows (inners_of (rs ++ r ∷ [])) (from p (n + 1)) in
-    let e : rows I (from p n) ≡ row_at r ∷ new =
-    ap (rows I) (from_here p n s within there) ∙ rows_turn rs s (from p (n + 1)) r c.in_ok-rule.ensures in
-    next_is_new rs r (rows I (from p n)) new (table_of p) e c.loop-number.invariant.table_is c.requires
+    let e = rows_from_here p rs n s c.in_ok-rule.rule within there c.in_ok-rule.ensures in
+    next_is_new rs c.in_ok-rule.rule _ _ (table_of p) e c.loop-number.invariant.table_is c.requires
 
 -- the whole table, when the last rule is made
 made_whole : (p : Packages) (rs : List Rule) (n : ℕ) → 2 + length (P.rows p.stock.modules) ≤ n
