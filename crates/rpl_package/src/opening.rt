@@ -75,7 +75,7 @@ pub fn cycle_stop(importer: Importer<'_>, import: &Import) -> Stop
 }
 
 /// The file of an import, where there is one, and room for its module.
-#[tactic(auto, using(rpl_scope::proofs::Stops::told, crate::proofs::Outcomes::may, crate::proofs::Outcomes::quiet))]
+#[tactic(auto, using(rpl_scope::proofs::Stops::told, crate::proofs::Outcomes::may))]
 fn find_import<F: Files>(
     files: &mut F,
     stock: &Stock,

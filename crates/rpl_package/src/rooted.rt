@@ -155,7 +155,7 @@ pub fn enter_given<F: Files>(
 }
 
 /// A root that is the file at this path.
-#[tactic(auto, using(rpl_scope::proofs::Stops::told, crate::proofs::Outcomes::may, crate::proofs::Outcomes::quiet))]
+#[tactic(auto, using(rpl_scope::proofs::Stops::told, crate::proofs::Outcomes::may))]
 pub fn enter_file<F: Files>(
     alloc: Global,
     files: &mut F,
