@@ -10,6 +10,7 @@ use Rattle.rpl_core.specs.Order.{joins_next}
 use Rattle.rpl_check.specs.Faults.{Fault, LeftRecursion, first_from}
 use Rattle.rpl_check.specs.Blocks.{selves, recursion_of, fault_from}
 use Rattle.rpl_core.specs.Order.{IsInOrder, block_at}
+use Rattle.rpl_check.specs.inside.Groups.{IsGroup}
 use Rattle.rpl_check.specs.inside.Rounds.{CallsBefore, Reach}
 use Rattle.rpl_check.proofs.Following.{no_self}
 use Rattle.rpl_check.proofs.Least.{here_called}
@@ -88,6 +89,17 @@ group_joins f bs a k e lt j =
 pub group_ends : (f : ℕ → ℕ → Option Fault) (bs : List (Option ℕ)) (a k e : ℕ) → k < e → joins_next bs k ≡ false → fault_from f bs a k (e - k) ≡ option_or (f a (k + 1)) (fault_from f bs (k + 1) (k + 1) (e - (k + 1)))
 group_ends f bs a k e lt j =
     ap (fault_from f bs a k) (minus_step k e lt) ∙ ap (λ b. if b then fault_from f bs a (k + 1) (e - (k + 1)) else option_or (f a (k + 1)) (fault_from f bs (k + 1) (k + 1) (e - (k + 1)))) j
+
+-- a whole group
+pub group_first : (f : ℕ → ℕ → Option Fault) (bs : List (Option ℕ)) (a b e : ℕ) → IsGroup bs a b → b ≤ e → fault_from f bs a a (e - a) ≡ option_or (f a b) (fault_from f bs b b (e - b))
+group_first f bs a b e g le = let lt = g.some in walk (b - 1 - a) a (omega arith) (omega arith)
+  where
+    walk : (n k : ℕ) → k + n + 1 ≡ b → a ≤ k → fault_from f bs a k (e - k) ≡ option_or (f a b) (fault_from f bs b b (e - b))
+    walk zero k z ge =
+        let here : b - 1 ≡ k = omega arith in
+        let next : k + 1 ≡ b = omega arith in
+        group_ends f bs a k e (omega arith) (subst (λ x. joins_next bs x ≡ false) here g.ends) ∙ ap (λ x. option_or (f a x) (fault_from f bs x x (e - x))) next
+    walk (suc n) k z ge = group_joins f bs a k e (omega arith) (g.joined k ge (omega arith)) ∙ walk n (k + 1) (omega arith) (omega arith)
 
 pub groups_done : (f : ℕ → ℕ → Option Fault) (bs : List (Option ℕ)) (a k e : ℕ) → e ≤ k → fault_from f bs a k (e - k) ≡ None
 groups_done f bs a k e le = let z : e - k ≡ 0 = omega arith in ap (fault_from f bs a k) z

@@ -5,6 +5,7 @@ pub mod Stay
 pub mod TooLong
 pub mod Settling
 pub mod Ordering
+pub mod Grouping
 pub mod Finding
 pub mod Listing
 pub mod Fronts

@@ -38,12 +38,11 @@ pub calls_none : (R : List Core) → CallsBefore R 0
 calls_none R r s p lt is c = absurd (omega arith)
 
 -- when all rules are known
-pub known_all : (fact : F.Fact) (rules : List Rule) (start k : ℕ) (marks : List Bool) → length rules ≤ k → start ≤ k → AreKnown (test_of fact) (bodies_of rules) marks start → (start < k → joins_next (blocks_of rules) (k - 1) ≡ true) → IsLeast (Solves (test_of fact) (bodies_of rules)) (marked marks)
-known_all fact rules start k marks le ls h last = record { solution = λ r e. solved r e (cases_lt start k); least = λ j s r e. h.under j s r e }
+pub known_all : (fact : F.Fact) (rules : List Rule) (k : ℕ) (marks : List Bool) → length rules ≤ k → AreKnown (test_of fact) (bodies_of rules) marks k → IsLeast (Solves (test_of fact) (bodies_of rules)) (marked marks)
+known_all fact rules k marks le h = record { solution = λ r e. solved r e; least = λ j s r e. h.under j s r e }
   where
-    solved : (r : ℕ) → passes (test_of fact (marked marks)) (slice_get (bodies_of rules) r) ≡ true → (start < k) ⊎ (k ≤ start) → marked marks r ≡ true
-    solved r e cs =
+    solved : (r : ℕ) → passes (test_of fact (marked marks)) (slice_get (bodies_of rules) r) ≡ true → marked marks r ≡ true
+    solved r e =
         let x = passing (test_of fact (marked marks)) (bodies_of rules) r e in
         let rl = slice_get_within (bodies_of rules) r x.0 x.1 in
-        ⊎_elim (λ l. clash (joins_next (blocks_of rules) (k - 1)) (last l) (last_ends (blocks_of rules) (k - 1) (omega (arith, length-map rules (λ (r : Rule). r.block)))))
-        (λ l. h.settled r (omega arith) (omega (arith, rl, length-map rules (λ (r : Rule). core_of r.body))) e) cs
+        h.settled r (omega arith) (omega (arith, rl, length-map rules (λ (r : Rule). core_of r.body))) e

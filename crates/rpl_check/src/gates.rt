@@ -18,21 +18,23 @@ enum Port {
     Waits,
 }
 
-/// The gates of a block's patterns. The first are those of its rules, and each other stands after
-/// the one above it, and has a call below it. So many calls were noted.
+/// The gates of a block's patterns, where the marks are those of the rules before it. The first
+/// are those of its rules, and each other stands after the one above it, and has a call below it.
+/// So many calls were noted.
 #[derive(Drop)]
-struct Gates {
+struct Gates<'a> {
     start: u32,
     end: u32,
+    marks: &'a [bool],
     above: Vec<usize>,
     needs: Vec<usize>,
     callers: Vec<Vec<usize>>,
     calls: usize,
 }
 
-impl Gates {
+impl<'a> Gates<'a> {
     /// A gate for each rule.
-    fn new(alloc: Global, start: u32, end: u32) -> Result<Gates, NoMemory>
+    fn new(alloc: Global, start: u32, end: u32, marks: &'a [bool]) -> Result<Gates<'a>, NoMemory>
         requires { start ≤ end }
     {
         let mut callers = Vec::new(alloc);
@@ -42,6 +44,7 @@ impl Gates {
         Ok(Gates {
             start,
             end,
+            marks,
             above: vec![in alloc; 0; (end - start) as usize]?,
             needs: vec![in alloc; 0; (end - start) as usize]?,
             callers,
@@ -74,7 +77,7 @@ impl Gates {
     }
 
     /// A call below the gate.
-    fn call(&mut self, rule: u32, gate: usize, marks: &[bool]) -> Result<Port, NoMemory> {
+    fn call(&mut self, rule: u32, gate: usize) -> Result<Port, NoMemory> {
         if self.start <= rule && rule < self.end {
             let place = (rule - self.start) as usize;
             if place < self.callers.len() {
@@ -83,7 +86,7 @@ impl Gates {
             }
             return Ok(Port::Waits);
         }
-        if is_marked(marks, rule) {
+        if is_marked(self.marks, rule) {
             Ok(Port::Open)
         } else {
             Ok(Port::Shut)
@@ -93,31 +96,26 @@ impl Gates {
 
 /// The port of a pattern that may be empty, below the gate.
 #[cycle(ports)]
-fn empty_port(gates: &mut Gates, peg: &Peg, gate: usize, marks: &[bool]) -> Result<Port, NoMemory> {
+fn empty_port(gates: &mut Gates, peg: &Peg, gate: usize) -> Result<Port, NoMemory> {
     match peg {
         Peg::Set(_) | Peg::Halt => Ok(Port::Shut),
         Peg::Many(_) | Peg::Not(_) | Peg::And(_) | Peg::Behind { .. } => Ok(Port::Open),
         Peg::Note(_) | Peg::Start | Peg::End => Ok(Port::Open),
-        Peg::Call(rule) => gates.call(*rule, gate, marks),
-        Peg::Capture(_, body) => empty_port(gates, body, gate, marks),
-        Peg::Seq(parts) => all_empty_port(gates, parts.as_slice(), gate, marks),
-        Peg::Choice(parts) => any_empty_port(gates, parts.as_slice(), gate, marks),
+        Peg::Call(rule) => gates.call(*rule, gate),
+        Peg::Capture(_, body) => empty_port(gates, body, gate),
+        Peg::Seq(parts) => all_empty_port(gates, parts.as_slice(), gate),
+        Peg::Choice(parts) => any_empty_port(gates, parts.as_slice(), gate),
     }
 }
 
 /// That of parts that may all be empty.
 #[cycle(ports)]
-fn all_empty_port(
-    gates: &mut Gates,
-    parts: &[Peg],
-    above: usize,
-    marks: &[bool],
-) -> Result<Port, NoMemory> {
+fn all_empty_port(gates: &mut Gates, parts: &[Peg], above: usize) -> Result<Port, NoMemory> {
     let calls = gates.calls;
     let gate = gates.add(above)?;
     let mut needs: usize = 0;
     for part in parts {
-        match empty_port(gates, part, gate, marks)? {
+        match empty_port(gates, part, gate)? {
             Port::Open => {}
             Port::Shut => {
                 gates.take_back(gate, calls);
@@ -136,17 +134,12 @@ fn all_empty_port(
 
 /// That of parts of which one may be empty.
 #[cycle(ports)]
-fn any_empty_port(
-    gates: &mut Gates,
-    parts: &[Peg],
-    above: usize,
-    marks: &[bool],
-) -> Result<Port, NoMemory> {
+fn any_empty_port(gates: &mut Gates, parts: &[Peg], above: usize) -> Result<Port, NoMemory> {
     let calls = gates.calls;
     let gate = gates.add(above)?;
     let mut waits = false;
     for part in parts {
-        match empty_port(gates, part, gate, marks)? {
+        match empty_port(gates, part, gate)? {
             Port::Open => {
                 gates.take_back(gate, calls);
                 return Ok(Port::Open);
@@ -165,30 +158,25 @@ fn any_empty_port(
 
 /// The port of a pattern that may halt, below the gate, which any call in it opens.
 #[cycle(halts)]
-fn halt_port(gates: &mut Gates, peg: &Peg, gate: usize, marks: &[bool]) -> Result<Port, NoMemory> {
+fn halt_port(gates: &mut Gates, peg: &Peg, gate: usize) -> Result<Port, NoMemory> {
     match peg {
         Peg::Halt => Ok(Port::Open),
         Peg::Set(_) | Peg::Note(_) | Peg::Start | Peg::End => Ok(Port::Shut),
-        Peg::Call(rule) => gates.call(*rule, gate, marks),
-        Peg::Many(body) | Peg::Not(body) | Peg::And(body) => halt_port(gates, body, gate, marks),
-        Peg::Behind { body, .. } => halt_port(gates, body, gate, marks),
-        Peg::Capture(_, body) => halt_port(gates, body, gate, marks),
-        Peg::Seq(parts) => any_halt_port(gates, parts.as_slice(), gate, marks),
-        Peg::Choice(parts) => any_halt_port(gates, parts.as_slice(), gate, marks),
+        Peg::Call(rule) => gates.call(*rule, gate),
+        Peg::Many(body) | Peg::Not(body) | Peg::And(body) => halt_port(gates, body, gate),
+        Peg::Behind { body, .. } => halt_port(gates, body, gate),
+        Peg::Capture(_, body) => halt_port(gates, body, gate),
+        Peg::Seq(parts) => any_halt_port(gates, parts.as_slice(), gate),
+        Peg::Choice(parts) => any_halt_port(gates, parts.as_slice(), gate),
     }
 }
 
 /// That of parts of which one may halt.
 #[cycle(halts)]
-fn any_halt_port(
-    gates: &mut Gates,
-    parts: &[Peg],
-    gate: usize,
-    marks: &[bool],
-) -> Result<Port, NoMemory> {
+fn any_halt_port(gates: &mut Gates, parts: &[Peg], gate: usize) -> Result<Port, NoMemory> {
     let mut waits = false;
     for part in parts {
-        match halt_port(gates, part, gate, marks)? {
+        match halt_port(gates, part, gate)? {
             Port::Open => return Ok(Port::Open),
             Port::Shut => {}
             Port::Waits => waits = true,
@@ -202,20 +190,14 @@ fn any_halt_port(
 }
 
 /// The port of the rule at this place of the group, whose gate has that number.
-fn rule_port(
-    gates: &mut Gates,
-    group: &Group,
-    place: u32,
-    fact: Fact,
-    marks: &[bool],
-) -> Result<Port, NoMemory>
+fn rule_port(gates: &mut Gates, group: &Group, place: u32, fact: Fact) -> Result<Port, NoMemory>
     requires { place < group.now.end - group.now.start }
 {
     let gate = place as usize;
     match group.rules.get(group.start + place) {
         Some(rule) => match fact {
-            Fact::MayBeEmpty => empty_port(gates, &rule.body, gate, marks),
-            Fact::MayHalt => halt_port(gates, &rule.body, gate, marks),
+            Fact::MayBeEmpty => empty_port(gates, &rule.body, gate),
+            Fact::MayHalt => halt_port(gates, &rule.body, gate),
         },
         None => Ok(Port::Shut),
     }
@@ -274,10 +256,10 @@ pub(crate) fn turns(
     requires { group.now.start ≤ group.now.end }
 {
     let count = group.end - group.start;
-    let mut gates = Gates::new(alloc, group.start, group.end)?;
+    let mut gates = Gates::new(alloc, group.start, group.end, marks)?;
     let mut order = Vec::new(alloc);
     for place in 0..count {
-        match rule_port(&mut gates, group, place, fact, marks)? {
+        match rule_port(&mut gates, group, place, fact)? {
             Port::Open => order.push(place)?,
             Port::Shut => {}
             Port::Waits => gates.set(place as usize, 1),

@@ -1,5 +1,9 @@
 // A block of a table, or a rule outside blocks.
-use rpl_core::Rules;
+ghost use Rattle.std.specs.Prelude.{◌<◌, ◌≤◌, length};
+ghost use Rattle.rpl_core.specs.Listed.{blocks_in, rules_of};
+ghost use Rattle.rpl_check.specs.inside.Groups.{IsGroup};
+
+use rpl_core::{Rules, joins_next};
 
 /// A group of a table's rules: a block, or a rule outside blocks. Its rules have the numbers from
 /// `start` on and before `end`.
@@ -8,4 +12,19 @@ pub(crate) struct Group<'a> {
     pub(crate) rules: &'a Rules,
     pub(crate) start: u32,
     pub(crate) end: u32,
+}
+
+/// Where the group ends that begins with this rule.
+pub(crate) fn group_end(rules: &Rules, start: u32) -> u32
+    requires { start < length (rules_of rules.now) }
+    ensures within { result ≤ length (rules_of rules.now) }
+    ensures group { IsGroup (blocks_in rules.now) start result }
+{
+    let count = rules.len() as u32;
+    for number in start..count {
+        if !joins_next(rules, number) {
+            return number + 1;
+        }
+    }
+    count
 }

@@ -14,10 +14,10 @@ ghost use Rattle.rpl_check.specs.inside.Rounds.{CallsBefore, OverReach};
 use crate::NoMemory;
 use crate::behinds::first_cause;
 use crate::fault::{BehindCause, CheckFault};
-use crate::group::Group;
+use crate::group::{Group, group_end};
 use crate::inside::{has_empty_loop, predicates_stay};
 use crate::recursion::Block;
-use rpl_core::{Rules, is_outside, joins_next};
+use rpl_core::{Rules, is_outside};
 use std::alloc::Global;
 
 /// What is wrong with the first bad look-behind of the rule.
@@ -188,17 +188,11 @@ pub(crate) fn check_table(
         result) }
 {
     let mut start = 0;
-    for number in 0..rules.len() as u32 {
-        if joins_next(rules, number) {
-            continue;
-        }
-        let group = Group {
-            rules,
-            start,
-            end: number + 1,
-        };
+    while (start as usize) < rules.len() {
+        let end = group_end(rules, start);
+        let group = Group { rules, start, end };
         check_group(alloc, &group, empties, halting)?;
-        start = number + 1;
+        start = end;
     }
     Ok(())
 }

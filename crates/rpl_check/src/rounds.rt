@@ -4,14 +4,14 @@ ghost use Rattle.rpl_core.specs.Listed.{blocks_in, bodies_in, rules_of};
 ghost use Rattle.rpl_check.specs.Facts.{IsLeast, Solves, passes};
 ghost use Rattle.rpl_core.specs.inside.Marks.{count, marked};
 ghost use Rattle.rpl_core.specs.Order.{IsInOrder, block_at};
-ghost use Rattle.rpl_check.specs.inside.Rounds.{AreKnown, CallsBefore, Grows, IsSettled, IsUnder};
-ghost use Rattle.rpl_check.specs.inside.Rounds.{test_of};
+ghost use Rattle.rpl_check.specs.inside.Groups.{Adds, AreSome, IsWithin};
+ghost use Rattle.rpl_check.specs.inside.Rounds.{AreKnown, CallsBefore, IsSettled, test_of};
 
 use crate::NoMemory;
 use crate::facts::{Fact, rule_holds};
 use crate::gates::turns;
-use crate::group::Group;
-use rpl_core::{Rules, joins_next};
+use crate::group::{Group, group_end};
+use rpl_core::Rules;
 use std::alloc::Global;
 
 /// The rule isn't marked, and passes.
@@ -33,12 +33,9 @@ fn is_new(rules: &Rules, number: u32, fact: Fact, marks: &[bool]) -> bool
 
 /// One round over the rules of a block, the last first, and whether it marked a rule.
 fn round(group: &Group, fact: Fact, marks: &mut [bool]) -> bool
-    requires within { (group.now.start ≤ group.now.end)
-        × (group.now.end ≤ length (rules_of group.now.rules.now)) }
-    requires long { length marks.old ≡ length (rules_of group.now.rules.now) }
-    requires under { IsUnder (test_of fact) (bodies_in group.now.rules.now) (marked marks.old) }
-    ensures grows { Grows group.now.start marks.old marks.new }
-    ensures under { IsUnder (test_of fact) (bodies_in group.now.rules.now) (marked marks.new) }
+    requires within { IsWithin group.now }
+    requires some { AreSome fact group.now marks.old }
+    ensures adds { Adds fact group.now marks.old marks.new }
     ensures quiet { result ≡ false → (marks.new ≡ marks.old)
         × IsSettled (test_of fact) (bodies_in group.now.rules.now) (marked marks.new)
         group.now.start
@@ -60,12 +57,9 @@ fn round(group: &Group, fact: Fact, marks: &mut [bool]) -> bool
 
 /// Marks the rule at this place of the block, if it has the fact.
 fn mark_if_new(group: &Group, place: u32, fact: Fact, marks: &mut [bool])
-    requires within { (group.now.start ≤ group.now.end)
-        × (group.now.end ≤ length (rules_of group.now.rules.now)) }
-    requires long { length marks.old ≡ length (rules_of group.now.rules.now) }
-    requires under { IsUnder (test_of fact) (bodies_in group.now.rules.now) (marked marks.old) }
-    ensures grows { Grows group.now.start marks.old marks.new }
-    ensures under { IsUnder (test_of fact) (bodies_in group.now.rules.now) (marked marks.new) }
+    requires within { IsWithin group.now }
+    requires some { AreSome fact group.now marks.old }
+    ensures { Adds fact group.now marks.old marks.new }
 {
     if place >= group.end - group.start {
         return;
@@ -78,12 +72,9 @@ fn mark_if_new(group: &Group, place: u32, fact: Fact, marks: &mut [bool])
 
 /// Marks rules of a block that have the fact: those of the list in turn.
 fn mark_in_turn(group: &Group, order: &[u32], fact: Fact, marks: &mut [bool])
-    requires within { (group.now.start ≤ group.now.end)
-        × (group.now.end ≤ length (rules_of group.now.rules.now)) }
-    requires long { length marks.old ≡ length (rules_of group.now.rules.now) }
-    requires under { IsUnder (test_of fact) (bodies_in group.now.rules.now) (marked marks.old) }
-    ensures grows { Grows group.now.start marks.old marks.new }
-    ensures under { IsUnder (test_of fact) (bodies_in group.now.rules.now) (marked marks.new) }
+    requires within { IsWithin group.now }
+    requires some { AreSome fact group.now marks.old }
+    ensures { Adds fact group.now marks.old marks.new }
 {
     for place in order {
         mark_if_new(group, *place, fact, marks);
@@ -93,13 +84,9 @@ fn mark_in_turn(group: &Group, order: &[u32], fact: Fact, marks: &mut [bool])
 /// Marks rules of a block that have the fact, each after those by which it has it. A rule alone
 /// needs no order.
 fn mark_most(alloc: Global, group: &Group, fact: Fact, marks: &mut [bool]) -> Result<(), NoMemory>
-    requires within { (group.now.start ≤ group.now.end)
-        × (group.now.end ≤ length (rules_of group.now.rules.now)) }
-    requires long { length marks.old ≡ length (rules_of group.now.rules.now) }
-    requires under { IsUnder (test_of fact) (bodies_in group.now.rules.now) (marked marks.old) }
-    ensures grows { OnOk result (Grows group.now.start marks.old marks.new) }
-    ensures under { OnOk result (IsUnder (test_of fact) (bodies_in group.now.rules.now)
-        (marked marks.new)) }
+    requires within { IsWithin group.now }
+    requires some { AreSome fact group.now marks.old }
+    ensures { OnOk result (Adds fact group.now marks.old marks.new) }
 {
     if group.end - group.start > 1 {
         let order = turns(alloc, group, fact, marks)?;
@@ -111,8 +98,7 @@ fn mark_most(alloc: Global, group: &Group, fact: Fact, marks: &mut [bool]) -> Re
 /// Marks the rules of a block that have the fact: in turn, and then by rounds until one marks
 /// nothing, as the first does.
 fn close(alloc: Global, group: &Group, fact: Fact, marks: &mut [bool]) -> Result<(), NoMemory>
-    requires within { (group.now.start ≤ group.now.end)
-        × (group.now.end ≤ length (rules_of group.now.rules.now)) }
+    requires within { IsWithin group.now }
     requires earlier { CallsBefore (bodies_in group.now.rules.now) group.now.start }
     requires known { AreKnown (test_of fact) (bodies_in group.now.rules.now) marks.old
         group.now.start }
@@ -133,17 +119,11 @@ fn close_all(alloc: Global, rules: &Rules, fact: Fact, marks: &mut [bool]) -> Re
         (marked marks.new)) }
 {
     let mut start = 0;
-    for number in 0..rules.len() as u32 {
-        if joins_next(rules, number) {
-            continue;
-        }
-        let group = Group {
-            rules,
-            start,
-            end: number + 1,
-        };
+    while (start as usize) < rules.len() {
+        let end = group_end(rules, start);
+        let group = Group { rules, start, end };
         close(alloc, &group, fact, marks)?;
-        start = number + 1;
+        start = end;
     }
     Ok(())
 }

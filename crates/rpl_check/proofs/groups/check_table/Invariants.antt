@@ -1,18 +1,18 @@
-use Rattle.std.proofs.Common.{◌≡◌, ℕ, ◌-◌, ◌≤◌, length}
-use Rattle.std.specs.Prelude.{Bool}
+use Rattle.std.proofs.Common.{◌≡◌, ◌-◌, ◌≤◌, length}
 use Rattle.rpl_core.specs.Listed.{rules_of}
 use Rattle.rpl_core.specs.Table.{blocks_of, bodies_of}
 use Rattle.rpl_check.specs.Blocks.{group_fault, table_fault, fault_from}
 use Rattle.rpl_core.specs.inside.Marks.{marked}
-use Rattle.rpl_check.specs.inside.Rounds.{CallsBefore, Reach}
+use Rattle.rpl_check.specs.inside.Rounds.{CallsBefore, OverReach}
 use Rattle.rpl_check.proofs.groups.check_table.Given as goal
 
-abbrev pub invariant-loop-number : goal.invariant-loop-number
-invariant-loop-number l =
+abbrev pub invariant-loop-start : goal.invariant-loop-start
+invariant-loop-start l =
     let R = bodies_of (rules_of l.rules) in
     let blocks = blocks_of (rules_of l.rules) in
-    (l.start ≤ l.number)
+    (l.start ≤ length (rules_of l.rules))
     × CallsBefore R l.start
-    × ((reach : ℕ → ℕ → Bool)
-    → Reach R (marked l.empties) reach
-    → table_fault (marked l.empties) (marked l.halting) reach R blocks ≡ fault_from (group_fault (marked l.empties) (marked l.halting) reach R) blocks l.start l.number (length blocks - l.number))
+    × OverReach R (marked l.empties) (λ reach. table_fault (marked l.empties) (marked l.halting) reach R blocks ≡ fault_from (group_fault (marked l.empties) (marked l.halting) reach R) blocks l.start l.start (length blocks - l.start))
+
+abbrev pub decreases-loop-start : goal.decreases-loop-start
+decreases-loop-start l = length (rules_of l.rules) - l.start

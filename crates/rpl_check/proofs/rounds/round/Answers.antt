@@ -5,7 +5,7 @@ use Rattle.rpl_check.proofs.Settling.{RoundTo, round_begins, round_hits, round_m
 use Rattle.rpl_check.proofs.rounds.round.Goals as goal
 
 pub loop-number-init : goal.loop-number-init
-loop-number-init c = (omega arith, omega arith, round_begins c.args.fact (bodies_of (rules_of c.args.group.now.rules.now)) c.args.group.now.start c.args.group.now.end c.args.marks.now c.requires.under)
+loop-number-init c = (omega arith, omega arith, round_begins c.args.fact (bodies_of (rules_of c.args.group.now.rules.now)) c.args.group.now.start c.args.group.now.end c.args.marks.now c.requires.some.1)
 
 pub loop-number-preserved-then-is_new : goal.loop-number-preserved-then-is_new
 loop-number-preserved-then-is_new c =
