@@ -1,5 +1,5 @@
 // A fact of all rules, found block by block.
-ghost use Rattle.std.specs.Prelude.{◌≡◌, ℕ, ◌<◌, ◌≤◌, false, true, length, slice_get, IfOk, OnOk};
+ghost use Rattle.std.specs.Prelude.{◌≡◌, ℕ, ◌<◌, false, true, length, slice_get, IfOk, OnOk};
 ghost use Rattle.rpl_core.specs.Listed.{blocks_in, bodies_in, rules_of};
 ghost use Rattle.rpl_check.specs.Facts.{IsLeast, Solves, passes};
 ghost use Rattle.rpl_core.specs.inside.Marks.{count, marked};
