@@ -1,11 +1,10 @@
-use Rattle.std.proofs.Common.{◌≡◌, List, sym, ap, subst, arith, refl}
+use Rattle.std.proofs.Common.{◌≡◌, List, sym, ap, arith, refl}
 use Rattle.rpl_core.specs.Instr.{Instr}
 use Rattle.rpl_core.specs.Listed.{rules_of}
 use Rattle.rpl_core.specs.Program.{instructions}
 use Rattle.rpl_core.specs.Programs.{program}
 use Rattle.rpl_core.specs.Table.{bodies_of}
 use Rattle.rpl_core.specs.View.{core_of}
-use Rattle.rpl_codegen.specs.inside.Laid.{LaysOut}
 use Rattle.rpl_core.specs.Marked.{has}
 use Rattle.rpl_intern.specs.Uses.{sets_in, labels_in}
 use Rattle.rpl_intern.specs.Written.{Adds}
