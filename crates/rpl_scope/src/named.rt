@@ -15,7 +15,7 @@ use std::marker::Model;
 /// Names with what stands under each. Contracts see it as the list of the pairs.
 #[derive(Drop)]
 pub struct Named<V: Copy> {
-    pairs: Vec<(String, V)>,
+    pairs: Vec<(Chars, V)>,
 
     // The number of a name stands under its hash, or under itself where another name has its hash.
     // Both are found by their order, so no choice of names makes a look-up slow.
@@ -24,12 +24,12 @@ pub struct Named<V: Copy> {
 }
 
 impl<V: Copy> Model for Named<V> {
-    ghost use Rattle.std.specs.Prelude.{ℕ, List, map, chars, string_bytes};
+    ghost use Rattle.std.specs.Prelude.{ℕ, List};
     ghost use Rattle.rpl_scope.specs.inside.Numbers.{IsNumbered};
 
     ghost Value = { List (List ℕ × V) };
 
-    ghost view = { λ n. map (λ p. (chars (string_bytes p.0), p.1)) n.pairs.items };
+    ghost view = { λ n. n.pairs.items };
 
     ghost invariant = { λ n. IsNumbered n.pairs.items n.hashes n.others };
 }
@@ -108,11 +108,16 @@ impl<V: Copy> Named<V> {
         ensures ok { OnOk result (self.new ≡ self.old ++ (name.now, value) ∷ []) }
         ensures err { OnErr result (self.new ≡ self.old) }
     {
-        let text = name.as_str();
-        let label = String::from_str(alloc, text)?;
+        let label = name.copy(alloc)?;
         let number = self.pairs.len();
         self.pairs.reserve(1)?;
-        note(alloc, &mut self.hashes, &mut self.others, text, number)?;
+        note(
+            alloc,
+            &mut self.hashes,
+            &mut self.others,
+            name.as_str(),
+            number,
+        )?;
         self.pairs.push_reserved((label, value));
         Ok(())
     }
@@ -138,8 +143,8 @@ fn hash_of(text: &str) -> u64
 }
 
 // What stands at the number, where it is that of the name.
-fn value_at<V: Copy>(pairs: &[(String, V)], number: Option<usize>, name: &str) -> Option<V>
-    ensures { result ≡ value_at name.now number pairs.now }
+fn value_at<V: Copy>(pairs: &[(Chars, V)], number: Option<usize>, name: &str) -> Option<V>
+    ensures { result ≡ value_at (chars name.now) number pairs.now }
 {
     let Some(number) = number else {
         return None;
