@@ -22,8 +22,14 @@ pub(crate) struct Case {
     pub(crate) err: &'static [u8],
     files: &'static str,
     input: &'static str,
-    out_calls: &'static str,
-    err_calls: &'static str,
+    writes: Writes,
+}
+
+/// What is written where a write or a flush of an output fails: a row for each.
+#[derive(Clone, Copy)]
+struct Writes {
+    out: &'static str,
+    err: &'static str,
 }
 
 impl Case {
@@ -32,8 +38,8 @@ impl Case {
         match device {
             Device::Files => self.files,
             Device::Input => self.input,
-            Device::Out => self.out_calls,
-            Device::Err => self.err_calls,
+            Device::Out => self.writes.out,
+            Device::Err => self.writes.err,
         }
     }
 }
@@ -41,6 +47,40 @@ impl Case {
 pub(crate) const CASES: [Case; 12] = [
     MATCH, GREP, TEST, LIST, EXPAND, TRACE, SAMPLE, REPL, COMPILE, CODE_FILE, CLASS, MISSING,
 ];
+
+/// One text on `out`, in one write; then both are flushed.
+const ONE_TEXT: Writes = Writes {
+    out: "\
+        !
+        …!",
+    err: "…!",
+};
+
+/// A text on `out`, for a line of a file, and a fault on `err`, for one of the standard input.
+const TEXT_AND_FAULT: Writes = Writes {
+    out: "\
+        !
+        …!
+        …!
+        …!…
+        …!…",
+    err: "\
+        …!
+        …!
+        …!…
+        …!…",
+};
+
+/// The line of the standard input isn't UTF-8, and comes after the text for a file.
+const BAD_LINE: &str = "\
+        …!rosie: -: read failed¶
+        …!rosie: -:1: not UTF-8¶rosie: -: read failed¶";
+
+/// Rules take three calls: the file is opened, and has a read and the end.
+const X_RULES: &str = "\
+        !rosie: x.rpl: read failed¶
+        !rosie: x.rpl: read failed¶
+        !rosie: x.rpl: read failed¶";
 
 /// A pattern of an imported package, on two files, and on the standard input between them. Calls
 /// move a few bytes.
@@ -76,10 +116,11 @@ const MATCH: Case = Case {
         ab1¶ab2¶!steps 7¶steps 4¶steps 7¶rosie: -:2: not UTF-8¶rosie: -: read failed¶
         ab1¶ab2¶!steps 7¶steps 4¶steps 7¶rosie: -:2: not UTF-8¶rosie: -: read failed¶
         ab1¶ab2¶ab3¶!steps 7¶steps 4¶steps 7¶rosie: -:2: not UTF-8¶steps 7¶rosie: -: read failed¶",
-    // Each answer takes two writes, and a flush, since its steps are reported. A line without an
-    // answer takes a flush for that alone. One more comes where no whole line is left that was
-    // read, and at the end.
-    out_calls: "\
+    writes: Writes {
+        // Each answer takes two writes, and a flush, since its steps are reported. A line without
+        // an answer takes a flush for that alone. One more comes where no whole line is left that
+        // was read, and at the end.
+        out: "\
         !
         ab1!
         ab1¶!
@@ -100,9 +141,9 @@ const MATCH: Case = Case {
         ab1¶ab2¶ab3¶ab4!steps 7¶steps 4¶steps 7¶rosie: -:2: not UTF-8¶steps 7¶rosie: g:1: not UTF-8¶
         …!steps 7¶steps 4¶steps 7¶rosie: -:2: not UTF-8¶steps 7¶rosie: g:1: not UTF-8¶
         …!…",
-    // The steps of a line take one write and each fault takes two; a flush comes where no whole
-    // line is left that was read, and at the end.
-    err_calls: "\
+        // The steps of a line take one write and each fault takes two; a flush comes where no
+        // whole line is left that was read, and at the end.
+        err: "\
         ab1¶!
         ab1¶!steps 7¶
         ab1¶!steps 7¶steps 4¶
@@ -117,6 +158,7 @@ const MATCH: Case = Case {
         ab1¶ab2¶ab3¶!steps 7¶steps 4¶steps 7¶rosie: -:2: not UTF-8¶steps 7¶rosie: g:1: not UTF-8¶
         …!steps 7¶steps 4¶steps 7¶rosie: -:2: not UTF-8¶steps 7¶rosie: g:1: not UTF-8¶
         …!…",
+    },
 };
 
 /// The rules and the file take three calls each: it is opened, and has a read and the end.
@@ -139,7 +181,8 @@ const GREP: Case = Case {
     input: "\
         ab1¶!x¶rosie: -: read failed¶
         …!x¶rosie: -:2: not UTF-8¶rosie: -: read failed¶",
-    out_calls: "\
+    writes: Writes {
+        out: "\
         !
         ab1¶!
         ab1¶!x¶
@@ -148,12 +191,13 @@ const GREP: Case = Case {
         ab1¶ab2¶!…
         …!…
         …!…",
-    err_calls: "\
+        err: "\
         ab1¶!
         ab1¶!x¶
         ab1¶ab2¶!x¶
         …!…
         …!…",
+    },
 };
 
 /// The file is read twice, for its rules and for its tests. One test isn't met, and one is over its
@@ -175,14 +219,16 @@ const TEST: Case = Case {
         !rosie: t.rpl: read failed¶
         !rosie: t.rpl: read failed¶",
     input: "",
-    out_calls: "\
+    writes: Writes {
+        out: "\
         !
         t.rpl:5: p includes q \"ab\"¶!
         t.rpl:5: p includes q \"ab\"¶!…
         …!…",
-    err_calls: "\
+        err: "\
         t.rpl:5: p includes q \"ab\"¶!
         …!…",
+    },
 };
 
 const LIST: Case = Case {
@@ -199,10 +245,7 @@ const LIST: Case = Case {
         !rosie: r.rpl: read failed¶
         !rosie: r.rpl: read failed¶",
     input: "",
-    out_calls: "\
-        !
-        …!",
-    err_calls: "…!",
+    writes: ONE_TEXT,
 };
 
 const EXPAND: Case = Case {
@@ -215,15 +258,9 @@ const EXPAND: Case = Case {
     out: b"pattern x\n* = (call x)\nx = (capture x (set 61))\n\
         0 call 2\n1 finish\n2 open x\n3 set 61\n4 close\n5 return\n",
     err: b"",
-    files: "\
-        !rosie: x.rpl: read failed¶
-        !rosie: x.rpl: read failed¶
-        !rosie: x.rpl: read failed¶",
+    files: X_RULES,
     input: "",
-    out_calls: "\
-        !
-        …!",
-    err_calls: "…!",
+    writes: ONE_TEXT,
 };
 
 /// Only the file has a line that is traced.
@@ -240,20 +277,8 @@ const TRACE: Case = Case {
         !rosie: h: read failed¶
         !rosie: h: read failed¶
         …!rosie: h: read failed¶",
-    input: "\
-        …!rosie: -: read failed¶
-        …!rosie: -:1: not UTF-8¶rosie: -: read failed¶",
-    out_calls: "\
-        !
-        …!
-        …!
-        …!…
-        …!…",
-    err_calls: "\
-        …!
-        …!
-        …!…
-        …!…",
+    input: BAD_LINE,
+    writes: TEXT_AND_FAULT,
 };
 
 const SAMPLE: Case = Case {
@@ -267,10 +292,7 @@ const SAMPLE: Case = Case {
     err: b"",
     files: "",
     input: "",
-    out_calls: "\
-        !
-        …!",
-    err_calls: "…!",
+    writes: ONE_TEXT,
 };
 
 /// The package is read for the pattern, and again for the line that is tried with it.
@@ -293,18 +315,20 @@ const REPL: Case = Case {
     input: "\
         !rosie: -: read failed¶
         …!rosie: (session):3: bad command¶rosie: -: read failed¶",
-    out_calls: "\
+    writes: Writes {
+        out: "\
         !
         !
         ok 0¶!
         …!
         …!…
         …!…",
-    err_calls: "\
+        err: "\
         !
         …!
         …!…
         …!…",
+    },
 };
 
 const COMPILE: Case = Case {
@@ -316,15 +340,9 @@ const COMPILE: Case = Case {
     status: Status::Matched,
     out: CODE,
     err: b"",
-    files: "\
-        !rosie: x.rpl: read failed¶
-        !rosie: x.rpl: read failed¶
-        !rosie: x.rpl: read failed¶",
+    files: X_RULES,
     input: "",
-    out_calls: "\
-        !
-        …!",
-    err_calls: "…!",
+    writes: ONE_TEXT,
 };
 
 /// The code has its three calls, and then the input `h`.
@@ -344,20 +362,8 @@ const CODE_FILE: Case = Case {
         !rosie: h: read failed¶
         !rosie: h: read failed¶
         …!rosie: h: read failed¶",
-    input: "\
-        …!rosie: -: read failed¶
-        …!rosie: -:1: not UTF-8¶rosie: -: read failed¶",
-    out_calls: "\
-        !
-        …!
-        …!
-        …!…
-        …!…",
-    err_calls: "\
-        …!
-        …!
-        …!…
-        …!…",
+    input: BAD_LINE,
+    writes: TEXT_AND_FAULT,
 };
 
 const CLASS: Case = Case {
@@ -371,10 +377,7 @@ const CLASS: Case = Case {
     err: b"",
     files: "",
     input: "",
-    out_calls: "\
-        !
-        …!",
-    err_calls: "…!",
+    writes: ONE_TEXT,
 };
 
 /// What is refused says so on `err` alone.
@@ -389,10 +392,12 @@ const MISSING: Case = Case {
     err: b"rosie: none.rpl: no such file\n",
     files: "!rosie: none.rpl: read failed¶",
     input: "",
-    out_calls: "\
+    writes: Writes {
+        out: "\
         !
         !…",
-    err_calls: "\
+        err: "\
         !
         !…",
+    },
 };
