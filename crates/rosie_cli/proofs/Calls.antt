@@ -1,68 +1,68 @@
 -- From a run and its end to what is said of a call.
-use Rattle.std.proofs.Common.{ℕ, ◌≡◌, List, [], refl, arith}
+use Rattle.std.proofs.Common.{◌≡◌, [], refl, arith}
 use Rattle.std.specs.Prelude.{Result, Ok, Err, IfErr}
 use Rattle.rosie_run.specs.Runs.{SourcesCause, WritesCause, GoesOn, IsNoCut, Runs}
 use Rattle.rosie_run.specs.Closing.{Closes, ClosesCause}
 use Rattle.rosie_run.specs.Outputs.{Failures, Texts}
-use Rattle.rosie_run.specs.Sources.{Moment, NoFewer, Still}
+use Rattle.rosie_run.specs.Sources.{Moment, Still}
 use Rattle.rosie_run.specs.declared.ended.Ended.{Ended}
 use Rattle.rosie_run.specs.declared.ended.Ended.TheVariants as E
-use Rattle.rosie_run.specs.declared.ended.ReadStop.TheVariants as Y
 use Rattle.rosie_run.specs.declared.tally.Tally.{Tally}
 use Rattle.rosie_run.proofs.Headlines.{headline, output-cause, reads-cause}
 use Rattle.rosie_run.specs.Causes.{OutputCause, ReadsCause}
 use Rattle.rosie_run.specs.Headline.{Headline}
-use Rattle.rosie_cli.specs.Plans.{Planned, ReadsInput, pieces, stood}
+use Rattle.rosie_cli.specs.Plans.{Planned, ReadsInput, pieces}
 use Rattle.rosie_cli.specs.Promises.{IsPromised}
 use Rattle.rosie_cli.specs.Report.{KnowsInputs, report}
-use Rattle.rosie_cli.specs.Rosie.{Answers, Call, Comes, Undisturbed, report_of}
+use Rattle.rosie_cli.specs.Rosie.{Answers, Call, Comes, report_of, where_of}
 use Rattle.rosie_cli.proofs.Promised.{no-fault, no-stop}
 use Rattle.rosie_cli.proofs.Whole.{answers-all, completes-if, not-spent, read-of}
 
 module _ (c : Call) (r : Result Tally Ended) (mid : Texts) (failed : Failures)
-    (closes : Closes r c.answer c.tells mid c.after)
-    (cause : SourcesCause r c.input.before c.input.after c.files.before c.files.after)
+    (closes : Closes r c.answer c.run.tells mid c.run.after)
+    (cause : SourcesCause r c.run.input.before c.run.input.after c.run.files.before c.run.files.after)
     (sinks : WritesCause r c.failed.out failed.out c.failed.err failed.err)
     (ends : ClosesCause r c.answer failed.out c.fails.out failed.err c.fails.err)
-    (runs : (p : Planned) → c.known → c.comes p → KnowsInputs p.plan c.files_tell c.input_tells
-    → Runs r c.tells (pieces p.plan c.tree c.input.before.rest) (stood p c.tree c.input c.files) c.before mid)
-    (rest : (p : Planned) → c.known → c.comes p → KnowsInputs p.plan c.files_tell c.input_tells
-    → GoesOn r (ReadsInput p.plan → c.input.after.rest ≡ []))
+    (runs : (p : Planned) → c.known → c.comes p → KnowsInputs p.plan c.run.files_tell c.run.input_tells
+    → Runs r c.run.tells (pieces p.plan c.run.tree c.run.input.before.rest) (where_of c p) c.run.before mid)
+    (rest : (p : Planned) → c.known → c.comes p → KnowsInputs p.plan c.run.files_tell c.run.input_tells
+    → GoesOn r (ReadsInput p.plan → c.run.input.after.rest ≡ []))
     (due : (p : Planned) → c.comes p → IsPromised p.plan) where
   headline_of : (p : Planned) → Comes c p
-      → Headline c.answer c.tells (report_of c p) (stood p c.tree c.input c.files) c.before c.after
+      → Headline c.answer c.run.tells (report_of c p) (where_of c p) c.run.before c.run.after
   unfolding report
   headline_of p h =
-      headline c.tells (pieces p.plan c.tree c.input.before.rest) (stood p c.tree c.input c.files) r c.answer c.before
-      mid c.after (runs p h.known h.is h.inputs) closes
+      headline c.run.tells (pieces p.plan c.run.tree c.run.input.before.rest) (where_of c p) r c.answer c.run.before mid
+      c.run.after (runs p h.known h.is h.inputs) closes
 
-  reads_of : ReadsCause c.answer c.input.before c.input.after c.files.before c.files.after
+  reads_of : ReadsCause c.answer c.run.input.before c.run.input.after c.run.files.before c.run.files.after
   reads_of =
-      reads-cause r c.answer c.tells mid c.after c.input.before c.input.after c.files.before c.files.after closes cause
+      reads-cause r c.answer c.run.tells mid c.run.after c.run.input.before c.run.input.after c.run.files.before
+      c.run.files.after closes cause
 
   writes_of : OutputCause c.answer c.failed.out c.fails.out c.failed.err c.fails.err
   writes_of =
-      output-cause r c.answer c.tells mid c.after c.failed.out failed.out c.fails.out c.failed.err failed.err c.fails.err
-      closes sinks ends
+      output-cause r c.answer c.run.tells mid c.run.after c.failed.out failed.out c.fails.out c.failed.err failed.err
+      c.fails.err closes sinks ends
 
   pub answers-of : Answers c
   answers-of = record {
     headline = headline_of;
     read = λ p h came asks.
-        read-of r c.answer c.tells mid c.after _ closes came (rest p h.known h.is h.inputs) asks;
+        read-of r c.answer c.run.tells mid c.run.after _ closes came (rest p h.known h.is h.inputs) asks;
     answers = λ p h u.
-        answers-all c.tells (report_of c p) (stood p c.tree c.input c.files) c.before c.after c.input.before c.input.after
-        c.files.before c.files.after c.failed.out c.fails.out c.failed.err c.fails.err
+        answers-all c.run.tells (report_of c p) (where_of c p) c.run.before c.run.after c.run.input.before
+        c.run.input.after c.run.files.before c.run.files.after c.failed.out c.fails.out c.failed.err c.fails.err
         u.input_reads u.files_read u.out_writes u.err_writes
-        (λ file k x. not-spent p c.tree c.input c.files file k u.input_short u.files_short x) c.answer (headline_of p h)
-        reads_of writes_of;
+        (λ file k x. not-spent p c.run.tree c.run.input c.run.files file k u.input_short u.files_short x) c.answer
+        (headline_of p h) reads_of writes_of;
     complete = λ p h u sound.
-        completes-if c.tells (report_of c p) (stood p c.tree c.input c.files) c.before c.after c.input.before
-        c.input.after c.files.before c.files.after c.failed.out c.fails.out c.failed.err c.fails.err
+        completes-if c.run.tells (report_of c p) (where_of c p) c.run.before c.run.after c.run.input.before
+        c.run.input.after c.run.files.before c.run.files.after c.failed.out c.fails.out c.failed.err c.fails.err
         u.input_reads u.files_read u.out_writes u.err_writes
-        (λ file k x. not-spent p c.tree c.input c.files file k u.input_short u.files_short x) c.answer
-        (no-stop p.plan c.tree c.input.before.rest (due p h.is) sound)
-        (no-fault p.plan c.tree c.input.before.rest (due p h.is) sound) (headline_of p h) reads_of writes_of;
+        (λ file k x. not-spent p c.run.tree c.run.input c.run.files file k u.input_short u.files_short x) c.answer
+        (no-stop p.plan c.run.tree c.run.input.before.rest (due p h.is) sound)
+        (no-fault p.plan c.run.tree c.run.input.before.rest (due p h.is) sound) (headline_of p h) reads_of writes_of;
     reads = reads_of;
     writes = writes_of;
   }
@@ -73,14 +73,7 @@ pub answers-by : (c : Call) (comes : Planned → Type 0) (known : Type 0) → (k
     → Answers (record {
       comes = comes;
       known = known;
-      tree = c.tree;
-      files_tell = c.files_tell;
-      input_tells = c.input_tells;
-      tells = c.tells;
-      files = c.files;
-      input = c.input;
-      before = c.before;
-      after = c.after;
+      run = c.run;
       failed = c.failed;
       fails = c.fails;
       answer = c.answer;

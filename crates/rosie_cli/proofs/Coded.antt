@@ -34,7 +34,7 @@ use Rattle.rpl_compile_laws.proofs.Answering.{answer_holds}
 use Rattle.rosie_cli.specs.CodeFiles.{IsCodeLines, code_plan}
 use Rattle.rosie_cli.specs.Compiling.{Compiles, IsCompiled}
 use Rattle.rosie_cli.specs.Laws.{HaveOneReport, RunsWhatIsCompiled, SafeLaw}
-use Rattle.rosie_cli.specs.Planned.{IsRun, IsRunning, input_names, job_with, matching, plan_unless_long}
+use Rattle.rosie_cli.specs.Planned.{IsRun, input_names, job_with, matching, plan_unless_long}
 use Rattle.rosie_cli.specs.Plans.{Plan, Planned, Says, Writes, Tries, Reads, Samples, Replays, refusal}
 use Rattle.rosie_cli.specs.Promises.{SpellsSafe}
 use Rattle.rosie_cli.specs.Report.{report}

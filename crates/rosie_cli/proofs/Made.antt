@@ -1,6 +1,6 @@
 -- From the steps of planning to a plan.
-use Rattle.std.proofs.Common.{◌≡◌, ◌≤◌, ℕ, List, refl, sym, ◌∙◌, ap, subst, arith}
-use Rattle.std.specs.Prelude.{Result, Ok, Err, IfErr, IsErrAnd, None, Some, string_bytes}
+use Rattle.std.proofs.Common.{◌≡◌, ℕ, List, refl, sym, ◌∙◌, ap, subst, arith}
+use Rattle.std.specs.Prelude.{Result, Ok, Err, IfErr, IsErrAnd, string_bytes}
 use Rattle.rosie_prepare.specs.Lines.{compile_line}
 use Rattle.rosie_io.specs.Loading.{NotFewer}
 use Rattle.rosie_io.specs.declared.outside.Source.{Ghosts}
@@ -15,7 +15,7 @@ use Rattle.rpl_codegen.specs.declared.whole.CompileFault.TheVariants as C
 use Rattle.rosie_cli.specs.Plans as P
 use Rattle.rosie_cli.specs.Plans.{Planned, refusal}
 use Rattle.rosie_cli.specs.declared.plan.Plan.{Plan}
-use Rattle.rosie_cli.specs.inside.Planning.{due_of, plan_of, IsMade, Leaves, Plans}
+use Rattle.rosie_cli.specs.inside.Planning.{due_of, IsMade, Leaves, Plans}
 
 -- ---- what is planned
 

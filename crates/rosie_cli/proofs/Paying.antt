@@ -20,16 +20,16 @@ use Rattle.rpl_package.specs.Roots.{Packages}
 use Rattle.rosie_cli.specs.Classes.{class_plan}
 use Rattle.rosie_cli.specs.CodeFiles.{IsCodeLines, code_plan}
 use Rattle.rosie_cli.specs.Compiling.{Compiles, IsCompiled}
-use Rattle.rosie_cli.specs.Expanding.{Expands, IsExpanded, with_code}
+use Rattle.rosie_cli.specs.Expanding.{Expands, with_code}
 use Rattle.rosie_cli.specs.Laws.{PromiseLaw}
-use Rattle.rosie_cli.specs.Listing.{IsListed, Lists}
+use Rattle.rosie_cli.specs.Listing.{Lists}
 use Rattle.rosie_cli.specs.Options.{settings_of}
 use Rattle.rosie_cli.specs.Planned.{IsMatch, IsPlannedAs, IsRun, IsRunning, input_names, job_with, matching}
 use Rattle.rosie_cli.specs.Planned.{sample_request, sampling, tracing, request, plan_unless_long}
 use Rattle.rosie_cli.specs.Plans.{Plan, Planned, Writes, refusal, whole_answer}
 use Rattle.rosie_cli.specs.Promises.{IsPromised}
 use Rattle.rosie_cli.specs.Replaying.{IsReplayed}
-use Rattle.rosie_cli.specs.Testing.{IsTesting, tried}
+use Rattle.rosie_cli.specs.Testing.{tried}
 use Rattle.rosie_cli.specs.Words.{Refuse, Do}
 use Rattle.rosie_cli.proofs.Coded.{code_is_safe}
 use Rattle.rosie_cli.proofs.Tested.{suite_pays}

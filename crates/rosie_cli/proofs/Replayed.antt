@@ -1,5 +1,5 @@
 -- A session has a loading over each tree of files, and one alone.
-use Rattle.std.proofs.Common.{◌≡◌, ℕ, List, [], refl, sym, ◌∙◌, ap}
+use Rattle.std.proofs.Common.{◌≡◌, ℕ, List, refl, sym, ◌∙◌, ap}
 use Rattle.std.specs.Prelude.{Ok, Err, map, encode_utf8_all}
 use mathlib.Core.Path.{fun_ext}
 use Rattle.rosie_jobs.specs.Lines.{Job}
@@ -9,7 +9,7 @@ use Rattle.rosie_session.proofs.OneLoad.{one_holds}
 use Rattle.rosie_session.specs.Loading.{Compiles, IsGoalLoad, IsLoad, IsLoading, Load, Loading, given, request, job_unless_long}
 use Rattle.rpl_package.specs.Loading.{world}
 use Rattle.rpl_package.specs.Roots.{Packages, load}
-use Rattle.rosie_cli.specs.Plans.{Planned, Replays}
+use Rattle.rosie_cli.specs.Plans.{Planned}
 use Rattle.rosie_cli.specs.Replaying.{IsReplayed}
 use Rattle.rosie_cli.proofs.SomeMarks.{some_code}
 use Rattle.rosie_cli.proofs.Whole.{session_planned}

@@ -1,6 +1,6 @@
 -- The words come to something over each tree of files.
 use Rattle.std.proofs.Common.{ℕ, Bool, true, false, List, [], ◌∷◌, ◌++◌, length, refl, inl, inr, ⊎_elim, arith}
-use Rattle.std.specs.Prelude.{◌≡◌, Ok, Err, Option, Some, None, codes, map, encode_utf8_all}
+use Rattle.std.specs.Prelude.{Ok, Err, Option, Some, None, map, encode_utf8_all}
 use Rattle.std.specs.Cmp.Lexicographic.{slice_cmp}
 use Rattle.std.specs.List.{All, concat}
 use Rattle.std.specs.Ordering.{is_lt, nat_cmp}

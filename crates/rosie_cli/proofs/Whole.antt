@@ -1,5 +1,5 @@
 -- From a plan to its run, and to what is told of it.
-use Rattle.std.proofs.Common.{ℕ, ◌≡◌, ◌≢◌, inl, inr, ◌-◌, ◌^◌, ◌<◌, ◌≤◌, Bool, true, false, cond, List, [], ◌∷◌, ◌++◌}
+use Rattle.std.proofs.Common.{ℕ, ◌≡◌, inl, inr, ◌-◌, ◌^◌, ◌<◌, ◌≤◌, Bool, true, false, cond, List, [], ◌∷◌, ◌++◌}
 use Rattle.std.proofs.Common.{length, refl, sym, ◌∙◌, ap, subst, arith}
 use Rattle.std.specs.Prelude.{Result, Ok, Err, IfOk, codes}
 use Rattle.std.specs.List.{Contains}
@@ -37,7 +37,7 @@ use Rattle.rosie_words.specs.declared.command.Command.{Command}
 use Rattle.rosie_session.specs.Loading.{Loading}
 use Rattle.rosie_session.specs.Replay.{replay}
 use Rattle.rosie_session.specs.Where.{InSession, in_lines, in_load}
-use Rattle.rosie_cli.specs.Report.{IsAnswer, KnowsFiles, KnowsFor, KnowsInputs}
+use Rattle.rosie_cli.specs.Report.{IsAnswer, KnowsFiles, KnowsFor}
 use Rattle.rosie_cli.specs.Words.{Asked, Refuse, Do, IsIdle, IsRefused, is_idle}
 use Rattle.rosie_cli.specs.inside.Planning.{IsSaid}
 

@@ -7,47 +7,34 @@ use Rattle.std.specs.Prelude.{ℕ, ◌≡◌, List, []}
 use Rattle.rosie_io.specs.declared.outside.Sink as K
 use Rattle.rosie_io.specs.declared.outside.Source as S
 use Rattle.rosie_run.specs.Causes.{OutputCause, ReadsCause}
+use Rattle.rosie_run.specs.Course.{Course, course_of}
 use Rattle.rosie_run.specs.Headline.{CameToEnd, Headline, IsComplete, NothingFails}
-use Rattle.rosie_run.specs.Outputs.{Failures, Telling, Texts, failures, shown, telling}
+use Rattle.rosie_run.specs.Outputs.{Failures, failures}
 use Rattle.rosie_run.specs.Report.{Piece}
-use Rattle.rosie_run.specs.Sources.{Span, span_of}
+use Rattle.rosie_run.specs.declared.ended.ReadStop.{ReadStop}
 use Rattle.rosie_run.specs.declared.status.Status.{Status}
 use Rattle.rosie_cli.specs.Plans.{Planned, ReadsInput, inputs_of, stood}
 use Rattle.rosie_cli.specs.Sound.{IsSound}
 use Rattle.rosie_cli.specs.Report.{IsAnswer, KnowsInputs, report}
 
 -- A call: what it comes to, and whether that is known; what its files and its streams tell, and where they stand before
--- and after, with the machine's steps; and its answer.
+-- and after, with the machine's steps; how often its outputs failed until then; and its answer.
 pub record Call : Type 1 where
   pub comes : Planned → Type 0
   pub known : Type 0
-  pub tree : List (List ℕ × List ℕ)
-  pub files_tell : Type 0
-  pub input_tells : Type 0
-  pub tells : Telling
-  pub files : Span
-  pub input : Span
-  pub before : Texts
-  pub after : Texts
+  pub run : Course
   pub failed : Failures
   pub fails : Failures
   pub answer : Status
 
 -- the call whose files, standard input and outputs are these before and after, with so many steps
 abbrev pub call :
-    {F I O E : Type 0} → S.Ghosts F → S.Ghosts I → K.Ghosts O → K.Ghosts E → (comes : Planned → Type 0)
-    → (known : Type 0) → F → F → I → I → O → O → E → E → ℕ → ℕ → Status → Call
-call F I O E comes known f f' i i' o o' e e' n n' answer = record {
+    {F I O E : Type 0} → (comes : Planned → Type 0) → (known : Type 0) → S.Ghosts F → S.Ghosts I → K.Ghosts O
+    → K.Ghosts E → F → F → I → I → O → O → E → E → ℕ → ℕ → Status → Call
+call comes known F I O E f f' i i' o o' e e' n n' answer = record {
   comes = comes;
   known = known;
-  tree = F.tree f;
-  files_tell = F.tells;
-  input_tells = I.tells;
-  tells = telling O E;
-  files = span_of F f f';
-  input = span_of I i i';
-  before = shown O E o e n;
-  after = shown O E o' e' n';
+  run = course_of F I O E f f' i i' o o' e e' n n';
   failed = failures O E o e;
   fails = failures O E o' e';
   answer = answer;
@@ -57,25 +44,29 @@ call F I O E comes known f f' i i' o o' e e' n n' answer = record {
 pub record Comes (c : Call) (p : Planned) : Type 0 where
   pub known : c.known
   pub is : c.comes p
-  pub inputs : KnowsInputs p.plan c.files_tell c.input_tells
+  pub inputs : KnowsInputs p.plan c.run.files_tell c.run.input_tells
 
 abbrev pub report_of : Call → Planned → List Piece
-report_of c p = report p.plan c.tree c.input.before.rest
+report_of c p = report p.plan c.run.tree c.run.input.before.rest
+
+-- where reading may have ended it
+abbrev pub where_of : Call → Planned → ReadStop → (file : List ℕ) → (k : ℕ) → Type 0
+where_of c p = stood p c.run.tree c.run.input c.run.files
 
 abbrev pub Undisturbed : Call → Planned → Type 0
-Undisturbed c p = NothingFails (inputs_of p.plan) c.tree c.input c.files c.failed c.fails
+Undisturbed c p = NothingFails (inputs_of p.plan) c.run.tree c.run.input c.run.files c.failed c.fails
 
 pub record Answers (c : Call) : Type 0 where
   -- all of the report is written, or its first pieces and why reading ended the run, or a front of it
   pub headline : (p : Planned) → Comes c p
-      → Headline c.answer c.tells (report_of c p) (stood p c.tree c.input c.files) c.before c.after
+      → Headline c.answer c.run.tells (report_of c p) (where_of c p) c.run.before c.run.after
   -- where the run came to its end, the standard input was read to its end, if it is among the inputs
-  pub read : (p : Planned) → Comes c p → CameToEnd c.answer → ReadsInput p.plan → c.input.after.rest ≡ []
+  pub read : (p : Planned) → Comes c p → CameToEnd c.answer → ReadsInput p.plan → c.run.input.after.rest ≡ []
   -- where no read and no write goes wrong the answer is the report's; over lines that every limit allows, it tells
   -- whether one matches
   pub answers : (p : Planned) → Comes c p → Undisturbed c p → IsAnswer c.answer (report_of c p)
-  pub complete : (p : Planned) → Comes c p → Undisturbed c p → IsSound p.plan c.tree c.input.before.rest
+  pub complete : (p : Planned) → Comes c p → Undisturbed c p → IsSound p.plan c.run.tree c.run.input.before.rest
       → IsComplete c.answer (report_of c p)
   -- whatever is told: no fault is answered without its cause
-  pub reads : ReadsCause c.answer c.input.before c.input.after c.files.before c.files.after
+  pub reads : ReadsCause c.answer c.run.input.before c.run.input.after c.run.files.before c.run.files.after
   pub writes : OutputCause c.answer c.failed.out c.fails.out c.failed.err c.fails.err

@@ -3,12 +3,12 @@
 
 ghost use Rattle.std.specs.Prelude.{◌≡◌, ◌≢◌, ◌∷◌, [], ℕ, true, string_bytes, IfErr};
 ghost use Rattle.rosie_jobs.specs.Lines.{reading};
-ghost use Rattle.rosie_run.specs.Causes.{IsFlushed};
-ghost use Rattle.rosie_run.specs.Runs.{SourcesCause, WritesCause, Runs, GoesOn, IsNoCut};
+ghost use Rattle.rosie_run.specs.Causes.{Flushes};
+ghost use Rattle.rosie_run.specs.Course.{InputsCause, OutputsCause, course};
+ghost use Rattle.rosie_run.specs.Runs.{WritesCause, Runs, GoesOn, IsNoCut};
 ghost use Rattle.rosie_run.specs.Inputs.{SameInputs};
 ghost use Rattle.rosie_run.specs.Outputs.{SameOutputs, shown, telling};
 ghost use Rattle.rosie_run.specs.Report.{stop_piece};
-ghost use Rattle.rosie_run.specs.Sources.{moment_of};
 ghost use Rattle.rosie_run.specs.Where.{Nowhere};
 ghost use Rattle.rosie_words.specs.declared.command.What.TheVariants as W;
 ghost use Rattle.rosie_cli.specs.Planned.{IsPlanned, IsPlannedAs};
@@ -18,7 +18,7 @@ ghost use Rattle.rosie_cli.specs.Report.{KnowsFiles, KnowsFor, KnowsInputs};
 ghost use Rattle.rosie_cli.specs.Rosie.{Answers, call};
 ghost use Rattle.rosie_cli.specs.Words.{asks, IsRefused, IsIdle, is_idle};
 ghost use Rattle.rosie_cli.specs.inside.Planning.{plan_of, IsSaid};
-ghost use Rattle.rosie_cli.specs.inside.Running.{call_over, course, OfPlans, RunsPlan, RunsPlanned};
+ghost use Rattle.rosie_cli.specs.inside.Running.{call_over, OfPlans, RunsPlan, RunsPlanned};
 
 use crate::asked::{Asked, ask};
 use crate::plan::Plan;
@@ -91,13 +91,8 @@ fn run_plan<F: Files, I: Source, O: Sink, E: Sink, L: Ledger>(
         (course F.Source I.Source O.Sink E.Sink inputs.old inputs.new outputs.old outputs.new) }
     ensures rest { KnowsInputs (plan_of plan.old) F.tells I.tells → GoesOn result
         (ReadsInput (plan_of plan.old) → I.rest inputs.new.input.now ≡ []) }
-    ensures cause { SourcesCause result (moment_of I.Source inputs.old.input.now)
-        (moment_of I.Source inputs.new.input.now)
-        (moment_of F.Source inputs.old.files.now)
-        (moment_of F.Source inputs.new.files.now) }
-    ensures sinks { WritesCause result (O.faults outputs.old.out.now)
-        (O.faults outputs.new.out.now)
-        (E.faults outputs.old.err.now) (E.faults outputs.new.err.now) }
+    ensures cause { InputsCause F.Source I.Source result inputs.old inputs.new }
+    ensures sinks { OutputsCause O.Sink E.Sink result outputs.old outputs.new }
     ensures untouched { IsSaid (plan_of plan.old) → (inputs.new.files.now ≡ inputs.old.files.now) ×
         (inputs.new.input.now ≡ inputs.old.input.now) }
     ensures unread { LeavesInput (plan_of plan.old) → inputs.new.input.now ≡ inputs.old.input.now }
@@ -146,13 +141,8 @@ fn run_planned<F: Files, I: Source, O: Sink, E: Sink, L: Ledger>(
     ensures idle { is_idle command.what ≡ true → outputs.new.steps.now ≡ outputs.old.steps.now }
     ensures unrun { OfPlans command F.tells (F.tree inputs.old.files.now)
         (λ p. IsIdlePlan p.plan → outputs.new.steps.now ≡ outputs.old.steps.now) }
-    ensures cause { SourcesCause result (moment_of I.Source inputs.old.input.now)
-        (moment_of I.Source inputs.new.input.now)
-        (moment_of F.Source inputs.old.files.now)
-        (moment_of F.Source inputs.new.files.now) }
-    ensures sinks { WritesCause result (O.faults outputs.old.out.now)
-        (O.faults outputs.new.out.now)
-        (E.faults outputs.old.err.now) (E.faults outputs.new.err.now) }
+    ensures cause { InputsCause F.Source I.Source result inputs.old inputs.new }
+    ensures sinks { OutputsCause O.Sink E.Sink result outputs.old outputs.new }
 {
     match plan_command(alloc, command, inputs.files) {
         Ok(mut plan) => run_plan(alloc, &mut plan, inputs, outputs),
@@ -173,13 +163,11 @@ fn replay<F: Files, I: Source, O: Sink, E: Sink, L: Ledger>(
 ) -> Status
     ensures same_inputs { SameInputs inputs.old inputs.new }
     ensures same_outputs { SameOutputs outputs.old outputs.new }
-    ensures answers { Answers (call_over F.Source I.Source O.Sink E.Sink
-        (IsReplayed folders.now (F.tree inputs.old.files.now)) (KnowsFor W.Repl F.tells)
+    ensures answers { Answers (call_over (IsReplayed folders.now (F.tree inputs.old.files.now))
+        (KnowsFor W.Repl F.tells) F.Source I.Source O.Sink E.Sink
         inputs.old inputs.new outputs.old outputs.new result) }
-    ensures out_flushed { O.counts → IsFlushed result (O.number outputs.new.out.now)
-        (O.flushed outputs.new.out.now) }
-    ensures err_flushed { E.counts → IsFlushed result (E.number outputs.new.err.now)
-        (E.flushed outputs.new.err.now) }
+    ensures out_flushed { Flushes O.Sink result outputs.new.out.now }
+    ensures err_flushed { Flushes E.Sink result outputs.new.err.now }
 {
     let run = run_session(alloc, folders, inputs, outputs);
     finish(outputs.out, outputs.err, run)
@@ -196,11 +184,12 @@ pub fn session<F: Files, I: Source, O: Sink, E: Sink, L: Ledger>(
     err: &mut E,
     steps: &mut Steps<L>,
 ) -> Status
-    ensures answers { Answers (call F.Source I.Source O.Sink E.Sink
-        (IsReplayed folders.now (F.tree files.old)) (KnowsFor W.Repl F.tells) files.old files.new
-        input.old input.new out.old out.new err.old err.new steps.old steps.new result) }
-    ensures out_flushed { O.counts → IsFlushed result (O.number out.new) (O.flushed out.new) }
-    ensures err_flushed { E.counts → IsFlushed result (E.number err.new) (E.flushed err.new) }
+    ensures answers { Answers (call (IsReplayed folders.now (F.tree files.old))
+        (KnowsFor W.Repl F.tells) F.Source I.Source O.Sink E.Sink
+        files.old files.new input.old input.new out.old out.new err.old err.new steps.old steps.new
+        result) }
+    ensures out_flushed { Flushes O.Sink result out.new }
+    ensures err_flushed { Flushes E.Sink result err.new }
 {
     let mut inputs = Inputs { files, input };
     let mut outputs = outputs_of(out, err, steps);
@@ -216,19 +205,17 @@ fn run_command<F: Files, I: Source, O: Sink, E: Sink, L: Ledger>(
 ) -> Status
     ensures same_inputs { SameInputs inputs.old inputs.new }
     ensures same_outputs { SameOutputs outputs.old outputs.new }
-    ensures answers { Answers (call_over F.Source I.Source O.Sink E.Sink
+    ensures answers { Answers (call_over
         (IsPlannedAs command command.what (F.tree inputs.old.files.now))
-        (KnowsFor command.what F.tells)
+        (KnowsFor command.what F.tells) F.Source I.Source O.Sink E.Sink
         inputs.old inputs.new outputs.old outputs.new result) }
     ensures unread { OfPlans command F.tells (F.tree inputs.old.files.now)
         (λ p. LeavesInput p.plan → inputs.new.input.now ≡ inputs.old.input.now) }
     ensures idle { is_idle command.what ≡ true → outputs.new.steps.now ≡ outputs.old.steps.now }
     ensures unrun { OfPlans command F.tells (F.tree inputs.old.files.now)
         (λ p. IsIdlePlan p.plan → outputs.new.steps.now ≡ outputs.old.steps.now) }
-    ensures out_flushed { O.counts → IsFlushed result (O.number outputs.new.out.now)
-        (O.flushed outputs.new.out.now) }
-    ensures err_flushed { E.counts → IsFlushed result (E.number outputs.new.err.now)
-        (E.flushed outputs.new.err.now) }
+    ensures out_flushed { Flushes O.Sink result outputs.new.out.now }
+    ensures err_flushed { Flushes E.Sink result outputs.new.err.now }
 {
     match command.what {
         What::Repl => replay(alloc, &command.folders, inputs, outputs),
@@ -248,9 +235,8 @@ fn run_words<F: Files, I: Source, O: Sink, E: Sink, L: Ledger>(
 ) -> Status
     ensures same_inputs { SameInputs inputs.old inputs.new }
     ensures same_outputs { SameOutputs outputs.old outputs.new }
-    ensures answers { Answers (call_over F.Source I.Source O.Sink E.Sink
-        (IsPlanned (asks words.now) (F.tree inputs.old.files.now))
-        (KnowsFiles (asks words.now) F.tells)
+    ensures answers { Answers (call_over (IsPlanned (asks words.now) (F.tree inputs.old.files.now))
+        (KnowsFiles (asks words.now) F.tells) F.Source I.Source O.Sink E.Sink
         inputs.old inputs.new outputs.old outputs.new result) }
     ensures unread { (p : Planned) → KnowsFiles (asks words.now) F.tells
         → IsPlanned (asks words.now) (F.tree inputs.old.files.now) p → LeavesInput p.plan →
@@ -262,10 +248,8 @@ fn run_words<F: Files, I: Source, O: Sink, E: Sink, L: Ledger>(
     ensures unrun { (p : Planned) → KnowsFiles (asks words.now) F.tells
         → IsPlanned (asks words.now) (F.tree inputs.old.files.now) p → IsIdlePlan p.plan →
         outputs.new.steps.now ≡ outputs.old.steps.now }
-    ensures out_flushed { O.counts → IsFlushed result (O.number outputs.new.out.now)
-        (O.flushed outputs.new.out.now) }
-    ensures err_flushed { E.counts → IsFlushed result (E.number outputs.new.err.now)
-        (E.flushed outputs.new.err.now) }
+    ensures out_flushed { Flushes O.Sink result outputs.new.out.now }
+    ensures err_flushed { Flushes E.Sink result outputs.new.err.now }
 {
     match ask(alloc, words) {
         Ok(asked) => match asked {
@@ -305,8 +289,8 @@ pub fn rosie<F: Files, I: Source, O: Sink, E: Sink, L: Ledger>(
 ) -> Status
     // What is written, answered and read, by the report of what the words come to:
     // `specs/Rosie.antt`.
-    ensures answers { Answers (call F.Source I.Source O.Sink E.Sink
-        (IsPlanned (asks words.now) (F.tree files.old)) (KnowsFiles (asks words.now) F.tells)
+    ensures answers { Answers (call (IsPlanned (asks words.now) (F.tree files.old))
+        (KnowsFiles (asks words.now) F.tells) F.Source I.Source O.Sink E.Sink
         files.old files.new input.old input.new out.old out.new err.old err.new steps.old steps.new
         result) }
 
@@ -326,8 +310,8 @@ pub fn rosie<F: Files, I: Source, O: Sink, E: Sink, L: Ledger>(
         steps.new ≡ steps.old }
 
     // All is flushed, unless a write failed or memory ran out.
-    ensures out_flushed { O.counts → IsFlushed result (O.number out.new) (O.flushed out.new) }
-    ensures err_flushed { E.counts → IsFlushed result (E.number err.new) (E.flushed err.new) }
+    ensures out_flushed { Flushes O.Sink result out.new }
+    ensures err_flushed { Flushes E.Sink result err.new }
 {
     let mut inputs = Inputs { files, input };
     let mut outputs = outputs_of(out, err, steps);

@@ -6,7 +6,7 @@ use Rattle.std.specs.List.{Contains}
 use Rattle.std.proofs.lemmas.List.{get_or-map, length-map}
 use Rattle.std.proofs.lemmas.List.Elements.{Contains-append_left}
 use Rattle.rosie_prepare.specs.Lines.{Line, load_line}
-use Rattle.rosie_prepare.specs.Answers.{IsAsked, IsDue, set_of}
+use Rattle.rosie_prepare.specs.Answers.{IsAsked, IsDue}
 use Rattle.rosie_prepare.specs.Prepared.{Comes, IsPrepared, OrLine, Ready, TableComes, Tree, PatternRequest, loaded}
 use Rattle.rosie_prepare.specs.declared.prepared.Prepared.{Prepared}
 use Rattle.rosie_prepare.specs.declared.unready.Unready.{Unready}
@@ -83,11 +83,6 @@ stops_next (ReadFault path) o x next e h = (then_follows o x next e).1 path h
 -- ---- what it comes to
 
 -- roots alone
-pub due_set : (u : Unready) (o : Outcome Packages) → StopsWith u o → IsDue u (set_of o.answer)
-due_set NoMemory o h = tt
-due_set (Refused line) o h = ap set_of h.1 ∙ ap Err h.2
-due_set (ReadFault path) o h = tt
-
 table_refused :
     (x : Or Packages) (f : LoadFault) (line : Line) (r : OrLine Packages) → x ≡ Err f → load_line f ≡ line
     → TableComes x r → r ≡ Err line

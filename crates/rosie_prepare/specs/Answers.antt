@@ -4,10 +4,8 @@ use Rattle.std.specs.List.{Contains}
 use Rattle.rosie_prepare.specs.Prepared.{OrLine}
 use Rattle.rosie_prepare.specs.declared.unready.Unready.{Unready}
 use Rattle.rosie_prepare.specs.declared.unready.Unready.TheVariants.{NoMemory, Refused, ReadFault}
-use Rattle.rosie_run.specs.Sources.{Moment, NoFewer, RoseIn, Still}
-use Rattle.rosie_prepare.specs.Lines.{load_line}
-use Rattle.rpl_package.specs.Roots.{Packages}
-use Rattle.rpl_scope.specs.Results.{Or}
+use Rattle.rosie_io.specs.declared.outside.Source.{Ghosts}
+use Rattle.rosie_run.specs.Sources.{Moment, NoFewer, RoseIn, Still, moment_of}
 
 -- a refusal has the line that is due; out of memory and a failed read say nothing of it
 abbrev pub IsDue : {A : Type 0} → Unready → OrLine A → Type 0
@@ -36,6 +34,6 @@ abbrev pub HasCause : {X : Type 0} → Result X Unready → Moment → Moment �
 HasCause (Ok x) f0 f1 = Still f0 f1
 HasCause (Err u) f0 f1 = Counts u f0 f1
 
-abbrev pub set_of : Or Packages → OrLine Packages
-set_of (Ok p) = Ok p
-set_of (Err f) = Err (load_line f)
+-- and so by the files before and after
+abbrev pub CauseIn : {F X : Type 0} → Ghosts F → Result X Unready → F → F → Type 0
+CauseIn F result a b = HasCause result (moment_of F a) (moment_of F b)

@@ -1,10 +1,9 @@
 // From roots and a pattern to what can be run.
 ghost use Rattle.std.specs.Prelude.{◌≡◌, ℕ, List, IfErr, IfOk, encode_utf8_all, false, length, map};
 ghost use Rattle.rosie_io.specs.Loading.{NotFewer};
-ghost use Rattle.rosie_prepare.specs.Answers.{HasCause, IsAsked, Prepares, set_of};
+ghost use Rattle.rosie_prepare.specs.Answers.{CauseIn, IsAsked, Prepares};
 ghost use Rattle.rosie_prepare.specs.Prepared.{IsPrepared, IsReadAs, OrLine, Ready, TableComes};
 ghost use Rattle.rosie_prepare.specs.Views.{ready_seen, request_seen};
-ghost use Rattle.rosie_run.specs.Sources.{moment};
 ghost use Rattle.rpl_check.specs.Checked.{IsWhole};
 ghost use Rattle.rpl_check.specs.Goal.{peg_of};
 ghost use Rattle.rpl_core.specs.Table.{bodies_of};
@@ -41,8 +40,7 @@ fn load_roots<F: Files>(
     ensures gives { F.tells → Leads set_seen result
         (load (world (F.tree files.old) folders.now) roots.now) }
     ensures many { IfOk result (λ set. length (set_seen set).roots ≡ length roots.now) }
-    ensures cause { HasCause result (moment F.rest F.taken F.faults F.failed_opens files.old)
-        (moment F.rest F.taken F.faults F.failed_opens files.new) }
+    ensures cause { CauseIn F.Source result files.old files.new }
     ensures taken { NotFewer (F.taken files.old) (F.taken files.new) }
     ensures tree { F.tree files.new ≡ F.tree files.old }
     ensures closed { F.is_open files.old ≡ false → F.is_open files.new ≡ false }
@@ -66,8 +64,7 @@ fn load_goal<F: Files>(
         → Leads (λ e. (expr_of e, set_seen set.new)) result
         (load_pattern (world (F.tree files.old) request.now.folders.now) (set_seen set.old) parse) }
     ensures right { IfOk result (λ e. HasNoFault (expr_of e) (set_seen set.new)) }
-    ensures cause { HasCause result (moment F.rest F.taken F.faults F.failed_opens files.old)
-        (moment F.rest F.taken F.faults F.failed_opens files.new) }
+    ensures cause { CauseIn F.Source result files.old files.new }
     ensures taken { NotFewer (F.taken files.old) (F.taken files.new) }
     ensures tree { F.tree files.new ≡ F.tree files.old }
     ensures closed { F.is_open files.old ≡ false → F.is_open files.new ≡ false }
@@ -81,26 +78,6 @@ fn load_goal<F: Files>(
         Ok(expr) => Ok(expr),
         Err(fault) => Err(of_load(alloc, fault)),
     }
-}
-
-/// The packages of the roots and of all that they import, or the line of the first fault.
-pub fn load_set<F: Files>(
-    alloc: Global,
-    files: &mut F,
-    folders: &LibPath,
-    roots: &Roots,
-) -> Result<PackageSet, Unready>
-    ensures prepares { F.tells → Prepares set_seen result
-        (set_of (load (world (F.tree files.old) folders.now) roots.now).answer) }
-    ensures asked { F.tells → IfErr result (λ u. IsAsked u
-        (map encode_utf8_all (load (world (F.tree files.old) folders.now) roots.now).asked)) }
-    ensures cause { HasCause result (moment F.rest F.taken F.faults F.failed_opens files.old)
-        (moment F.rest F.taken F.faults F.failed_opens files.new) }
-    ensures taken { NotFewer (F.taken files.old) (F.taken files.new) }
-    ensures tree { F.tree files.new ≡ F.tree files.old }
-    ensures closed { F.is_open files.old ≡ false → F.is_open files.new ≡ false }
-{
-    load_roots(alloc, files, folders, roots)
 }
 
 /// The rule table of the roots and of all that they import, or the line of the first fault.
@@ -117,8 +94,7 @@ pub fn prepare_rules<F: Files>(
     ensures many { IfOk result (λ p. length (set_seen p.set).roots ≡ length roots.now) }
     ensures asked { F.tells → IfErr result (λ u. IsAsked u
         (map encode_utf8_all (load (world (F.tree files.old) folders.now) roots.now).asked)) }
-    ensures cause { HasCause result (moment F.rest F.taken F.faults F.failed_opens files.old)
-        (moment F.rest F.taken F.faults F.failed_opens files.new) }
+    ensures cause { CauseIn F.Source result files.old files.new }
     ensures taken { NotFewer (F.taken files.old) (F.taken files.new) }
     ensures tree { F.tree files.new ≡ F.tree files.old }
     ensures closed { F.is_open files.old ≡ false → F.is_open files.new ≡ false }
@@ -147,8 +123,7 @@ pub fn prepare<F: Files>(
     ensures root { IfOk result (λ p. (label : List ℕ) ×
         IsCapture (bodies_of p.rules) label (core_of (peg_of p.goal))) }
     ensures names { IfOk result (λ p. Resolves (expr_of p.expr) (set_seen p.set)) }
-    ensures cause { HasCause result (moment F.rest F.taken F.faults F.failed_opens files.old)
-        (moment F.rest F.taken F.faults F.failed_opens files.new) }
+    ensures cause { CauseIn F.Source result files.old files.new }
     ensures taken { NotFewer (F.taken files.old) (F.taken files.new) }
     ensures tree { F.tree files.new ≡ F.tree files.old }
     ensures closed { F.is_open files.old ≡ false → F.is_open files.new ≡ false }

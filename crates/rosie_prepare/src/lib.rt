@@ -5,9 +5,9 @@
 //! and all that they import, expands them to a rule table and the pattern's core, and checks both.
 //! What comes of it is said by one relation, `specs/Prepared.antt`, over the tree of files; a read
 //! fault comes only where a read or an open failed, and every file is closed on the way out.
-//! [`load_set`] and [`prepare_rules`] are the same for commands without a pattern. That the table
-//! is in order, and that the pattern's core calls its rules and makes one tree, is known of every
-//! set that is loaded (`rpl_load_laws`).
+//! [`prepare_rules`] is the same for commands without a pattern. That the table is in order, and
+//! that the pattern's core calls its rules and makes one tree, is known of every set that is loaded
+//! (`rpl_load_laws`).
 //!
 //! [`load_line`], [`expand_line`], [`check_line`] and [`compile_line`] are the line by which each
 //! fault is reported, with the file and the byte place where it stands: exactly that of
@@ -25,7 +25,7 @@ mod steps;
 mod texts;
 mod unready;
 
-pub use edge::{load_set, prepare, prepare_rules};
+pub use edge::{prepare, prepare_rules};
 pub use laws::{one_preparation, one_reading, one_table};
 pub use load::load_line;
 pub use pattern_request::PatternRequest;

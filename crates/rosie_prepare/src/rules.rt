@@ -42,19 +42,21 @@ fn pattern_line(alloc: Global, text: &str) -> Result<String, NoMemory>
     line_fault(alloc, "(pattern)", 0, text)
 }
 
-/// The line of a fault at the first token of a rule's statement, or at the pattern.
-fn rule_line(
-    alloc: Global,
-    set: &PackageSet,
+/// Where a fault stands: at a rule of a set, or at the pattern.
+#[derive(Clone, Copy)]
+struct Place<'a> {
+    set: &'a PackageSet,
     rule: Option<u32>,
-    text: &str,
-) -> Result<String, NoMemory>
+}
+
+/// The line of a fault at the first token of a rule's statement, or at the pattern.
+fn rule_line(alloc: Global, place: &Place<'_>, text: &str) -> Result<String, NoMemory>
     ensures { IfOk result (λ line. string_bytes line
-        ≡ L.rule_line (set_seen set.now) rule text.now) }
+        ≡ L.rule_line (set_seen place.now.set.now) place.now.rule text.now) }
 {
-    match rule {
+    match place.rule {
         None => pattern_line(alloc, text),
-        Some(rule) => match set.spot(rule) {
+        Some(rule) => match place.set.spot(rule) {
             None => pattern_line(alloc, text),
             Some((file, at)) => line_fault(alloc, as_it_is(file), at as u64, text),
         },
@@ -88,33 +90,24 @@ fn rule_names(alloc: Global, set: &PackageSet, rules: &[u32]) -> Result<String, 
 }
 
 /// The line of a fault of a rule, or of the pattern, with this text before its name.
-fn named_line(
-    alloc: Global,
-    set: &PackageSet,
-    rule: Option<u32>,
-    text: &str,
-) -> Result<String, NoMemory>
+fn named_line(alloc: Global, place: &Place<'_>, text: &str) -> Result<String, NoMemory>
     ensures { IfOk result (λ line. string_bytes line
-        ≡ L.rule_line (set_seen set.now) rule (text.now ++ L.rule_name (set_seen set.now) rule)) }
+        ≡ L.rule_line (set_seen place.now.set.now) place.now.rule
+        (text.now ++ L.rule_name (set_seen place.now.set.now) place.now.rule)) }
 {
-    let name = rule_name(set, rule);
+    let name = rule_name(place.set, place.rule);
     let text = format!(in alloc; "{text}{name}")?;
-    rule_line(alloc, set, rule, &text)
+    rule_line(alloc, place, &text)
 }
 
 /// The line of a rule, or of the pattern, with a bad look-behind.
-fn behind_line(
-    alloc: Global,
-    set: &PackageSet,
-    rule: Option<u32>,
-    cause: &str,
-) -> Result<String, NoMemory>
+fn behind_line(alloc: Global, place: &Place<'_>, cause: &str) -> Result<String, NoMemory>
     ensures { IfOk result (λ line. string_bytes line
-        ≡ L.behind_line (set_seen set.now) rule cause.now) }
+        ≡ L.behind_line (set_seen place.now.set.now) place.now.rule cause.now) }
 {
-    let name = rule_name(set, rule);
+    let name = rule_name(place.set, place.rule);
     let text = format!(in alloc; "look-behind in {name}: {cause}")?;
-    rule_line(alloc, set, rule, &text)
+    rule_line(alloc, place, &text)
 }
 
 /// The line of rules that call themselves before a character is taken.
@@ -124,7 +117,8 @@ fn recursion_line(alloc: Global, set: &PackageSet, rules: &[u32]) -> Result<Stri
 {
     let names = rule_names(alloc, set, rules)?;
     let text = format!(in alloc; "left recursion in {names}")?;
-    rule_line(alloc, set, rules.first().copied(), &text)
+    let rule = rules.first().copied();
+    rule_line(alloc, &Place { set, rule }, &text)
 }
 
 /// The line of a fault of expansion, which the rule table of this set, or a pattern over it, has.
@@ -135,7 +129,9 @@ pub fn expand_line(alloc: Global, set: &PackageSet, fault: &ExpandFault) -> Resu
 {
     match fault {
         ExpandFault::NoMemory => Err(NoMemory),
-        ExpandFault::TooLarge { rule, .. } => named_line(alloc, set, *rule, "too large: "),
+        ExpandFault::TooLarge { rule, .. } => {
+            named_line(alloc, &Place { set, rule: *rule }, "too large: ")
+        }
     }
 }
 
@@ -147,16 +143,19 @@ pub fn check_line(alloc: Global, set: &PackageSet, fault: &CheckFault) -> Result
 {
     match fault {
         CheckFault::NoMemory => Err(NoMemory),
-        CheckFault::LookBehind { rule, cause } => behind_line(
-            alloc,
-            set,
-            *rule,
-            cause_text(*cause),
-        ),
+        CheckFault::LookBehind { rule, cause } => {
+            behind_line(alloc, &Place { set, rule: *rule }, cause_text(*cause))
+        }
         CheckFault::LeftRecursion { rules } => recursion_line(alloc, set, rules),
-        CheckFault::EmptyLoop { rule } => named_line(alloc, set, *rule, "empty loop in "),
+        CheckFault::EmptyLoop { rule } => {
+            named_line(alloc, &Place { set, rule: *rule }, "empty loop in ")
+        }
         CheckFault::HaltInside { rule } => {
-            named_line(alloc, set, *rule, "halt under a predicate in ")
+            named_line(
+                alloc,
+                &Place { set, rule: *rule },
+                "halt under a predicate in ",
+            )
         }
     }
 }

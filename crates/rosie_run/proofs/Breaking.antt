@@ -3,7 +3,7 @@ use Rattle.std.proofs.Common.{ℕ, ◌≡◌, ◌+◌, ◌-◌, ◌^◌, ◌≤�
 use Rattle.std.specs.Prelude.{Some, None, Result, IfErr, Ok, Err, codes, string_bytes}
 use Rattle.rosie_io.specs.Counts.{Rose}
 use Rattle.rosie_io.specs.Opening.{file_of}
-use Rattle.rosie_run.specs.Runs.{FilesCause, CutShort, Breaks, Runs, IsCutOf, IsNoCut}
+use Rattle.rosie_run.specs.Runs.{FilesCause, CutShort, Breaks, Runs, IsCutOf, IsEndedBy, IsNoCut}
 use Rattle.rosie_run.specs.Inputs.{is_standard, file_pieces, one_pieces}
 use Rattle.rosie_run.specs.Lines.{Makes, input_pieces, input_fault}
 use Rattle.rosie_run.specs.Outputs.{Telling, Texts, Wrote, IsFront, Fronts}
@@ -12,7 +12,7 @@ use Rattle.rosie_run.specs.Tallies.{tally_of, counted, added}
 use Rattle.rosie_run.specs.Sources.{Moment, Ends, TookMany}
 use Rattle.rosie_run.specs.Where.{Nowhere, not_opened, opened, InNamed}
 use Rattle.rosie_run.specs.inside.Where.{InFileNamed, InOne, of_standard, of_file}
-use Rattle.rosie_run.specs.inside.Causes.{SourceEnds, SpentEnds, IsEndedBy}
+use Rattle.rosie_run.specs.inside.Causes.{SourceEnds, SpentEnds}
 use Rattle.rosie_run.specs.inside.Passing.{BreaksInput}
 use Rattle.rosie_io.specs.Lines.{lines}
 use Rattle.rosie_run.specs.declared.ended.Ended.{Ended}

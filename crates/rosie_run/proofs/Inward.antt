@@ -4,7 +4,7 @@ use Rattle.std.proofs.lemmas.Bool.{false≢true}
 use Rattle.std.proofs.lemmas.List.{append-nil, drop_more, drop_all}
 use Rattle.rosie_io.specs.Counts.{Rose}
 use Rattle.rosie_run.specs.Inputs.{is_standard, one_pieces, left_after, inputs_pieces, reads_file, reads_standard}
-use Rattle.rosie_run.specs.Inputs.{names_of}
+use Rattle.rosie_run.specs.Inputs.{AreTold, names_of}
 use Rattle.rosie_run.specs.inside.Reaching.{left_all, Reached}
 use Rattle.rosie_run.specs.Lines.{Makes}
 use Rattle.rosie_run.specs.Outputs.{Telling, Texts, Wrote}
@@ -150,6 +150,15 @@ pub file-there : {Z : Type 0} (f : Z → List ℕ) (xs : List Z) (i : ℕ) (name
 file-there f xs i name more next isn't =
     file_by (reads_file (names_of f xs)) (is_standard name)
     (λ n. (files_cons name more (sym (ap reads_file next) ∙ files_drop f xs i n)).0) isn't
+
+-- what such a one needs is told
+pub told-one : {Z : Type 0} (f : Z → List ℕ) (xs : List Z) (i : ℕ) (name : List ℕ) (more : List (List ℕ))
+    (files input : Type 0) → names_of f (drop i xs) ≡ name ∷ more → AreTold (names_of f xs) files input
+    → (is_standard name ≡ false → files) × (is_standard name ≡ true → input)
+told-one f xs i name more files input next k = (
+  λ n. k.of_files (file-there f xs i name more next n),
+  λ n. k.of_input (standard-there f xs i name more next n),
+)
 
 pub untouched-on : {I : Type 0} (standard read read' : Bool) (i0 i i' : I) → (standard ≡ true → read' ≡ true) → (standard ≡ false → (read' ≡ read) × (i' ≡ i)) → (read ≡ false → i ≡ i0) → read' ≡ false → i' ≡ i0
 untouched-on true read read' i0 i i' is isn't h e = absurd (false≢true (sym e ∙ is refl))

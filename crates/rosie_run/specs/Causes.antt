@@ -1,5 +1,6 @@
 -- What an answer says of the counts of faults.
 use Rattle.rosie_io.specs.Counts.{Rose}
+use Rattle.rosie_io.specs.declared.outside.Sink.{Ghosts}
 use Rattle.rosie_run.specs.Sources.{Moment, NoFewer, RoseIn, Still, TookMany}
 use Rattle.rosie_run.specs.declared.status.Status.{Status}
 use Rattle.rosie_run.specs.declared.status.Status.TheVariants.{NoMemory, ReadFault, Spent, WriteFault}
@@ -14,6 +15,10 @@ abbrev pub IsFlushed : Status → ℕ → ℕ → Type 0
 IsFlushed WriteFault number flushed = Unit {0}
 IsFlushed NoMemory number flushed = Unit {0}
 IsFlushed _ number flushed = flushed ≡ number
+
+-- and so by the output itself, where it counts
+abbrev pub Flushes : {O : Type 0} → Ghosts O → Status → O → Type 0
+Flushes O answer o = O.counts → IsFlushed answer (O.number o) (O.flushed o)
 
 -- the counts of the sinks: a fault of writing only where one of them rose
 abbrev pub OutputCause : Status → ℕ → ℕ → ℕ → ℕ → Type 0

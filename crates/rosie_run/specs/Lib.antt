@@ -5,6 +5,7 @@ pub mod Lines
 pub mod Inputs
 pub mod Outputs
 pub mod Sources
+pub mod Course
 pub mod Where
 pub mod Made
 pub mod Runs

@@ -11,6 +11,8 @@ use Rattle.std.specs.Prelude.{◌++◌, ◌≡◌, Err, List, Ok, Result, false,
 use Rattle.rosie_io.specs.Counts.{Rose}
 use Rattle.rosie_run.specs.Sources.{Moment, NoFewer, RoseIn, Still, TookMany}
 use Rattle.rosie_run.specs.declared.ended.ReadStop.TheVariants as Y
+use Rattle.rosie_run.specs.declared.trouble.Trouble.{Trouble}
+use Rattle.rosie_run.specs.declared.trouble.Trouble.TheVariants as T
 
 -- Reading ended a run: it had gone past the pieces `done`, none of which ends it, and just these are written. `text` is
 -- the line that says so, and `Where` tells, of the reason, the name in that line and their number, where reading stood.
@@ -41,6 +43,13 @@ abbrev pub IsCutOf : Ended → ReadStop → List ℕ → Type 0
 IsCutOf E.NoMemory why file = Unit {0}
 IsCutOf E.WriteFault why file = ⊥
 IsCutOf (E.Cut w text) why file = (w ≡ why) × (string_bytes text ≡ input_fault file (stop_text why))
+
+-- the end of a run, by what ended the run over an input of this name
+abbrev pub IsEndedBy : Trouble → Ended → List ℕ → Type 0
+IsEndedBy T.NoMemory e file = e ≡ E.NoMemory
+IsEndedBy T.WriteFault e file = e ≡ E.WriteFault
+IsEndedBy T.ReadFault e file = IsCutOf e Y.ReadFault file
+IsEndedBy T.Spent e file = IsCutOf e Y.Spent file
 
 -- a run that wasn't ended by a piece
 abbrev pub GoesOn : Result Tally Ended → Type 0 → Type 0

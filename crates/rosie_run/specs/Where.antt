@@ -1,7 +1,8 @@
 -- Where reading stood when it ended a run.
 use Rattle.rosie_io.specs.Counts.{Rose}
 use Rattle.rosie_io.specs.Opening.{file_of}
-use Rattle.rosie_run.specs.Inputs.{inputs_pieces, is_standard, reads_standard}
+use Rattle.rosie_run.specs.Course.{Course}
+use Rattle.rosie_run.specs.Inputs.{AreTold, inputs_pieces, is_standard, reads_standard}
 use Rattle.rosie_run.specs.Lines.{Makes, input_pieces, passed}
 use Rattle.rosie_run.specs.Outputs.{Showing}
 use Rattle.rosie_run.specs.Runs.{Runs}
@@ -55,13 +56,13 @@ pub data InInputs (names : List (List ℕ)) (before : List (List ℕ) → ℕ) (
       → reads_standard front ≡ false → InSource whole i0 i1 why n → k ≡ before front + n
       → InInputs names before tree whole i0 i1 f0 f1 why file k
 
--- the run over the inputs with these names
-abbrev pub RunsInputs : Result Tally Ended → Makes → Reading → List (List ℕ) → List (List ℕ × List ℕ)
-    → (input files : Span) → Showing → Type 0
-RunsInputs result makes r names tree input files w =
-    Runs result w.tells (inputs_pieces makes r tree input.before.rest names)
-    (InInputs names (λ front. length (inputs_pieces makes r tree input.before.rest front)) tree r.whole
-    input.before input.after files.before files.after) w.before w.after
+-- the run over the inputs with these names, where those are told
+abbrev pub RunsInputs : Result Tally Ended → Makes → Reading → List (List ℕ) → Course → Type 0
+RunsInputs result makes r names c =
+    AreTold names c.files_tell c.input_tells
+    → Runs result c.tells (inputs_pieces makes r c.tree c.input.before.rest names)
+    (InInputs names (λ front. length (inputs_pieces makes r c.tree c.input.before.rest front)) c.tree r.whole
+    c.input.before c.input.after c.files.before c.files.after) c.before c.after
 
 -- where it stood in the run of a command: in its loading, which asks for these paths, or among its inputs
 pub data InRun (asks : List (List ℕ)) (Inputs : ReadStop → List ℕ → ℕ → Type 0) (f0 f1 : Moment) (why : ReadStop)

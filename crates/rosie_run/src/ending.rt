@@ -1,6 +1,6 @@
 // How a run ends.
 ghost use Rattle.std.specs.Prelude.{ℕ, ◌≡◌};
-ghost use Rattle.rosie_run.specs.Causes.{IsFlushed};
+ghost use Rattle.rosie_run.specs.Causes.{Flushes};
 ghost use Rattle.rosie_run.specs.Outputs.{shown, telling};
 ghost use Rattle.rosie_run.specs.Closing.{Closes, ClosesCause};
 
@@ -15,8 +15,8 @@ pub fn finish<O: Sink, E: Sink>(out: &mut O, err: &mut E, run: Result<Tally, End
         (shown O.Sink E.Sink out.new err.new n) }
     ensures cause { ClosesCause run result (O.faults out.old) (O.faults out.new) (E.faults err.old)
         (E.faults err.new) }
-    ensures out_flushed { O.counts → IsFlushed result (O.number out.new) (O.flushed out.new) }
-    ensures err_flushed { E.counts → IsFlushed result (E.number err.new) (E.flushed err.new) }
+    ensures out_flushed { Flushes O.Sink result out.new }
+    ensures err_flushed { Flushes E.Sink result err.new }
 {
     match run {
         Ok(tally) => match flush_both(out, err) {

@@ -4,7 +4,8 @@ ghost use Rattle.std.specs.Prelude.{length, codes};
 ghost use Rattle.std.specs.Prelude.{encode_utf8_all, IfOk};
 ghost use Rattle.std.specs.Str.{bytes_eq};
 ghost use Rattle.rosie_io.specs.Answering.{Keeps};
-ghost use Rattle.rosie_run.specs.Runs.{FilesCause, SourcesCause, WritesCause, GoesOn};
+ghost use Rattle.rosie_run.specs.Course.{InputsCause, OutputsCause, course};
+ghost use Rattle.rosie_run.specs.Runs.{FilesCause, GoesOn, IsEndedBy};
 ghost use Rattle.rosie_run.specs.Inputs.{is_standard, left_after};
 ghost use Rattle.rosie_run.specs.Inputs.{AreTold, SameInputs, reads_standard, names_of};
 ghost use Rattle.rosie_run.specs.Lines.{reading_of};
@@ -12,7 +13,6 @@ ghost use Rattle.rosie_run.specs.Outputs.{SameOutputs, shows};
 ghost use Rattle.rosie_run.specs.Sources.{moment_of, span_of};
 ghost use Rattle.rosie_run.specs.Where.{RunsInputs, RunsSource};
 ghost use Rattle.rosie_run.specs.inside.Where.{RunsFile, RunsOne};
-ghost use Rattle.rosie_run.specs.inside.Causes.{IsEndedBy};
 ghost use Rattle.rosie_run.specs.inside.SameLines.{SameLines};
 
 use crate::line_job::LineJob;
@@ -42,8 +42,8 @@ pub struct Wanted<'a> {
     pub reading: Reading,
 }
 
-/// The end of a run, by what ended the run over an input.
-fn ended_by(alloc: Global, trouble: Trouble, file: &str) -> Ended
+/// The end of a run, by what ended the run over an input. `file` is what was read.
+pub fn ended_by(alloc: Global, trouble: Trouble, file: &str) -> Ended
     ensures { IsEndedBy trouble result file.now }
 {
     match trouble {
@@ -72,9 +72,7 @@ fn run_source<J: LineJob, S: Source, O: Sink, E: Sink, L: Ledger>(
     ensures rest { S.tells → GoesOn result (S.rest source.new ≡ []) }
     ensures cause { FilesCause result (moment_of S.Source source.old)
         (moment_of S.Source source.new) }
-    ensures sinks { WritesCause result (O.faults outputs.old.out.now)
-        (O.faults outputs.new.out.now)
-        (E.faults outputs.old.err.now) (E.faults outputs.new.err.now) }
+    ensures sinks { OutputsCause O.Sink E.Sink result outputs.old outputs.new }
     ensures taken { S.taken source.new < 2 ^ 64 - 1 → S.taken source.old ≤ S.taken source.new }
     ensures tree { S.tree source.new ≡ S.tree source.old }
     ensures opens { S.failed_opens source.new ≡ S.failed_opens source.old }
@@ -100,9 +98,7 @@ fn run_file<J: LineJob, F: Files, O: Sink, E: Sink, L: Ledger>(
         (shows O.Sink E.Sink outputs.old outputs.new) }
     ensures cause { FilesCause result (moment_of F.Source files.old)
         (moment_of F.Source files.new) }
-    ensures sinks { WritesCause result (O.faults outputs.old.out.now)
-        (O.faults outputs.new.out.now)
-        (E.faults outputs.old.err.now) (E.faults outputs.new.err.now) }
+    ensures sinks { OutputsCause O.Sink E.Sink result outputs.old outputs.new }
     ensures taken { F.taken files.new < 2 ^ 64 - 1 → F.taken files.old ≤ F.taken files.new }
     ensures closed { IfOk result (λ _. F.is_open files.new ≡ false) }
     ensures tree { F.tree files.new ≡ F.tree files.old }
@@ -138,24 +134,14 @@ fn run_one<J: LineJob, F: Files, I: Source, O: Sink, E: Sink, L: Ledger>(
     ensures same_lines { SameLines lines.old lines.new }
     ensures same_inputs { SameInputs inputs.old inputs.new }
     ensures same_outputs { SameOutputs outputs.old outputs.new }
-    ensures runs { (is_standard name.now ≡ false → F.tells) →
-        (is_standard name.now ≡ true → I.tells)
-        → (read.old ≡ true → I.rest inputs.old.input.now ≡ [])
-        → RunsOne result (J.makes lines.old.job.now) (reading_of lines.old.reader.now) name.now
-        read.old
-        (F.tree inputs.old.files.now)
-        (span_of I.Source inputs.old.input.now inputs.new.input.now)
-        (span_of F.Source inputs.old.files.now inputs.new.files.now)
-        (shows O.Sink E.Sink outputs.old outputs.new) }
+    ensures runs { RunsOne result (J.makes lines.old.job.now)
+        (reading_of lines.old.reader.now) name.now read.old
+        (course F.Source I.Source O.Sink E.Sink inputs.old inputs.new outputs.old outputs.new) }
     ensures rest { (is_standard name.now ≡ true → I.tells) →
         (read.old ≡ true → I.rest inputs.old.input.now ≡ []) → GoesOn result
         (I.rest inputs.new.input.now ≡ left_after name.now (I.rest inputs.old.input.now)) }
-    ensures cause { SourcesCause result (moment_of I.Source inputs.old.input.now)
-        (moment_of I.Source inputs.new.input.now)
-        (moment_of F.Source inputs.old.files.now) (moment_of F.Source inputs.new.files.now) }
-    ensures sinks { WritesCause result (O.faults outputs.old.out.now)
-        (O.faults outputs.new.out.now)
-        (E.faults outputs.old.err.now) (E.faults outputs.new.err.now) }
+    ensures cause { InputsCause F.Source I.Source result inputs.old inputs.new }
+    ensures sinks { OutputsCause O.Sink E.Sink result outputs.old outputs.new }
     ensures input_taken { I.taken inputs.new.input.now < 2 ^ 64 - 1 →
         I.taken inputs.old.input.now ≤ I.taken inputs.new.input.now }
     ensures files_taken { F.taken inputs.new.files.now < 2 ^ 64 - 1 →
@@ -196,25 +182,17 @@ pub fn run_inputs<J: LineJob, F: Files, I: Source, O: Sink, E: Sink, L: Ledger>(
     ensures same_inputs { SameInputs inputs.old inputs.new }
     ensures same_outputs { SameOutputs outputs.old outputs.new }
     ensures same { J.makes job.new ≡ J.makes job.old }
-    ensures runs { let all = names_of encode_utf8_all wanted.entry.names.now in
-        AreTold all F.tells I.tells
-        → RunsInputs result (J.makes job.old) wanted.entry.reading all (F.tree inputs.old.files.now)
-        (span_of I.Source inputs.old.input.now inputs.new.input.now)
-        (span_of F.Source inputs.old.files.now inputs.new.files.now)
-        (shows O.Sink E.Sink outputs.old outputs.new) }
+    ensures runs { RunsInputs result (J.makes job.old) wanted.entry.reading
+        (names_of encode_utf8_all wanted.entry.names.now)
+        (course F.Source I.Source O.Sink E.Sink inputs.old inputs.new outputs.old outputs.new) }
     ensures rest { AreTold (names_of encode_utf8_all wanted.entry.names.now) F.tells I.tells →
         GoesOn result
         (reads_standard (names_of encode_utf8_all wanted.entry.names.now) ≡ true →
         I.rest inputs.new.input.now ≡ []) }
     ensures unread { reads_standard (names_of encode_utf8_all wanted.entry.names.now) ≡ false →
         inputs.new.input.now ≡ inputs.old.input.now }
-    ensures cause { SourcesCause result (moment_of I.Source inputs.old.input.now)
-        (moment_of I.Source inputs.new.input.now)
-        (moment_of F.Source inputs.old.files.now)
-        (moment_of F.Source inputs.new.files.now) }
-    ensures sinks { WritesCause result (O.faults outputs.old.out.now)
-        (O.faults outputs.new.out.now)
-        (E.faults outputs.old.err.now) (E.faults outputs.new.err.now) }
+    ensures cause { InputsCause F.Source I.Source result inputs.old inputs.new }
+    ensures sinks { OutputsCause O.Sink E.Sink result outputs.old outputs.new }
     ensures tree { F.tree inputs.new.files.now ≡ F.tree inputs.old.files.now }
 {
     let Ok(mut reader) = LineReader::new(alloc, wanted.reading.whole, wanted.reading.most) else {

@@ -23,7 +23,7 @@ mod write;
 
 pub use ended::{Ended, ReadStop};
 pub use ending::finish;
-pub use inputs::{Inputs, Wanted, run_inputs};
+pub use inputs::{Inputs, Wanted, ended_by, run_inputs};
 pub use line_job::{InputLine, LineJob};
 pub use lines::Reading;
 pub use mark::Mark;

@@ -24,7 +24,7 @@ use Rattle.rosie_session.specs.Replay.{Turn, pieces_of, replay, turns}
 use Rattle.rosie_session.specs.Where.{InSession, in_lines, in_load}
 use Rattle.rosie_session.specs.declared.session_end.SessionEnd.{SessionEnd}
 use Rattle.rosie_session.specs.declared.session_end.SessionEnd.TheVariants as H
-use Rattle.rosie_session.specs.inside.Passing.{EndsLines, InputEnds, IsEndedBy, SinksBy, SpentBy}
+use Rattle.rosie_session.specs.inside.Passing.{EndsLines, InputEnds, IsEndOfRun, SinksBy, SpentBy}
 use Rattle.rosie_session.specs.inside.Turning.{EndFiles}
 use Rattle.rosie_session.proofs.Onward.{pieces-append}
 use Rattle.rosie_session.proofs.Sessions.{never_stops}
@@ -65,7 +65,7 @@ get_there done next more =
 
 module _ (W : Telling) (w : Loading) (i0 i1 f0 f1 : Moment) (a b : Texts) where
   pub breaks-session_end :
-      (session_end : SessionEnd) (e : Ended) → IsEndedBy session_end e → InputEnds session_end i0.faults i1.faults → SpentBy session_end i0.taken i1.taken
+      (session_end : SessionEnd) (e : Ended) → IsEndOfRun session_end e → InputEnds session_end i0.faults i1.faults → SpentBy session_end i0.taken i1.taken
       → EndFiles session_end f0 f1 → EndsLines session_end W w i0.rest i1.rest a b
       → Breaks e W (replay w i0.rest) (InSession w i0.rest i0 i1 f0 f1) a b
   breaks-session_end (H.Run T.NoMemory) e is f t g h =
@@ -134,7 +134,7 @@ module _ (i0 i1 f0 f1 : Moment) (opens : i1.opens ≡ i0.opens) where
       subst (λ x. SourcesEnd (E.Cut x text) i0 i1 f0 f1) (sym is.0) (i, f, inl many)
 
   pub sources-session_end :
-      (session_end : SessionEnd) (e : Ended) → IsEndedBy session_end e → InputEnds session_end i0.faults i1.faults → SpentBy session_end i0.taken i1.taken
+      (session_end : SessionEnd) (e : Ended) → IsEndOfRun session_end e → InputEnds session_end i0.faults i1.faults → SpentBy session_end i0.taken i1.taken
       → EndFiles session_end f0 f1 → SourcesEnd e i0 i1 f0 f1
   sources-session_end (H.Run T.NoMemory) e is i t f =
       subst (λ x. SourcesEnd x i0 i1 f0 f1) (sym is) (still i0 i1 (same_input i), f)
@@ -151,7 +151,7 @@ cut_writes E.NoMemory why name o0 o1 e0 e1 is p q = (p, q)
 cut_writes E.WriteFault why name o0 o1 e0 e1 is p q = absurd is
 cut_writes (E.Cut x text) why name o0 o1 e0 e1 is p q = (p, q)
 
-pub writes-session_end : (session_end : SessionEnd) (e : Ended) (o0 o1 e0 e1 : ℕ) → IsEndedBy session_end e → SinksBy session_end o0 o1 e0 e1 → WritesEnd e o0 o1 e0 e1
+pub writes-session_end : (session_end : SessionEnd) (e : Ended) (o0 o1 e0 e1 : ℕ) → IsEndOfRun session_end e → SinksBy session_end o0 o1 e0 e1 → WritesEnd e o0 o1 e0 e1
 writes-session_end (H.Run T.NoMemory) e o0 o1 e0 e1 is h = subst (λ x. WritesEnd x o0 o1 e0 e1) (sym is) h
 writes-session_end (H.Run T.WriteFault) e o0 o1 e0 e1 is h = subst (λ x. WritesEnd x o0 o1 e0 e1) (sym is) h
 writes-session_end (H.Run T.ReadFault) e o0 o1 e0 e1 is h = cut_writes e Y.ReadFault (codes "-") o0 o1 e0 e1 is h.0 h.1

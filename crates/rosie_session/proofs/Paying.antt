@@ -1,5 +1,5 @@
 -- A line that is tried passes its budget only where that is due: what is loaded has a meaning on each text.
-use Rattle.std.proofs.Common.{ℕ, ◌≡◌, ◌<◌, true, false, List, [], ◌∷◌, length, refl, sym, ◌∙◌, ap, subst, arith}
+use Rattle.std.proofs.Common.{ℕ, ◌≡◌, ◌<◌, true, false, List, [], length, refl, sym, ◌∙◌, ap, subst, arith}
 use Rattle.std.specs.Prelude.{Bool, Option, Some, None, Ok, Err, cond, nat_lt}
 use Rattle.std.proofs.lemmas.Grind.{merely}
 use Rattle.std.proofs.lemmas.List.{length-map}
@@ -10,13 +10,12 @@ use Rattle.rosie_jobs.specs.Lines.{Job}
 use Rattle.rosie_jobs.specs.declared.settings.Settings.{Settings}
 use Rattle.rosie_prepare.proofs.Passing.{blocks-rows_of, bodies-rows_of, first_same}
 use Rattle.rosie_prepare.specs.Prepared.{Comes, IsPrepared, OrLine, Passes, Ready, TableFacts, Tree, PatternRequest, blocks, bodies}
-use Rattle.rosie_prepare.specs.Prepared.{found, goal_in, loaded, ready, table_too_large, table_unsound, too_large, unsound}
+use Rattle.rosie_prepare.specs.Prepared.{found, goal_in, ready, table_too_large, table_unsound, too_large, unsound}
 use Rattle.rpl_check.proofs.Accepting.{accepted, whole_of}
 use Rattle.rpl_check.proofs.Firsts.{or_none}
 use Rattle.rpl_check.specs.Checked.{IsWhole}
 use Rattle.rpl_check.specs.Facts.{Facts}
 use Rattle.rpl_check.specs.Faults as F
-use Rattle.rpl_check.specs.inside.Rounds.{Reach}
 use Rattle.rpl_core.specs.Core.{Core}
 use Rattle.rpl_core.specs.Instr.{Instr}
 use Rattle.rpl_core.specs.Order.{IsInOrder}
@@ -29,7 +28,7 @@ use Rattle.rpl_expand.specs.Faults as E
 use Rattle.rpl_expand.specs.Sets.{captures_of, scope_of, table_of}
 use Rattle.rpl_expand.specs.Bound.{IsOver, MakeTrees}
 use Rattle.rpl_forms.specs.Inlining.{Inners}
-use Rattle.rpl_forms.specs.Rows.{Row, inners_from, inners_of, rows_of}
+use Rattle.rpl_forms.specs.Rows.{inners_from, inners_of, rows_of}
 use Rattle.rpl_load_laws.proofs.Loaded.{own_names_are_rules, scopes_are_over, tables_are_in_order, told_is_built, trees_are_made}
 use Rattle.rpl_load_laws.specs.Laws.{IsLoaded, by_pattern, by_roots}
 use Rattle.rpl_package.specs.Built.{IsBuilt}
@@ -44,7 +43,7 @@ use Rattle.rpl_compile_laws.proofs.Answering.{answer_holds}
 use Rattle.rpl_compile_laws.specs.Laws.{IsCapture}
 use Rattle.rpl_syntax.specs.Expression.{Expr}
 use Rattle.rosie_session.specs.Laws.{BudgetLaw}
-use Rattle.rosie_session.specs.Loading.{Compiles, IsGoalLoad, IsLoading, Load, Loading, request, job_unless_long}
+use Rattle.rosie_session.specs.Loading.{Compiles, Load, request}
 use Rattle.rosie_session.specs.Replay.{plain}
 use Rattle.rosie_session.proofs.Pegs.{rules_for}
 

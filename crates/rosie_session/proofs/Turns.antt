@@ -71,6 +71,13 @@ pub has_text :
 has_text None texts k h e other = let there = slice_get-get_or texts k [] h in absurd (cc)
 has_text (Some text) texts k h e other = other text refl
 
+-- what stops a step goes out as it is
+pub stops_through :
+    {A : Type 0} (Holds : Result A Unready → Type 0) (r : Result A Unready) (u : Unready) → IsErrAnd r (λ e. e ≡ u)
+    → Holds (Err u) → Holds r
+stops_through Holds (Ok a) u h k = absurd h
+stops_through Holds (Err e) u h k = subst (λ v. Holds (Err v)) (sym h) k
+
 -- ---- the texts alone
 
 pub texts_given :

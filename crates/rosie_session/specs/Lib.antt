@@ -1,7 +1,6 @@
 pub mod Loading
 pub mod Replay
 pub mod Where
-pub mod Course
 pub mod Limits
 pub mod Laws
 pub mod inside

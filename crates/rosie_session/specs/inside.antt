@@ -1,4 +1,4 @@
 -- Words of private functions alone. No public contract cites them.
 pub mod Turning
-pub mod Kept
 pub mod Passing
+pub mod Kept

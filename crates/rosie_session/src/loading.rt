@@ -3,12 +3,11 @@ ghost use Rattle.std.specs.Prelude.{◌≡◌, IfErr, IfOk, Ok, chars};
 ghost use Rattle.rosie_io.specs.Loading.{NotFewer};
 ghost use Rattle.rosie_jobs.specs.Jobs.{IsJobOf, job_of};
 ghost use Rattle.rosie_jobs.specs.Lines.{Job as Ran};
-ghost use Rattle.rosie_prepare.specs.Answers.{HasCause, IsAsked};
+ghost use Rattle.rosie_prepare.specs.Answers.{CauseIn, IsAsked};
 ghost use Rattle.rosie_prepare.specs.Prepared.{OrLine};
 ghost use Rattle.rosie_prepare.specs.Views.{ready_seen};
 ghost use Rattle.rosie_repl.specs.Session.{Session};
 ghost use Rattle.rosie_repl.specs.States.{session_of};
-ghost use Rattle.rosie_run.specs.Sources.{moment_of};
 ghost use Rattle.rosie_session.specs.Loading.{Compiles, OfLoading, given};
 ghost use Rattle.rosie_session.specs.Replay.{judged};
 ghost use Rattle.rosie_session.specs.inside.Turning.{GivesJob, IsOwn, Judges};
@@ -61,15 +60,13 @@ pub(crate) fn load_texts<F: Files>(
     ensures judges { OfLoading F.tells (F.tree files.old) folders.now
         (λ w. (before after : Session) → Judges result
         (judged before after (w.texts (session_of state.now).now.texts)) before after) }
-    ensures cause { HasCause result (moment_of F.Source files.old) (moment_of F.Source files.new) }
+    ensures cause { CauseIn F.Source result files.old files.new }
     ensures taken { NotFewer (F.taken files.old) (F.taken files.new) }
     ensures tree { F.tree files.new ≡ F.tree files.old }
 {
     let roots = roots_of(alloc, state)?;
-    match prepare_rules(alloc, files, folders, &roots) {
-        Ok(_) => Ok(()),
-        Err(unready) => Err(unready),
-    }
+    prepare_rules(alloc, files, folders, &roots)?;
+    Ok(())
 }
 
 /// Compiles a goal that is ready, for which alone its rules are kept. Its code may be too long.
@@ -119,7 +116,7 @@ pub(crate) fn load_goal<F: Files>(
     ensures asked { OfLoading F.tells (F.tree files.old) folders.now
         (λ w. IfErr result (λ u. IsAsked u
         (w.goal (session_of state.now).now.texts (chars pattern.now)).asked)) }
-    ensures cause { HasCause result (moment_of F.Source files.old) (moment_of F.Source files.new) }
+    ensures cause { CauseIn F.Source result files.old files.new }
     ensures taken { NotFewer (F.taken files.old) (F.taken files.new) }
     ensures tree { F.tree files.new ≡ F.tree files.old }
 {
@@ -131,8 +128,6 @@ pub(crate) fn load_goal<F: Files>(
         fixed: false,
         find: false,
     };
-    match prepare(alloc, files, &request) {
-        Ok(ready) => make_job(alloc, ready),
-        Err(unready) => Err(unready),
-    }
+    let ready = prepare(alloc, files, &request)?;
+    make_job(alloc, ready)
 }

@@ -6,22 +6,22 @@ ghost use Rattle.rosie_io.specs.Appending.{Appends};
 ghost use Rattle.rosie_io.specs.Counts.{capped};
 ghost use Rattle.rosie_io.specs.Gathering.{Reads};
 ghost use Rattle.rosie_io.specs.Loading.{NotFewer};
-ghost use Rattle.rosie_repl.specs.States.{session_of};
-ghost use Rattle.rosie_run.specs.Runs.{SourcesCause, WritesCause, GoesOn};
+ghost use Rattle.rosie_run.specs.Course.{InputsCause, OutputsCause, course};
+ghost use Rattle.rosie_run.specs.Runs.{GoesOn};
 ghost use Rattle.rosie_run.specs.Closing.{OutFirst};
 ghost use Rattle.rosie_run.specs.Inputs.{SameInputs};
 ghost use Rattle.rosie_run.specs.Outputs.{SameOutputs};
 ghost use Rattle.rosie_run.specs.Sources.{moment_of};
 ghost use Rattle.rosie_run.specs.inside.Causes.{BothCause};
-ghost use Rattle.rosie_session.specs.Course.{course, RunsSession};
-ghost use Rattle.rosie_session.specs.Loading.{IsLoading, Loading};
-ghost use Rattle.rosie_session.specs.inside.Kept.{SameKept};
-ghost use Rattle.rosie_session.specs.inside.Passing.{Counts, InputCause, IsOfReading, MakesNext};
+ghost use Rattle.rosie_session.specs.Loading.{OfLoading};
+ghost use Rattle.rosie_session.specs.Where.{RunsSession};
+ghost use Rattle.rosie_session.specs.inside.Kept.{MakesKept, SameKept};
+ghost use Rattle.rosie_session.specs.inside.Passing.{Counts, InputCause, IsOfReading};
 ghost use Rattle.rosie_session.specs.inside.Passing.{RunsTold, SinksCause, SpentCause, Stops};
 ghost use Rattle.rosie_session.specs.inside.Turning.{FilesBy};
 
 use crate::reply::{Reply, wrong};
-use crate::session_end::{SessionEnd, ended_by};
+use crate::session_end::{SessionEnd, end_of_run};
 use crate::turn::{Base, answer};
 use rosie_io::{Files, Line, LineFault, LineReader, Sink, Source, WriteFault};
 use rosie_repl::State;
@@ -55,11 +55,9 @@ fn next_turn<F: Files, I: Source, L: Ledger>(
     requires most { kept.old.reader.now.most ≡ 1048576 }
     ensures same_kept { SameKept kept.old kept.new }
     ensures same_inputs { SameInputs inputs.old inputs.new }
-    ensures makes { F.tells → I.tells → (w : Loading) → IsLoading (F.tree inputs.old.files.now)
-        folders.now w → MakesNext result w kept.old.reader.now kept.new.reader.now
-        (session_of kept.old.state.now) (session_of kept.new.state.now)
-        (I.rest inputs.old.input.now) (I.rest inputs.new.input.now)
-        steps.old steps.new }
+    ensures makes { I.tells → OfLoading F.tells (F.tree inputs.old.files.now) folders.now
+        (λ w. MakesKept result w kept.old kept.new
+        (I.rest inputs.old.input.now) (I.rest inputs.new.input.now) steps.old steps.new) }
     ensures numbers { Counts result kept.old.reader.now kept.new.reader.now }
     ensures fits { kept.new.reader.now.number ≤ 2 ^ 48 }
     ensures keeps { Keeps kept.old.reader.now kept.new.reader.now }
@@ -153,7 +151,8 @@ fn run_lines<F: Files, I: Source, O: Sink, E: Sink, L: Ledger>(
         inputs.old inputs.new outputs.old outputs.new) }
     ensures cause { InputCause result (I.faults inputs.old.input.now)
         (I.faults inputs.new.input.now) }
-    ensures spent { SpentCause result (I.taken inputs.old.input.now) (I.taken inputs.new.input.now) }
+    ensures spent { SpentCause result (I.taken inputs.old.input.now)
+        (I.taken inputs.new.input.now) }
     ensures files { FilesBy result (moment_of F.Source inputs.old.files.now)
         (moment_of F.Source inputs.new.files.now) }
     ensures rest { I.tells → IfOk result (λ _. I.rest inputs.new.input.now ≡ []) }
@@ -204,17 +203,12 @@ pub fn run_session<F: Files, I: Source, O: Sink, E: Sink, L: Ledger>(
     ensures runs { RunsSession result folders.now (course F.Source I.Source O.Sink E.Sink
         inputs.old inputs.new outputs.old outputs.new) }
     ensures rest { F.tells → I.tells → GoesOn result (I.rest inputs.new.input.now ≡ []) }
-    ensures cause { SourcesCause result (moment_of I.Source inputs.old.input.now)
-        (moment_of I.Source inputs.new.input.now)
-        (moment_of F.Source inputs.old.files.now)
-        (moment_of F.Source inputs.new.files.now) }
-    ensures sinks { WritesCause result (O.faults outputs.old.out.now)
-        (O.faults outputs.new.out.now) (E.faults outputs.old.err.now)
-        (E.faults outputs.new.err.now) }
+    ensures cause { InputsCause F.Source I.Source result inputs.old inputs.new }
+    ensures sinks { OutputsCause O.Sink E.Sink result outputs.old outputs.new }
     ensures tree { F.tree inputs.new.files.now ≡ F.tree inputs.old.files.now }
 {
     match run_lines(alloc, folders, inputs, outputs) {
         Ok(tally) => Ok(tally),
-        Err(session_end) => Err(ended_by(alloc, session_end)),
+        Err(session_end) => Err(end_of_run(alloc, session_end)),
     }
 }

@@ -1,8 +1,8 @@
 // Why a session ends before its input does.
 ghost use Rattle.std.specs.Prelude.{◌≡◌, codes};
-ghost use Rattle.rosie_session.specs.inside.Passing.{IsEndedBy};
+ghost use Rattle.rosie_session.specs.inside.Passing.{IsEndOfRun};
 
-use rosie_run::{Ended, ReadStop, Trouble, cut};
+use rosie_run::{Ended, ReadStop, Trouble, cut, ended_by};
 use rpl_print::text_of;
 use rpl_text::Chars;
 use std::alloc::{AllocError, Global};
@@ -28,16 +28,11 @@ impl From<AllocError> for SessionEnd {
 }
 
 /// The end of a run, by what ended the session.
-pub(crate) fn ended_by(alloc: Global, session_end: SessionEnd) -> Ended
-    ensures { IsEndedBy session_end result }
+pub(crate) fn end_of_run(alloc: Global, session_end: SessionEnd) -> Ended
+    ensures { IsEndOfRun session_end result }
 {
     match session_end {
-        SessionEnd::Run(trouble) => match trouble {
-            Trouble::NoMemory => Ended::NoMemory,
-            Trouble::WriteFault => Ended::WriteFault,
-            Trouble::ReadFault => cut(alloc, ReadStop::ReadFault, "-"),
-            Trouble::Spent => cut(alloc, ReadStop::Spent, "-"),
-        },
+        SessionEnd::Run(trouble) => ended_by(alloc, trouble, "-"),
         SessionEnd::Unread(path) => cut(alloc, ReadStop::ReadFault, text_of(&path)),
     }
 }

@@ -5,14 +5,13 @@ ghost use Rattle.rosie_io.specs.Loading.{NotFewer};
 ghost use Rattle.rosie_jobs.specs.Jobs.{matcher_of};
 ghost use Rattle.rosie_jobs.specs.Lines.{Job};
 ghost use Rattle.rosie_jobs.specs.Makers.{Matches};
-ghost use Rattle.rosie_prepare.specs.Answers.{HasCause};
+ghost use Rattle.rosie_prepare.specs.Answers.{CauseIn};
 ghost use Rattle.rosie_repl.specs.Edits.{Try, edit_of, in_chars};
 ghost use Rattle.rosie_repl.specs.Seen.{edit_seen};
 ghost use Rattle.rosie_repl.specs.Session as S;
 ghost use Rattle.rosie_repl.specs.Session.{Session};
 ghost use Rattle.rosie_repl.specs.States.{session_of};
 ghost use Rattle.rosie_run.specs.Report.{Piece};
-ghost use Rattle.rosie_run.specs.Sources.{moment_of};
 ghost use Rattle.rosie_session.specs.Loading.{OfLoading};
 ghost use Rattle.rosie_session.specs.Replay.{edit_turn, job_piece, loaded, or_no};
 ghost use Rattle.rosie_session.specs.Replay.{plain, try_turn};
@@ -61,7 +60,7 @@ fn load_change<F: Files>(
         (λ w. (before : Session) → Judges result
         (loaded w (in_chars (edit_seen edit.now)) before (session_of state.now)) before
         (session_of state.now)) }
-    ensures cause { HasCause result (moment_of F.Source files.old) (moment_of F.Source files.new) }
+    ensures cause { CauseIn F.Source result files.old files.new }
     ensures taken { NotFewer (F.taken files.old) (F.taken files.new) }
     ensures tree { F.tree files.new ≡ F.tree files.old }
 {

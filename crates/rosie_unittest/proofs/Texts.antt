@@ -1,6 +1,6 @@
 -- The text of each test of a file is of characters.
-use Rattle.std.proofs.Common.{ℕ, zero, suc, ◌≡◌, ◌+◌, ◌-◌, ◌<◌, ◌≤◌, inl, inr, Bool, true, false, List, [], ◌∷◌, ◌++◌}
-use Rattle.std.proofs.Common.{length, take, drop, get_or, refl, sym, ◌∙◌, ap, subst, arith}
+use Rattle.std.proofs.Common.{ℕ, zero, suc, ◌≡◌, ◌+◌, ◌-◌, ◌<◌, ◌≤◌, inl, inr, Bool, true, false, List, [], ◌∷◌}
+use Rattle.std.proofs.Common.{length, get_or, refl, sym, subst, arith}
 use Rattle.std.specs.Prelude.{◌==◌, Option, Some, None, codes, map, nat_lt, option_and_then, option_map, if◌then◌else◌}
 use Rattle.std.specs.List.{All, after_first, before_first, position_or_len, slice_split}
 use Rattle.std.specs.Str.{IsUtf8, all_scalars, bytes_eq, is_utf8}
@@ -26,7 +26,7 @@ use Rattle.rpl_lexer.specs.declared.token.TokenKind.TheVariants as K
 use Rattle.rpl_syntax.specs.declared.token.Token.TheVariants as T
 use Rattle.rpl_syntax.proofs.Said.{form_of, token_fit}
 use Rattle.rpl_unittest.proofs.Behind.{rest_of}
-use Rattle.rpl_unittest.specs.Comments.{AllSay, HasTests, Says, comment_of, lines_of, test_by, tests_by, word_by, word_in}
+use Rattle.rpl_unittest.specs.Comments.{AllSay, HasTests, Says, comment_of, lines_of, test_by, word_by, word_in}
 use Rattle.rpl_unittest.specs.Comments.{Comma, Local, Name, Other, Qualified, Reading, Text, Word, name_first, of_keyword}
 use Rattle.rpl_unittest.specs.Comments.{of_name, of_part, of_sign, of_test, of_verb, of_word, part_first, part_for}
 use Rattle.rpl_unittest.specs.Comments.{past_local, reading_of, texts_of, verb_of, with_part}

@@ -4,9 +4,8 @@ ghost use Rattle.std.specs.Prelude.{encode_utf8_all};
 ghost use Rattle.std.specs.Prelude.{false, length};
 ghost use Rattle.std.specs.List.{All};
 ghost use Rattle.rosie_io.specs.Loading.{NotFewer};
-ghost use Rattle.rosie_prepare.specs.Answers.{HasCause, IsAsked, Prepares};
+ghost use Rattle.rosie_prepare.specs.Answers.{CauseIn, IsAsked, Prepares};
 ghost use Rattle.rosie_prepare.specs.Prepared.{OrLine};
-ghost use Rattle.rosie_run.specs.Sources.{moment};
 ghost use Rattle.rpl_expand.specs.Sets.{table_of};
 ghost use Rattle.rpl_forms.specs.Rows.{rows_of};
 ghost use Rattle.rpl_package.specs.Sets.{set_seen};
@@ -112,8 +111,7 @@ pub fn load_suite<F: Files>(
         → S.IsSuite (F.tree files.old) folders.now file budget asked r →
         IfErr result (λ u. IsAsked u asked) }
     ensures due { IfOk result (λ suite. SuitePays (bench_of suite) (trials_of suite)) }
-    ensures cause { HasCause result (moment F.rest F.taken F.faults F.failed_opens files.old)
-        (moment F.rest F.taken F.faults F.failed_opens files.new) }
+    ensures cause { CauseIn F.Source result files.old files.new }
     ensures taken { NotFewer (F.taken files.old) (F.taken files.new) }
     ensures tree { F.tree files.new ≡ F.tree files.old }
     ensures closed { F.is_open files.old ≡ false → F.is_open files.new ≡ false }

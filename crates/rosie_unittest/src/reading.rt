@@ -4,8 +4,7 @@ ghost use Rattle.std.specs.Prelude.{string_bytes};
 ghost use Rattle.rosie_prepare.specs.Lines.{load_line};
 ghost use Rattle.rosie_io.specs.Loading.{NotFewer};
 ghost use Rattle.rosie_io.specs.Opening.{file_of};
-ghost use Rattle.rosie_prepare.specs.Answers.{HasCause, IsAsked};
-ghost use Rattle.rosie_run.specs.Sources.{moment};
+ghost use Rattle.rosie_prepare.specs.Answers.{CauseIn, IsAsked};
 ghost use Rattle.rpl_scope.specs.Faults.{fault_at};
 ghost use Rattle.rosie_unittest.specs.inside.Steps.{IsRefusal, Rereads};
 
@@ -43,8 +42,7 @@ pub(crate) fn read_again<F: Files>(
         (file_of (encode_utf8_all file.now) (F.tree files.old)) }
     ensures short { IfOk result (λ text. length (string_bytes text) ≤ 1048576) }
     ensures asked { IfErr result (λ u. IsAsked u (encode_utf8_all file.now ∷ [])) }
-    ensures cause { HasCause result (moment F.rest F.taken F.faults F.failed_opens files.old)
-        (moment F.rest F.taken F.faults F.failed_opens files.new) }
+    ensures cause { CauseIn F.Source result files.old files.new }
     ensures taken { NotFewer (F.taken files.old) (F.taken files.new) }
     ensures tree { F.tree files.new ≡ F.tree files.old }
     ensures closed { F.is_open files.new ≡ false }

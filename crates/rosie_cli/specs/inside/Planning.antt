@@ -6,13 +6,12 @@ use Rattle.rosie_io.specs.Loading.{NotFewer}
 use Rattle.rosie_io.specs.declared.outside.Source.{Ghosts}
 use Rattle.rosie_jobs.specs.Jobs.{matcher_of, runner_of, tracer_of}
 use Rattle.rosie_jobs.specs.Lines.{Job}
-use Rattle.rosie_prepare.specs.Answers.{HasCause, IsAsked}
+use Rattle.rosie_prepare.specs.Answers.{CauseIn, IsAsked}
 use Rattle.rosie_prepare.specs.Prepared.{PatternRequest}
 use Rattle.rosie_prepare.specs.declared.prepared.Prepared.{Prepared}
 use Rattle.rosie_prepare.specs.declared.unready.Unready.{Unready}
 use Rattle.rosie_prepare.specs.declared.unready.Unready.TheVariants as U
 use Rattle.rosie_run.specs.Inputs.{names_of}
-use Rattle.rosie_run.specs.Sources.{moment_of}
 use Rattle.rosie_sample.specs.Views.{sampled_of}
 use Rattle.rosie_unittest.specs.Seen.{bench_of, trials_of}
 use Rattle.rpl_check.specs.Checked.{IsWhole}
@@ -78,7 +77,7 @@ Plans result p = IsMade result p.plan × IfErr result (λ u. IsAsked u p.asked)
 
 -- What planning leaves: files that were only read. A read failed only where a count of failures rose.
 pub record Leaves {F : Type 0} (S : Ghosts F) (result : Result Plan Unready) (old new : F) : Type 0 where
-  pub cause : HasCause result (moment_of S old) (moment_of S new)
+  pub cause : CauseIn S result old new
   pub taken : NotFewer (S.taken old) (S.taken new)
   pub tree : S.tree new ≡ S.tree old
 

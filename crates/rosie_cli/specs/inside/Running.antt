@@ -3,9 +3,8 @@ use Rattle.std.specs.Prelude.{Result}
 use Rattle.rosie_io.specs.declared.outside.Sink as K
 use Rattle.rosie_io.specs.declared.outside.Source as S
 use Rattle.rosie_prepare.specs.Prepared.{Tree}
-use Rattle.rosie_run.specs.Outputs.{Telling, Texts, shown, telling}
+use Rattle.rosie_run.specs.Course.{Course}
 use Rattle.rosie_run.specs.Runs.{Runs}
-use Rattle.rosie_run.specs.Sources.{Span, span_of}
 use Rattle.rosie_run.specs.declared.ended.Ended.{Ended}
 use Rattle.rosie_run.specs.declared.inputs.Inputs.{Inputs}
 use Rattle.rosie_run.specs.declared.outputs.Outputs.{Outputs}
@@ -17,37 +16,12 @@ use Rattle.rosie_cli.specs.Plans.{Plan, Planned, among, pieces, stood}
 use Rattle.rosie_cli.specs.Report.{KnowsFor, KnowsInputs}
 use Rattle.rosie_cli.specs.Rosie.{Call, call}
 
--- What the files and the streams of a run tell, and where they stand before and after, with the machine's steps.
-pub record Course : Type 1 where
-  pub tree : Tree
-  pub files_tell : Type 0
-  pub input_tells : Type 0
-  pub tells : Telling
-  pub files : Span
-  pub input : Span
-  pub before : Texts
-  pub after : Texts
-
-abbrev pub course :
-    {F I O E L : Type 0} → S.Ghosts F → S.Ghosts I → K.Ghosts O → K.Ghosts E → Inputs F I → Inputs F I
-    → Outputs O E L → Outputs O E L → Course
-course F I O E i i' o o' = record {
-  tree = F.tree i.files.now;
-  files_tell = F.tells;
-  input_tells = I.tells;
-  tells = telling O E;
-  files = span_of F i.files.now i'.files.now;
-  input = span_of I i.input.now i'.input.now;
-  before = shown O E o.out.now o.err.now o.steps.now;
-  after = shown O E o'.out.now o'.err.now o'.steps.now;
-}
-
 -- the call whose inputs and outputs are these before and after
 abbrev pub call_over :
-    {F I O E L : Type 0} → S.Ghosts F → S.Ghosts I → K.Ghosts O → K.Ghosts E → (comes : Planned → Type 0)
-    → (known : Type 0) → Inputs F I → Inputs F I → Outputs O E L → Outputs O E L → Status → Call
-call_over F I O E comes known i i' o o' answer =
-    call F I O E comes known i.files.now i'.files.now i.input.now i'.input.now o.out.now o'.out.now o.err.now o'.err.now
+    {F I O E L : Type 0} → (comes : Planned → Type 0) → (known : Type 0) → S.Ghosts F → S.Ghosts I → K.Ghosts O
+    → K.Ghosts E → Inputs F I → Inputs F I → Outputs O E L → Outputs O E L → Status → Call
+call_over comes known F I O E i i' o o' answer =
+    call comes known F I O E i.files.now i'.files.now i.input.now i'.input.now o.out.now o'.out.now o.err.now o'.err.now
     o.steps.now o'.steps.now answer
 
 -- the pieces of a plan are written, or the run breaks off, where what is read for it is told

@@ -1,20 +1,10 @@
 -- What the answer of a part of a run says of the counts of faults.
-use Rattle.rosie_run.specs.declared.ended.Ended.TheVariants as E
 use Rattle.rosie_run.specs.declared.trouble.Trouble.TheVariants as T
 use Rattle.rosie_io.specs.Counts.{Rose}
 use Rattle.rosie_run.specs.Causes.{WriteRose}
-use Rattle.rosie_run.specs.Runs.{IsCutOf}
 use Rattle.rosie_run.specs.Sources.{TookMany}
-use Rattle.rosie_run.specs.declared.ended.Ended.{Ended}
-use Rattle.rosie_run.specs.declared.ended.ReadStop.TheVariants.{ReadFault, Spent}
 use Rattle.rosie_run.specs.declared.trouble.Trouble.{Trouble}
-use Rattle.std.specs.Prelude.{◌≡◌, ◌≤◌, Err, List, Ok, Result, ℕ}
-
-abbrev pub IsEndedBy : Trouble → Ended → List ℕ → Type 0
-IsEndedBy T.NoMemory e file = e ≡ E.NoMemory
-IsEndedBy T.WriteFault e file = e ≡ E.WriteFault
-IsEndedBy T.ReadFault e file = IsCutOf e ReadFault file
-IsEndedBy T.Spent e file = IsCutOf e Spent file
+use Rattle.std.specs.Prelude.{◌≡◌, ◌≤◌, Err, Ok, Result, ℕ}
 
 -- after writes alone
 abbrev pub BothCause : {A E : Type 0} → Result A E → ℕ → ℕ → ℕ → ℕ → Type 0

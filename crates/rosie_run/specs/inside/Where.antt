@@ -1,5 +1,6 @@
 -- Where reading stood in one input when it ended the run.
 use Rattle.rosie_io.specs.Opening.{file_of}
+use Rattle.rosie_run.specs.Course.{Course}
 use Rattle.rosie_run.specs.Inputs.{file_pieces, is_standard, one_pieces}
 use Rattle.rosie_run.specs.Lines.{Makes}
 use Rattle.rosie_run.specs.Outputs.{Showing}
@@ -9,7 +10,7 @@ use Rattle.rosie_run.specs.declared.ended.Ended.{Ended}
 use Rattle.rosie_run.specs.declared.ended.ReadStop.{ReadStop}
 use Rattle.rosie_run.specs.declared.lines.Reading.{Reading}
 use Rattle.rosie_run.specs.declared.tally.Tally.{Tally}
-use Rattle.std.specs.Prelude.{◌≡◌, Bool, List, Result, false, true, ℕ}
+use Rattle.std.specs.Prelude.{◌≡◌, Bool, List, Result, [], false, true, ℕ}
 use Rattle.rosie_run.specs.Where.{InFile, InNamed}
 
 abbrev pub InFileNamed : List ℕ → List (List ℕ × List ℕ) → Bool → Moment → Moment → ReadStop → List ℕ → ℕ → Type 0
@@ -29,9 +30,10 @@ RunsFile result makes r path tree files w =
     Runs result w.tells (file_pieces makes r path (file_of path tree))
     (InFileNamed path tree r.whole files.before files.after) w.before w.after
 
--- the run over one input
-abbrev pub RunsOne : Result Tally Ended → Makes → Reading → List ℕ → Bool → List (List ℕ × List ℕ)
-    → (input files : Span) → Showing → Type 0
-RunsOne result makes r name read tree input files w =
-    Runs result w.tells (one_pieces makes r tree input.before.rest name)
-    (InOne name read tree r.whole input.before input.after files.before files.after) w.before w.after
+-- the run over one input, where that is told; nothing is left of a standard input that was read before
+abbrev pub RunsOne : Result Tally Ended → Makes → Reading → (name : List ℕ) → (read : Bool) → Course → Type 0
+RunsOne result makes r name read c =
+    (is_standard name ≡ false → c.files_tell) → (is_standard name ≡ true → c.input_tells)
+    → (read ≡ true → c.input.before.rest ≡ [])
+    → Runs result c.tells (one_pieces makes r c.tree c.input.before.rest name)
+    (InOne name read c.tree r.whole c.input.before c.input.after c.files.before c.files.after) c.before c.after

@@ -7,17 +7,16 @@ use Rattle.rosie_io.specs.Held.{Held}
 use Rattle.rosie_io.specs.Lines.{feeds, lines}
 use Rattle.rosie_io.specs.Reader.{Reader}
 use Rattle.rosie_repl.specs.Session.{Session}
+use Rattle.rosie_run.specs.Course.{Course}
 use Rattle.rosie_run.specs.Outputs.{Fronts, Telling, Texts, Wrote}
 use Rattle.rosie_run.specs.Tallies.{tally_of}
-use Rattle.rosie_run.specs.Runs.{IsCutOf}
+use Rattle.rosie_run.specs.Runs.{IsCutOf, IsEndedBy}
 use Rattle.rosie_run.specs.declared.ended.Ended.{Ended}
-use Rattle.rosie_run.specs.declared.ended.Ended.TheVariants as E
 use Rattle.rosie_run.specs.declared.ended.ReadStop.TheVariants as Y
 use Rattle.rosie_run.specs.declared.tally.Tally.{Tally}
 use Rattle.rosie_run.specs.declared.trouble.Trouble.TheVariants as T
 use Rattle.rosie_run.specs.inside.Causes.{SinksEnd, SourceEnds, SpentEnds}
 use Rattle.rosie_run.specs.inside.Passing.{ReadsOn, StopsAt}
-use Rattle.rosie_session.specs.Course.{Course}
 use Rattle.rosie_session.specs.Loading.{IsLoading, Loading}
 use Rattle.rosie_session.specs.Replay.{Turn, pieces_of, turn, turns, turns_from}
 use Rattle.rosie_session.specs.declared.session_end.SessionEnd.{SessionEnd}
@@ -25,12 +24,10 @@ use Rattle.rosie_session.specs.declared.session_end.SessionEnd.TheVariants as H
 use Rattle.rosie_session.specs.declared.reply.Reply.{Reply}
 use Rattle.rosie_session.specs.inside.Turning.{Says}
 
-abbrev pub IsEndedBy : SessionEnd → Ended → Type 0
-IsEndedBy (H.Run T.NoMemory) e = e ≡ E.NoMemory
-IsEndedBy (H.Run T.WriteFault) e = e ≡ E.WriteFault
-IsEndedBy (H.Run T.ReadFault) e = IsCutOf e Y.ReadFault (codes "-")
-IsEndedBy (H.Run T.Spent) e = IsCutOf e Y.Spent (codes "-")
-IsEndedBy (H.Unread path) e = IsCutOf e Y.ReadFault (encode_utf8_all path)
+-- the end of a run, by what ended the session
+abbrev pub IsEndOfRun : SessionEnd → Ended → Type 0
+IsEndOfRun (H.Run trouble) e = IsEndedBy trouble e (codes "-")
+IsEndOfRun (H.Unread path) e = IsCutOf e Y.ReadFault (encode_utf8_all path)
 
 -- what is left, as turns
 abbrev pub to_come : Loading → ℕ → Session → List ℕ → List Turn

@@ -2,11 +2,10 @@ use Rattle.std.proofs.Common.{sym, subst}
 use Rattle.std.specs.List.{Contains}
 use Rattle.std.specs.Prelude.{string_bytes}
 use Rattle.rosie_run.proofs.Pieces.{fronts-none}
-use Rattle.rosie_session.proofs.Paying.{pays_holds}
-use Rattle.rosie_cli.specs.Plans.{IsIdlePlan, LeavesInput, Plan, Planned, refusal}
+use Rattle.rosie_cli.specs.Plans.{IsIdlePlan, LeavesInput, refusal}
 use Rattle.rosie_cli.specs.Report.{KnowsInputs}
 use Rattle.rosie_cli.specs.inside.Planning.{plan_of}
-use Rattle.rosie_cli.proofs.Whole.{planned-runs, planned-goes, refused-runs, said-goes, session-goes, session-runs, unread}
+use Rattle.rosie_cli.proofs.Whole.{planned-runs, planned-goes, refused-runs, said-goes, unread}
 use Rattle.rosie_cli.proofs.top.run_planned.Goals as goal
 
 pub returns-in-Ok-clause-runs : goal.returns-in-Ok-clause-runs

@@ -1,10 +1,10 @@
-use Rattle.std.proofs.Common.{◌≡◌, true, false, refl, ap, ◌∙◌, arith}
+use Rattle.std.proofs.Common.{refl, ap, ◌∙◌, arith}
 use Rattle.std.specs.Prelude.{encode_utf8_all}
 use Rattle.rosie_io.specs.Reader.{Reader}
 use Rattle.rosie_run.proofs.Pieces.{fronts-none}
-use Rattle.rosie_run.specs.Inputs.{AreTold, is_standard, names_of}
+use Rattle.rosie_run.specs.Inputs.{is_standard}
 use Rattle.rosie_run.specs.Sources.{moment}
-use Rattle.rosie_run.proofs.Inward.{file-there, names-next, names-none, not-standard, standard-there, once-on, untouched-on, reached-start, reached-on, part-goes, reached-stop, reached-break, reached-end}
+use Rattle.rosie_run.proofs.Inward.{names-next, names-none, not-standard, told-one, once-on, untouched-on, reached-start, reached-on, part-goes, reached-stop, reached-break, reached-end}
 use Rattle.rosie_run.proofs.inputs.run_inputs.Goals as goal
 
 pub inputs-init : goal.inputs-init
@@ -35,10 +35,6 @@ inputs-preserved g c =
     let e = c.in-Ok-run_one.ensures in
     let i = c.inputs.invariant in
     let next = names-next (encode_utf8_all) c.args.wanted.names.now c.inputs.name-index c.name-item.result c.text_of.result.now c.inputs-test.true c.name-item.is c.text_of.ensures in
-    let files : AreTold (names_of encode_utf8_all c.args.wanted.names.now) g.F.Source.tells g.I.Source.tells → is_standard c.text_of.result.now ≡ false → g.F.Source.tells =
-    λ k n. k.of_files (file-there (encode_utf8_all) c.args.wanted.names.now c.inputs.name-index c.text_of.result.now _ next n) in
-    let input : AreTold (names_of encode_utf8_all c.args.wanted.names.now) g.F.Source.tells g.I.Source.tells → is_standard c.text_of.result.now ≡ true → g.I.Source.tells =
-    λ k n. k.of_input (standard-there (encode_utf8_all) c.args.wanted.names.now c.inputs.name-index c.text_of.result.now _ next n) in
     record {
       same_lines = (e.same_lines.0 ∙ i.same_lines.0, e.same_lines.1 ∙ i.same_lines.1);
       same_inputs = (e.same_inputs.0 ∙ i.same_inputs.0, e.same_inputs.1 ∙ i.same_inputs.1);
@@ -47,12 +43,14 @@ inputs-preserved g c =
       most = e.keeps.most ∙ i.most;
       same = e.same ∙ i.same;
       reached = λ k.
-          let w = rw (i.same, i.tree, i.parts, i.most) at (e.runs (files k) (input k) (i.once k)) in
-          reached-on _ _ _ _ _ _ (g.I.Source.rest c.inputs.inputs.input.now) c.text_of.result.now _ _ c.inputs.read c.inputs.tally _ _ (i.reached k) next _ c.in-Ok-run_one.part c.and-tally.result w c.and-tally.ensures (g.I.Source.rest c.run_one.new.inputs.input.now) c.run_one.new.read c.if-tally.false (e.rest (input k) (i.once k)) e.reads (λ n. (e.stays n).0);
+          let told = told-one encode_utf8_all c.args.wanted.names.now c.inputs.name-index c.text_of.result.now _ g.F.Source.tells g.I.Source.tells next k in
+          let w = rw (i.same, i.tree, i.parts, i.most) at (e.runs told.0 told.1 (i.once k)) in
+          reached-on _ _ _ _ _ _ (g.I.Source.rest c.inputs.inputs.input.now) c.text_of.result.now _ _ c.inputs.read c.inputs.tally _ _ (i.reached k) next _ c.in-Ok-run_one.part c.and-tally.result w c.and-tally.ensures (g.I.Source.rest c.run_one.new.inputs.input.now) c.run_one.new.read c.if-tally.false (e.rest told.1 (i.once k)) e.reads (λ n. (e.stays n).0);
       once = λ k is.
-          let w = rw (i.same, i.tree, i.parts, i.most) at (e.runs (files k) (input k) (i.once k)) in
+          let told = told-one encode_utf8_all c.args.wanted.names.now c.inputs.name-index c.text_of.result.now _ g.F.Source.tells g.I.Source.tells next k in
+          let w = rw (i.same, i.tree, i.parts, i.most) at (e.runs told.0 told.1 (i.once k)) in
           let off = part-goes _ _ _ _ _ _ (g.I.Source.rest c.inputs.inputs.input.now) c.text_of.result.now _ _ c.inputs.read c.inputs.tally _ _ (i.reached k) next _ c.in-Ok-run_one.part c.and-tally.result w c.and-tally.ensures c.if-tally.false in
-          once-on c.text_of.result.now (g.I.Source.rest c.inputs.inputs.input.now) _ c.inputs.read c.run_one.new.read (e.rest (input k) (i.once k) off) (λ n. (e.stays n).0) (i.once k) is;
+          once-on c.text_of.result.now (g.I.Source.rest c.inputs.inputs.input.now) _ c.inputs.read c.run_one.new.read (e.rest told.1 (i.once k) off) (λ n. (e.stays n).0) (i.once k) is;
       untouched = untouched-on (is_standard c.text_of.result.now) c.inputs.read c.run_one.new.read _ _ _ e.reads e.stays i.untouched;
       unread = λ n. (e.stays (not-standard (encode_utf8_all) c.args.wanted.names.now c.inputs.name-index c.text_of.result.now _ next n)).1 ∙ i.unread n;
       input_faults = e.cause.0.faults ∙ i.input_faults;
@@ -71,22 +69,16 @@ returns-then-tally-clause-runs g c = λ k.
     let e = c.in-Ok-run_one.ensures in
     let i = c.inputs.invariant in
     let next = names-next (encode_utf8_all) c.args.wanted.names.now c.inputs.name-index c.name-item.result c.text_of.result.now c.inputs-test.true c.name-item.is c.text_of.ensures in
-    let files : AreTold (names_of encode_utf8_all c.args.wanted.names.now) g.F.Source.tells g.I.Source.tells → is_standard c.text_of.result.now ≡ false → g.F.Source.tells =
-    λ k n. k.of_files (file-there (encode_utf8_all) c.args.wanted.names.now c.inputs.name-index c.text_of.result.now _ next n) in
-    let input : AreTold (names_of encode_utf8_all c.args.wanted.names.now) g.F.Source.tells g.I.Source.tells → is_standard c.text_of.result.now ≡ true → g.I.Source.tells =
-    λ k n. k.of_input (standard-there (encode_utf8_all) c.args.wanted.names.now c.inputs.name-index c.text_of.result.now _ next n) in
-    let w = rw (i.same, i.tree, i.parts, i.most) at (e.runs (files k) (input k) (i.once k)) in
+    let told = told-one encode_utf8_all c.args.wanted.names.now c.inputs.name-index c.text_of.result.now _ g.F.Source.tells g.I.Source.tells next k in
+    let w = rw (i.same, i.tree, i.parts, i.most) at (e.runs told.0 told.1 (i.once k)) in
     reached-stop _ _ _ _ _ _ (g.I.Source.rest c.inputs.inputs.input.now) c.text_of.result.now _ _ c.inputs.read c.inputs.tally _ _ (i.reached k) next _ c.in-Ok-run_one.part c.and-tally.result w c.and-tally.ensures c.if-tally.true
 
 pub returns-in-Err-clause-runs : goal.returns-in-Err-clause-runs
 returns-in-Err-clause-runs g c = λ k.
     let i = c.inputs.invariant in
     let next = names-next (encode_utf8_all) c.args.wanted.names.now c.inputs.name-index c.name-item.result c.text_of.result.now c.inputs-test.true c.name-item.is c.text_of.ensures in
-    let files : AreTold (names_of encode_utf8_all c.args.wanted.names.now) g.F.Source.tells g.I.Source.tells → is_standard c.text_of.result.now ≡ false → g.F.Source.tells =
-    λ k n. k.of_files (file-there (encode_utf8_all) c.args.wanted.names.now c.inputs.name-index c.text_of.result.now _ next n) in
-    let input : AreTold (names_of encode_utf8_all c.args.wanted.names.now) g.F.Source.tells g.I.Source.tells → is_standard c.text_of.result.now ≡ true → g.I.Source.tells =
-    λ k n. k.of_input (standard-there (encode_utf8_all) c.args.wanted.names.now c.inputs.name-index c.text_of.result.now _ next n) in
-    let w = rw (i.same, i.tree, i.parts, i.most) at (c.in-Err.ensures.runs (files k) (input k) (i.once k)) in
+    let told = told-one encode_utf8_all c.args.wanted.names.now c.inputs.name-index c.text_of.result.now _ g.F.Source.tells g.I.Source.tells next k in
+    let w = rw (i.same, i.tree, i.parts, i.most) at (c.in-Err.ensures.runs told.0 told.1 (i.once k)) in
     reached-break _ _ _ _ _ _ (g.I.Source.rest c.inputs.inputs.input.now) c.text_of.result.now _ _ c.inputs.read c.inputs.tally _ _ (i.reached k) next _ _ _ _ (moment g.F.Source.rest g.F.Source.taken g.F.Source.faults g.F.Source.failed_opens c.inputs.inputs.files.now) _
     (λ n. ap (moment g.I.Source.rest g.I.Source.taken g.I.Source.faults g.I.Source.failed_opens) (i.untouched n)) i.files_faults i.files_opens i.files_taken c.in-Err.ended _ w
 

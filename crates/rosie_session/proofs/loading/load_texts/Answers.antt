@@ -1,26 +1,30 @@
 use Rattle.std.proofs.Common.{List, ℕ, subst}
 use Rattle.rosie_prepare.specs.Answers.{IsAsked}
 use Rattle.rosie_repl.specs.States.{session_of}
-use Rattle.rosie_session.proofs.Turns.{judged_ok, judges_end, texts_asked, texts_given}
+use Rattle.rosie_session.specs.Replay.{judged}
+use Rattle.rosie_session.specs.inside.Turning.{Judges}
+use Rattle.rosie_session.proofs.Turns.{judged_ok, judges_end, stops_through, texts_asked, texts_given}
 use Rattle.rosie_session.proofs.loading.load_texts.Goals as goal
-
-pub returns-in-Ok-clause-judges : goal.returns-in-Ok-clause-judges
-returns-in-Ok-clause-judges g c = λ t w is before after.
-    let texts = (session_of c.args.state.now).now.texts in
-    judged_ok before after (w.texts texts) _
-    (c.in-Ok.ensures.prepares t (w.texts texts).answer
-    (texts_given (g.F.Source.tree c.args.files.now) c.args.folders.now texts (w.texts texts) c.in_ok-roots.roots
-    c.in_ok-roots.ensures (is.texts texts)))
 
 pub returns-clause-judges : goal.returns-clause-judges
 returns-clause-judges g c = λ t w is before after.
     let texts = (session_of c.args.state.now).now.texts in
-    let u = c.in-Err.unready in
-    judges_end before after (w.texts texts) u
-    (c.in-Err.ensures.prepares t (w.texts texts).answer
+    judged_ok before after (w.texts texts) _
+    (c.in_ok-prepare_rules.ensures.prepares t (w.texts texts).answer
+    (texts_given (g.F.Source.tree c.args.files.now) c.args.folders.now texts (w.texts texts) c.in_ok-roots.roots
+    c.in_ok-roots.ensures (is.texts texts)))
+
+pub returns-in_err-prepare_rules-clause-judges : goal.returns-in_err-prepare_rules-clause-judges
+returns-in_err-prepare_rules-clause-judges g c = λ t w is before after.
+    let texts = (session_of c.args.state.now).now.texts in
+    let u = c.in_err-prepare_rules.field-0.0 in
+    stops_through (λ r. Judges r (judged before after (w.texts texts)) before after)
+    c.from_residual-in_err-prepare_rules.result u c.from_residual-in_err-prepare_rules.ensures.1
+    (judges_end before after (w.texts texts) u
+    (c.in_err-prepare_rules.ensures.prepares t (w.texts texts).answer
     (texts_given (g.F.Source.tree c.args.files.now) c.args.folders.now texts (w.texts texts) c.in_ok-roots.roots
     c.in_ok-roots.ensures (is.texts texts)))
     (subst (λ (paths : List (List ℕ)). IsAsked u paths)
     (texts_asked (g.F.Source.tree c.args.files.now) c.args.folders.now texts (w.texts texts) c.in_ok-roots.roots
     c.in_ok-roots.ensures (is.texts texts))
-    (c.in-Err.ensures.asked t))
+    (c.in_err-prepare_rules.ensures.asked t)))

@@ -11,7 +11,7 @@ use Rattle.rosie_session.proofs.Turns.{inner_input, inner_reading, inner_stops}
 use Rattle.rosie_session.proofs.run.next_turn.Goals as goal
 
 pub returns-in-Ok-answer-clause-makes : goal.returns-in-Ok-answer-clause-makes
-returns-in-Ok-answer-clause-makes g c = λ ft it w is.
+returns-in-Ok-answer-clause-makes g c = λ it ft w is.
     let sp = rw (c.in-Text.is, c.requires.lines, c.requires.most) at (c.in-Ok.ensures.passes it) in
     let count = rw c.in-Text.is at c.in-Ok.ensures.numbers in
     let s0 = session_of c.args.kept.now.state.now in
@@ -28,7 +28,7 @@ returns-in-Ok-answer-clause-makes g c = λ ft it w is.
     sp.1 sp.2 reply _ _ says steps
 
 pub returns-in-Err-answer-clause-makes : goal.returns-in-Err-answer-clause-makes
-returns-in-Err-answer-clause-makes g c = λ ft it w is.
+returns-in-Err-answer-clause-makes g c = λ it ft w is.
     let sp = rw (c.in-Text.is, c.requires.lines, c.requires.most) at (c.in-Ok.ensures.passes it) in
     let count = rw c.in-Text.is at c.in-Ok.ensures.numbers in
     let s0 = session_of c.args.kept.now.state.now in
@@ -50,7 +50,7 @@ returns-in-Err-answer-clause-cause g c =
     inner_input c.in-Err-answer.session_end _ _ c.in-Err-answer.ensures.leaves.inner c.in-Ok.ensures.cause
 
 pub returns-in_ok-wrong-in-TooLong-clause-makes : goal.returns-in_ok-wrong-in-TooLong-clause-makes
-returns-in_ok-wrong-in-TooLong-clause-makes g c = λ ft it w is.
+returns-in_ok-wrong-in-TooLong-clause-makes g c = λ it ft w is.
     let sp = rw (c.in-TooLong.is, c.requires.lines, c.requires.most) at (c.in-Err.ensures.passes it) in
     let count = rw c.in-TooLong.is at c.in-Err.ensures.numbers in
     let s0 = session_of c.args.kept.now.state.now in
@@ -58,7 +58,7 @@ returns-in_ok-wrong-in-TooLong-clause-makes g c = λ ft it w is.
     c.in_ok-wrong-in-TooLong.field-0 _ _ sp.1 sp.2 c.in_ok-wrong-in-TooLong.ensures refl refl
 
 pub returns-in_ok-wrong-in-NotText-clause-makes : goal.returns-in_ok-wrong-in-NotText-clause-makes
-returns-in_ok-wrong-in-NotText-clause-makes g c = λ ft it w is.
+returns-in_ok-wrong-in-NotText-clause-makes g c = λ it ft w is.
     let sp = rw (c.in-NotText.is, c.requires.lines, c.requires.most) at (c.in-Err.ensures.passes it) in
     let count = rw c.in-NotText.is at c.in-Err.ensures.numbers in
     let s0 = session_of c.args.kept.now.state.now in

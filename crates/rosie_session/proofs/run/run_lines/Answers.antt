@@ -47,7 +47,7 @@ lines-preserved g c =
       most = e.keeps.most ∙ c.lines.invariant.most;
       passed = λ ft it w is.
           let is' = subst (λ (x : Tree). IsLoading x c.args.folders.now w) (sym c.lines.invariant.tree) is in
-          let m = rw c.in-Some.is at (e.makes ft it w is') in
+          let m = rw c.in-Some.is at (e.makes it ft w is') in
           let a = texts g.O.Sink.written g.O.Sink.number g.E.Sink.written c.flush_reply.new.out c.flush_reply.new.err c.lines.outputs.steps.now in
           let b =
           texts g.O.Sink.written g.O.Sink.number g.E.Sink.written c.write_reply.new.out c.write_reply.new.err
@@ -86,7 +86,7 @@ returns-in-Err-clause-runs g c = λ ft it w is.
 pub returns-in-None-clause-runs : goal.returns-in-None-clause-runs
 returns-in-None-clause-runs g c = λ ft it w is.
     let is' = subst (λ (x : Tree). IsLoading x c.args.folders.now w) (sym c.lines.invariant.tree) is in
-    let p = rw c.in-None.is at (c.in-Ok-next_turn.ensures.makes ft it w is') in
+    let p = rw c.in-None.is at (c.in-Ok-next_turn.ensures.makes it ft w is') in
     let a = texts g.O.Sink.written g.O.Sink.number g.E.Sink.written c.flush_reply.new.out c.flush_reply.new.err c.lines.outputs.steps.now in
     let b =
     texts g.O.Sink.written g.O.Sink.number g.E.Sink.written c.flush_reply.new.out c.flush_reply.new.err c.next_turn.new.steps in
@@ -110,7 +110,7 @@ returns-in-Err-next_turn-clause-runs g c = λ ft it w is.
     passed-session_end _ w _ _ _ _ _ _ _ _ (passed-still _ w _ _ _ _ _ _ _ _ (c.lines.invariant.passed ft it w is) a
     (record { out = c.in-Ok.ensures.out; err = c.in-Ok.ensures.err; number = c.in-Ok.ensures.number; steps = refl }))
     c.in-Err-next_turn.session_end _ it c.lines.kept.reader.now c.next_turn.new.kept.reader.now _ b refl c.lines.invariant.parts e.stops
-    (breaks-none _ w _ (session_of c.lines.kept.state.now) _ a b c.in-Err-next_turn.session_end (e.makes ft it w is') refl refl refl
+    (breaks-none _ w _ (session_of c.lines.kept.state.now) _ a b c.in-Err-next_turn.session_end (e.makes it ft w is') refl refl refl
     (g.met.O.Sink.number_fits c.flush_reply.new.out)) (e.reads.bytes it)
 
 pub returns-in-Err-next_turn-clause-cause : goal.returns-in-Err-next_turn-clause-cause
@@ -146,7 +146,7 @@ returns-in-Err-write_reply-clause-runs g c = λ ft it w is.
     let e = c.in-Ok-next_turn.ensures in
     let o = c.in-Err-write_reply.ensures in
     let is' = subst (λ (x : Tree). IsLoading x c.args.folders.now w) (sym c.lines.invariant.tree) is in
-    let m = rw c.in-Some.is at (e.makes ft it w is') in
+    let m = rw c.in-Some.is at (e.makes it ft w is') in
     let a = texts g.O.Sink.written g.O.Sink.number g.E.Sink.written c.flush_reply.new.out c.flush_reply.new.err c.lines.outputs.steps.now in
     passed-front _ w _ _ _ _ _ _ _ _ (passed-still _ w _ _ _ _ _ _ _ _ (c.lines.invariant.passed ft it w is) a
     (record { out = c.in-Ok.ensures.out; err = c.in-Ok.ensures.err; number = c.in-Ok.ensures.number; steps = refl })) _

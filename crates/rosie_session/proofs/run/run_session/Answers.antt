@@ -16,16 +16,16 @@ pub returns-in-Err-clause-runs : goal.returns-in-Err-clause-runs
 returns-in-Err-clause-runs g c = λ ft it w is.
     let i0 = moment_of g.I.Source c.args.inputs.now.input.now in
     let i1 = moment_of g.I.Source c.run_lines.new.inputs.input.now in
-    breaks-session_end _ w i0 i1 _ _ _ _ c.in-Err.session_end c.ended_by.result c.ended_by.ensures c.in-Err.ensures.cause
+    breaks-session_end _ w i0 i1 _ _ _ _ c.in-Err.session_end c.end_of_run.result c.end_of_run.ensures c.in-Err.ensures.cause
     c.in-Err.ensures.spent c.in-Err.ensures.files (c.in-Err.ensures.runs ft it w is)
 
 pub returns-in-Err-clause-cause : goal.returns-in-Err-clause-cause
 returns-in-Err-clause-cause g c =
     let i0 = moment_of g.I.Source c.args.inputs.now.input.now in
     let i1 = moment_of g.I.Source c.run_lines.new.inputs.input.now in
-    sources-session_end i0 i1 _ _ c.in-Err.ensures.opens c.in-Err.session_end c.ended_by.result c.ended_by.ensures
+    sources-session_end i0 i1 _ _ c.in-Err.ensures.opens c.in-Err.session_end c.end_of_run.result c.end_of_run.ensures
     c.in-Err.ensures.cause c.in-Err.ensures.spent c.in-Err.ensures.files
 
 pub returns-in-Err-clause-sinks : goal.returns-in-Err-clause-sinks
 returns-in-Err-clause-sinks g c =
-    writes-session_end c.in-Err.session_end c.ended_by.result _ _ _ _ c.ended_by.ensures c.in-Err.ensures.sinks
+    writes-session_end c.in-Err.session_end c.end_of_run.result _ _ _ _ c.end_of_run.ensures c.in-Err.ensures.sinks
