@@ -198,14 +198,22 @@ keeps_one t u x (inl h) = omega (arith, ap length h.1)
 keeps_one t u x (inr h) = omega (arith, ap length h.1, length-append t (x ∷ []))
 
 -- with one instruction more, or as many, a table that had no more than there were has no more than there are
-pub still_few : {A B U E : Type 0} (r : Result U E) (t u v : List A) (c d : List B) (x : A) (i : B) (n : ℕ) → n ≡ length t → Keeps t (x ∷ []) u → length t ≤ length c → OnOk r (d ≡ c ++ i ∷ []) → OnOk r (v ≡ u) → OnErr r (d ≡ c) → OnErr r (v ≡ take n u) → length v ≤ length d
+still_few : {A B U E : Type 0} (r : Result U E) (t u v : List A) (c d : List B) (x : A) (i : B) (n : ℕ) → n ≡ length t → Keeps t (x ∷ []) u → length t ≤ length c → OnOk r (d ≡ c ++ i ∷ []) → OnOk r (v ≡ u) → OnErr r (d ≡ c) → OnErr r (v ≡ take n u) → length v ≤ length d
 still_few (Ok a) t u v c d x i n is keeps few grown kept _ _ = omega (arith, keeps_one t u x keeps, ap length grown, ap length kept, length-append c (i ∷ []))
 still_few (Err e) t u v c d x i n is keeps few _ _ grown cut = omega (arith, ap length grown, ap length cut, length-take n u)
 
-pub others_few : {B U E : Type 0} (r : Result U E) (c d : List B) (i : B) (n : ℕ) → n ≤ length c → OnOk r (d ≡ c ++ i ∷ []) → OnErr r (d ≡ c) → n ≤ length d
+others_few : {B U E : Type 0} (r : Result U E) (c d : List B) (i : B) (n : ℕ) → n ≤ length c → OnOk r (d ≡ c ++ i ∷ []) → OnErr r (d ≡ c) → n ≤ length d
 others_few (Ok a) c d i n few grown _ = omega (arith, ap length grown, length-append c (i ∷ []))
 others_few (Err e) c d i n few _ grown = omega (arith, ap length grown)
 
-pub code_few : {B U E : Type 0} (r : Result U E) (c d : List B) (i : B) (n : ℕ) → length c < n → OnOk r (d ≡ c ++ i ∷ []) → OnErr r (d ≡ c) → length d ≤ n
+code_few : {B U E : Type 0} (r : Result U E) (c d : List B) (i : B) (n : ℕ) → length c < n → OnOk r (d ≡ c ++ i ∷ []) → OnErr r (d ≡ c) → length d ≤ n
 code_few (Ok a) c d i n few grown _ = omega (arith, ap length grown, length-append c (i ∷ []))
 code_few (Err e) c d i n few _ grown = omega (arith, ap length grown)
+
+-- after one instruction more, or none: the code, the table that it was kept in, and the other table
+pub all_few : {A B U E O : Type 0} (r : Result U E) (t u v : List A) (others : List O) (c d : List B) (x : A) (i : B) (n m : ℕ) → n ≡ length t → Keeps t (x ∷ []) u → length t ≤ length c → length others ≤ length c → length c < m → OnOk r (d ≡ c ++ i ∷ []) → OnOk r (v ≡ u) → OnErr r (d ≡ c) → OnErr r (v ≡ take n u) → (length d ≤ m) × (length v ≤ length d) × (length others ≤ length d)
+all_few r t u v others c d x i n m is keeps few also room grown kept same cut = (
+  code_few r c d i m room grown same,
+  still_few r t u v c d x i n is keeps few grown kept same cut,
+  others_few r c d i (length others) also grown same,
+)

@@ -1,7 +1,7 @@
-use Rattle.std.proofs.Common.{◌≡◌, [], ◌∷◌, ◌++◌, length, refl, sym, ap, subst, ◌∙◌, arith}
+use Rattle.std.proofs.Common.{◌≡◌, [], ◌∷◌, ◌++◌, refl, sym, ap, subst, ◌∙◌, arith}
 use Rattle.std.specs.Prelude.{slice_get}
 use Rattle.rpl_intern.specs.Uses.{Keeps}
-use Rattle.rpl_intern.proofs.Adding.{adds_text, code_few, number_within, on_both, others_few, still_few}
+use Rattle.rpl_intern.proofs.Adding.{adds_text, all_few, number_within, on_both}
 use Rattle.rpl_intern.proofs.draft.Draft.use_text.Goals as goal
 
 pub overflow_cast-number : goal.overflow_cast-number
@@ -19,12 +19,6 @@ returns-clause-adds c =
 
 pub invariant_of-self-2 : goal.invariant_of-self-2
 invariant_of-self-2 c =
-    let d = c.args.self.now in
-    let r = c.put_with.result in
-    let e = c.put_with.ensures in
-    let code = c.put_with.new.code in
-    record {
-      few = code_few r d.code code _ 1048576 c.requires e.code e.code_err;
-      labels_few = still_few r d.labels c.keep.new.self c.put_with.new.table d.code code c.args.text.now _ c.len-count.result c.len-count.ensures c.in_ok-number.ensures.kept d.labels_few e.code e.table e.code_err e.table_err;
-      sets_few = others_few r d.code code _ (length d.sets) d.sets_few e.code e.code_err;
-    }
+    let d = c.args.self.now in let e = c.put_with.ensures in
+    let few = all_few c.put_with.result d.labels c.keep.new.self c.put_with.new.table d.sets d.code c.put_with.new.code c.args.text.now _ c.len-count.result _ c.len-count.ensures c.in_ok-number.ensures.kept d.labels_few d.sets_few c.requires e.code e.table e.code_err e.table_err in
+    record { few = few.0; labels_few = few.1; sets_few = few.2 }
