@@ -91,7 +91,7 @@ kept hs s t (rooted gs a u x q is name fresh unheld b) h =
     record {
       all = under_more u.stock.modules u.own r.all r.own;
       own = under_kept.prefix s.own l (record { since = length s.own.rules; number = length u.stock.modules }) h.own
-          ((plain_text x is).title q name).1 fresh;
+          ((plain_text x is).title q name).unbroken fresh;
     }
 
 -- a module that is done stays as it is

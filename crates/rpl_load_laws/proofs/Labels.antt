@@ -8,6 +8,7 @@ use Rattle.rpl_scope.specs.Packages.{Module, first_of, nth, added_at}
 use Rattle.rpl_package.specs.Loading.{Stock, State, finished, is_held, is_taken, label_of}
 use Rattle.rpl_package.specs.declared.stock.Head.{Head}
 use Rattle.rpl_package.specs.Built.{Becomes, same, on, text, said, again, imported, rooted, opened, headed}
+use Rattle.rpl_package.proofs.Building.{none_of}
 use Rattle.rpl_load_laws.proofs.FullNames.{star}
 use Rattle.rpl_load_laws.proofs.Lists.{first_more, nth_end}
 use Rattle.rpl_load_laws.proofs.Texts.{asked_brings, label_plain, plain_text}
@@ -66,10 +67,6 @@ held_last n (x ∷ hs) h e =
 neither : (a b : Bool) → (a || b) ≡ false → (a ≡ false) × (b ≡ false)
 neither true b h = absurd (cc)
 neither false b h = (refl, h)
-
-pub none_of : {A : Type 0} (o : Option A) → is_some o ≡ false → o ≡ None
-none_of None h = refl
-none_of (Some x) h = absurd (cc)
 
 none_at : {A : Type 0} (b : Bool) (y : A) (o t : Option A) → (if b then Some y else o) ≡ None → (o ≡ None → t ≡ None)
     → (if b then Some y else t) ≡ None
@@ -221,5 +218,5 @@ labels hs s t (imported gs a u f i x m asked is unheld b e) h free =
 labels hs s t (rooted gs a u x q is name fresh unheld b) h free =
     let l = q.name in
     let r = labels (headed hs None l) (opened s.stock None l) u b h (free_with hs None l s.stock unheld free) in
-    let d = done hs None l s.stock unheld free u r ((plain_text x is).title q name).0 in
+    let d = done hs None l s.stock unheld free u r ((plain_text x is).title q name).no_star in
     record { labelled = d.0; free = d.1; own = refl }

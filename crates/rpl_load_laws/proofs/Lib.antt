@@ -7,8 +7,11 @@ pub mod Entering
 pub mod Walking
 pub mod Rooting
 pub mod Goals
+pub mod Spelled
+pub mod Lengths
 pub mod Words
 pub mod Asked
+pub mod Fitting
 pub mod Texts
 pub mod Rows
 pub mod Blocks
@@ -32,4 +35,5 @@ pub mod Told
 pub mod Bounds
 pub mod Names
 pub mod Choices
+pub mod Stated
 pub mod Parts

@@ -1,95 +1,47 @@
 -- What is loaded of a told tree of files is built.
-use Rattle.std.proofs.Common.{◌≡◌, inl, inr, ℕ, zero, suc, ◌+◌, List, [], ◌∷◌, ◌++◌, length, Option, Some, None, refl, sym, ap, subst}
+use Rattle.std.proofs.Common.{◌≡◌, inl, inr, ℕ, zero, suc, ◌+◌, List, [], ◌∷◌, ◌++◌, length, Option, Some, None, refl, ap, subst}
 use Rattle.std.proofs.Common.{◌∙◌}
 use Rattle.std.specs.Prelude.{Bool, true, false, nat_lt, if◌then◌else◌, is_some, Ok, encode_utf8_all}
 use Rattle.std.specs.List.{AllByRecursion, Contains}
-use Rattle.std.specs.Str.{is_utf8}
-use Rattle.std.proofs.lemmas.List.Elements.{All-contains_itself, All-weaker, recursion_from_All}
-use Rattle.std.proofs.lemmas.Str.{IsUtf8-from_is_utf8}
+use Rattle.std.proofs.lemmas.List.Elements.{All-contains_itself, recursion_from_All}
 use Rattle.rpl_syntax.specs.Expression.{Expr}
 use Rattle.rpl_syntax.specs.Modules.{ParsedModule}
 use Rattle.rpl_syntax.specs.declared.module.Import.{Import}
-use Rattle.rpl_syntax.specs.declared.module.ImportAs.TheVariants.{Last}
 use Rattle.rpl_syntax.specs.declared.name.QName.{QName}
 use Rattle.rpl_scope.specs.Bodies as B
 use Rattle.rpl_scope.specs.Faults.{Or, fault}
 use Rattle.rpl_scope.specs.Imports.{take_in}
-use Rattle.rpl_scope.specs.Packages.{Module, first_of, nth}
+use Rattle.rpl_scope.specs.Packages.{first_of, nth}
 use Rattle.rpl_scope.specs.Statements.{statements}
-use Rattle.rpl_scope.specs.declared.module.Prefix.{Prefix}
-use Rattle.rpl_scope.specs.declared.fault.LoadKind.TheVariants.{ImportCycle, TooManyPackages, Duplicate, FileTooLong, NotText}
+use Rattle.rpl_scope.specs.declared.fault.LoadKind.TheVariants.{ImportCycle, TooManyPackages, Duplicate}
 use Rattle.rpl_package.specs.Asking.{at_once, and_then, each_in_turn}
 use Rattle.rpl_package.specs.Goals.{ReadsGoal, pattern_file}
 use Rattle.rpl_package.specs.Loading.{World, Walk, Stock, State, world, search, fresh, known_or, load_import, brought, import_entry}
 use Rattle.rpl_package.specs.Loading.{import_entries, is_loading, is_taken, taken_up, said_of, with_text, checks}
 use Rattle.rpl_package.specs.Loading.{own_text, label_of, label_at, walk}
-use Rattle.rpl_package.specs.Patterns.{put, bring, needed_unless, needed_by, needed_at, pattern_name}
+use Rattle.rpl_package.specs.Patterns.{put, bring, needed_at, pattern_name}
 use Rattle.rpl_package.specs.Patterns.{pattern_fault, checked, enter_pattern}
 use Rattle.rpl_package.specs.Patterns.{goal_entered, load_pattern}
 use Rattle.rpl_package.specs.Roots.{Roots, Rooted, Packages, top_head, with_root, named_root, root_text, read_root, file_root}
 use Rattle.rpl_package.specs.Roots.{asked_root, root_by, given_name, root_entry, counted, load_roots, begun, finish_set, load}
-use Rattle.rpl_package.specs.Texts.{parsed, module_text, max_text_bytes}
+use Rattle.rpl_package.specs.Texts.{module_text}
 use Rattle.rpl_package.specs.declared.rooted.Root.{Root}
 use Rattle.rpl_package.specs.declared.rooted.Root.TheVariants.{File, Given}
 use Rattle.rpl_package.specs.declared.stock.Head.{Head}
-use Rattle.rpl_package.specs.Built.{IsSaid, IsGoal, InGoal, IsAsked, by_text, by_goal, Becomes, same, on, text, said, again}
-use Rattle.rpl_package.specs.Built.{imported, rooted, Makes, Loads, Reaches}
+use Rattle.rpl_package.specs.Built.{IsSaid, IsGoal, InGoal, IsAsked, Becomes, same, on, text, said}
+use Rattle.rpl_package.specs.Built.{rooted, Makes, Loads, Reaches}
 use Rattle.rpl_package.specs.Built.{IsBuilt, by_name, packages, StaysBuilt, opened, headed}
 use Rattle.rpl_package.specs.Built as T
+use Rattle.rpl_package.proofs.Building.{asks_at, asks_by, brings, none_of}
 use Rattle.rpl_load_laws.specs.Laws.{IsLoaded, by_roots, by_pattern}
-use Rattle.rpl_load_laws.proofs.Labels.{none_of}
 use Rattle.rpl_load_laws.proofs.Steps.{both, passed, unless_fault, else_fault}
-
--- an import of the path that the prefix says, under its last name
-abbrev Wanted : Option (List ℕ) → Import → Type 0
-Wanted o x = (o ≡ Some x.path) × (x.name ≡ Last)
-
-wanted_in : (o : Option Prefix) (p : List ℕ) (at : ℕ) (x : Import) → needed_unless o p at ≡ Some x → Wanted (Some p) x
-wanted_in None p at x h =
-    let i : Import = record { path = p; at = at; name = Last } in
-    let alike : i ≡ x = cc in
-    (ap (λ y. Some y.path) alike, sym (ap (λ y. y.name) alike))
-wanted_in (Some y) p at x h = absurd (cc)
-
-wanted_of : (m : Module) (at : ℕ) (o : Option (List ℕ)) (x : Import) → needed_by m at o ≡ Some x → Wanted o x
-wanted_of m at None x h = absurd (cc)
-wanted_of m at (Some []) x h = absurd (cc)
-wanted_of m at (Some (c ∷ p)) x h = wanted_in (first_of (c ∷ p) m.prefixes) (c ∷ p) at x h
-
--- that is what a name asks for
-wanted_path : (q : QName) (o : Option Module) (x : Import) → needed_at q o ≡ Some x → Wanted q.prefix x
-wanted_path q None x h = absurd (cc)
-wanted_path q (Some m) x h = wanted_of m q.at q.prefix x h
 
 -- ---- texts
 
-by_form : (b : Bool) (f s : List ℕ) (t : ParsedModule) → is_utf8 s ≡ b → (if b then parsed f s else fault f 0 NotText) ≡ Ok t
-    → IsSaid t
-by_form true f s t e h = record { file = f; bytes = s; form = IsUtf8-from_is_utf8 s e; read = h }
-by_form false f s t e h = absurd (cc)
-
-by_size : (b : Bool) (f s : List ℕ) (t : ParsedModule)
-    → (if b then fault f 0 FileTooLong else if is_utf8 s then parsed f s else fault f 0 NotText) ≡ Ok t → IsSaid t
-by_size true f s t h = absurd (cc)
-by_size false f s t h = by_form (is_utf8 s) f s t refl h
-
 pub read_so : (f bytes : List ℕ) (t : ParsedModule) → module_text f bytes ≡ Ok t → IsSaid t
-read_so f bytes t h = by_size (nat_lt max_text_bytes (length bytes)) f bytes t h
+read_so f bytes t h = record { file = f; bytes = bytes; read = h }
 
 -- ---- the walk
-
-brings : (hs : List Head) (f : List ℕ) (i : Import) (s : State) (r : ℕ × Stock) (m : Module) → IsAsked i
-    → Reaches hs i.path s.stock r → take_in f i r.0 r.1.modules s.own ≡ Ok m
-    → Becomes hs s (record { stock = r.1; own = m })
-brings hs f i s r m asked (inl h) e =
-    subst (λ x. Becomes hs s (record { stock = x; own = m })) (sym h.1)
-    (again hs s f i r.0 m asked h.0 (ap (λ x. take_in f i r.0 x.modules s.own) (sym h.1) ∙ e))
-brings hs f i s r m asked (inr h) e =
-    let u = h.0 in
-    let l = h.1 in
-    subst (λ x. Becomes hs s (record { stock = x.1; own = m })) (sym h.2)
-    (imported hs s u f i l.text m asked l.said l.makes.free l.makes.comes
-    (ap (λ x. take_in f i x.0 x.1.modules s.own) (sym h.2) ∙ e))
 
 pub record IsBuiltWalk (below : Walk) : Type 0 where
   pub each : (s : Stock) (hs : List Head) (f path bytes : List ℕ) (t : State) → (below s hs f path bytes).answer ≡ Ok t
@@ -135,9 +87,7 @@ module _ (w : World) (below : Walk) (built : IsBuiltWalk below) (hs : List Head)
 
 -- each import of a text is asked for
 asked_in : (t : ParsedModule) → IsSaid t → AllByRecursion IsAsked t.imports
-asked_in t is =
-    recursion_from_All IsAsked t.imports (All-weaker (Contains t.imports) IsAsked (λ i c. by_text t is c) t.imports
-    (All-contains_itself t.imports))
+asked_in t is = recursion_from_All IsAsked t.imports (asks_by t t.imports is refl)
 
 module _ (w : World) (below : Walk) (built : IsBuiltWalk below) (hs : List Head) (f : List ℕ) where
   entries_in : (is : List Import) (s t : State) → AllByRecursion IsAsked is
@@ -175,6 +125,20 @@ module _ (w : World) (below : Walk) (built : IsBuiltWalk below) (s : Stock) (hs 
 
   own_in : (own_text w below s hs f path label t).answer ≡ Ok u → Makes hs path label s u
   own_in e = by_name_of (is_taken label hs s) refl e
+
+-- what a pattern and its set come of: the expression that is read, and what its names bring
+goal_made : (w : World) (p q : Packages) (r : Or Expr) (e : Expr) → (load_pattern w p r).answer ≡ Ok (e, q) → (x : Expr)
+    × (r ≡ Ok x) × (s : Stock) × ((enter_pattern w pattern_file p.top p.stock x).answer ≡ Ok s)
+    × (◌≡◌ {A = Expr × Packages} (x, record { stock = s; top = p.top; roots = p.roots }) (e, q))
+goal_made w p q r e is =
+    let last = λ (t : Expr × Stock). (at_once {A = Expr × Packages}
+    (Ok (t.0, record { stock = t.1; top = p.top; roots = p.roots }))).answer in
+    let c = both (goal_entered w p.top p.stock r).answer last (e, q) is in
+    let d = both r (λ x. (and_then (enter_pattern w pattern_file p.top p.stock x) (λ t. at_once (Ok (x, t)))).answer)
+    c.0 c.1 in
+    let g = both (enter_pattern w pattern_file p.top p.stock d.0).answer
+    (λ t. (at_once {A = Expr × Stock} (Ok (d.0, t))).answer) c.0 d.2 in
+    (d.0, d.1, g.0, g.1, (let x = g.2 in let y = c.2 in cc))
 
 module _ (w : World) (reads : (f bytes : List ℕ) (t : ParsedModule) → w.text f bytes ≡ Ok t → IsSaid t) where
   pub walks : (n : ℕ) → IsBuiltWalk (walk w n)
@@ -274,7 +238,7 @@ module _ (w : World) (reads : (f bytes : List ℕ) (t : ParsedModule) → w.text
       let c = both (pattern_name w f i q s).answer (λ u. (each_in_turn (pattern_name w f i) qs u).answer) t is in
       let m = nth s.modules i in
       let stands : InGoal q = record { goal = e; read = g; stands = all.0 } in
-      let here = wants_in f i s c.0 (needed_at q m) (λ x k. let y = wanted_path q m x k in by_goal q stands y.0 y.1) c.1 in
+      let here = wants_in f i s c.0 (needed_at q m) (λ x k. asks_at q m x stands k) c.1 in
       names_in f i e qs c.0 t g all.1 c.2 rs (here rs b)
 
   entered : (f : List ℕ) (i : ℕ) (e : Expr) (s t : Stock) → IsGoal e → (enter_pattern w f i s e).answer ≡ Ok t
@@ -288,17 +252,16 @@ module _ (w : World) (reads : (f bytes : List ℕ) (t : ParsedModule) → w.text
   goal_loaded : (p q : Packages) (r : Or Expr) (e : Expr) → ((x : Expr) → r ≡ Ok x → IsGoal x) → IsBuilt p
       → (load_pattern w p r).answer ≡ Ok (e, q) → IsBuilt q
   goal_loaded p q r e reads b is =
-      let last = λ (t : Expr × Stock). (at_once {A = Expr × Packages}
-      (Ok (t.0, record { stock = t.1; top = p.top; roots = p.roots }))).answer in
-      let c = both (goal_entered w p.top p.stock r).answer last (e, q) is in
-      let d = both r (λ x. (and_then (enter_pattern w pattern_file p.top p.stock x) (λ t. at_once (Ok (x, t)))).answer)
-      c.0 c.1 in
-      let g = both (enter_pattern w pattern_file p.top p.stock d.0).answer
-      (λ t. (at_once {A = Expr × Stock} (Ok (d.0, t))).answer) c.0 d.2 in
-      let end : ◌≡◌ {A = Expr × Packages} (d.0, record { stock = g.0; top = p.top; roots = p.roots }) (e, q) =
-      (let x = g.2 in let y = c.2 in cc) in
-      let came = entered pattern_file p.top d.0 p.stock g.0 (reads d.0 d.1) g.1 in
-      subst (λ x. IsBuilt x.1) end (came p.roots b)
+      let m = goal_made w p q r e is in
+      let came = entered pattern_file p.top m.0 p.stock m.2 (reads m.0 m.1) m.3 in
+      subst (λ x. IsBuilt x.1) m.4 (came p.roots b)
+
+-- what comes of a pattern is the expression that its text was read as
+pub pattern_said : (w : World) (p q : Packages) (r : Or Expr) (e : Expr) → (load_pattern w p r).answer ≡ Ok (e, q)
+    → r ≡ Ok e
+pattern_said w p q r e is =
+    let m = goal_made w p q r e is in
+    m.1 ∙ ap (λ (x : Expr × Packages). Ok x.0) m.4
 
 goal_read : (fixed find : Bool) (bytes : List ℕ) (r : Or Expr) → ReadsGoal fixed find bytes r → (x : Expr) → r ≡ Ok x
     → IsGoal x

@@ -1,11 +1,15 @@
--- What the tokens of a text say of names: none has a dot or a space, and what stands last in a path is no star.
-use Rattle.std.proofs.Common.{arith, ◌≡◌, ◌≢◌, ◌<◌, ℕ, suc, ◌+◌, List, [], ◌∷◌, ◌++◌, drop}
+-- What the tokens of a text say of names: none has a dot or a space, none is longer than the text, and what stands last
+-- in a path is no star.
+use Rattle.std.proofs.Common.{arith, ◌≡◌, ◌≢◌, ◌<◌, ◌≤◌, ℕ, suc, ◌+◌, List, [], ◌∷◌, ◌++◌, drop, length}
 use Rattle.std.proofs.Common.{refl, sym, ap, subst, ◌∙◌, append_assoc}
 use Rattle.std.specs.Prelude.{Bool, true, false, nat_eq, if◌then◌else◌, chars}
-use Rattle.std.proofs.lemmas.Bool.{and_parts}
+use Rattle.std.specs.List.{AllByRecursion}
+use Rattle.std.specs.Str.{all_scalars}
+use Rattle.std.proofs.lemmas.Bool.{and_from, and_parts}
 use Rattle.std.proofs.lemmas.Bool.Decides.{nat_tests}
 use Rattle.std.proofs.lemmas.List.{append-nil}
 use Rattle.std.proofs.lemmas.Str.{chars-IsAscii}
+use lib.Utf8.{scalar}
 use Rattle.rpl_lexer.specs.Bytes.{is_letter, is_word, begins, run}
 use Rattle.rpl_lexer.specs.Forms.{Form, IsName, IsPair, each, is_name}
 use Rattle.rpl_lexer.specs.Fronts.{first_name}
@@ -21,7 +25,10 @@ use Rattle.rpl_syntax.proofs.Fronts.{name_ascii, halves}
 use Rattle.rpl_syntax.proofs.Said.{form_of}
 use Rattle.rpl_parser.specs.Tokens.{AllStand}
 use Rattle.rpl_scope.specs.Imports.{last_part}
+use Rattle.rpl_package.specs.Texts.{max_text_bytes}
+use Rattle.rpl_load_laws.specs.Fitting.{IsWithin}
 use Rattle.rpl_load_laws.proofs.FullNames.{IsUnbroken, star}
+use Rattle.rpl_load_laws.proofs.Lengths.{first_short, name_short, second_short}
 
 -- ---- a name
 
@@ -45,14 +52,27 @@ words_of n b h = (and_parts (begins is_letter n) (each is_word n) h.name).1
 pub name_unbroken : (n : List ℕ) (b : Bool) → IsName n b → IsUnbroken n
 name_unbroken n b h = words_unbroken n (words_of n b h)
 
+-- a name that is no longer than a text may be
+pub record IsShortName (n : List ℕ) : Type 0 where
+  pub name : IsName n false
+  pub short : length n ≤ max_text_bytes
+
+word_scalar : (c : ℕ) → is_word c ≡ true → scalar c ≡ true
+word_scalar c h = grind (arith, nat_tests)
+
+words_scalars : (n : List ℕ) → each is_word n ≡ true → all_scalars n ≡ true
+words_scalars [] h = refl
+words_scalars (c ∷ n) h =
+    let p = and_parts (is_word c) (each is_word n) h in
+    and_from (scalar c) (all_scalars n) (word_scalar c p.0) (words_scalars n p.1)
+
+pub name_within : (n : List ℕ) → IsShortName n → IsWithin max_text_bytes n
+name_within n h = (words_scalars n (words_of n false h.name), h.short)
+
 pub no_star : (n : List ℕ) (b : Bool) → IsName n b → n ≢ star
 no_star n b h e = let k : is_name star ≡ true = subst (λ x. is_name x ≡ true) e h.name in absurd (cc)
 
 -- ---- a path
-
--- what stands last in it is no star
-abbrev pub EndsWell : List ℕ → Type 0
-EndsWell p = last_part [] p ≢ star
 
 last_word : (acc n : List ℕ) → each is_word n ≡ true → last_part acc n ≡ acc ++ n
 last_word acc [] h = sym (append-nil acc)
@@ -68,12 +88,6 @@ last_behind acc (c ∷ n) q h =
     ap (λ b. if b then last_part [] (n ++ 47 ∷ q) else last_part (acc ++ c ∷ []) (n ++ 47 ∷ q)) (word_no_slash c p.0)
     ∙ last_behind (acc ++ c ∷ []) n q p.1
 
-pub name_ends : (n : List ℕ) (b : Bool) → IsName n b → EndsWell n
-name_ends n b h e = no_star n b h (sym (last_word [] n (words_of n b h)) ∙ e)
-
-pub under_ends : (n q : List ℕ) (b : Bool) → IsName n b → EndsWell q → EndsWell (n ++ 47 ∷ q)
-under_ends n q b h k e = k (sym (last_behind [] n q (words_of n b h)) ∙ e)
-
 -- a path is unbroken, and then so is what stands last in it
 unbroken_append : (m n : List ℕ) → IsUnbroken m → IsUnbroken n → IsUnbroken (m ++ n)
 unbroken_append [] n h k = k
@@ -82,8 +96,32 @@ unbroken_append (c ∷ m) n h k = (h.0, h.1, unbroken_append m n h.2 k)
 slash_no_dot : ◌≡◌ {A = ℕ} 47 46 → ⊥
 slash_no_dot x = omega (arith, x)
 
-pub under_unbroken : (n q : List ℕ) (b : Bool) → IsName n b → IsUnbroken q → IsUnbroken (n ++ 47 ∷ q)
+under_unbroken : (n q : List ℕ) (b : Bool) → IsName n b → IsUnbroken q → IsUnbroken (n ++ 47 ∷ q)
 under_unbroken n q b h k = unbroken_append n (47 ∷ q) (name_unbroken n b h) (slash_no_dot, omega arith, k)
+
+-- a path of names; what stands last in it becomes a package name
+pub record IsPath (p : List ℕ) : Type 0 where
+  pub unbroken : IsUnbroken p
+  pub ends : last_part [] p ≢ star
+  pub within : IsWithin max_text_bytes (last_part [] p)
+
+pub name_path : (n : List ℕ) → IsShortName n → IsPath n
+name_path n h =
+    let last = sym (last_word [] n (words_of n false h.name)) in
+    record {
+      unbroken = name_unbroken n false h.name;
+      ends = subst (λ x. x ≢ star) last (no_star n false h.name);
+      within = subst (IsWithin max_text_bytes) last (name_within n h);
+    }
+
+pub under_path : (n q : List ℕ) → IsShortName n → IsPath q → IsPath (n ++ 47 ∷ q)
+under_path n q h k =
+    let last = sym (last_behind [] n q (words_of n false h.name)) in
+    record {
+      unbroken = under_unbroken n q false h.name k.unbroken;
+      ends = subst (λ x. x ≢ star) last k.ends;
+      within = subst (IsWithin max_text_bytes) last k.within;
+    }
 
 last_at : (b : Bool) (acc rest p : List ℕ) → IsUnbroken (last_part [] p) → IsUnbroken (last_part rest p)
     → IsUnbroken (if b then last_part [] p else last_part rest p)
@@ -99,13 +137,12 @@ last_unbroken acc (c ∷ p) h k =
 -- ---- tokens
 
 abbrev pub Named_token : Token → Type 0
-Named_token (T.Name n at) = IsName n false
-Named_token (T.Qualified p n at) = IsName p false × IsName n false
+Named_token (T.Name n at) = IsShortName n
+Named_token (T.Qualified p n at) = IsShortName p × IsShortName n
 Named_token _ = Unit {0}
 
 abbrev pub All_named : List Token → Type 0
-All_named [] = Unit {0}
-All_named (t ∷ ts) = Named_token t × All_named ts
+All_named = AllByRecursion Named_token
 
 chars_named : (w : List ℕ) → IsName w false → IsName (chars w) false
 chars_named w h = subst (λ x. IsName x false) (sym (chars-IsAscii w (name_ascii w false h))) h
@@ -123,20 +160,26 @@ pair_named w h =
 named_as : (t u : Token) → t ≡ u → Named_token u → Named_token t
 named_as t u e h = subst Named_token (sym e) h
 
-token_named : (k : TokenKind) (s : List ℕ) (l : Lexeme) (t : Token) → Form k (span s l)
-    → Says l.start (payload_by k s l) t → Named_token t
-token_named K.Name s l t f e = named_as t _ e (chars_named (span s l) f)
-token_named K.Qualified s l t f e = named_as t _ e (pair_named (span s l) f)
-token_named K.Keyword s l t f e = named_as t _ e tt
-token_named K.Text s l t f e = named_as t _ e tt
-token_named K.Bracket s l t f e = named_as t _ e.3 tt
-token_named K.Bounds s l t f e = named_as t _ e.1 tt
-token_named K.Number s l t f e = named_as t _ e tt
-token_named K.Sign s l t f e = named_as t _ e tt
+module _ (s : List ℕ) (short : length s ≤ max_text_bytes) where
+  named : (w : List ℕ) → IsName w false → length w ≤ length s → IsShortName w
+  named w h n = record { name = h; short = omega (arith, n, short) }
 
--- the names that the tokens of a text say are names
-pub all_named : (s : List ℕ) (ls : List Lexeme) (ts : List Token) → AllStand s ls → Say s ls ts → All_named ts
-all_named s [] ts h k = subst All_named (sym k) tt
-all_named s (l ∷ ls) ts h k =
-    let f = form_of s l (h 0 l refl) in
-    subst All_named (sym k.2) (token_named l.kind s l k.0 f k.3, all_named s ls k.1 (λ i r e. h (suc i) r e) k.4)
+  token_named : (k : TokenKind) (l : Lexeme) (t : Token) → Form k (span s l) → Says l.start (payload_by k s l) t
+      → Named_token t
+  token_named K.Name l t f e = named_as t _ e (named _ (chars_named (span s l) f) (name_short s l))
+  token_named K.Qualified l t f e =
+      let p = pair_named (span s l) f in
+      named_as t _ e (named _ p.0 (first_short s l), named _ p.1 (second_short s l))
+  token_named K.Keyword l t f e = named_as t _ e tt
+  token_named K.Text l t f e = named_as t _ e tt
+  token_named K.Bracket l t f e = named_as t _ e.3 tt
+  token_named K.Bounds l t f e = named_as t _ e.1 tt
+  token_named K.Number l t f e = named_as t _ e tt
+  token_named K.Sign l t f e = named_as t _ e tt
+
+  -- the names that the tokens of a text say are names, and no longer than the text
+  pub all_named : (ls : List Lexeme) (ts : List Token) → AllStand s ls → Say s ls ts → All_named ts
+  all_named [] ts h k = subst All_named (sym k) tt
+  all_named (l ∷ ls) ts h k =
+      let f = form_of s l (h 0 l refl) in
+      subst All_named (sym k.2) (token_named l.kind l k.0 f k.3, all_named ls k.1 (λ i r e. h (suc i) r e) k.4)

@@ -1,6 +1,6 @@
 -- What holds of every set of packages that is loaded, from real files too.
 use Rattle.std.specs.Prelude.{◌≡◌, ◌<◌, ◌+◌, ℕ, Bool, true, List, length, Option, Some, None, Result, Ok, map}
-use Rattle.std.specs.Prelude.{slice_get}
+use Rattle.std.specs.Prelude.{IsUtf8, slice_get}
 use Rattle.std.specs.List.{All, Contains}
 use Rattle.rpl_core.specs.Core.{Core, Capture}
 use Rattle.rpl_core.specs.Order.{IsInOrder}
@@ -34,6 +34,7 @@ use Rattle.rpl_package.specs.declared.targets.NameFault.{NameFault}
 use Rattle.rpl_package.specs.declared.stock.Head.{Head}
 use Rattle.rpl_package.specs.declared.targets.Target.{Target}
 use Rattle.rpl_package.specs.Built.{IsBuilt, IsGoal}
+use Rattle.rpl_load_laws.specs.Fitting.{FitsExpr, FitsStatement}
 
 -- ---- loaded sets
 
@@ -124,6 +125,17 @@ TablesHaveParts = OfAllBuilt (λ p. All (λ r. HasParts r.body) (table_of p))
 abbrev pub GoalsHaveParts : Type 0
 GoalsHaveParts =
     OfAllBuilt (λ p. (rs : List Rule) (e : Expr) → AreRulesOf rs p → IsGoal e → HasParts (goal_of p (inners_of rs) e))
+
+-- ---- what can be written down
+
+-- the texts of every statement of a set are no longer than a text that is read, and its classes are sets
+abbrev pub StatementsFit : Type 0
+StatementsFit = OfAllBuilt (λ p. All FitsStatement (statements p))
+
+-- and so it is with every pattern that a text is read as
+abbrev pub PatternsFit : Type 0
+PatternsFit =
+    (fixed find : Bool) (text : List ℕ) (e : Expr) → IsUtf8 text → ReadsGoal fixed find text (Ok e) → FitsExpr e
 
 -- ---- macros
 

@@ -12,8 +12,9 @@
 
 ghost use Rattle.rpl_load_laws.specs.Laws.{GoalsHaveParts, LoadedIsBound, MacrosAreEquations};
 ghost use Rattle.rpl_load_laws.specs.Laws.{ModulesAreApart, NoNameHasASpace, NoNameTwice};
-ghost use Rattle.rpl_load_laws.specs.Laws.{OwnNamesAreRules, PatternsResolve, RulesHaveStatements};
-ghost use Rattle.rpl_load_laws.specs.Laws.{ScopesAreOver, StatementsResolve, TableIsDistinct};
+ghost use Rattle.rpl_load_laws.specs.Laws.{OwnNamesAreRules, PatternsFit, PatternsResolve};
+ghost use Rattle.rpl_load_laws.specs.Laws.{RulesHaveStatements, ScopesAreOver, StatementsFit};
+ghost use Rattle.rpl_load_laws.specs.Laws.{StatementsResolve, TableIsDistinct};
 ghost use Rattle.rpl_load_laws.specs.Laws.{TablesAreInOrder, TablesHaveParts, ToldIsBuilt};
 ghost use Rattle.rpl_load_laws.specs.Laws.{TopIsThere, TreesAreMade, WalksAreWhole};
 
@@ -75,6 +76,14 @@ pub fn own_names_are_rules()
 pub fn cores_have_parts()
     ensures table { TablesHaveParts }
     ensures goal { GoalsHaveParts }
+{}
+
+/// The texts of the statements of a set and of a pattern are of characters, no more than a text may
+/// have bytes, and their classes are sets; the full name of a rule has at most twice as many and a
+/// dot. So all of them can be written down with their lengths.
+pub fn what_is_read_fits()
+    ensures statements { StatementsFit }
+    ensures patterns { PatternsFit }
 {}
 
 /// Wherever a macro stands in a set, in a statement or in the pattern, its core is that of the

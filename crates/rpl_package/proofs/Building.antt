@@ -2,7 +2,7 @@
 use Rattle.std.proofs.Common.{◌≡◌, inl, inr, ℕ, List, [], ◌∷◌, length, Option, Some, None, refl, sym, ap, ap₂, subst}
 use Rattle.std.proofs.Common.{◌∙◌, ◌≤◌, ◌<◌, arith, get_or, map}
 use Rattle.std.specs.List.{All, Contains}
-use Rattle.std.specs.Prelude.{Bool, false, Result, Ok, Err, IfOk, IsUtf8, is_some}
+use Rattle.std.specs.Prelude.{Bool, false, Result, Ok, Err, IfOk, is_some}
 use Rattle.std.proofs.lemmas.List.{get_or-map, length-map}
 use Rattle.std.proofs.lemmas.List.Elements.{All-get_or, All-same, All-weaker, All-contains_itself}
 use Rattle.rpl_syntax.specs.Expression.{Expr}
@@ -26,14 +26,13 @@ use Rattle.rpl_package.specs.Built.{StaysBuilt, by_name, opened, headed}
 use Rattle.rpl_package.specs.Loading.{Stock, State, finished, is_taken, label_of, with_text}
 use Rattle.rpl_package.specs.Goals.{ReadsText}
 use Rattle.rpl_package.specs.Patterns.{put_by, needed_at, needed_by, needed_unless}
-use Rattle.rpl_package.specs.Texts.{parsed, max_text_bytes}
+use Rattle.rpl_package.specs.Texts.{module_text, max_text_bytes}
 use Rattle.rpl_package.specs.declared.stock.Head.{Head}
 
 -- a text that is read is said
-pub said_by : (f s : List ℕ) (r : Result Text Stop) → IsUtf8 s → Gives S.said r (parsed f s)
-    → IfOk r (λ t. IsSaid (S.said t))
-said_by f s (Ok t) u h = record { file = f; bytes = s; form = u; read = h }
-said_by f s (Err x) u h = tt
+pub said_by : (f s : List ℕ) (r : Result Text Stop) → Gives S.said r (module_text f s) → IfOk r (λ t. IsSaid (S.said t))
+said_by f s (Ok t) h = record { file = f; bytes = s; read = h }
+said_by f s (Err x) h = tt
 
 -- a module that is made while one more is being loaded
 pub makes_by : (hs gs : List Head) (path : Option (List ℕ)) (label : List ℕ) (s : Stock) (t u : State)

@@ -1,5 +1,5 @@
 -- How a set is built, whatever the files are that were read: modules come of texts, step by step.
-use Rattle.std.specs.Prelude.{◌≡◌, ◌⊎◌, ℕ, Bool, false, List, [], ◌∷◌, ◌++◌, length, Option, Some, None, Ok, IsUtf8}
+use Rattle.std.specs.Prelude.{◌≡◌, ◌⊎◌, ℕ, Bool, false, List, [], ◌∷◌, ◌++◌, length, Option, Some, None, Ok}
 use Rattle.std.specs.List.{Contains}
 use Rattle.rpl_syntax.specs.Expression.{Expr}
 use Rattle.rpl_syntax.specs.Modules.{ParsedModule}
@@ -14,15 +14,14 @@ use Rattle.rpl_package.specs.Goals.{ReadsGoal}
 use Rattle.rpl_package.specs.Loading.{Stock, State, empty_module, finished, is_taken, label_of, taken_up, with_text}
 use Rattle.rpl_package.specs.Patterns.{put_by}
 use Rattle.rpl_package.specs.Roots.{Packages, begun, top_head}
-use Rattle.rpl_package.specs.Texts.{parsed}
+use Rattle.rpl_package.specs.Texts.{module_text}
 use Rattle.rpl_package.specs.declared.stock.Head.{Head}
 
 -- some text was read so
 pub record IsSaid (t : ParsedModule) : Type 0 where
   pub file : List ℕ
   pub bytes : List ℕ
-  pub form : IsUtf8 bytes
-  pub read : parsed file bytes ≡ Ok t
+  pub read : module_text file bytes ≡ Ok t
 
 -- some text was read as this pattern
 pub record IsGoal (e : Expr) : Type 0 where

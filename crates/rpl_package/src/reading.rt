@@ -10,6 +10,7 @@ ghost use Rattle.rpl_package.specs.Built.{IsSaid};
 ghost use Rattle.rpl_package.specs.inside.Reading.{IsRead, IsLoud};
 ghost use Rattle.rpl_package.specs.Texts.{parsed, module_text};
 
+use crate::locate::MAX_TEXT_BYTES;
 use rpl_lexer::{LexFault, LexKind, cut_computes, lex};
 use rpl_parser::{ParseFault, ParseKind, one_module, parse_module};
 use rpl_scope::{LoadKind, Stop, fault_at};
@@ -54,7 +55,7 @@ pub fn parse_stop(alloc: Global, file: &Chars, fault: ParseFault) -> Stop
 }
 
 /// The module of a text that isn't too long.
-pub fn parse(alloc: Global, file: &Chars, text: &str) -> Result<ParsedModule, Stop>
+fn parse(alloc: Global, file: &Chars, text: &str) -> Result<ParsedModule, Stop>
     ensures { Gives said result (parsed file.now text.now) }
 {
     cut_computes();
@@ -69,6 +70,18 @@ pub fn parse(alloc: Global, file: &Chars, text: &str) -> Result<ParsedModule, St
     }
 }
 
+/// The module of a text.
+#[tactic(auto, using(rpl_scope::proofs::Stops::told))]
+pub fn read_text(alloc: Global, file: &Chars, text: &str) -> Result<ParsedModule, Stop>
+    ensures gives { Gives said result (module_text file.now text.now) }
+    ensures said { IfOk result (λ t. IsSaid (said t)) }
+{
+    if text.len() > MAX_TEXT_BYTES {
+        return Err(fault_at(alloc, file, 0, LoadKind::FileTooLong));
+    }
+    parse(alloc, file, text)
+}
+
 /// The module of a file.
 #[tactic(auto, using(rpl_scope::proofs::Stops::told, crate::proofs::Causes::told_loud))]
 #[inline(never)]
@@ -79,7 +92,7 @@ pub fn read_module(alloc: Global, file: &Chars, read: Read) -> Result<ParsedModu
     ensures said { IfOk result (λ t. IsSaid (said t)) }
 {
     match read {
-        Read::Text(text) => parse(alloc, file, &text),
+        Read::Text(text) => read_text(alloc, file, &text),
         Read::TooLong => Err(fault_at(alloc, file, 0, LoadKind::FileTooLong)),
         Read::NotText => Err(fault_at(alloc, file, 0, LoadKind::NotText)),
     }

@@ -14,9 +14,9 @@ ghost use Rattle.rpl_package.specs.Texts.{module_text};
 ghost use Rattle.rpl_package.specs.inside.Leaving.{LeavesFiles};
 ghost use Rattle.rpl_package.specs.inside.Rooting.{roots_seen, seen};
 
-use crate::locate::{MAX_TEXT_BYTES, read_in};
+use crate::locate::read_in;
 use crate::opening::{Importer, MAX_MODULES, Walker};
-use crate::reading::{parse, read_module};
+use crate::reading::{read_module, read_text};
 use crate::stock::{Head, State};
 use crate::walk::{load_own, load_text};
 use rosie_io::Files;
@@ -121,16 +121,12 @@ pub fn enter_root<F: Files>(
 }
 
 /// The text of a root that is given itself.
-#[tactic(auto, using(rpl_scope::proofs::Stops::told))]
 fn read_given(alloc: Global, file: &Chars, text: &Chars) -> Result<ParsedModule, Stop>
     ensures gives { Gives said result (module_text file.now (encode_utf8_all text.now)) }
     ensures said { IfOk result (λ t. IsSaid (said t)) }
 {
     let bytes = text.as_str();
-    if bytes.len() > MAX_TEXT_BYTES {
-        return Err(fault_at(alloc, file, 0, LoadKind::FileTooLong));
-    }
-    parse(alloc, file, bytes)
+    read_text(alloc, file, bytes)
 }
 
 /// A root that is given itself, under the name of its text.
