@@ -1,11 +1,14 @@
 -- The cores of what can be written in a code file: their sets are sets, their names and messages are texts, and
 -- their look-behinds are short.
-use Rattle.std.proofs.Common.{◌≡◌, ℕ, zero, suc, ◌-◌, ◌<◌, ◌^◌, Bool, true, false, List, [], ◌∷◌, ◌++◌, Option, Some, None}
-use Rattle.std.proofs.Common.{refl, sym, subst, arith}
+use Rattle.std.proofs.Common.{◌≡◌, ℕ, zero, suc, ◌-◌, ◌*◌, ◌<◌, ◌≤◌, ◌^◌, Bool, true, false, List, [], ◌∷◌, ◌++◌}
+use Rattle.std.proofs.Common.{Option, Some, None, refl, sym, subst, arith}
 use Rattle.std.proofs.lemmas.List.Elements.{All-nil, All-cons, All-head, All-tail, All-append, All-get_or}
+use Rattle.std.proofs.lemmas.List.{length-append}
 use Rattle.std.proofs.lemmas.Option.{get_or_from_slice_get, slice_get_within}
+use Rattle.std.proofs.lemmas.Str.{len_utf8_bounds, length-encode}
 use Rattle.std.specs.List.{All}
-use Rattle.std.specs.Prelude.{◌||◌, if◌then◌else◌, min, slice_get, codes, encode_utf8_all, length, not, Ok, Err}
+use Rattle.std.specs.Prelude.{◌||◌, if◌then◌else◌, min, slice_get, codes, encode_utf8, encode_utf8_all, length, not}
+use Rattle.std.specs.Prelude.{IsUtf8, Ok, Err}
 use Rattle.regex_class.specs.Ranges.{Range}
 use Rattle.rpl_classes.specs.Algebra.{folded}
 use Rattle.rpl_unicode.specs.Folding.{folds_with}
@@ -21,8 +24,7 @@ use Rattle.rpl_codefile.specs.Spelling.{FitsText}
 use Rattle.rpl_core.specs.Core.{Core, Set, Seq, Choice, Many, Not, And, Behind, Call, Capture, Note, Cores, NoMore, Then}
 use Rattle.rpl_core.specs.Core as C
 use Rattle.rpl_core.specs.Lengths.{has_call, has_repetition, greatest, least}
-use Rattle.rosie_cli.specs.Expressions.{FitsExpr, FitExprs, FitsSet, FitsStatement}
-use Rattle.rosie_prepare.specs.Prepared.{Comes, IsPrepared, Passes, PatternRequest, Ready, Tree, bodies, goal_in, loaded}
+use Rattle.rosie_prepare.specs.Prepared.{Comes, IsPrepared, Passes, PatternRequest, Ready, Tree, bodies, goal_in}
 use Rattle.rosie_prepare.specs.Prepared.{ready, too_large, unsound}
 use Rattle.rosie_prepare.specs.Prepared.{found as found_of}
 use Rattle.rpl_check.specs.Faults as F
@@ -44,9 +46,18 @@ use Rattle.rpl_macro.specs.declared.casing.Casing.{Casing}
 use Rattle.rpl_macro.specs.declared.casing.Casing.TheVariants.{Plain, Ascii, Folded}
 use Rattle.rpl_macro.specs.declared.kind.Macro.{Macro}
 use Rattle.rpl_macro.specs.declared.kind.Macro.TheVariants.{Find, FindAll, KeepTo, Ci, Uci, Message, Error}
-use Rattle.rpl_package.specs.Roots.{Packages}
+use Rattle.rpl_load_laws.specs.Fitting.{FitsExpr, FitExprs, FitsStatement, IsWithin}
+use Rattle.rpl_load_laws.specs.Laws.{IsLoaded, by_pattern, by_roots}
+use Rattle.rpl_load_laws.proofs.Fitting.{patterns_fit}
+use Rattle.rpl_load_laws.proofs.Loaded.{told_is_built}
+use Rattle.rpl_load_laws.proofs.Stated.{statements_fit}
+use Rattle.rpl_load_laws.proofs.Told.{pattern_said}
+use Rattle.rpl_package.specs.Goals.{ReadsGoal}
+use Rattle.rpl_package.specs.Loading.{world}
+use Rattle.rpl_package.specs.Patterns.{load_pattern}
+use Rattle.rpl_package.specs.Roots.{Packages, load}
 use Rattle.rpl_package.specs.Targets.{halt_name}
-use Rattle.rpl_scope.specs.Results.{Or}
+use Rattle.rpl_scope.specs.Results.{Or, ◌>>=◌}
 use Rattle.rpl_syntax.specs.Expression.{Expr, Exprs, Nil, Cons}
 use Rattle.rpl_syntax.specs.Expression as X
 use Rattle.rpl_syntax.specs.declared.expr.Mark.{Mark}
@@ -207,10 +218,21 @@ mutual
   inlined_all_fit I NoMore f h = tt
   inlined_all_fit I (Then p ps) f h = (inlined_fit I p f h.0, inlined_all_fit I ps f h.1)
 
+-- ---- texts
+
+encoded_short : (t : List ℕ) → length (encode_utf8_all t) ≤ 4 * length t
+encoded_short [] = omega arith
+encoded_short (c ∷ t) =
+    let width = (len_utf8_bounds c).1 in
+    omega (arith, encoded_short t, width, length-encode c, length-append (encode_utf8 c) (encode_utf8_all t))
+
+within_fits : (n : ℕ) (t : List ℕ) → 4 * n < 2 ^ 64 → IsWithin n t → FitsText t
+within_fits n t lt h = let few = h.1 in (h.0, omega (arith, lt, few, encoded_short t))
+
 -- ---- expressions
 
 text_fits : (e : Expr) → FitsExpr e → FitsText (text_of e)
-text_fits (X.Text t) h = h
+text_fits (X.Text t) h = within_fits 1048576 t (omega arith) h
 text_fits _ h = (refl, short [] 0 refl (omega arith))
 
 spaced_fit : (prefix : Bool) (b p : Core) (ps : Cores) → IsFit b → IsFit p → AreFit ps
@@ -245,7 +267,7 @@ module _ (s : Scope) (inners : FitInners s.inners) where
         macro_fit (kind_of q.name) (text_of p) (core (casing_under (kind_of q.name) c) s p) (text_fits p h)
         (core_fit (casing_under (kind_of q.name) c) p h)
     core_fit c (X.Marked m p) h = (mark_fit m, core_fit c p h)
-    core_fit c (X.Note t) h = h
+    core_fit c (X.Note t) h = within_fits 1048576 t (omega arith) h
 
     cores_fit : (c : Casing) (ps : Exprs) → FitExprs ps → AreFit (cores c s ps)
     cores_fit c Nil h = tt
@@ -282,7 +304,8 @@ rows_fit I [] f h = All-nil IsFit
 rows_fit I (s ∷ ss) f h =
     let said = All-head FitsStatement s ss h in
     let p = core Plain (scope_at I s) s.body in
-    let here = captured_fit s.captures s.name p said.0 (core_fit (scope_at I s) f Plain s.body said.1) in
+    let name = within_fits 2097153 s.name (omega arith) said.0 in
+    let here = captured_fit s.captures s.name p name (core_fit (scope_at I s) f Plain s.body said.1) in
     let I1 = I ++ inner I s.block (body_of I s) ∷ [] in
     All-cons IsFit (body_of I s) (bodies (rows I1 ss)) here
     (rows_fit I1 ss (added_fit I s.block (body_of I s) f here) (All-tail FitsStatement s ss h))
@@ -299,7 +322,7 @@ boundary_fit =
 built_in_fit : (halt : List ℕ) (rs : List Core) → All IsFit rs → All IsFit (boundary ∷ C.Halt ∷ rs)
 built_in_fit halt rs h = All-cons IsFit boundary (C.Halt ∷ rs) boundary_fit (All-cons IsFit C.Halt rs tt h)
 
-pub table_fit : (p : Packages) → FitsSet p → All IsFit (bodies (table_of p))
+table_fit : (p : Packages) → All FitsStatement (statements p) → All IsFit (bodies (table_of p))
 table_fit p h =
     let halt = halt_name p in
     let built = built_in_fit halt [] (All-nil IsFit) in
@@ -311,7 +334,7 @@ star_fit : FitsText (codes "*")
 unfolding lib.Utf8.encode
 star_fit = (refl, short (codes "*") 1 refl (omega arith))
 
-pub goal_fit : (p : Packages) (e : Expr) → FitsSet p → FitsExpr e → IsFit (goal_in p e)
+goal_fit : (p : Packages) (e : Expr) → All FitsStatement (statements p) → FitsExpr e → IsFit (goal_in p e)
 goal_fit p e h k =
     let I = inners_from [] (table_of p) in
     let s = scope_of p None I in
@@ -329,14 +352,30 @@ passes_ready : (r : Ready) (p : Packages) (e : Expr) (t : Option E.Fault) → Pa
 passes_ready r p e None h = is_ready r p e (unsound p e h.0) h.1
 passes_ready r p e (Some f) h = absurd (cc)
 
-comes_ready : (r : Ready) (l : Or (Expr × Packages)) → Comes l (Ok r) → ready r.packages r.expr ≡ r
-comes_ready r (Err f) h = absurd (cc)
-comes_ready r (Ok l) h =
-    let same = passes_ready r l.1 l.0 (too_large l.1 l.0) h in
-    subst (λ (x : Ready). ready x.packages x.expr ≡ x) same refl
+-- it fits
+abbrev Fits : Ready → Type 0
+Fits r = All IsFit (bodies r.rules) × IsFit r.goal
 
-pub ready_fit : (tree : Tree) (w : PatternRequest) (asked : List (List ℕ)) (r : Ready) → IsPrepared tree w asked (Ok r)
-    → FitsSet r.packages → FitsExpr r.expr → All IsFit (bodies r.rules) × IsFit r.goal
-ready_fit tree w asked r is h k =
-    subst (λ (x : Ready). All IsFit (bodies x.rules) × IsFit x.goal) (comes_ready r (loaded tree w is.parse).answer is.comes)
-    (table_fit r.packages h, goal_fit r.packages r.expr h k)
+module _ (tree : Tree) (w : PatternRequest) (utf8 : IsUtf8 w.text) (parse : Or Expr)
+    (reads : ReadsGoal w.fixed w.find w.text parse) (r : Ready) where
+  pattern_fits : (p : Packages) → IsLoaded tree w.folders p → (l : Or (Expr × Packages))
+      → (load_pattern (world tree w.folders) p parse).answer ≡ l → Comes l (Ok r) → Fits r
+  pattern_fits p is (Err f) e h = absurd (cc)
+  pattern_fits p is (Ok l) e h =
+      let built = told_is_built tree w.folders l.1 (by_pattern p l.1 w.fixed w.find w.text parse l.0 reads is e) in
+      let said = pattern_said (world tree w.folders) p l.1 parse l.0 e in
+      let set = statements_fit l.1 built in
+      let read = subst (ReadsGoal w.fixed w.find w.text) said reads in
+      let goal = patterns_fit w.fixed w.find w.text l.0 utf8 read in
+      subst Fits (passes_ready r l.1 l.0 (too_large l.1 l.0) h) (table_fit l.1 set, goal_fit l.1 l.0 set goal)
+
+  roots_fit : (x : Or Packages) → (load (world tree w.folders) w.roots).answer ≡ x
+      → Comes (x >>= λ p. (load_pattern (world tree w.folders) p parse).answer) (Ok r) → Fits r
+  roots_fit (Err f) e h = absurd (cc)
+  roots_fit (Ok p) e h =
+      pattern_fits p (by_roots w.roots p e) (load_pattern (world tree w.folders) p parse).answer refl h
+
+pub ready_fit : (tree : Tree) (w : PatternRequest) (asked : List (List ℕ)) (r : Ready) → IsUtf8 w.text
+    → IsPrepared tree w asked (Ok r) → All IsFit (bodies r.rules) × IsFit r.goal
+ready_fit tree w asked r utf8 is =
+    roots_fit tree w utf8 is.parse is.reads r (load (world tree w.folders) w.roots).answer refl is.comes

@@ -12,6 +12,7 @@ pub mod Calls
 pub mod SomeMarks
 pub mod SomeOrder
 pub mod Fitted
+pub mod Characters
 pub mod SomePlan
 pub mod OnePlan
 pub mod Sampled

@@ -1,6 +1,6 @@
 -- The words come to something over each tree of files.
 use Rattle.std.proofs.Common.{ℕ, Bool, true, false, List, [], ◌∷◌, ◌++◌, length, refl, inl, inr, ⊎_elim, arith}
-use Rattle.std.specs.Prelude.{Ok, Err, Option, Some, None, map, encode_utf8_all}
+use Rattle.std.specs.Prelude.{Ok, Err, Option, Some, None, IsUtf8, map, encode_utf8_all}
 use Rattle.std.specs.Cmp.Lexicographic.{slice_cmp}
 use Rattle.std.specs.List.{All, concat}
 use Rattle.std.specs.Ordering.{is_lt, nat_cmp}
@@ -40,14 +40,15 @@ use Rattle.rosie_cli.specs.Classes.{class_plan}
 use Rattle.rosie_cli.specs.CodeFiles.{IsCodeLines, code_plan}
 use Rattle.rosie_cli.specs.Compiling.{Compiles, IsCompiled, IsWritten}
 use Rattle.rosie_cli.specs.Expanding.{Expands, IsExpanded, with_code}
-use Rattle.rosie_cli.specs.Laws.{IsWritable, SomePlan, WritesFor}
+use Rattle.rosie_cli.specs.Laws.{HasCharacters, SomePlan, WordsHavePlans}
 use Rattle.rosie_cli.specs.Listing.{IsListed, Lists}
 use Rattle.rosie_cli.specs.Options.{settings_of}
 use Rattle.rosie_cli.specs.Planned.{input_names, job_with, matching, sample_request, sampling, tracing, request, plan_unless_long}
 use Rattle.rosie_cli.specs.Planned.{IsMatch, IsPlannedAs, IsRun, IsRunning}
 use Rattle.rosie_cli.specs.Plans.{Plan, Planned, Writes, refusal, whole_answer}
 use Rattle.rosie_cli.specs.Testing.{IsTesting, tried}
-use Rattle.rosie_cli.specs.Words.{Refuse, Do}
+use Rattle.rosie_cli.specs.Words.{Refuse, Do, asked}
+use Rattle.rosie_cli.proofs.Characters.{words_have}
 use Rattle.rosie_cli.proofs.Fitted.{ready_fit}
 use Rattle.rosie_cli.proofs.Replayed.{some_replayed}
 use Rattle.rosie_cli.proofs.SomeMarks.{some_code, some_marks}
@@ -71,16 +72,15 @@ some_file R g ins is are rules goal = ⊎_elim
     (Writes bytes.0, inr (bytes.0, bytes.1, refl)))
     (cases_lt 1048576 (length ins))
 
-some_code_file : (w : PatternRequest) (tree : Tree) (asked : List (List ℕ)) (r : OrLine Ready) → IsWritable w tree
+some_code_file : (w : PatternRequest) (tree : Tree) (asked : List (List ℕ)) (r : OrLine Ready) → IsUtf8 w.text
     → IsPrepared tree w asked r → (p : Plan) × Compiles r p
-some_code_file w tree asked (Err line) fit is = (refusal line, refl)
-some_code_file w tree asked (Ok r) fit is =
+some_code_file w tree asked (Err line) utf8 is = (refusal line, refl)
+some_code_file w tree asked (Ok r) utf8 is =
     let c = some_code (bodies r.rules) r.goal in
     let whole = (fit_prepared tree w asked r is).whole in
     let are : CallsAreRules (bodies r.rules) r.goal =
     record { goal = whole.goal; rules = λ q d at k h. whole.rules q k d at h } in
-    let said = fit asked r is in
-    let can = ready_fit tree w asked r is said.0 said.1 in
+    let can = ready_fit tree w asked r utf8 is in
     let f = some_file (bodies r.rules) r.goal c.0 c.1 are can.0 can.1 in
     (f.0, (c.0, c.1, f.1))
 
@@ -122,10 +122,10 @@ expanded_some w wants_code tree =
     let p = some_shown wants_code r.1 in
     (record { asked = r.0; plan = p.0 }, record { ready = r.1; prepares = r.2; expands = p.1 })
 
-compiled_some : (w : PatternRequest) (tree : Tree) → IsWritable w tree → (p : Planned) × IsCompiled w tree p
-compiled_some w tree fit =
+compiled_some : (w : PatternRequest) (tree : Tree) → IsUtf8 w.text → (p : Planned) × IsCompiled w tree p
+compiled_some w tree utf8 =
     let r = some_answer tree w in
-    let p = some_code_file w tree r.0 r.1 fit r.2 in
+    let p = some_code_file w tree r.0 r.1 utf8 r.2 in
     (record { asked = r.0; plan = p.0 }, record { ready = r.1; prepares = r.2; compiles = p.1 })
 
 listed_some : (roots : List Root) (folders : List (List ℕ)) (tree : Tree) → (p : Planned) × IsListed roots folders tree p
@@ -156,9 +156,9 @@ match_some c None pattern inputs tree = running_some (matching (settings_of c) i
 match_some c (Some path) pattern inputs tree =
     code_some (settings_of c) (encode_utf8_all path) (input_names inputs) tree
 
-what_some : (c : Command) (what : What) (tree : Tree) → WritesFor c what tree → (p : Planned) × IsPlannedAs c what tree p
+what_some : (c : Command) (what : What) (tree : Tree) → HasCharacters what → (p : Planned) × IsPlannedAs c what tree p
 what_some c (W.Match pattern inputs) tree e = match_some c c.code_file pattern inputs tree
-what_some c (W.Compile pattern) tree e = compiled_some (request c pattern false) tree e
+what_some c (W.Compile pattern) tree e = compiled_some (request c pattern false) tree (pattern, (e, refl))
 what_some c (W.Grep pattern inputs) tree e = running_some (matching (settings_of c) inputs) (request c pattern true) tree
 what_some c (W.Test file) tree e = tested_some c.folders file c.budget tree
 what_some c (W.Class name) tree e = (record { asked = []; plan = class_plan name (set_named name) }, refl)
@@ -173,3 +173,6 @@ what_some c W.Repl tree e = some_replayed c.folders tree
 pub some_plan : SomePlan
 some_plan (Refuse text) tree e = (record { asked = []; plan = refusal text }, refl)
 some_plan (Do c) tree e = what_some c c.what tree e
+
+pub words_have_plans : WordsHavePlans
+words_have_plans words tree utf8 = some_plan (asked words) tree (words_have words utf8)

@@ -1,46 +1,45 @@
 -- What holds of all words, and of `compile` and `match` together.
-use Rattle.std.specs.Prelude.{◌≡◌, ◌≤◌, ℕ, false, List, Ok, Some, length}
+use Rattle.std.specs.Prelude.{◌≡◌, ◌≤◌, ℕ, true, List, Ok, Some, IsUtf8, length}
+use Rattle.std.specs.List.{All}
+use Rattle.std.specs.Str.{all_scalars}
 use Rattle.rosie_jobs.specs.Loaded.{max_code_bytes}
 use Rattle.rosie_io.specs.Opening.{file_of}
 use Rattle.rosie_jobs.specs.Makers.{Runs}
 use Rattle.rosie_jobs.specs.declared.settings.Settings.{Settings}
 use Rattle.rosie_prepare.specs.Prepared.{IsPrepared, Ready, Tree, PatternRequest, bodies}
-use Rattle.rosie_words.specs.declared.command.Command.{Command}
+use Rattle.rosie_words.specs.Table.{Word}
 use Rattle.rosie_words.specs.declared.command.What.{What}
 use Rattle.rosie_words.specs.declared.command.What.TheVariants as W
 use Rattle.rpl_core.specs.Instr.{Instr}
 use Rattle.rpl_core.specs.Programs.{IsCode}
 use Rattle.rosie_cli.specs.CodeFiles.{IsCodeLines}
 use Rattle.rosie_cli.specs.Compiling.{IsCompiled}
-use Rattle.rosie_cli.specs.Expressions.{FitsExpr, FitsSet}
-use Rattle.rosie_cli.specs.Planned.{IsPlanned, IsRunning, input_names, matching, request}
+use Rattle.rosie_cli.specs.Planned.{IsPlanned, IsRunning, input_names, matching}
 use Rattle.rosie_cli.specs.Plans.{Plan, Planned, Reads, Writes}
 use Rattle.rosie_cli.specs.Report.{report}
 use Rattle.rosie_cli.specs.Promises.{IsPromised, SpellsSafe}
-use Rattle.rosie_cli.specs.Words.{Asked, Refuse, Do}
+use Rattle.rosie_cli.specs.Words.{Asked, Refuse, Do, asked}
 
 -- over each tree of files the words come to one plan alone, with the same paths asked for on the way
 abbrev pub OnePlan : Type 0
 OnePlan = (a : Asked) (tree : Tree) (p q : Planned) → IsPlanned a tree p → IsPlanned a tree q → p ≡ q
 
--- what is read for a pattern can be written in a code file: its texts are of characters whose bytes can be counted in
--- eight bytes, and its classes are sets
-abbrev pub IsWritable : PatternRequest → Tree → Type 0
-IsWritable w tree =
-    (asked : List (List ℕ)) (r : Ready) → IsPrepared tree w asked (Ok r) → FitsSet r.packages × FitsExpr r.expr
+-- the pattern that `compile` is asked for is of characters, as each string is
+abbrev pub HasCharacters : What → Type 0
+HasCharacters (W.Compile pattern) = all_scalars pattern ≡ true
+HasCharacters _ = Unit {0}
 
-abbrev pub WritesFor : Command → What → Tree → Type 0
-WritesFor c (W.Compile pattern) tree = IsWritable (request c pattern false) tree
-WritesFor c _ tree = Unit {0}
-
--- so it is of the pattern for which a code file is asked, if one is
-abbrev pub WritesFile : Asked → Tree → Type 0
-WritesFile (Refuse text) tree = Unit {0}
-WritesFile (Do c) tree = WritesFor c c.what tree
+abbrev pub IsOfCharacters : Asked → Type 0
+IsOfCharacters (Refuse text) = Unit {0}
+IsOfCharacters (Do c) = HasCharacters c.what
 
 -- and then they come to one
 abbrev pub SomePlan : Type 0
-SomePlan = (a : Asked) (tree : Tree) → WritesFile a tree → (p : Planned) × IsPlanned a tree p
+SomePlan = (a : Asked) (tree : Tree) → IsOfCharacters a → (p : Planned) × IsPlanned a tree p
+
+-- so all words do, which are UTF-8 as strings are
+abbrev pub WordsHavePlans : Type 0
+WordsHavePlans = (words : List Word) (tree : Tree) → All IsUtf8 words → (p : Planned) × IsPlanned (asked words) tree p
 
 -- no line and no test of what they come to is said to pass a budget that pays for it, and a code that is written as a
 -- file is safe

@@ -4,7 +4,6 @@ pub mod Plans
 pub mod Classes
 pub mod Listing
 pub mod Expanding
-pub mod Expressions
 pub mod Testing
 pub mod Compiling
 pub mod CodeFiles

@@ -1,14 +1,14 @@
 //! What holds of the commands together, by the definitions alone.
 
 ghost use Rattle.rosie_cli.specs.Laws.{HaveOneReport, OnePlan, PromiseLaw, RunsWhatIsCompiled};
-ghost use Rattle.rosie_cli.specs.Laws.{SafeLaw, SomePlan};
+ghost use Rattle.rosie_cli.specs.Laws.{SafeLaw, SomePlan, WordsHavePlans};
 
-/// Over each tree of files the words come to one plan alone; and they do come to one, those of
-/// `compile` where the texts of what is read are of characters, with fewer than 2^64 bytes, and its
-/// classes are sets.
+/// Over each tree of files all words come to one plan, and to that alone. So does each command, if
+/// the pattern of `compile` is of characters, as that of words is.
 pub fn one_plan()
     ensures only { OnePlan }
     ensures some { SomePlan }
+    ensures words { WordsHavePlans }
 {}
 
 /// Whatever the words are, no line and no test is said to pass its budget that the budget pays for,
