@@ -11,6 +11,7 @@ use Rattle.rosie_run.specs.declared.tally.Tally.{Tally}
 use Rattle.rosie_run.proofs.Headlines.{headline, output-cause, reads-cause}
 use Rattle.rosie_run.specs.Causes.{OutputCause, ReadsCause}
 use Rattle.rosie_run.specs.Headline.{Headline}
+use Rattle.rpl_package.specs.Asking.{IsTold}
 use Rattle.rosie_cli.specs.Plans.{Planned, ReadsInput, pieces}
 use Rattle.rosie_cli.specs.Promises.{IsPromised}
 use Rattle.rosie_cli.specs.Report.{KnowsInputs, report}
@@ -23,9 +24,11 @@ module _ (c : Call) (r : Result Tally Ended) (mid : Texts) (failed : Failures)
     (cause : SourcesCause r c.run.input.before c.run.input.after c.run.files.before c.run.files.after)
     (sinks : WritesCause r c.failed.out failed.out c.failed.err failed.err)
     (ends : ClosesCause r c.answer failed.out c.fails.out failed.err c.fails.err)
-    (runs : (p : Planned) → c.known → c.comes p → KnowsInputs p.plan c.run.files_tell c.run.input_tells
+    (runs : (p : Planned) → IsTold c.run.files_tell p.asked → c.comes p
+    → KnowsInputs p.plan c.run.files_tell c.run.input_tells
     → Runs r c.run.tells (pieces p.plan c.run.tree c.run.input.before.rest) (where_of c p) c.run.before mid)
-    (rest : (p : Planned) → c.known → c.comes p → KnowsInputs p.plan c.run.files_tell c.run.input_tells
+    (rest : (p : Planned) → IsTold c.run.files_tell p.asked → c.comes p
+    → KnowsInputs p.plan c.run.files_tell c.run.input_tells
     → GoesOn r (ReadsInput p.plan → c.run.input.after.rest ≡ []))
     (due : (p : Planned) → c.comes p → IsPromised p.plan) where
   headline_of : (p : Planned) → Comes c p
@@ -33,7 +36,7 @@ module _ (c : Call) (r : Result Tally Ended) (mid : Texts) (failed : Failures)
   unfolding report
   headline_of p h =
       headline c.run.tells (pieces p.plan c.run.tree c.run.input.before.rest) (where_of c p) r c.answer c.run.before mid
-      c.run.after (runs p h.known h.is h.inputs) closes
+      c.run.after (runs p h.files h.is h.inputs) closes
 
   reads_of : ReadsCause c.answer c.run.input.before c.run.input.after c.run.files.before c.run.files.after
   reads_of =
@@ -49,7 +52,7 @@ module _ (c : Call) (r : Result Tally Ended) (mid : Texts) (failed : Failures)
   answers-of = record {
     headline = headline_of;
     read = λ p h came asks.
-        read-of r c.answer c.run.tells mid c.run.after _ closes came (rest p h.known h.is h.inputs) asks;
+        read-of r c.answer c.run.tells mid c.run.after _ closes came (rest p h.files h.is h.inputs) asks;
     answers = λ p h u.
         answers-all c.run.tells (report_of c p) (where_of c p) c.run.before c.run.after c.run.input.before
         c.run.input.after c.run.files.before c.run.files.after c.failed.out c.fails.out c.failed.err c.fails.err
@@ -67,22 +70,21 @@ module _ (c : Call) (r : Result Tally Ended) (mid : Texts) (failed : Failures)
     writes = writes_of;
   }
 
--- the same call, of which more is known
-pub answers-by : (c : Call) (comes : Planned → Type 0) (known : Type 0) → (known → c.known)
+-- the same call, of whose plan more is known
+pub answers-by : (c : Call) (comes : Planned → Type 0)
     → ((p : Planned) → comes p → c.comes p) → Answers c
     → Answers (record {
       comes = comes;
-      known = known;
       run = c.run;
       failed = c.failed;
       fails = c.fails;
       answer = c.answer;
     })
-answers-by c comes known k is a = record {
-  headline = λ p h. a.headline p (record { known = k h.known; is = is p h.is; inputs = h.inputs });
-  read = λ p h. a.read p (record { known = k h.known; is = is p h.is; inputs = h.inputs });
-  answers = λ p h. a.answers p (record { known = k h.known; is = is p h.is; inputs = h.inputs });
-  complete = λ p h. a.complete p (record { known = k h.known; is = is p h.is; inputs = h.inputs });
+answers-by c comes is a = record {
+  headline = λ p h. a.headline p (record { is = is p h.is; files = h.files; inputs = h.inputs });
+  read = λ p h. a.read p (record { is = is p h.is; files = h.files; inputs = h.inputs });
+  answers = λ p h. a.answers p (record { is = is p h.is; files = h.files; inputs = h.inputs });
+  complete = λ p h. a.complete p (record { is = is p h.is; files = h.files; inputs = h.inputs });
   reads = a.reads;
   writes = a.writes;
 }

@@ -1,5 +1,5 @@
 -- From the steps of planning to a plan.
-use Rattle.std.proofs.Common.{◌≡◌, ℕ, List, refl, sym, ◌∙◌, ap, subst, arith}
+use Rattle.std.proofs.Common.{◌≡◌, inl, inr, ℕ, List, ◌∷◌, refl, sym, ◌∙◌, ap, subst, arith}
 use Rattle.std.specs.Prelude.{Result, Ok, Err, IfErr, IsErrAnd, string_bytes}
 use Rattle.rosie_prepare.specs.Lines.{compile_line}
 use Rattle.rosie_io.specs.Loading.{NotFewer}
@@ -12,6 +12,7 @@ use Rattle.rosie_prepare.specs.inside.Steps.{IsOwn, Tells}
 use Rattle.rosie_run.specs.Sources.{Moment, Still, moment_of}
 use Rattle.rpl_codegen.specs.declared.whole.CompileFault.{CompileFault}
 use Rattle.rpl_codegen.specs.declared.whole.CompileFault.TheVariants as C
+use Rattle.rpl_package.specs.Asking.{IsTold}
 use Rattle.rosie_cli.specs.Plans as P
 use Rattle.rosie_cli.specs.Plans.{Planned, refusal}
 use Rattle.rosie_cli.specs.declared.plan.Plan.{Plan}
@@ -52,6 +53,12 @@ pub plans-through : (r : Result Plan Unready) (u : Unready) (p : Planned) → Is
     → Plans r p
 plans-through (Ok plan) u p h k = absurd h
 plans-through (Err e) u p h k = subst (λ v. Plans (Err v) p) (sym h) k
+
+-- where a path is asked for, the files tell
+pub asks_some : (T : Type 0) (asked : List (List ℕ)) (path : List ℕ) (more : List (List ℕ)) → asked ≡ path ∷ more
+    → IsTold T asked → T
+asks_some T asked path more is (inl tells) = tells
+asks_some T asked path more is (inr none) = absurd (cc)
 
 -- ---- what planning leaves
 

@@ -1,10 +1,11 @@
 -- No test of a file passes a budget that pays for it.
-use Rattle.std.proofs.Common.{ℕ, ◌≡◌, ◌+◌, ◌*◌, ◌<◌, Bool, true, false, cond, List, [], ◌∷◌}
-use Rattle.std.proofs.Common.{length, refl, sym, subst, arith}
+use Rattle.std.proofs.Common.{ℕ, inl, inr, ◌≡◌, ◌+◌, ◌*◌, ◌<◌, Bool, true, false, cond, List, [], ◌∷◌, ◌++◌}
+use Rattle.std.proofs.Common.{length, refl, sym, ◌∙◌, subst, arith}
 use Rattle.std.specs.Prelude.{Option, Some, None, Ok, Err, codes, map, nat_eq, nat_lt, encode_utf8_all}
 use Rattle.std.specs.List.{All}
 use Rattle.std.specs.Str.{all_scalars, is_utf8}
 use Rattle.std.proofs.lemmas.Bool.{false≢true}
+use Rattle.std.proofs.lemmas.List.{append-nil}
 use Rattle.std.proofs.lemmas.Bool.Decides.{nat_tests}
 use Rattle.std.proofs.lemmas.List.Elements.{All-cons, All-head, All-nil, All-tail}
 use Rattle.rosie_io.specs.Opening.{file_of}
@@ -17,6 +18,7 @@ use Rattle.rosie_unittest.specs.Budgets.{SuitePays, TestPays}
 use Rattle.rosie_unittest.specs.Suites.{AreTrials, Comes, ComesAgain, IsSubject, IsSuite, Suite, Tells, bad, tests}
 use Rattle.rosie_unittest.specs.Suites.{goal_of, loading, read_again}
 use Rattle.rosie_unittest.specs.Trials.{Bench, Subject, Trial, TooLong, Runs, ran}
+use Rattle.rpl_package.specs.Asking.{IsTold}
 use Rattle.rpl_check.specs.Checked.{IsWhole}
 use Rattle.rpl_check.specs.Faults as C
 use Rattle.rpl_core.specs.Core.{Call, Capture}
@@ -175,3 +177,24 @@ pub suite_pays : (tree : Tree) (folders : List (List ℕ)) (file : List ℕ) (bu
 suite_pays tree folders file budget asked s is =
     pays_comes tree folders file budget (map encode_utf8_all (loading tree folders file).asked) asked is.packages s
     is.loads is.comes
+
+-- ---- the file is asked for
+
+asks_file : (T : Type 0) (tree : Tree) (folders : List (List ℕ)) (file : List ℕ) (more : List (List ℕ))
+    → map encode_utf8_all (loading tree folders file).asked ++ more ≡ [] → T
+asks_file T tree folders file more none = absurd (cc)
+
+tests_tell_by : (T : Type 0) (tree : Tree) (folders : List (List ℕ)) (file : List ℕ) (budget : Option ℕ)
+    (asked : List (List ℕ)) (o : OrLine Packages) (r : OrLine Suite)
+    → Comes tree file budget (map encode_utf8_all (loading tree folders file).asked) asked o r → asked ≡ [] → T
+tests_tell_by T tree folders file budget asked (Err line) r c none =
+    asks_file T tree folders file [] (append-nil _ ∙ sym c.0 ∙ none)
+tests_tell_by T tree folders file budget asked (Ok p) r c none =
+    asks_file T tree folders file (encode_utf8_all file ∷ []) (sym c.0 ∙ none)
+
+-- so what a file comes to is told only where the files tell
+pub tests_tell : (T : Type 0) (tree : Tree) (folders : List (List ℕ)) (file : List ℕ) (budget : Option ℕ)
+    (asked : List (List ℕ)) (r : OrLine Suite) → IsSuite tree folders file budget asked r → IsTold T asked → T
+tests_tell T tree folders file budget asked r is (inl tells) = tells
+tests_tell T tree folders file budget asked r is (inr none) =
+    tests_tell_by T tree folders file budget asked is.packages r is.comes none

@@ -37,7 +37,7 @@ use Rattle.rosie_words.specs.declared.command.Command.{Command}
 use Rattle.rosie_session.specs.Loading.{Loading}
 use Rattle.rosie_session.specs.Replay.{replay}
 use Rattle.rosie_session.specs.Where.{InSession, in_lines, in_load}
-use Rattle.rosie_cli.specs.Report.{IsAnswer, KnowsFiles, KnowsFor}
+use Rattle.rosie_cli.specs.Report.{IsAnswer}
 use Rattle.rosie_cli.specs.Words.{Asked, Refuse, Do, IsIdle, IsRefused, is_idle}
 use Rattle.rosie_cli.specs.inside.Planning.{IsSaid}
 
@@ -243,9 +243,6 @@ refused-plan a text tree p e is =
 pub do-planned : (a : Asked) (c : Command) (tree : List (List ℕ × List ℕ)) (p : Planned) → Do c ≡ a
     → IsPlanned a tree p → IsPlannedAs c c.what tree p
 do-planned a c tree p e is = subst (λ (x : Asked). IsPlanned x tree p) (sym e) is
-
-pub do-knows : (a : Asked) (c : Command) (files : Type 0) → Do c ≡ a → KnowsFiles a files → KnowsFor c.what files
-do-knows a c files e knows = subst (λ (x : Asked). KnowsFiles x files) (sym e) knows
 
 pub do-idle : (a : Asked) (c : Command) → Do c ≡ a → IsIdle a → is_idle c.what ≡ true
 do-idle a c e idle = subst IsIdle (sym e) idle

@@ -5,9 +5,6 @@ use Rattle.rosie_run.specs.Report.{Piece, up_to_stop, status_of}
 use Rattle.rosie_cli.specs.Plans.{Plan, Reads, pieces, Replays}
 use Rattle.rosie_run.specs.declared.status.Status.{Status}
 use Rattle.rosie_run.specs.declared.status.Status.TheVariants.{NoMemory}
-use Rattle.rosie_words.specs.declared.command.What.{What}
-use Rattle.rosie_words.specs.declared.command.What.TheVariants as W
-use Rattle.rosie_cli.specs.Words.{Asked, Refuse, Do}
 
 -- nothing follows a piece that ends the run
 unfoldable pub report : Plan → List (List ℕ × List ℕ) → List ℕ → List Piece
@@ -23,14 +20,3 @@ abbrev pub KnowsInputs : Plan → Type 0 → Type 0 → Type 0
 KnowsInputs (Reads m whole names) files input = AreTold names files input
 KnowsInputs (Replays w) files input = files × input
 KnowsInputs _ files input = Unit {0}
-
--- and so are the files, where a command may ask for one on the way to its plan: for a class it doesn't, nor for a
--- session, whose lines do
-abbrev pub KnowsFor : What → Type 0 → Type 0
-KnowsFor (W.Class name) files = Unit {0}
-KnowsFor W.Repl files = Unit {0}
-KnowsFor _ files = files
-
-abbrev pub KnowsFiles : Asked → Type 0 → Type 0
-KnowsFiles (Refuse text) files = Unit {0}
-KnowsFiles (Do c) files = KnowsFor c.what files

@@ -13,15 +13,15 @@ use Rattle.rosie_run.specs.Outputs.{Failures, failures}
 use Rattle.rosie_run.specs.Report.{Piece}
 use Rattle.rosie_run.specs.declared.ended.ReadStop.{ReadStop}
 use Rattle.rosie_run.specs.declared.status.Status.{Status}
+use Rattle.rpl_package.specs.Asking.{IsTold}
 use Rattle.rosie_cli.specs.Plans.{Planned, ReadsInput, inputs_of, stood}
 use Rattle.rosie_cli.specs.Sound.{IsSound}
 use Rattle.rosie_cli.specs.Report.{IsAnswer, KnowsInputs, report}
 
--- A call: what it comes to, and whether that is known; what its files and its streams tell, and where they stand before
--- and after, with the machine's steps; how often its outputs failed until then; and its answer.
+-- A call: what it comes to; what its files and its streams tell, and where they stand before and after, with the
+-- machine's steps; how often its outputs failed until then; and its answer.
 pub record Call : Type 1 where
   pub comes : Planned → Type 0
-  pub known : Type 0
   pub run : Course
   pub failed : Failures
   pub fails : Failures
@@ -29,21 +29,20 @@ pub record Call : Type 1 where
 
 -- the call whose files, standard input and outputs are these before and after, with so many steps
 abbrev pub call :
-    {F I O E : Type 0} → (comes : Planned → Type 0) → (known : Type 0) → S.Ghosts F → S.Ghosts I → K.Ghosts O
+    {F I O E : Type 0} → (comes : Planned → Type 0) → S.Ghosts F → S.Ghosts I → K.Ghosts O
     → K.Ghosts E → F → F → I → I → O → O → E → E → ℕ → ℕ → Status → Call
-call comes known F I O E f f' i i' o o' e e' n n' answer = record {
+call comes F I O E f f' i i' o o' e e' n n' answer = record {
   comes = comes;
-  known = known;
   run = course_of F I O E f f' i i' o o' e e' n n';
   failed = failures O E o e;
   fails = failures O E o' e';
   answer = answer;
 }
 
--- it comes to this plan, which is known, and whose inputs are told
+-- it comes to this plan, on the way to which the files tell or no path is asked for, and whose inputs are told
 pub record Comes (c : Call) (p : Planned) : Type 0 where
-  pub known : c.known
   pub is : c.comes p
+  pub files : IsTold c.run.files_tell p.asked
   pub inputs : KnowsInputs p.plan c.run.files_tell c.run.input_tells
 
 abbrev pub report_of : Call → Planned → List Piece

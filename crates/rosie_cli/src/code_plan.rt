@@ -1,6 +1,7 @@
 //! The plan of a code file that runs on each line.
 
 ghost use Rattle.std.specs.Prelude.{encode_utf8_all};
+ghost use Rattle.rpl_package.specs.Asking.{IsTold};
 ghost use Rattle.rosie_cli.specs.CodeFiles.{IsCodeLines};
 ghost use Rattle.rosie_cli.specs.Planned.{input_names};
 ghost use Rattle.rosie_cli.specs.Plans.{Planned};
@@ -24,7 +25,7 @@ pub(crate) fn plan_code<F: Files>(
     inputs: Paths,
     files: &mut F,
 ) -> Result<Plan, Unready>
-    ensures plans { F.tells → (p : Planned)
+    ensures plans { (p : Planned) → IsTold F.tells p.asked
         → IsCodeLines settings (encode_utf8_all path) (input_names inputs) (F.tree files.old) p →
         Plans result p }
     ensures leaves { Leaves F.Source result files.old files.new }

@@ -3,6 +3,7 @@
 ghost use Rattle.std.specs.Prelude.{Ok, IfErr};
 ghost use Rattle.rosie_prepare.specs.Views.{ready_seen, request_seen};
 ghost use Rattle.rosie_prepare.specs.inside.Steps.{IsOwn};
+ghost use Rattle.rpl_package.specs.Asking.{IsTold};
 ghost use Rattle.rosie_cli.specs.Expanding.{IsExpanded, Expands};
 ghost use Rattle.rosie_cli.specs.Plans.{Planned};
 ghost use Rattle.rosie_cli.specs.inside.Planning.{IsReady, Leaves, Makes, Plans, PlansIdle};
@@ -41,9 +42,8 @@ pub(crate) fn plan_expansion<F: Files>(
     wants_code: bool,
     files: &mut F,
 ) -> Result<Plan, Unready>
-    ensures plans { F.tells → (p : Planned) → IsExpanded (request_seen request.now) wants_code
-        (F.tree files.old) p
-        → Plans result p }
+    ensures plans { (p : Planned) → IsTold F.tells p.asked
+        → IsExpanded (request_seen request.now) wants_code (F.tree files.old) p → Plans result p }
     ensures idle { PlansIdle result }
     ensures leaves { Leaves F.Source result files.old files.new }
 {

@@ -10,6 +10,7 @@ ghost use Rattle.rpl_codegen.specs.Compiled.{HasLongCode};
 ghost use Rattle.rpl_core.specs.Table.{bodies_of, names_of as names_of_rules};
 ghost use Rattle.rpl_core.specs.View.{core_of};
 ghost use Rattle.rpl_forms.specs.Rows.{Row};
+ghost use Rattle.rpl_package.specs.Asking.{IsTold};
 ghost use Rattle.rosie_cli.specs.Planned.{full_names, input_names, IsRun, IsRunning};
 ghost use Rattle.rosie_cli.specs.Plans.{Planned};
 ghost use Rattle.rosie_cli.specs.inside.Planning.{plan_of, run_of, IsReady, Leaves, Makes, Plans};
@@ -105,7 +106,7 @@ pub(crate) fn plan_goal<F: Files>(
     purpose: Purpose,
     files: &mut F,
 ) -> Result<Plan, Unready>
-    ensures plans { F.tells → (p : Planned)
+    ensures plans { (p : Planned) → IsTold F.tells p.asked
         → IsRunning (run_of purpose) (request_seen request.now) (F.tree files.old) p →
         Plans result p }
     ensures leaves { Leaves F.Source result files.old files.new }

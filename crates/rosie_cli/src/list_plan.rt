@@ -1,5 +1,6 @@
 //! The plan of `list`.
 
+ghost use Rattle.rpl_package.specs.Asking.{IsTold};
 ghost use Rattle.rosie_cli.specs.Listing.{IsListed};
 ghost use Rattle.rosie_cli.specs.Plans.{Planned};
 ghost use Rattle.rosie_cli.specs.inside.Planning.{Leaves, Plans, PlansIdle};
@@ -18,8 +19,8 @@ pub(crate) fn plan_list<F: Files>(
     folders: &LibPath,
     files: &mut F,
 ) -> Result<Plan, Unready>
-    ensures plans { F.tells → (p : Planned) → IsListed roots.now folders.now (F.tree files.old) p →
-        Plans result p }
+    ensures plans { (p : Planned) → IsTold F.tells p.asked
+        → IsListed roots.now folders.now (F.tree files.old) p → Plans result p }
     ensures idle { PlansIdle result }
     ensures leaves { Leaves F.Source result files.old files.new }
 {

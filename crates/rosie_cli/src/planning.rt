@@ -3,6 +3,7 @@
 ghost use Rattle.std.specs.Prelude.{◌≡◌, ◌≢◌, true};
 ghost use Rattle.rosie_prepare.specs.Views.{request_seen};
 ghost use Rattle.rosie_words.specs.declared.command.What.TheVariants as W;
+ghost use Rattle.rpl_package.specs.Asking.{IsTold};
 ghost use Rattle.rosie_cli.specs.Planned.{IsRunning};
 ghost use Rattle.rosie_cli.specs.Plans.{Planned};
 ghost use Rattle.rosie_cli.specs.Words.{is_idle};
@@ -60,7 +61,7 @@ impl<'a> Base<'a> {
         purpose: Purpose,
         files: &mut F,
     ) -> Result<Plan, Unready>
-        ensures plans { F.tells → (p : Planned) → IsRunning (run_of purpose)
+        ensures plans { (p : Planned) → IsTold F.tells p.asked → IsRunning (run_of purpose)
             (wanted self.now.roots.now self.now.folders.now self.now.fixed find pattern.now)
             (F.tree files.old) p → Plans result p }
         ensures leaves { Leaves F.Source result files.old files.new }

@@ -3,6 +3,7 @@
 ghost use Rattle.std.specs.Prelude.{◌≡◌, ◌∷◌, [], IfOk, chars};
 ghost use Rattle.rosie_sample.specs.Counting.{sample_rules};
 ghost use Rattle.rpl_package.specs.declared.rooted.Root.TheVariants.{Given};
+ghost use Rattle.rpl_package.specs.Asking.{IsTold};
 ghost use Rattle.rosie_cli.specs.Planned.{sample_request, IsRunning};
 ghost use Rattle.rosie_cli.specs.Plans.{Planned};
 ghost use Rattle.rosie_cli.specs.inside.Planning.{run_of, Leaves, Plans};
@@ -33,7 +34,7 @@ pub(crate) fn plan_sample<F: Files>(
     purpose: Purpose,
     files: &mut F,
 ) -> Result<Plan, Unready>
-    ensures plans { F.tells → (p : Planned)
+    ensures plans { (p : Planned) → IsTold F.tells p.asked
         → IsRunning (run_of purpose) (sample_request folders.now) (F.tree files.old) p →
         Plans result p }
     ensures leaves { Leaves F.Source result files.old files.new }

@@ -1,5 +1,6 @@
 //! The plan of `test`.
 
+ghost use Rattle.rpl_package.specs.Asking.{IsTold};
 ghost use Rattle.rosie_cli.specs.Plans.{Planned};
 ghost use Rattle.rosie_cli.specs.Testing.{IsTesting};
 ghost use Rattle.rosie_cli.specs.inside.Planning.{Leaves, Plans};
@@ -21,8 +22,8 @@ pub(crate) fn plan_tests<F: Files>(
     budget: Option<u64>,
     files: &mut F,
 ) -> Result<Plan, Unready>
-    ensures plans { F.tells → (p : Planned) → IsTesting folders.now file budget (F.tree files.old) p
-        → Plans result p }
+    ensures plans { (p : Planned) → IsTold F.tells p.asked
+        → IsTesting folders.now file budget (F.tree files.old) p → Plans result p }
     ensures leaves { Leaves F.Source result files.old files.new }
 {
     let suite = load_suite(alloc, files, folders, file, budget)?;

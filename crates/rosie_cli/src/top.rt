@@ -10,11 +10,12 @@ ghost use Rattle.rosie_run.specs.Inputs.{SameInputs};
 ghost use Rattle.rosie_run.specs.Outputs.{SameOutputs, shown, telling};
 ghost use Rattle.rosie_run.specs.Report.{stop_piece};
 ghost use Rattle.rosie_run.specs.Where.{Nowhere};
+ghost use Rattle.rpl_package.specs.Asking.{IsTold};
 ghost use Rattle.rosie_words.specs.declared.command.What.TheVariants as W;
 ghost use Rattle.rosie_cli.specs.Planned.{IsPlanned, IsPlannedAs};
 ghost use Rattle.rosie_cli.specs.Plans.{Planned, IsIdlePlan, LeavesInput, ReadsInput};
 ghost use Rattle.rosie_cli.specs.Replaying.{IsReplayed};
-ghost use Rattle.rosie_cli.specs.Report.{KnowsFiles, KnowsFor, KnowsInputs};
+ghost use Rattle.rosie_cli.specs.Report.{KnowsInputs};
 ghost use Rattle.rosie_cli.specs.Rosie.{Answers, call};
 ghost use Rattle.rosie_cli.specs.Words.{asks, IsRefused, IsIdle, is_idle};
 ghost use Rattle.rosie_cli.specs.inside.Planning.{plan_of, IsSaid};
@@ -164,7 +165,7 @@ fn replay<F: Files, I: Source, O: Sink, E: Sink, L: Ledger>(
     ensures same_inputs { SameInputs inputs.old inputs.new }
     ensures same_outputs { SameOutputs outputs.old outputs.new }
     ensures answers { Answers (call_over (IsReplayed folders.now (F.tree inputs.old.files.now))
-        (KnowsFor W.Repl F.tells) F.Source I.Source O.Sink E.Sink
+        F.Source I.Source O.Sink E.Sink
         inputs.old inputs.new outputs.old outputs.new result) }
     ensures out_flushed { Flushes O.Sink result outputs.new.out.now }
     ensures err_flushed { Flushes E.Sink result outputs.new.err.now }
@@ -185,7 +186,7 @@ pub fn session<F: Files, I: Source, O: Sink, E: Sink, L: Ledger>(
     steps: &mut Steps<L>,
 ) -> Status
     ensures answers { Answers (call (IsReplayed folders.now (F.tree files.old))
-        (KnowsFor W.Repl F.tells) F.Source I.Source O.Sink E.Sink
+        F.Source I.Source O.Sink E.Sink
         files.old files.new input.old input.new out.old out.new err.old err.new steps.old steps.new
         result) }
     ensures out_flushed { Flushes O.Sink result out.new }
@@ -207,7 +208,7 @@ fn run_command<F: Files, I: Source, O: Sink, E: Sink, L: Ledger>(
     ensures same_outputs { SameOutputs outputs.old outputs.new }
     ensures answers { Answers (call_over
         (IsPlannedAs command command.what (F.tree inputs.old.files.now))
-        (KnowsFor command.what F.tells) F.Source I.Source O.Sink E.Sink
+        F.Source I.Source O.Sink E.Sink
         inputs.old inputs.new outputs.old outputs.new result) }
     ensures unread { OfPlans command F.tells (F.tree inputs.old.files.now)
         (λ p. LeavesInput p.plan → inputs.new.input.now ≡ inputs.old.input.now) }
@@ -236,16 +237,16 @@ fn run_words<F: Files, I: Source, O: Sink, E: Sink, L: Ledger>(
     ensures same_inputs { SameInputs inputs.old inputs.new }
     ensures same_outputs { SameOutputs outputs.old outputs.new }
     ensures answers { Answers (call_over (IsPlanned (asks words.now) (F.tree inputs.old.files.now))
-        (KnowsFiles (asks words.now) F.tells) F.Source I.Source O.Sink E.Sink
+        F.Source I.Source O.Sink E.Sink
         inputs.old inputs.new outputs.old outputs.new result) }
-    ensures unread { (p : Planned) → KnowsFiles (asks words.now) F.tells
+    ensures unread { (p : Planned) → IsTold F.tells p.asked
         → IsPlanned (asks words.now) (F.tree inputs.old.files.now) p → LeavesInput p.plan →
         inputs.new.input.now ≡ inputs.old.input.now }
     ensures untouched { IsRefused (asks words.now) →
         (inputs.new.files.now ≡ inputs.old.files.now) ×
         (inputs.new.input.now ≡ inputs.old.input.now) }
     ensures idle { IsIdle (asks words.now) → outputs.new.steps.now ≡ outputs.old.steps.now }
-    ensures unrun { (p : Planned) → KnowsFiles (asks words.now) F.tells
+    ensures unrun { (p : Planned) → IsTold F.tells p.asked
         → IsPlanned (asks words.now) (F.tree inputs.old.files.now) p → IsIdlePlan p.plan →
         outputs.new.steps.now ≡ outputs.old.steps.now }
     ensures out_flushed { Flushes O.Sink result outputs.new.out.now }
@@ -290,22 +291,23 @@ pub fn rosie<F: Files, I: Source, O: Sink, E: Sink, L: Ledger>(
     // What is written, answered and read, by the report of what the words come to:
     // `specs/Rosie.antt`.
     ensures answers { Answers (call (IsPlanned (asks words.now) (F.tree files.old))
-        (KnowsFiles (asks words.now) F.tells) F.Source I.Source O.Sink E.Sink
+        F.Source I.Source O.Sink E.Sink
         files.old files.new input.old input.new out.old out.new err.old err.new steps.old steps.new
         result) }
 
     // Where the standard input isn't among the inputs, nothing of it is read. Words that are
     // refused open nothing.
-    ensures unread { (p : Planned) → KnowsFiles (asks words.now) F.tells
+    ensures unread { (p : Planned) → IsTold F.tells p.asked
         → IsPlanned (asks words.now) (F.tree files.old) p → LeavesInput p.plan →
         input.new ≡ input.old }
     ensures untouched { IsRefused (asks words.now) → (files.new ≡ files.old) ×
         (input.new ≡ input.old) }
 
     // Words that ask for no line, no test and no sample make no step of the machine, whatever the
-    // files hold. Nor do others where a load is refused, as far as the files tell it.
+    // files hold. Nor do others where a load is refused, as far as the files tell it or no path is
+    // asked for.
     ensures idle { IsIdle (asks words.now) → steps.new ≡ steps.old }
-    ensures unrun { (p : Planned) → KnowsFiles (asks words.now) F.tells
+    ensures unrun { (p : Planned) → IsTold F.tells p.asked
         → IsPlanned (asks words.now) (F.tree files.old) p → IsIdlePlan p.plan →
         steps.new ≡ steps.old }
 

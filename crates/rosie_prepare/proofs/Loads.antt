@@ -1,21 +1,23 @@
 -- What a loading leaves, and what a set, or a pattern over it, then comes to.
-use Rattle.std.proofs.Common.{◌≡◌, ◌≢◌, ℕ, List, length, refl, sym, ◌∙◌, ap, subst, ◌<◌}
+use Rattle.std.proofs.Common.{◌≡◌, ◌≢◌, inl, inr, ℕ, List, [], ◌∷◌, length, refl, sym, ◌∙◌, ap, subst, ◌<◌}
 use Rattle.std.specs.Prelude.{map, IfErr, IfOk, IsErrAnd, Some, Result, Ok, Err, encode_utf8_all}
 use Rattle.std.specs.Prelude.{string_bytes}
 use Rattle.std.specs.List.{Contains}
 use Rattle.std.proofs.lemmas.List.{get_or-map, length-map}
 use Rattle.std.proofs.lemmas.List.Elements.{Contains-append_left}
 use Rattle.rosie_prepare.specs.Lines.{Line, load_line}
-use Rattle.rosie_prepare.specs.Answers.{IsAsked, IsDue}
+use Rattle.rosie_prepare.specs.Answers.{IsAsked, IsDue, Prepares}
 use Rattle.rosie_prepare.specs.Prepared.{Comes, IsPrepared, OrLine, Ready, TableComes, Tree, PatternRequest, loaded}
 use Rattle.rosie_prepare.specs.declared.prepared.Prepared.{Prepared}
 use Rattle.rosie_prepare.specs.declared.unready.Unready.{Unready}
 use Rattle.rosie_prepare.specs.declared.unready.Unready.TheVariants.{NoMemory, Refused, ReadFault}
 use Rattle.rosie_prepare.specs.inside.Steps.{StopsWith, Tells, TellsKind}
-use Rattle.rpl_package.proofs.Outcomes.{then_follows}
-use Rattle.rpl_package.specs.Asking.{Explains, Outcome, and_then, asked_then}
+use Rattle.rpl_package.proofs.Outcomes.{Follows, same, then_follows, told_lead, told_then, trail}
+use Rattle.rpl_package.specs.Asking.{Explains, IsTold, Outcome, and_then, asked_then}
+use Rattle.rpl_package.specs.Loading.{world}
+use Rattle.rpl_package.specs.Patterns.{load_pattern}
 use Rattle.rpl_load_laws.specs.Laws.{Resolves}
-use Rattle.rpl_package.specs.Roots.{Packages}
+use Rattle.rpl_package.specs.Roots.{Packages, load}
 use Rattle.rpl_package.specs.Sets.{set_seen}
 use Rattle.rpl_scope.specs.Faults.{Or, ◌>>=◌}
 use Rattle.rpl_scope.specs.declared.fault.LoadFault.{LoadFault}
@@ -72,13 +74,53 @@ stops_then NoMemory o next h = tt
 stops_then (Refused line) o next h = (h.0, ap (λ r. r >>= λ x. (next x).answer) h.1, h.2)
 stops_then (ReadFault path) o next h = Contains-append_left o.asked (asked_then o.answer next) path h
 
--- and after a step that has an answer what stops the next
-pub stops_next :
-    {A B : Type 0} (u : Unready) (o : Outcome A) (x : A) (next : A → Outcome B) → o.answer ≡ Ok x
-    → StopsWith u (next x) → StopsWith u (and_then o next)
-stops_next NoMemory o x next e h = tt
-stops_next (Refused line) o x next e h = (h.0, sym (then_follows o x next e).0 ∙ h.1, h.2)
-stops_next (ReadFault path) o x next e h = (then_follows o x next e).1 path h
+-- what stops an outcome stops what it leads to
+stops_lead : {A : Type 0} (u : Unready) (a b : Outcome A) → Follows a b → StopsWith u a → StopsWith u b
+stops_lead NoMemory a b led h = tt
+stops_lead (Refused line) a b led h = (h.0, sym led.0 ∙ h.1, h.2)
+stops_lead (ReadFault path) a b led h = led.1 path h
+
+-- ---- what is told on the way
+
+-- paths are told where their bytes are
+pub told_bytes : (T : Type 0) (xs : List (List ℕ)) → IsTold T (map encode_utf8_all xs) → IsTold T xs
+told_bytes T xs (inl tells) = inl tells
+told_bytes T [] (inr none) = inr refl
+told_bytes T (x ∷ xs) (inr none) = absurd (cc)
+
+module _ (T : Type 0) (tree near : Tree) (w : PatternRequest) (asked : List (List ℕ)) (r : OrLine Ready)
+    (h : IsPrepared tree w asked r) (told : IsTold T asked) where
+  abbrev first : Outcome Packages
+  first = load (world tree w.folders) w.roots
+
+  abbrev second : Tree → Packages → Outcome (Expr × Packages)
+  second t p = load_pattern (world t w.folders) p h.parse
+
+  first_told : IsTold T first.asked
+  first_told =
+      told_then T first (second tree) (told_bytes T (loaded tree w h.parse).asked (subst (IsTold T) h.paths told))
+
+  -- what stops the roots stops it all
+  pub roots_stop : (u : Unready) → (IsTold T first.asked → StopsWith u first) → StopsWith u (loaded tree w h.parse)
+  roots_stop u s = stops_then u first (second tree) (s first_told)
+
+  module _ (p : Packages) (loads : IsTold T first.asked → first.answer ≡ Ok p) (same_tree : near ≡ tree) where
+    pattern_leads : Follows (second near p) (loaded tree w h.parse)
+    pattern_leads =
+        trail _ _ _ (same _ _ (ap (λ t. second t p) same_tree)) (then_follows first p (second tree) (loads first_told))
+
+    pattern_told : IsTold T (second near p).asked
+    pattern_told =
+        told_lead T _ _ pattern_leads (told_bytes T (loaded tree w h.parse).asked (subst (IsTold T) h.paths told))
+
+    -- so does what stops the pattern after them
+    pub pattern_stops : (u : Unready) → (IsTold T (second near p).asked → StopsWith u (second near p))
+        → StopsWith u (loaded tree w h.parse)
+    pattern_stops u s = stops_lead u _ _ pattern_leads (s pattern_told)
+
+    pub pattern_comes : (x : Expr × Packages) → (IsTold T (second near p).asked → (second near p).answer ≡ Ok x)
+        → (loaded tree w h.parse).answer ≡ Ok x
+    pattern_comes x e = sym pattern_leads.0 ∙ e pattern_told
 
 -- ---- what it comes to
 
@@ -105,6 +147,12 @@ pub due_goal :
 due_goal NoMemory o r h c = tt
 due_goal (Refused line) o r h c = goal_refused o.answer h.0 (string_bytes line) r h.1 h.2 c
 due_goal (ReadFault path) o r h c = tt
+
+pub due_through :
+    {X A : Type 0} (view : X → A) (result : Result X Unready) (u : Unready) (r : OrLine A) → IsErrAnd result (λ e. e ≡ u)
+    → IsDue u r → Prepares view result r
+due_through view (Ok x) u r h k = absurd h
+due_through view (Err e) u r h k = subst (λ v. IsDue v r) (sym h) k
 
 -- ---- what is asked for on the way to a pattern
 

@@ -12,6 +12,7 @@ ghost use Rattle.rpl_expand.specs.Sets.{table_of};
 ghost use Rattle.rpl_forms.specs.Rows.{rows_of};
 ghost use Rattle.rosie_prepare.specs.inside.Steps.{Leads};
 ghost use Rattle.rpl_load_laws.specs.Laws.{Resolves};
+ghost use Rattle.rpl_package.specs.Asking.{IfTold, IsTold};
 ghost use Rattle.rpl_package.specs.Loading.{world};
 ghost use Rattle.rpl_package.specs.Patterns.{HasNoFault, load_pattern};
 ghost use Rattle.rpl_package.specs.Roots.{Packages, load};
@@ -37,7 +38,7 @@ fn load_roots<F: Files>(
     folders: &LibPath,
     roots: &Roots,
 ) -> Result<PackageSet, Unready>
-    ensures gives { F.tells → Leads set_seen result
+    ensures gives { IfTold F.tells (Leads set_seen result)
         (load (world (F.tree files.old) folders.now) roots.now) }
     ensures many { IfOk result (λ set. length (set_seen set).roots ≡ length roots.now) }
     ensures cause { CauseIn F.Source result files.old files.new }
@@ -59,9 +60,8 @@ fn load_goal<F: Files>(
     set: &mut PackageSet,
     request: &PatternRequest<'_>,
 ) -> Result<Expr, Unready>
-    ensures gives { F.tells → (parse : Or ParsedExpr)
-        → IsReadAs (request_seen request.now) parse
-        → Leads (λ e. (expr_of e, set_seen set.new)) result
+    ensures gives { (parse : Or ParsedExpr) → IsReadAs (request_seen request.now) parse
+        → IfTold F.tells (Leads (λ e. (expr_of e, set_seen set.new)) result)
         (load_pattern (world (F.tree files.old) request.now.folders.now) (set_seen set.old) parse) }
     ensures right { IfOk result (λ e. HasNoFault (expr_of e) (set_seen set.new)) }
     ensures cause { CauseIn F.Source result files.old files.new }
@@ -87,13 +87,13 @@ pub fn prepare_rules<F: Files>(
     folders: &LibPath,
     roots: &Roots,
 ) -> Result<PreparedRules, Unready>
-    ensures prepares { F.tells → (r : OrLine Packages)
-        → TableComes (load (world (F.tree files.old) folders.now) roots.now).answer r
-        → Prepares (λ p. set_seen p.set) result r }
+    ensures prepares { IfTold F.tells (λ o. (r : OrLine Packages) → TableComes o.answer r
+        → Prepares (λ p. set_seen p.set) result r)
+        (load (world (F.tree files.old) folders.now) roots.now) }
     ensures table { IfOk result (λ p. rows_of p.rules ≡ table_of (set_seen p.set)) }
     ensures many { IfOk result (λ p. length (set_seen p.set).roots ≡ length roots.now) }
-    ensures asked { F.tells → IfErr result (λ u. IsAsked u
-        (map encode_utf8_all (load (world (F.tree files.old) folders.now) roots.now).asked)) }
+    ensures asked { IfTold F.tells (λ o. IfErr result (λ u. IsAsked u
+        (map encode_utf8_all o.asked))) (load (world (F.tree files.old) folders.now) roots.now) }
     ensures cause { CauseIn F.Source result files.old files.new }
     ensures taken { NotFewer (F.taken files.old) (F.taken files.new) }
     ensures tree { F.tree files.new ≡ F.tree files.old }
@@ -113,10 +113,10 @@ pub fn prepare<F: Files>(
     files: &mut F,
     request: &PatternRequest<'_>,
 ) -> Result<Prepared, Unready>
-    ensures prepares { F.tells → (asked : List (List ℕ)) → (r : OrLine Ready)
+    ensures prepares { (asked : List (List ℕ)) → IsTold F.tells asked → (r : OrLine Ready)
         → IsPrepared (F.tree files.old) (request_seen request.now) asked r →
         Prepares ready_seen result r }
-    ensures asked { F.tells → (asked : List (List ℕ)) → (r : OrLine Ready)
+    ensures asked { (asked : List (List ℕ)) → IsTold F.tells asked → (r : OrLine Ready)
         → IsPrepared (F.tree files.old) (request_seen request.now) asked r →
         IfErr result (λ u. IsAsked u asked) }
     ensures whole { IfOk result (λ p. IsWhole (bodies_of p.rules) (core_of (peg_of p.goal))) }

@@ -13,7 +13,7 @@ use Rattle.rpl_scope.specs.Packages.{first_of}
 use Rattle.rpl_scope.specs.declared.fault.LoadKind.TheVariants.{Duplicate}
 use Rattle.rpl_scope.specs.declared.fault.Stop.{Stop}
 use Rattle.rpl_scope.specs.declared.fault.Stop.TheVariants.{Memory, Fault}
-use Rattle.rpl_package.specs.Asking.{Outcome, at_once, and_then, asked_then, MayStop}
+use Rattle.rpl_package.specs.Asking.{IsTold, Outcome, at_once, and_then, asked_then, MayStop}
 use Rattle.rpl_package.specs.Built.{IsSaid, Loads, Becomes, opened}
 use Rattle.rpl_package.specs.Loading.{World, Walk, Stock, State, find, checks, own_text, is_taken, is_loading, label_at, label_of, taken_up, walk, world, load_import}
 use Rattle.rpl_package.specs.declared.opening.ImportedText.{ImportedText}
@@ -23,7 +23,7 @@ use Rattle.rpl_package.specs.inside.Opening.{Begins, imported_head, own_begun}
 use Rattle.rpl_package.specs.inside.Reading.{IsLoud}
 use Rattle.rpl_package.proofs.Building.{makes_by, loads_by}
 use Rattle.rpl_package.proofs.Causes.{loud_cause}
-use Rattle.rpl_package.proofs.Outcomes.{Follows, same, trail, may, may_lead, may_then}
+use Rattle.rpl_package.proofs.Outcomes.{Follows, same, trail, may, step_on, step_stops}
 use Rattle.rpl_package.proofs.Walking.{own_free, read_leads, room_leads}
 
 -- ---- a module that begins
@@ -62,6 +62,19 @@ pub own_goes : (w : World) (below : Walk) (s : Stock) (hs : List Head) (f : List
 own_goes w below s hs f h t now u begun held =
     let b = begun_free s hs f h t u begun in
     same _ _ (ap₂ (λ x y. checks w below x f t y) held b.1 ∙ sym (own_free w below s hs f h.path h.label t b.0))
+
+-- what stops the text of a module that begins stops its loading
+module _ (K : Type 0) (w : World) (below : Walk) (s : Stock) (hs : List Head) (f : List ℕ) (h : Head) (t : ParsedModule) (now : List Head) (u : State) (begun : own_begun s hs f h t ≡ Ok u) (held : now ≡ hs ++ h ∷ [])
+    (told : IsTold K (and_then (own_text w below s hs f h.path h.label t) (λ v. at_once (Ok (taken_up v)))).asked) where
+  abbrev own : Outcome State
+  own = own_text w below s hs f h.path h.label t
+
+  pub own_text_stops : (stop : Stop) → (IsTold K (checks w below now f t u).asked → MayStop stop (checks w below now f t u)) → MayStop stop (and_then own (λ v. at_once (Ok (taken_up v))))
+  own_text_stops = step_stops K (checks w below now f t u) own (λ v. at_once (Ok (taken_up v))) _ (own_goes w below s hs f h t now u begun held) (same _ _ refl) told
+
+  -- and where it has been read, the module is taken up
+  pub own_text_taken : (v : State) → (IsTold K (checks w below now f t u).asked → (checks w below now f t u).answer ≡ Ok v) → (and_then own (λ v. at_once (Ok (taken_up v)))).answer ≡ Ok (taken_up v)
+  own_text_taken v e = sym (step_on K (checks w below now f t u) own (λ v. at_once (Ok (taken_up v))) _ (own_goes w below s hs f h t now u begun held) (same _ _ refl) told v e).0
 
 -- ---- an import's text
 
@@ -128,11 +141,14 @@ module _ (T U : List (List ℕ × List ℕ)) (ds : List (List ℕ)) (d : ℕ) (h
       trail _ _ _ (same _ _ (ap₂ (λ t o. checks (world t ds) (walk (world t ds) d) hs fr.file (said tr.text) o) tree own))
       (same _ _ (ap₂ (λ x y. checks (world T ds) (walk (world T ds) d) hs x.file (said y.text) s) file text))
 
-  pub inner_stops : (stop : Stop) → MayStop stop (checks (world U ds) (walk (world U ds) d) hs fr.file (said tr.text) v) → MayStop stop whole
-  inner_stops stop h =
-      may_lead stop _ _ goes
-      (may_then stop (checks (world T ds) (walk (world T ds) d) hs r.file (said r.text) s) (λ u. at_once (Ok (taken_up u)))
-      (may_lead stop _ _ inner_leads h))
+  abbrev inner : Outcome State
+  inner = checks (world U ds) (walk (world U ds) d) hs fr.file (said tr.text) v
 
-  pub inner_taken : (u : State) → (checks (world U ds) (walk (world U ds) d) hs fr.file (said tr.text) v).answer ≡ Ok u → whole.answer ≡ Ok (taken_up u)
-  inner_taken u h = sym goes.0 ∙ ap (λ x. x >>= λ y. Ok (taken_up y)) (sym inner_leads.0 ∙ h)
+  -- what stops it stops the import
+  pub inner_stops : (K : Type 0) → IsTold K whole.asked → (stop : Stop) → (IsTold K inner.asked → MayStop stop inner) → MayStop stop whole
+  inner_stops K told = step_stops K inner (checks (world T ds) (walk (world T ds) d) hs r.file (said r.text) s) (λ u. at_once (Ok (taken_up u))) whole inner_leads goes told
+
+  -- and where it has been read, its module is taken up
+  pub inner_taken : (K : Type 0) → IsTold K whole.asked → (u : State) → (IsTold K inner.asked → inner.answer ≡ Ok u) → whole.answer ≡ Ok (taken_up u)
+  inner_taken K told u h =
+      sym (step_on K inner (checks (world T ds) (walk (world T ds) d) hs r.file (said r.text) s) (λ u. at_once (Ok (taken_up u))) whole inner_leads goes told u h).0

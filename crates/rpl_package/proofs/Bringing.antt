@@ -5,13 +5,19 @@ use Rattle.rpl_syntax.specs.declared.module.Import.{Import}
 use Rattle.rpl_syntax.specs.declared.name.QName.{QName}
 use Rattle.rpl_scope.specs.Packages.{nth}
 use Rattle.rpl_scope.specs.declared.fault.Stop.{Stop}
-use Rattle.rpl_package.specs.Asking.{MayStop, and_then}
+use Rattle.rpl_package.specs.Asking.{IsTold, MayStop, and_then}
 use Rattle.rpl_package.specs.Loading.{World, Stock, load_import, walk}
 use Rattle.rpl_package.specs.Patterns.{bring, pattern_name, put, needed_at}
 use Rattle.rpl_package.specs.declared.stock.Head.{Head}
-use Rattle.rpl_package.proofs.Outcomes.{Follows, same, trail, may_lead, may_then, then_follows}
+use Rattle.rpl_package.proofs.Outcomes.{Follows, same, trail, may_lead, may_then, then_follows, told_lead, told_then}
 
 module _ (w : World) (f : List ℕ) (i : ℕ) (s : Stock) (q : QName) (e : Import) (hs : List Head) (asked : needed_at q (nth s.modules i) ≡ Some e) (idle : hs ≡ []) where
+  -- where the name is told, so is the way to the module
+  pub told_way : (T : Type 0) → IsTold T (pattern_name w f i q s).asked → IsTold T (load_import w (walk w w.most) hs f e s).asked
+  told_way T h =
+      told_lead T _ _ (same _ _ (ap (λ l. load_import w (walk w w.most) l f e s) idle))
+      (told_then T (load_import w (walk w w.most) [] f e s) (put f e i) (told_lead T _ _ (same _ _ (sym (ap (bring w f i s) asked))) h))
+
   -- what stops the way to the module stops the name
   pub unreached : (stop : Stop) → MayStop stop (load_import w (walk w w.most) hs f e s) → MayStop stop (pattern_name w f i q s)
   unreached stop h =

@@ -1,5 +1,5 @@
 -- Steps of the search for an import's file.
-use Rattle.std.proofs.Common.{◌≡◌, ℕ, ◌+◌, ◌<◌, List, [], ◌∷◌, length, drop, get_or, None, sym, ap}
+use Rattle.std.proofs.Common.{◌≡◌, inl, inr, ℕ, ◌+◌, ◌<◌, List, [], ◌∷◌, length, drop, get_or, None, sym, ap, arith}
 use Rattle.std.proofs.Common.{subst, ◌∙◌}
 use Rattle.std.specs.Prelude.{encode_utf8_all, Result, Ok, Err, IsErrAnd}
 use Rattle.std.specs.List.{Contains}
@@ -11,7 +11,7 @@ use Rattle.rpl_scope.specs.declared.fault.LoadKind.TheVariants as K
 use Rattle.rpl_scope.specs.declared.fault.Stop.{Stop}
 use Rattle.rpl_scope.specs.declared.fault.Stop.TheVariants.{Memory, Fault}
 use Rattle.rpl_scope.proofs.Checking.{front}
-use Rattle.rpl_package.specs.Asking.{Asks, KindAsks, StopAsks}
+use Rattle.rpl_package.specs.Asking.{Asks, IsTold, KindAsks, StopAsks}
 use Rattle.rpl_package.specs.Loading.{file_in, find, found_or, tried, tried_then}
 
 kind_asks : (k : LoadKind) (f : LoadFault) (xs ys : List (List ℕ)) → ((p : List ℕ) → Contains xs p → Contains ys p) → KindAsks k f xs → KindAsks k f ys
@@ -27,6 +27,12 @@ asks_more (Fault f) xs ys more h = kind_asks f.kind f xs ys more h
 pub asks_passed : {X : Type 0} (res : Result X Stop) (s : Stop) (xs : List (List ℕ)) → IsErrAnd res (λ t. t ≡ s) → StopAsks s xs → Asks res xs
 asks_passed (Ok x) s xs h k = absurd h
 asks_passed (Err t) s xs h k = subst (λ u. StopAsks u xs) (sym h) k
+
+-- where a folder is looked into, the files tell
+pub files_tell : (T : Type 0) (tree : List (List ℕ × List ℕ)) (folders : List (List ℕ)) (path : List ℕ) (i : ℕ) → i < length folders → IsTold T (tried tree folders path) → T
+files_tell T tree [] path i lt told = absurd (omega (arith, lt))
+files_tell T tree (d ∷ ds) path i lt (inl tells) = tells
+files_tell T tree (d ∷ ds) path i lt (inr none) = absurd (cc)
 
 module _ (tree : List (List ℕ × List ℕ)) (folders : List (List ℕ)) (path : List ℕ) (i : ℕ) (d : List ℕ) (lt : i < length folders) (is : d ≡ get_or folders i d) where
   rest : List (List ℕ)

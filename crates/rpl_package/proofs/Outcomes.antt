@@ -1,16 +1,16 @@
 -- Steps of a loading, and what follows them.
-use Rattle.std.proofs.Common.{◌≡◌, ◌⊎◌, inl, inr, ℕ, List, [], ◌∷◌, refl, sym, ap, subst, ◌∙◌, false, true≢false, arith}
-use Rattle.std.specs.Prelude.{Result, Ok, Err, IfOk, IfErr, IsErrAnd}
+use Rattle.std.proofs.Common.{◌≡◌, ◌⊎◌, inl, inr, ℕ, zero, List, [], ◌∷◌, ◌++◌, refl, sym, ap, subst, ◌∙◌, false, true≢false, arith}
+use Rattle.std.specs.Prelude.{Option, Some, None, Result, Ok, Err, IfOk, IfErr, IsErrAnd}
 use Rattle.std.specs.List.{Contains}
 use Rattle.std.proofs.lemmas.List.Elements.{Contains-append_cases, Contains-append_left, Contains-append_right}
-use Rattle.rpl_scope.specs.Faults.{Or, ◌>>=◌, is_silent, StopIs, Gives}
+use Rattle.rpl_scope.specs.Faults.{Checks, Or, ◌>>=◌, is_silent, StopIs, Gives, unless}
 use Rattle.rpl_scope.specs.declared.fault.LoadFault.{LoadFault}
 use Rattle.rpl_scope.specs.declared.fault.LoadKind.{LoadKind}
 use Rattle.rpl_scope.specs.declared.fault.LoadKind.TheVariants as K
 use Rattle.rpl_scope.specs.declared.fault.Stop.{Stop}
 use Rattle.rpl_scope.specs.declared.fault.Stop.TheVariants.{Memory, Fault}
 use Rattle.rpl_package.specs.Asking.{Outcome, at_once, asked_then, and_then, each_in_turn, Explains, MayStop, Walks}
-use Rattle.rpl_package.specs.Asking.{KindAsks, StopAsks}
+use Rattle.rpl_package.specs.Asking.{IsTold, KindAsks, StopAsks}
 pub use Rattle.rpl_package.specs.inside.Following.{Follows}
 use Rattle.rpl_package.specs.inside.Reading.{IsQuiet}
 
@@ -93,6 +93,52 @@ then_follows a x next h = (
   λ p c. Contains-append_right a.asked (asked_then a.answer next) p (subst (λ r. Contains (asked_then r next) p) (sym h) c),
 )
 
+-- ---- what is told of a step
+
+none_in : {P : Type 0} (xs : List P) → ((p : P) → Contains xs p → ⊥) → xs ≡ []
+none_in [] none = refl
+none_in (x ∷ xs) none = absurd (none x (zero, omega arith, refl))
+
+told_of : (T : Type 0) (xs ys : List (List ℕ)) → ((p : List ℕ) → Contains xs p → Contains ys p) → IsTold T ys → IsTold T xs
+told_of T xs ys more (inl t) = inl t
+told_of T xs ys more (inr e) = inr (none_in xs (λ p c.
+    let none = subst (λ l. Contains l p) e (more p c) in
+    absurd (omega (arith, none.1))))
+
+-- where all that follows is told, so is the step, and what it leads to
+pub told_lead : {A : Type 0} (T : Type 0) (a b : Outcome A) → Follows a b → IsTold T b.asked → IsTold T a.asked
+told_lead T a b h = told_of T a.asked b.asked h.1
+
+pub told_then : {A B : Type 0} (T : Type 0) (a : Outcome A) (next : A → Outcome B) → IsTold T (and_then a next).asked → IsTold T a.asked
+told_then T a next = told_of T a.asked (and_then a next).asked (Contains-append_left a.asked (asked_then a.answer next))
+
+none_more : {A B : Type 0} (T : Type 0) (xs : List (List ℕ)) (r : Or A) (g : A → B) → IsTold T xs → IsTold T (xs ++ asked_then r (λ x. at_once (Ok (g x))))
+none_more T xs r g (inl t) = inl t
+none_more T xs r g (inr e) = inr (none_in _ (λ p c. no (Contains-append_cases xs (asked_then r (λ x. at_once (Ok (g x)))) p c)))
+  where
+    no : {p : List ℕ} → Contains xs p ⊎ Contains (asked_then r (λ x. at_once (Ok (g x)))) p → ⊥
+    no {p} (inl c) =
+        let none = subst (λ l. Contains l p) e c in
+        absurd (omega (arith, none.1))
+    no {p} (inr c) = no_more r g p c
+
+-- a step that goes on to the next, where all of it is told
+module _ {A B : Type 0} (T : Type 0) (a b : Outcome A) (next : A → Outcome B) (whole : Outcome B) (moved : Follows a b) (led : Follows (and_then b next) whole) (told : IsTold T whole.asked) where
+  told_step : IsTold T a.asked
+  told_step = told_lead T a b moved (told_then T b next (told_lead T (and_then b next) whole led told))
+
+  -- what stops it stops all of it
+  pub step_stops : (s : Stop) → (IsTold T a.asked → MayStop s a) → MayStop s whole
+  step_stops s h = may_lead s (and_then b next) whole led (may_then s b next (may_lead s a b moved (h told_step)))
+
+  -- after its answer the next is left
+  pub step_on : (x : A) → (IsTold T a.asked → a.answer ≡ Ok x) → Follows (next x) whole
+  step_on x h = trail (next x) (and_then b next) whole (then_follows b x next (sym moved.0 ∙ h told_step)) led
+
+-- what is made of an answer asks for nothing more
+pub told_before : {A B : Type 0} (T : Type 0) (a : Outcome A) (g : A → B) → IsTold T a.asked → IsTold T (and_then a (λ x. at_once (Ok (g x)))).asked
+told_before T a g h = none_more T a.asked a.answer g h
+
 -- ---- calls that read no file
 
 explains_loud : {A : Type 0} (k : LoadKind) (f : LoadFault) (r : Or A) → is_silent k ≡ false → r ≡ Err f → Explains k f (at_once r)
@@ -107,6 +153,20 @@ may (Fault f) r h = explains_loud f.kind f r h.0 h.1
 pub gives_walks : {X A : Type 0} (see : X → A) (res : Result X Stop) (r : Or A) → Gives see res r → Walks see res (at_once r)
 gives_walks see (Ok x) r h = h
 gives_walks see (Err s) r h = may s r h
+
+stop_on : {A B : Type 0} (s : Stop) (r : Or A) (g : A → B) → StopIs s r → StopIs s (r >>= λ x. Ok (g x))
+stop_on Memory r g h = tt
+stop_on (Fault f) r g h = (h.0, ap (λ q. q >>= λ x. Ok (g x)) h.1)
+
+-- and what is made of what they give
+pub gives_on : {X A B : Type 0} (see : X → A) (res : Result X Stop) (r : Or A) (g : A → B) → Gives see res r → Walks (λ x. g (see x)) res (at_once (r >>= λ x. Ok (g x)))
+gives_on see (Ok x) r g h = ap (λ q. q >>= λ y. Ok (g y)) h
+gives_on see (Err s) r g h = may s _ (stop_on s r g h)
+
+-- a check that goes on with what was there
+pub checks_on : {X A : Type 0} (a : A) (res : Result X Stop) (o : Option LoadFault) → Checks res o → Walks (λ x. a) res (at_once (unless o a))
+checks_on a res None h = gives_on (λ x. tt {0}) res (Ok (tt {0})) (λ x. a) h
+checks_on a res (Some f) h = gives_on (λ x. tt {0}) res (Err f) (λ x. a) h
 
 -- ---- a failed read
 
@@ -130,6 +190,9 @@ module _ {A S : Type 0} (step : A → S → Outcome S) (ys zs : List A) (x : A) 
 
   pub turn_stop : (s : Stop) → MayStop s (step x m) → MayStop s all
   turn_stop s stop = may_lead s _ all left (may_then s (step x m) (each_in_turn step zs) stop)
+
+  pub turn_told : (T : Type 0) → IsTold T all.asked → IsTold T (step x m).asked
+  turn_told T h = told_then T (step x m) (each_in_turn step zs) (told_lead T _ all left h)
 
 pub turn_done : {A S : Type 0} (step : A → S → Outcome S) (ys : List A) (m : S) (all : Outcome S) → ys ≡ [] → Follows (each_in_turn step ys m) all → all.answer ≡ Ok m
 turn_done step ys m all none led = sym led.0 ∙ ap (λ l. (each_in_turn step l m).answer) none

@@ -1,21 +1,21 @@
 -- Steps of the walk.
 use Rattle.std.proofs.Common.{◌≡◌, ◌≢◌, ℕ, zero, suc, ◌+◌, ◌-◌, List, [], ◌∷◌, ◌++◌, length, Option, Some, None}
-use Rattle.std.proofs.Common.{refl, sym, ap, ap₂, ◌∙◌, true, false, arith}
+use Rattle.std.proofs.Common.{refl, sym, ap, ap₂, subst, ◌∙◌, true, false, arith}
 use Rattle.std.specs.Prelude.{nat_lt, if◌then◌else◌, Ok}
 use Rattle.rpl_syntax.specs.Modules.{ParsedModule}
 use Rattle.rpl_syntax.specs.declared.module.Import.{Import}
 use Rattle.rpl_scope.specs.Faults.{fault, fault_at, IsStop, StopIs}
-use Rattle.rpl_scope.specs.Packages.{first_of}
+use Rattle.rpl_scope.specs.Packages.{Module, first_of}
 use Rattle.rpl_scope.specs.declared.fault.Stop.{Stop}
 use Rattle.rpl_scope.proofs.Stops.{told}
 use Rattle.rpl_scope.specs.declared.fault.LoadKind.TheVariants.{ImportCycle, ImportMissing, TooManyPackages, Duplicate}
-use Rattle.rpl_package.specs.Asking.{at_once, and_then, MayStop, StopAsks}
+use Rattle.rpl_package.specs.Asking.{IsTold, Outcome, at_once, and_then, MayStop, StopAsks}
 use Rattle.rpl_package.specs.inside.Reading.{IsQuiet}
 use Rattle.rpl_package.specs.Loading.{World, Walk, Stock, find, search, tried, fresh, known_or, load_import}
-use Rattle.rpl_package.specs.Loading.{is_loading, is_taken, taken_up, own_text, checks, empty_module}
+use Rattle.rpl_package.specs.Loading.{State, is_loading, is_taken, taken_up, own_text, checks, empty_module, import_entries, said_of, with_text}
 use Rattle.rpl_package.specs.Loading.{label_of, label_at, walk}
 use Rattle.rpl_package.specs.declared.stock.Head.{Head}
-use Rattle.rpl_package.proofs.Outcomes.{Follows, same, trail, then_follows, may, may_lead, may_then, quiet}
+use Rattle.rpl_package.proofs.Outcomes.{Follows, same, trail, then_follows, may, may_lead, may_then, quiet, step_on, step_stops, told_then}
 
 pub own_free : (w : World) (below : Walk) (s : Stock) (hs : List Head) (f : List ℕ) (path : Option (List ℕ)) (label : List ℕ) (t : ParsedModule) → is_taken label hs s ≡ false
     → own_text w below s hs f path label t ≡ checks w below (hs ++ record { path = path; label = label } ∷ []) f t (record { stock = s; own = empty_module path label })
@@ -44,13 +44,19 @@ unread_stops w n s hs f path bytes deep stop h =
     may_lead stop _ _ (same _ _ (sym (walk_is w n s hs f path bytes deep)))
     (may_then stop (at_once (w.text f bytes)) (λ x. own_text w (walk w (n - 1)) s hs f (Some path) (label_of x.name path) x) (may stop (w.text f bytes) h))
 
--- a path that is neither being loaded nor loaded is searched
+-- a path that is neither being loaded nor loaded is searched, and so its files are told where the import is
 pub reach_new : (w : World) (below : Walk) (hs : List Head) (f : List ℕ) (i : Import) (s : Stock)
     → is_loading i.path hs ≡ false → first_of i.path s.paths ≡ None
     → and_then (search w i.path) (fresh w below hs f i s) ≡ load_import w below hs f i s
 reach_new w below hs f i s free new =
     sym (ap (λ b. if b then at_once (fault f i.at (ImportCycle i.path)) else known_or (first_of i.path s.paths) w below hs f i s) free
     ∙ ap (λ o. known_or o w below hs f i s) new)
+
+pub told_file : (T : Type 0) (w : World) (below : Walk) (hs : List Head) (f : List ℕ) (i : Import) (s : Stock)
+    → is_loading i.path hs ≡ false → first_of i.path s.paths ≡ None
+    → IsTold T (load_import w below hs f i s).asked → IsTold T (tried w.tree w.folders i.path)
+told_file T w below hs f i s free new h =
+    told_then T (search w i.path) (fresh w below hs f i s) (subst (λ o. IsTold T o.asked) (sym (reach_new w below hs f i s free new)) h)
 
 pub found_leads : (w : World) (below : Walk) (hs : List Head) (f : List ℕ) (i : Import) (s : Stock) (o : Option (List ℕ × List ℕ))
     → is_loading i.path hs ≡ false → first_of i.path s.paths ≡ None → find w.tree w.folders i.path ≡ o
@@ -99,3 +105,18 @@ module _ (w : World) (below : Walk) (hs : List Head) (f : List ℕ) (i : Import)
 
     pub reach_stopped : nat_lt (length s.modules + length hs) w.most ≡ true → MayStop stop (below s hs g i.path bytes) → MayStop stop (load_import w below hs f i s)
     reach_stopped room h = may_lead stop _ _ (room_leads w below hs f i s g bytes free new found room) (may_then stop (below s hs g i.path bytes) (λ t. at_once (Ok (taken_up t))) h)
+
+-- ---- the import entries of a text
+
+module _ (K : Type 0) (w : World) (below : Walk) (hs : List Head) (f : List ℕ) (t : ParsedModule) (s : State) (is : List Import) (own : Module) (imports : is ≡ t.imports) (text : own ≡ with_text s.own f)
+    (told : IsTold K (checks w below hs f t s).asked) where
+  abbrev entries : List Import → Module → Outcome State
+  entries js m = import_entries w below hs f js (record { stock = s.stock; own = m })
+
+  -- what stops them stops the text
+  pub entries_stop : (stop : Stop) → (IsTold K (entries is own).asked → MayStop stop (entries is own)) → MayStop stop (checks w below hs f t s)
+  entries_stop = step_stops K (entries is own) (entries t.imports (with_text s.own f)) (said_of f (length s.own.texts) t) _ (same _ _ (ap₂ entries imports text)) (same _ _ refl) told
+
+  -- after them its statements are left
+  pub entries_on : (u : State) → (IsTold K (entries is own).asked → (entries is own).answer ≡ Ok u) → Follows (said_of f (length s.own.texts) t u) (checks w below hs f t s)
+  entries_on = step_on K (entries is own) (entries t.imports (with_text s.own f)) (said_of f (length s.own.texts) t) _ (same _ _ (ap₂ entries imports text)) (same _ _ refl) told

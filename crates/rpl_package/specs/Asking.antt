@@ -1,5 +1,5 @@
 -- Loading step by step: the paths that are asked for on the way, and what comes of it.
-use Rattle.std.specs.Prelude.{◌≡◌, ℕ, List, Result, Ok, Err}
+use Rattle.std.specs.Prelude.{◌≡◌, ◌⊎◌, ℕ, List, [], Result, Ok, Err}
 use Rattle.std.specs.List.{Contains}
 use Rattle.rpl_scope.specs.declared.fault.LoadFault.{LoadFault}
 use Rattle.rpl_scope.specs.declared.fault.LoadKind.{LoadKind}
@@ -7,6 +7,16 @@ use Rattle.rpl_scope.specs.declared.fault.LoadKind.TheVariants.{NoMemory, ReadFa
 use Rattle.rpl_scope.specs.declared.fault.Stop.{Stop}
 use Rattle.rpl_scope.specs.declared.fault.Stop.TheVariants.{Memory, Fault}
 pub use Rattle.rpl_package.specs.Steps.{Outcome, at_once, asked_then, and_then, each_in_turn}
+
+-- ---- what is told
+
+-- what comes of some files is told: the files tell, or no path is asked for
+abbrev pub IsTold : {P : Type 0} → (tells : Type 0) → (asked : List P) → Type 0
+IsTold tells asked = tells ⊎ (asked ≡ [])
+
+-- it holds of an outcome, where that is told
+abbrev pub IfTold : {A : Type 0} → (tells : Type 0) → (Outcome A → Type 0) → Outcome A → Type 0
+IfTold tells Holds o = IsTold tells o.asked → Holds o
 
 -- ---- what a call may answer
 

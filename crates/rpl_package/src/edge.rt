@@ -5,6 +5,7 @@ ghost use Rattle.rpl_syntax.specs.Expression.{Expr as ParsedExpr};
 ghost use Rattle.rpl_syntax.specs.View.{expr_of};
 ghost use Rattle.rpl_scope.specs.Faults.{Or};
 ghost use Rattle.rpl_package.specs.Answers.{Answers, HasNoPlace, IsCaused, IsFault};
+ghost use Rattle.rpl_package.specs.Asking.{IfTold};
 ghost use Rattle.rpl_package.specs.Goals.{ReadsGoal};
 ghost use Rattle.rpl_package.specs.Loading.{world};
 ghost use Rattle.rpl_package.specs.Patterns.{HasNoFault, load_pattern};
@@ -57,7 +58,7 @@ pub fn load<F: Files>(
     path: &LibPath,
     roots: &Roots,
 ) -> Result<PackageSet, LoadFault>
-    ensures gives { F.tells → Answers set_seen result
+    ensures gives { IfTold F.tells (Answers set_seen result)
         (load (world (F.tree files.old) path.now) roots.now) }
     ensures many { IfOk result (λ set. length (set_seen set).roots ≡ length roots.now) }
     ensures cause { IsCaused result (F.faults files.old) (F.faults files.new)
@@ -98,9 +99,9 @@ pub fn load_pattern<F: Files>(
     set: &mut PackageSet,
     goal: &Goal<'_>,
 ) -> Result<Expr, LoadFault>
-    ensures gives { F.tells → (r : Or ParsedExpr) →
+    ensures gives { (r : Or ParsedExpr) →
         ReadsGoal goal.now.fixed goal.now.find goal.now.text.now r
-        → Answers (λ e. (expr_of e, set_seen set.new)) result
+        → IfTold F.tells (Answers (λ e. (expr_of e, set_seen set.new)) result)
         (load_pattern (world (F.tree files.old) path.now) (set_seen set.old) r) }
     ensures right { IfOk result (λ e. HasNoFault (expr_of e) (set_seen set.new)) }
     ensures kept { OnErr result (set_seen set.new ≡ set_seen set.old) }

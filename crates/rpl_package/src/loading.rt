@@ -1,6 +1,6 @@
 // Loading the roots.
 ghost use Rattle.std.specs.Prelude.{◌≡◌, [], ◌∷◌, IfOk, IfErr, length};
-ghost use Rattle.rpl_package.specs.Asking.{Walks};
+ghost use Rattle.rpl_package.specs.Asking.{IfTold, Walks};
 ghost use Rattle.rpl_package.specs.Built.{Becomes};
 ghost use Rattle.rpl_package.specs.Loading.{world};
 ghost use Rattle.rpl_package.specs.Roots.{AreWithin, begun, load, top_head, finish_set};
@@ -70,7 +70,7 @@ pub fn load_set<F: Files>(
     folders: &[Chars],
     roots: &[Root],
 ) -> Result<PackageSet, Stop>
-    ensures gives { F.tells → Walks set_seen result
+    ensures gives { IfTold F.tells (Walks set_seen result)
         (load (world (F.tree files.old) folders.now) roots.now) }
     ensures many { IfOk result (λ s. length (set_seen s).roots ≡ length roots.now) }
     ensures files { LeavesFiles F.Source result files.old files.new }

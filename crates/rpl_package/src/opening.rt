@@ -10,7 +10,7 @@ ghost use Rattle.rpl_package.specs.Texts.{module_text};
 ghost use Rattle.rpl_package.specs.inside.Kept.{Keeps};
 ghost use Rattle.rpl_package.specs.inside.Leaving.{LeavesFiles};
 ghost use Rattle.rpl_package.specs.inside.Opening.{Begins, GoesOn, StopsWalk, imported_head};
-ghost use Rattle.rpl_package.specs.inside.Opening.{own_begun, under};
+ghost use Rattle.rpl_package.specs.inside.Opening.{TellsFile, own_begun, under};
 ghost use Rattle.rpl_package.specs.inside.Reading.{IsLoud, IsRead, Locates};
 ghost use Rattle.rpl_scope.specs.Faults.{Gives, IsStop, fault_at};
 ghost use Rattle.rpl_scope.specs.Packages.{first_of};
@@ -84,12 +84,14 @@ fn find_import<F: Files>(
 ) -> Result<Located, Stop>
     requires free { is_loading import.now.path stock.now.held.items ≡ false }
     requires new { first_of import.now.path (stock_seen stock.now).paths ≡ None }
-    ensures found { F.tells → IfOk result (λ l. Locates (Some l)
+    ensures found { TellsFile F.tells (F.tree files.old) walker.now import.now →
+        IfOk result (λ l. Locates (Some l)
         (find (F.tree files.old) walker.now.importer.folders.now import.now.path)) }
     ensures room { IfOk result (λ _. nat_lt
         (length stock.now.modules.items + length stock.now.held.items) 1024 ≡ true) }
-    ensures stops { F.tells → IfErr result (λ s. MayStop s (under load_import (F.tree files.old)
-        walker.now stock.now.held.items import.now (stock_seen stock.now))) }
+    ensures stops { TellsFile F.tells (F.tree files.old) walker.now import.now →
+        IfErr result (λ s. MayStop s (under load_import (F.tree files.old) walker.now
+        stock.now.held.items import.now (stock_seen stock.now))) }
     ensures files { LeavesFiles F.Source result files.old files.new }
 {
     let Importer {
@@ -225,11 +227,13 @@ pub fn open_import<F: Files>(
         (stock_seen stock.old) (said o.read.value.text) stock.new.held.items
         (state_seen stock.new o.own.value)) }
     ensures deep { IfOk result (λ _. walker.now.depth ≢ 0) }
-    ensures goes { F.tells → IfOk result (λ o. GoesOn (F.tree files.old) walker.now
-        stock.new.held.items o (state_seen stock.new o.own.value) (under load_import
-        (F.tree files.old) walker.now stock.old.held.items import.now (stock_seen stock.old))) }
-    ensures stops { F.tells → IfErr result (λ s. MayStop s (under load_import (F.tree files.old)
-        walker.now stock.old.held.items import.now (stock_seen stock.old))) }
+    ensures goes { TellsFile F.tells (F.tree files.old) walker.now import.now →
+        IfOk result (λ o. GoesOn (F.tree files.old) walker.now stock.new.held.items o
+        (state_seen stock.new o.own.value) (under load_import (F.tree files.old) walker.now
+        stock.old.held.items import.now (stock_seen stock.old))) }
+    ensures stops { TellsFile F.tells (F.tree files.old) walker.now import.now →
+        IfErr result (λ s. MayStop s (under load_import (F.tree files.old) walker.now
+        stock.old.held.items import.now (stock_seen stock.old))) }
     ensures kept { stock_seen stock.new ≡ stock_seen stock.old }
     ensures files { LeavesFiles F.Source result files.old files.new }
 {

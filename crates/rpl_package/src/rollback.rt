@@ -3,7 +3,7 @@ ghost use Rattle.std.specs.Prelude.{◌≡◌, [], IfOk, OnErr};
 ghost use Rattle.rpl_syntax.specs.Expression.{Expr as ParsedExpr};
 ghost use Rattle.rpl_syntax.specs.View.{expr_of};
 ghost use Rattle.rpl_scope.specs.Faults.{Or};
-ghost use Rattle.rpl_package.specs.Asking.{Walks};
+ghost use Rattle.rpl_package.specs.Asking.{IfTold, Walks};
 ghost use Rattle.rpl_package.specs.Goals.{ReadsGoal};
 ghost use Rattle.rpl_package.specs.inside.Marks.{cut_back, marks_of, prefixes_of};
 ghost use Rattle.rpl_package.specs.inside.Kept.{with_shortened};
@@ -88,9 +88,9 @@ pub fn enter_goal<F: Files>(
     set: &mut PackageSet,
     goal: Goal<'_>,
 ) -> Result<Expr, Stop>
-    ensures gives { F.tells → (r : Or ParsedExpr) →
+    ensures gives { (r : Or ParsedExpr) →
         ReadsGoal goal.entry.fixed goal.entry.find goal.entry.text.now r
-        → Walks (λ e. (expr_of e, set_seen set.new)) result
+        → IfTold F.tells (Walks (λ e. (expr_of e, set_seen set.new)) result)
         (load_pattern (world (F.tree files.old) folders.now) (set_seen set.old) r) }
     ensures right { IfOk result (λ e. HasNoFault (expr_of e) (set_seen set.new)) }
     ensures kept { OnErr result (set_seen set.new ≡ set_seen set.old) }

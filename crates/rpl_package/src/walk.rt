@@ -1,7 +1,7 @@
 // The walk over a text and all that it imports.
 ghost use Rattle.std.specs.Prelude.{◌≡◌, All, OnOk, IfOk, IfErr, length};
 ghost use Rattle.rpl_syntax.specs.Modules.{said};
-ghost use Rattle.rpl_package.specs.Asking.{Walks};
+ghost use Rattle.rpl_package.specs.Asking.{IfTold, Walks};
 ghost use Rattle.rpl_package.specs.Built.{Becomes, IsAsked, IsSaid, Reaches};
 ghost use Rattle.rpl_package.specs.Loading.{checks, import_entries, load_import};
 ghost use Rattle.rpl_package.specs.Loading.{with_text};
@@ -47,8 +47,9 @@ pub fn load_import<F: Files>(
     import: &Import,
 ) -> Result<usize, Stop>
     requires asked { IsAsked import.now }
-    ensures gives { F.tells → Walks (λ n. (n, stock_seen stock.new)) result (under load_import
-        (F.tree files.old) walker.now stock.old.held.items import.now (stock_seen stock.old)) }
+    ensures gives { IfTold F.tells (Walks (λ n. (n, stock_seen stock.new)) result)
+        (under load_import (F.tree files.old) walker.now stock.old.held.items import.now
+        (stock_seen stock.old)) }
     ensures held { OnOk result (stock.new.held.items ≡ stock.old.held.items) }
     ensures kept { Keeps (stock_seen stock.old) (stock_seen stock.new) }
     ensures built { IfOk result (λ n. Reaches stock.old.held.items import.now.path
@@ -84,8 +85,8 @@ pub fn load_text<F: Files>(
     text: &ParsedModule,
 ) -> Result<(), Stop>
     requires said { IsSaid (said text.now) }
-    ensures gives { F.tells → Walks (λ _. state_seen stock.new own.new) result (under checks
-        (F.tree files.old) walker.now stock.old.held.items (said text.now)
+    ensures gives { IfTold F.tells (Walks (λ _. state_seen stock.new own.new) result)
+        (under checks (F.tree files.old) walker.now stock.old.held.items (said text.now)
         (state_seen stock.old own.old)) }
     ensures held { OnOk result (stock.new.held.items ≡ stock.old.held.items) }
     ensures kept { Keeps (stock_seen stock.old) (stock_seen stock.new) }
@@ -112,8 +113,8 @@ pub fn enter_imports<F: Files>(
     imports: &[Import],
 ) -> Result<(), Stop>
     requires asked { All IsAsked imports.now }
-    ensures gives { F.tells → Walks (λ _. state_seen stock.new own.new) result (under import_entries
-        (F.tree files.old) walker.now stock.old.held.items imports.now
+    ensures gives { IfTold F.tells (Walks (λ _. state_seen stock.new own.new) result)
+        (under import_entries (F.tree files.old) walker.now stock.old.held.items imports.now
         (state_seen stock.old own.old)) }
     ensures held { OnOk result (stock.new.held.items ≡ stock.old.held.items) }
     ensures kept { Keeps (stock_seen stock.old) (stock_seen stock.new) }
@@ -142,8 +143,8 @@ pub fn load_own<F: Files>(
     text: &ParsedModule,
 ) -> Result<usize, Stop>
     requires said { IsSaid (said text.now) }
-    ensures gives { F.tells → Walks (λ n. (n, stock_seen stock.new)) result (under own_loaded
-        (F.tree files.old) walker.now stock.old.held.items head (said text.now)
+    ensures gives { IfTold F.tells (Walks (λ n. (n, stock_seen stock.new)) result)
+        (under own_loaded (F.tree files.old) walker.now stock.old.held.items head (said text.now)
         (stock_seen stock.old)) }
     ensures held { OnOk result (stock.new.held.items ≡ stock.old.held.items) }
     ensures kept { Keeps (stock_seen stock.old) (stock_seen stock.new) }

@@ -11,17 +11,18 @@ use Rattle.rosie_run.specs.declared.outputs.Outputs.{Outputs}
 use Rattle.rosie_run.specs.declared.status.Status.{Status}
 use Rattle.rosie_run.specs.declared.tally.Tally.{Tally}
 use Rattle.rosie_words.specs.declared.command.Command.{Command}
+use Rattle.rpl_package.specs.Asking.{IsTold}
 use Rattle.rosie_cli.specs.Planned.{IsPlannedAs}
 use Rattle.rosie_cli.specs.Plans.{Plan, Planned, among, pieces, stood}
-use Rattle.rosie_cli.specs.Report.{KnowsFor, KnowsInputs}
+use Rattle.rosie_cli.specs.Report.{KnowsInputs}
 use Rattle.rosie_cli.specs.Rosie.{Call, call}
 
 -- the call whose inputs and outputs are these before and after
 abbrev pub call_over :
-    {F I O E L : Type 0} → (comes : Planned → Type 0) → (known : Type 0) → S.Ghosts F → S.Ghosts I → K.Ghosts O
+    {F I O E L : Type 0} → (comes : Planned → Type 0) → S.Ghosts F → S.Ghosts I → K.Ghosts O
     → K.Ghosts E → Inputs F I → Inputs F I → Outputs O E L → Outputs O E L → Status → Call
-call_over comes known F I O E i i' o o' answer =
-    call comes known F I O E i.files.now i'.files.now i.input.now i'.input.now o.out.now o'.out.now o.err.now o'.err.now
+call_over comes F I O E i i' o o' answer =
+    call comes F I O E i.files.now i'.files.now i.input.now i'.input.now o.out.now o'.out.now o.err.now o'.err.now
     o.steps.now o'.steps.now answer
 
 -- the pieces of a plan are written, or the run breaks off, where what is read for it is told
@@ -36,6 +37,6 @@ RunsPlanned result c p =
     KnowsInputs p.plan c.files_tell c.input_tells
     → Runs result c.tells (pieces p.plan c.tree c.input.before.rest) (stood p c.tree c.input c.files) c.before c.after
 
--- it holds of each plan that a command comes to, as far as the files tell
+-- it holds of each plan that a command comes to, where the files tell or it asks for no path on the way
 abbrev pub OfPlans : Command → (files : Type 0) → Tree → (Planned → Type 0) → Type 0
-OfPlans c files tree Holds = KnowsFor c.what files → (p : Planned) → IsPlannedAs c c.what tree p → Holds p
+OfPlans c files tree Holds = (p : Planned) → IsTold files p.asked → IsPlannedAs c c.what tree p → Holds p

@@ -2,14 +2,15 @@
 use Rattle.std.specs.Prelude.{◌≡◌, ℕ, ◌-◌, false, if◌then◌else◌, List, Option, Some, Ok}
 use Rattle.rpl_syntax.specs.Modules.{said}
 use Rattle.rpl_syntax.specs.Parsed.{ParsedModule}
+use Rattle.rpl_syntax.specs.declared.module.Import.{Import}
 use Rattle.rpl_syntax.specs.declared.name.QName.{QName}
 use Rattle.rpl_scope.specs.Results.{Or, fault}
 use Rattle.rpl_scope.specs.declared.fault.LoadKind.TheVariants.{Duplicate}
 use Rattle.rpl_scope.specs.declared.fault.Stop.{Stop}
-use Rattle.rpl_package.specs.Asking.{Outcome, MayStop, at_once, and_then}
+use Rattle.rpl_package.specs.Asking.{IsTold, Outcome, MayStop, at_once, and_then}
 use Rattle.rpl_package.specs.Built.{IsSaid, Makes, headed, opened}
 use Rattle.rpl_package.specs.Loading.{World, Walk, Stock, State, world, walk, checks, own_text, is_taken, label_at}
-use Rattle.rpl_package.specs.Loading.{label_of, taken_up}
+use Rattle.rpl_package.specs.Loading.{label_of, taken_up, tried}
 use Rattle.rpl_package.specs.declared.opening.Opened.{Opened}
 use Rattle.rpl_package.specs.declared.opening.Walker.{Walker}
 use Rattle.rpl_package.specs.declared.stock.Head.{Head}
@@ -42,6 +43,10 @@ pub record Begins (hs : List Head) (path : List ℕ) (s : Stock) (t : ParsedModu
 abbrev pub StopsWalk : Stop → Walker → Stock → List Head → (file path bytes : List ℕ) → Type 0
 StopsWalk stop i s hs f path bytes =
     (tree : List (List ℕ × List ℕ)) → MayStop stop (walk (world tree i.importer.folders.now) i.depth s hs f path bytes)
+
+-- the files that may be read to find this import are told
+abbrev pub TellsFile : (tells : Type 0) → List (List ℕ × List ℕ) → Walker → Import → Type 0
+TellsFile tells tree k i = IsTold tells (tried tree k.importer.folders.now i.path)
 
 -- what comes of the text that is open is what is to come
 abbrev pub GoesOn : List (List ℕ × List ℕ) → Walker → List Head → Opened → State → Outcome (ℕ × Stock) → Type 0

@@ -7,11 +7,13 @@ use Rattle.rosie_jobs.specs.Makers.{Runs}
 use Rattle.rosie_cli.specs.Planned.{input_names}
 use Rattle.rosie_cli.proofs.Coded.{code_plans}
 use Rattle.rosie_cli.proofs.Limits.{reads-same}
+use Rattle.rosie_cli.proofs.Made.{asks_some}
 use Rattle.rosie_cli.proofs.code_plan.plan_code.Goals as goal
 
 pub returns-in_ok-job-in-Ok-clause-plans : goal.returns-in_ok-job-in-Ok-clause-plans
-returns-in_ok-job-in-Ok-clause-plans g c = λ tells p is.
+returns-in_ok-job-in-Ok-clause-plans g c = λ p told is.
     let s = c.args.settings in
+    let tells = asks_some g.F.Source.tells p.asked _ _ is.asks told in
     let code = instructions c.in-Ok.program in
     let made = c.in_ok-job-in-Ok in
     let names = input_names c.args.inputs in (
@@ -23,9 +25,9 @@ returns-in_ok-job-in-Ok-clause-plans g c = λ tells p is.
     )
 
 pub returns-in-Refused-clause-plans : goal.returns-in-Refused-clause-plans
-returns-in-Refused-clause-plans g c = λ tells p is. (
+returns-in-Refused-clause-plans g c = λ p told is. (
   code_plans c.args.settings (encode_utf8_all c.args.path) c.text_of.result.now (input_names c.args.inputs)
       (g.F.Source.tree c.args.files.now) p (Err (string_bytes c.in-Refused.line)) is c.text_of.ensures
-      (rw c.in-Refused.is at (c.in-Err.ensures.loads tells)),
+      (rw c.in-Refused.is at (c.in-Err.ensures.loads (asks_some g.F.Source.tells p.asked _ _ is.asks told))),
   tt,
 )

@@ -4,8 +4,8 @@ use Rattle.rosie_cli.proofs.Made.{due-plans, leaves-own, leaves-through, made-pl
 use Rattle.rosie_cli.proofs.expand_plan.plan_expansion.Goals as goal
 
 pub returns-clause-plans : goal.returns-clause-plans
-returns-clause-plans g c = λ t p is.
-    let due = c.in_ok-ready.ensures.prepares t p.asked is.ready is.prepares in
+returns-clause-plans g c = λ p t is.
+    let due = c.in_ok-ready.ensures.prepares p.asked t is.ready is.prepares in
     made-plans c.plan_text.result p c.plan_text.ensures.own
     (c.plan_text.ensures.makes p.plan (subst (λ r. Expands c.args.wants_code r p.plan) due is.expands))
 
@@ -15,12 +15,12 @@ returns-clause-leaves g c =
     leaves-own g.F.Source c.plan_text.result _ _ before.taken before.tree before.cause c.plan_text.ensures.own
 
 pub returns-in_err-ready-clause-plans : goal.returns-in_err-ready-clause-plans
-returns-in_err-ready-clause-plans g c = λ t p is.
+returns-in_err-ready-clause-plans g c = λ p t is.
     let u = c.in_err-ready.field-0.0 in
     let e = c.in_err-ready.ensures in
     plans-through c.from_residual.result u p c.from_residual.ensures.1
     (due-plans u p (Expands c.args.wants_code) is.ready (λ line plan x. x)
-    (e.prepares t p.asked is.ready is.prepares) (e.asked t p.asked is.ready is.prepares) is.expands)
+    (e.prepares p.asked t is.ready is.prepares) (e.asked p.asked t is.ready is.prepares) is.expands)
 
 pub returns-in_err-ready-clause-leaves : goal.returns-in_err-ready-clause-leaves
 returns-in_err-ready-clause-leaves g c =

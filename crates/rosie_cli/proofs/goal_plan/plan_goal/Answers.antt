@@ -5,8 +5,8 @@ use Rattle.rosie_cli.proofs.Made.{due-plans, leaves-own, leaves-through, made-pl
 use Rattle.rosie_cli.proofs.goal_plan.plan_goal.Goals as goal
 
 pub returns-clause-plans : goal.returns-clause-plans
-returns-clause-plans g c = λ t p is.
-    let due = c.in_ok-ready.ensures.prepares t p.asked is.ready is.prepares in
+returns-clause-plans g c = λ p t is.
+    let due = c.in_ok-ready.ensures.prepares p.asked t is.ready is.prepares in
     made-plans c.plan_ready.result p c.plan_ready.ensures.own
     (c.plan_ready.ensures.makes p.plan (subst (λ r. IsRun (run_of c.args.purpose) r p.plan) due is.runs))
 
@@ -17,12 +17,12 @@ returns-clause-leaves g c =
     c.plan_ready.ensures.own
 
 pub returns-in_err-ready-clause-plans : goal.returns-in_err-ready-clause-plans
-returns-in_err-ready-clause-plans g c = λ t p is.
+returns-in_err-ready-clause-plans g c = λ p t is.
     let u = c.in_err-ready.field-0.0 in
     let e = c.in_err-ready.ensures in
     plans-through c.from_residual.result u p c.from_residual.ensures.1
     (due-plans u p (IsRun (run_of c.args.purpose)) is.ready (λ line plan x. x)
-    (e.prepares t p.asked is.ready is.prepares) (e.asked t p.asked is.ready is.prepares) is.runs)
+    (e.prepares p.asked t is.ready is.prepares) (e.asked p.asked t is.ready is.prepares) is.runs)
 
 pub returns-in_err-ready-clause-leaves : goal.returns-in_err-ready-clause-leaves
 returns-in_err-ready-clause-leaves g c =

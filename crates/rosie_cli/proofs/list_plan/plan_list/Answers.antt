@@ -1,6 +1,8 @@
 use Rattle.std.proofs.Common.{◌∙◌, ap, sym, subst}
 use Rattle.rosie_prepare.specs.Answers.{IsAsked}
+use Rattle.rosie_prepare.proofs.Loads.{told_bytes}
 use Rattle.rosie_inspect.proofs.Texts.{one_text}
+use Rattle.rpl_package.specs.Asking.{IsTold}
 use Rattle.rpl_package.specs.Names.{all_listed}
 use Rattle.rpl_package.specs.Sets.{set_seen}
 use Rattle.rosie_cli.specs.Listing.{Lists}
@@ -9,8 +11,9 @@ use Rattle.rosie_cli.proofs.Made.{due-plans, leaves-through, plans-through}
 use Rattle.rosie_cli.proofs.list_plan.plan_list.Goals as goal
 
 pub returns-clause-plans : goal.returns-clause-plans
-returns-clause-plans g c = λ t p is.
-    let due = c.in_ok-ready.ensures.prepares t is.packages is.comes in
+returns-clause-plans g c = λ p t is.
+    let told = told_bytes g.F.Source.tells _ (subst (IsTold g.F.Source.tells) is.asked t) in
+    let due = c.in_ok-ready.ensures.prepares told is.packages is.comes in
     let lists = subst (λ r. Lists r p.plan) due is.lists in (
       lists.2 ∙ ap whole_answer
           (one_text (all_listed (set_seen c.in_ok-ready.ready.set)) lists.0 _ lists.1 c.in_ok-names_text.ensures),
@@ -18,12 +21,13 @@ returns-clause-plans g c = λ t p is.
     )
 
 pub returns-in_err-ready-clause-plans : goal.returns-in_err-ready-clause-plans
-returns-in_err-ready-clause-plans g c = λ t p is.
+returns-in_err-ready-clause-plans g c = λ p t is.
     let u = c.in_err-ready.field-0.0 in
     let e = c.in_err-ready.ensures in
+    let told = told_bytes g.F.Source.tells _ (subst (IsTold g.F.Source.tells) is.asked t) in
     plans-through c.from_residual.result u p c.from_residual.ensures.1
-    (due-plans u p Lists is.packages (λ line plan x. x) (e.prepares t is.packages is.comes)
-    (subst (IsAsked u) (sym is.asked) (e.asked t)) is.lists)
+    (due-plans u p Lists is.packages (λ line plan x. x) (e.prepares told is.packages is.comes)
+    (subst (IsAsked u) (sym is.asked) (e.asked told)) is.lists)
 
 pub returns-in_err-ready-clause-leaves : goal.returns-in_err-ready-clause-leaves
 returns-in_err-ready-clause-leaves g c =

@@ -3,7 +3,7 @@ use Rattle.rosie_cli.proofs.Made.{known-plans, leaves-own}
 use Rattle.rosie_cli.proofs.planning.plan_command.Goals as goal
 
 pub returns-in-Class-clause-plans : goal.returns-in-Class-clause-plans
-returns-in-Class-clause-plans g c = λ t p is.
+returns-in-Class-clause-plans g c = λ p t is.
     let s = rw c.in-Class.is at is in
     known-plans c.plan_class.result p _ s c.plan_class.ensures.own c.plan_class.ensures.makes
 

@@ -2,8 +2,8 @@ use Rattle.rosie_cli.proofs.Sampled.{request-sample}
 use Rattle.rosie_cli.proofs.sample_plan.plan_sample.Goals as goal
 
 pub returns-clause-plans : goal.returns-clause-plans
-returns-clause-plans g c = λ t p is.
-    c.plan_goal.ensures.plans t p (record {
+returns-clause-plans g c = λ p t is.
+    c.plan_goal.ensures.plans p t (record {
       ready = is.ready;
       prepares =
           request-sample c.in_ok-roots.roots c.args.folders.now c.pattern.result.now _ p.asked is.ready

@@ -1,14 +1,17 @@
 use Rattle.std.proofs.Common.{◌≡◌, ◌∙◌, ap}
 use Rattle.rosie_cli.specs.Testing.{tried}
 use Rattle.rosie_cli.proofs.Made.{due-plans, leaves-through, plans-through}
+use Rattle.rosie_cli.proofs.Tested.{tests_tell}
 use Rattle.rosie_cli.proofs.test_plan.plan_tests.Goals as goal
 
 pub returns-clause-plans : goal.returns-clause-plans
-returns-clause-plans g c = λ t p is.
+returns-clause-plans g c = λ p told is.
+    let t = tests_tell g.F.Source.tells _ c.args.folders.now c.args.file c.args.budget p.asked is.suite is.comes told in
     (is.tries ∙ ap tried (c.in_ok-suite.ensures.prepares t p.asked is.suite is.comes), tt)
 
 pub returns-in_err-suite-clause-plans : goal.returns-in_err-suite-clause-plans
-returns-in_err-suite-clause-plans g c = λ t p is.
+returns-in_err-suite-clause-plans g c = λ p told is.
+    let t = tests_tell g.F.Source.tells _ c.args.folders.now c.args.file c.args.budget p.asked is.suite is.comes told in
     let u = c.in_err-suite.field-0.0 in
     let e = c.in_err-suite.ensures in
     plans-through c.from_residual.result u p c.from_residual.ensures.1

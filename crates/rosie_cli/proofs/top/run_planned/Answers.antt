@@ -9,46 +9,46 @@ use Rattle.rosie_cli.proofs.Whole.{planned-runs, planned-goes, refused-runs, sai
 use Rattle.rosie_cli.proofs.top.run_planned.Goals as goal
 
 pub returns-in-Ok-clause-runs : goal.returns-in-Ok-clause-runs
-returns-in-Ok-clause-runs g c = λ t p is inputs.
+returns-in-Ok-clause-runs g c = λ p t is inputs.
     let e = c.in-Ok.ensures in
     let left = e.leaves in
-    let same = (e.plans t p is).0 in
+    let same = (e.plans p t is).0 in
     planned-runs c.run_plan.result _ p (plan_of c.in-Ok.plan) _ _ _ _ _ _ _ _ same left.tree left.cause.faults
     left.cause.opens left.taken
     (c.run_plan.ensures.runs (subst (λ x. KnowsInputs x g.F.Source.tells g.I.Source.tells) same inputs))
 
 pub returns-in-Ok-clause-rest : goal.returns-in-Ok-clause-rest
-returns-in-Ok-clause-rest g c = λ t p is inputs.
-    let same = (c.in-Ok.ensures.plans t p is).0 in
+returns-in-Ok-clause-rest g c = λ p t is inputs.
+    let same = (c.in-Ok.ensures.plans p t is).0 in
     planned-goes c.run_plan.result p (plan_of c.in-Ok.plan) _ same
     (c.run_plan.ensures.rest (subst (λ x. KnowsInputs x g.F.Source.tells g.I.Source.tells) same inputs))
 
 pub returns-in-NoMemory-clause-runs : goal.returns-in-NoMemory-clause-runs
-returns-in-NoMemory-clause-runs g c = λ t p is inputs. fronts-none _ _ _
+returns-in-NoMemory-clause-runs g c = λ p t is inputs. fronts-none _ _ _
 
 pub returns-in-Refused-clause-runs : goal.returns-in-Refused-clause-runs
-returns-in-Refused-clause-runs g c = λ t p is inputs.
-    let plans = rw c.in-Refused.is at (c.in-Err.ensures.plans t p is) in
+returns-in-Refused-clause-runs g c = λ p t is inputs.
+    let plans = rw c.in-Refused.is at (c.in-Err.ensures.plans p t is) in
     refused-runs c.refuse.result _ p (string_bytes c.in-Refused.line) _ _ _ _ _ plans.0
     (c.refuse.ensures.runs c.args.outputs.now.steps.now)
 
 pub returns-in-Refused-clause-rest : goal.returns-in-Refused-clause-rest
-returns-in-Refused-clause-rest g c = λ t p is inputs.
+returns-in-Refused-clause-rest g c = λ p t is inputs.
     let plan = refusal (string_bytes c.in-Refused.line) in
-    let plans = rw c.in-Refused.is at (c.in-Err.ensures.plans t p is) in
+    let plans = rw c.in-Refused.is at (c.in-Err.ensures.plans p t is) in
     planned-goes c.refuse.result p plan _ plans.0 (said-goes c.refuse.result plan _ tt)
 
 pub returns-in-ReadFault-clause-runs : goal.returns-in-ReadFault-clause-runs
-returns-in-ReadFault-clause-runs g c = λ t p is inputs.
+returns-in-ReadFault-clause-runs g c = λ p t is inputs.
     let cause = rw c.in-ReadFault.is at c.in-Err.ensures.leaves.cause in
-    let plans = rw c.in-ReadFault.is at (c.in-Err.ensures.plans t p is) in
+    let plans = rw c.in-ReadFault.is at (c.in-Err.ensures.plans p t is) in
     unread c.cut.result _ p _ c.text_of.result.now _ _ _ (g.met.O.Sink.number_fits c.args.outputs.now.out.now) c.cut.ensures
     (subst (Contains p.asked) (sym c.text_of.ensures) plans.1) cause.1
 
 pub returns-in-Ok-clause-unread : goal.returns-in-Ok-clause-unread
-returns-in-Ok-clause-unread g c = λ t p is n.
-    c.run_plan.ensures.unread (subst LeavesInput (c.in-Ok.ensures.plans t p is).0 n)
+returns-in-Ok-clause-unread g c = λ p t is n.
+    c.run_plan.ensures.unread (subst LeavesInput (c.in-Ok.ensures.plans p t is).0 n)
 
 pub returns-in-Ok-clause-unrun : goal.returns-in-Ok-clause-unrun
-returns-in-Ok-clause-unrun g c = λ t p is n.
-    c.run_plan.ensures.idle (subst IsIdlePlan (c.in-Ok.ensures.plans t p is).0 n)
+returns-in-Ok-clause-unrun g c = λ p t is n.
+    c.run_plan.ensures.idle (subst IsIdlePlan (c.in-Ok.ensures.plans p t is).0 n)

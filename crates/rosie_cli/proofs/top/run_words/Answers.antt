@@ -8,7 +8,7 @@ use Rattle.rosie_cli.specs.Plans.{refusal}
 use Rattle.rosie_cli.specs.Words.{asked}
 use Rattle.rosie_cli.proofs.Calls.{answers-by, answers-of, untouched-cause}
 use Rattle.rosie_cli.proofs.Paying.{promise_holds}
-use Rattle.rosie_cli.proofs.Whole.{do-goes-on, do-knows, do-planned, planned-goes, refused-plan, refused-runs, said-goes}
+use Rattle.rosie_cli.proofs.Whole.{do-goes-on, do-planned, planned-goes, refused-plan, refused-runs, said-goes}
 use Rattle.rosie_cli.proofs.top.run_words.Goals as goal
 
 pub returns-in-Refuse-clause-answers : goal.returns-in-Refuse-clause-answers
@@ -36,7 +36,7 @@ pub returns-in-Do-clause-answers : goal.returns-in-Do-clause-answers
 returns-in-Do-clause-answers g c =
     let a = asked (words_of c.args.words.now) in
     let e = rw c.in-Do.is at c.in-Ok.ensures in
-    answers-by _ _ _ (λ files. do-knows a c.in-Do.command _ e files) (λ p is. do-planned a c.in-Do.command _ p e is)
+    answers-by _ _ (λ p is. do-planned a c.in-Do.command _ p e is)
     c.run_command.ensures.answers
 
 pub returns-in-Do-clause-untouched : goal.returns-in-Do-clause-untouched
@@ -48,10 +48,10 @@ pub returns-in-Do-clause-unread : goal.returns-in-Do-clause-unread
 returns-in-Do-clause-unread g c = λ p files is.
     let a = asked (words_of c.args.words.now) in
     let e = rw c.in-Do.is at c.in-Ok.ensures in
-    c.run_command.ensures.unread (do-knows a c.in-Do.command _ e files) p (do-planned a c.in-Do.command _ p e is)
+    c.run_command.ensures.unread p files (do-planned a c.in-Do.command _ p e is)
 
 pub returns-in-Do-clause-unrun : goal.returns-in-Do-clause-unrun
 returns-in-Do-clause-unrun g c = λ p files is.
     let a = asked (words_of c.args.words.now) in
     let e = rw c.in-Do.is at c.in-Ok.ensures in
-    c.run_command.ensures.unrun (do-knows a c.in-Do.command _ e files) p (do-planned a c.in-Do.command _ p e is)
+    c.run_command.ensures.unrun p files (do-planned a c.in-Do.command _ p e is)

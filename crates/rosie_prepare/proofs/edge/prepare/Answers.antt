@@ -1,28 +1,59 @@
 use Rattle.std.proofs.Common.{subst}
 use Rattle.std.proofs.Math.Logic.{∥∥₁_map}
-use Rattle.rosie_prepare.proofs.Loads.{asked_prepared, asked_through, resolves_if, stops_next}
-use Rattle.rosie_prepare.specs.Views.{request_seen}
-use Rattle.rosie_prepare.specs.inside.Steps.{StopsWith}
-use Rattle.rpl_package.specs.Loading.{world}
-use Rattle.rpl_package.specs.Patterns.{load_pattern}
-use Rattle.rpl_package.specs.Roots.{load}
+use Rattle.rosie_prepare.proofs.Loads.{asked_prepared, asked_through, due_goal, due_through, pattern_comes, pattern_stops, resolves_if, roots_stop}
+use Rattle.rosie_prepare.specs.Prepared.{Comes}
+use Rattle.rosie_prepare.specs.Views.{ready_seen, request_seen}
 use Rattle.rpl_package.specs.Sets.{set_seen}
 use Rattle.rpl_load_laws.proofs.Loaded.{patterns_resolve}
 use Rattle.rpl_load_laws.proofs.Merely.{resolves_out}
 use Rattle.rpl_syntax.specs.View.{expr_of}
 use Rattle.rosie_prepare.proofs.edge.prepare.Goals as goal
 
-pub returns-in_err-expr-clause-asked : goal.returns-in_err-expr-clause-asked
-returns-in_err-expr-clause-asked g c = λ tells asked r h.
-    let w = c.args.request.now in
-    let out = world (g.F.Source.tree c.args.files.now) w.folders.now in
-    let p = set_seen c.in_ok-set.set in
+pub returns-in_err-set-clause-prepares : goal.returns-in_err-set-clause-prepares
+returns-in_err-set-clause-prepares g c = λ asked told r h.
+    let w = request_seen c.args.request.now in
+    let u = c.in_err-set.field-0.0 in
+    let tree = g.F.Source.tree c.args.files.now in
+    due_through ready_seen c.from_residual.result u r c.from_residual.ensures.1
+    (due_goal u _ r (roots_stop g.F.Source.tells tree tree w asked r h told u c.in_err-set.ensures.gives) h.comes)
+
+pub returns-in_err-set-clause-asked : goal.returns-in_err-set-clause-asked
+returns-in_err-set-clause-asked g c = λ asked told r h.
+    let w = request_seen c.args.request.now in
+    let u = c.in_err-set.field-0.0 in
+    let tree = g.F.Source.tree c.args.files.now in
+    asked_through c.from_residual.result u asked c.from_residual.ensures.1
+    (asked_prepared tree w asked r h u
+    (roots_stop g.F.Source.tells tree tree w asked r h told u c.in_err-set.ensures.gives))
+
+pub returns-in_err-expr-clause-prepares : goal.returns-in_err-expr-clause-prepares
+returns-in_err-expr-clause-prepares g c = λ asked told r h.
+    let w = request_seen c.args.request.now in
+    let set = c.in_ok-set.ensures in
     let u = c.in_err-expr.field-0.0 in
-    let stops = subst (λ tree. StopsWith u (load_pattern (world tree w.folders.now) p h.parse)) c.in_ok-set.ensures.tree
-    (c.in_err-expr.ensures.gives tells h.parse h.reads) in
+    due_through ready_seen c.from_residual-in_err-expr.result u r c.from_residual-in_err-expr.ensures.1
+    (due_goal u _ r
+    (pattern_stops g.F.Source.tells _ _ w asked r h told (set_seen c.in_ok-set.set) set.gives set.tree u
+    (c.in_err-expr.ensures.gives h.parse h.reads)) h.comes)
+
+pub returns-in_err-expr-clause-asked : goal.returns-in_err-expr-clause-asked
+returns-in_err-expr-clause-asked g c = λ asked told r h.
+    let w = request_seen c.args.request.now in
+    let set = c.in_ok-set.ensures in
+    let u = c.in_err-expr.field-0.0 in
     asked_through c.from_residual-in_err-expr.result u asked c.from_residual-in_err-expr.ensures.1
-    (asked_prepared _ (request_seen w) asked r h u
-    (stops_next u (load out w.roots.now) p (λ q. load_pattern out q h.parse) (c.in_ok-set.ensures.gives tells) stops))
+    (asked_prepared _ w asked r h u
+    (pattern_stops g.F.Source.tells _ _ w asked r h told (set_seen c.in_ok-set.set) set.gives set.tree u
+    (c.in_err-expr.ensures.gives h.parse h.reads)))
+
+pub returns-clause-prepares : goal.returns-clause-prepares
+returns-clause-prepares g c = λ asked told r h.
+    let w = request_seen c.args.request.now in
+    let set = c.in_ok-set.ensures in
+    let made =
+    pattern_comes g.F.Source.tells _ _ w asked r h told (set_seen c.in_ok-set.set) set.gives set.tree _
+    (c.in_ok-expr.ensures.gives h.parse h.reads) in
+    c.pass_goal.ensures.prepares r (subst (λ x. Comes x r) made h.comes)
 
 pub returns-clause-names : goal.returns-clause-names
 returns-clause-names g c =

@@ -1,4 +1,4 @@
-use Rattle.std.proofs.Common.{subst}
+use Rattle.std.proofs.Common.{inl, subst}
 use Rattle.std.specs.Prelude.{IfErr, chars}
 use Rattle.rosie_prepare.specs.Answers.{IsAsked}
 use Rattle.rosie_prepare.specs.Prepared.{OrLine, Ready}
@@ -13,7 +13,7 @@ returns-clause-gives g c = λ t w is.
     let texts = (session_of c.args.state.now).now.texts in
     let l = w.goal texts (chars c.args.pattern.now) in
     let h = is.goals texts (chars c.args.pattern.now) in
-    let due = c.in_ok-ready.ensures.prepares t l.asked h.ready
+    let due = c.in_ok-ready.ensures.prepares l.asked (inl t) h.ready
     (goal_prepared (g.F.Source.tree c.args.files.now) c.args.folders.now texts c.in_ok-roots.roots c.args.pattern.now l
     c.in_ok-roots.ensures c.utf8.pattern h) in
     c.make_job.ensures.gives l.answer (subst (λ (r : OrLine Ready). Compiles r l.answer) due h.compiles)
@@ -32,7 +32,7 @@ returns-in_err-ready-clause-gives g c = λ t w is.
     let u = c.in_err-ready.field-0.0 in
     stops_through (λ r. GivesJob r l.answer) c.from_residual-in_err-ready.result u c.from_residual-in_err-ready.ensures.1
     (due_compiles u h.ready l.answer
-    (c.in_err-ready.ensures.prepares t l.asked h.ready
+    (c.in_err-ready.ensures.prepares l.asked (inl t) h.ready
     (goal_prepared (g.F.Source.tree c.args.files.now) c.args.folders.now texts c.in_ok-roots.roots c.args.pattern.now l
     c.in_ok-roots.ensures c.utf8.pattern h))
     h.compiles)
@@ -45,6 +45,6 @@ returns-in_err-ready-clause-asked g c = λ t w is.
     let u = c.in_err-ready.field-0.0 in
     stops_through (λ r. IfErr r (λ e. IsAsked e l.asked)) c.from_residual-in_err-ready.result u
     c.from_residual-in_err-ready.ensures.1
-    (c.in_err-ready.ensures.asked t l.asked h.ready
+    (c.in_err-ready.ensures.asked l.asked (inl t) h.ready
     (goal_prepared (g.F.Source.tree c.args.files.now) c.args.folders.now texts c.in_ok-roots.roots c.args.pattern.now l
     c.in_ok-roots.ensures c.utf8.pattern h))

@@ -1,4 +1,4 @@
-use Rattle.std.proofs.Common.{List, ℕ, subst}
+use Rattle.std.proofs.Common.{List, ℕ, inl, subst}
 use Rattle.rosie_prepare.specs.Answers.{IsAsked}
 use Rattle.rosie_repl.specs.States.{session_of}
 use Rattle.rosie_session.specs.Replay.{judged}
@@ -10,7 +10,7 @@ pub returns-clause-judges : goal.returns-clause-judges
 returns-clause-judges g c = λ t w is before after.
     let texts = (session_of c.args.state.now).now.texts in
     judged_ok before after (w.texts texts) _
-    (c.in_ok-prepare_rules.ensures.prepares t (w.texts texts).answer
+    (c.in_ok-prepare_rules.ensures.prepares (inl t) (w.texts texts).answer
     (texts_given (g.F.Source.tree c.args.files.now) c.args.folders.now texts (w.texts texts) c.in_ok-roots.roots
     c.in_ok-roots.ensures (is.texts texts)))
 
@@ -21,10 +21,10 @@ returns-in_err-prepare_rules-clause-judges g c = λ t w is before after.
     stops_through (λ r. Judges r (judged before after (w.texts texts)) before after)
     c.from_residual-in_err-prepare_rules.result u c.from_residual-in_err-prepare_rules.ensures.1
     (judges_end before after (w.texts texts) u
-    (c.in_err-prepare_rules.ensures.prepares t (w.texts texts).answer
+    (c.in_err-prepare_rules.ensures.prepares (inl t) (w.texts texts).answer
     (texts_given (g.F.Source.tree c.args.files.now) c.args.folders.now texts (w.texts texts) c.in_ok-roots.roots
     c.in_ok-roots.ensures (is.texts texts)))
     (subst (λ (paths : List (List ℕ)). IsAsked u paths)
     (texts_asked (g.F.Source.tree c.args.files.now) c.args.folders.now texts (w.texts texts) c.in_ok-roots.roots
     c.in_ok-roots.ensures (is.texts texts))
-    (c.in_err-prepare_rules.ensures.asked t)))
+    (c.in_err-prepare_rules.ensures.asked (inl t))))

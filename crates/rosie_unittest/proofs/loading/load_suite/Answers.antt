@@ -1,4 +1,4 @@
-use Rattle.std.proofs.Common.{◌≡◌, ◌≤◌, length, sym, ap, subst, ◌∙◌}
+use Rattle.std.proofs.Common.{◌≡◌, ◌≤◌, inl, length, sym, ap, subst, ◌∙◌}
 use Rattle.std.specs.Prelude.{Some, encode_utf8_all, map}
 use Rattle.rosie_io.specs.Opening.{file_of}
 use Rattle.rosie_prepare.specs.Answers.{IsAsked}
@@ -17,7 +17,7 @@ returns-in-Ok-read_again-clause-prepares g c = λ t asked r is.
     let p = set_seen c.in-Ok.ready.set in
     let comes =
     comes-loaded tree c.args.folders.now file c.args.budget asked r _ p is c.in_ok-roots.ensures
-    (c.in-Ok.ensures.prepares t) in
+    (c.in-Ok.ensures.prepares (inl t)) in
     let bytes = c.as_str.result.now in
     let read = c.in-Ok-read_again.ensures.reads t in
     let there : file_of (encode_utf8_all file) tree ≡ Some bytes =
@@ -38,7 +38,7 @@ returns-in-Err-read_again-clause-asked g c = λ t asked r is.
     again-asked tree c.args.file c.args.budget (map encode_utf8_all (loading tree folders c.args.file).asked) asked r
     c.in-Err-read_again.unready p c.in-Err-read_again.ensures.asked
     (comes-loaded tree folders c.args.file c.args.budget asked r _ p is c.in_ok-roots.ensures
-    (c.in-Ok.ensures.prepares t))
+    (c.in-Ok.ensures.prepares (inl t)))
 
 pub returns-in-Err-clause-asked : goal.returns-in-Err-clause-asked
 returns-in-Err-clause-asked g c = λ t asked r is.
@@ -49,5 +49,5 @@ returns-in-Err-clause-asked g c = λ t asked r is.
     let paths = map encode_utf8_all (loading tree folders file).asked in
     let here =
     subst (λ roots. IsAsked u (map encode_utf8_all (load (world tree folders) roots).asked)) c.in_ok-roots.ensures
-    (c.in-Err.ensures.asked t) in
+    (c.in-Err.ensures.asked (inl t)) in
     load-asked tree file c.args.budget paths asked r u is.packages here is.comes

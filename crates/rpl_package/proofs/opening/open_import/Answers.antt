@@ -10,7 +10,7 @@ use Rattle.rpl_package.proofs.Outcomes.{if_ok}
 use Rattle.rpl_package.proofs.opening.open_import.Goals as goal
 
 pub returns-clause-goes : goal.returns-clause-goes
-returns-clause-goes g c = λ tells. if_ok c.open_found.result _ (λ o is.
+returns-clause-goes g c = λ told. if_ok c.open_found.result _ (λ o is.
     let k = c.args.walker.now in
     let W = world (g.F.Source.tree c.args.files.now) k.importer.folders.now in
     let S = stock_seen c.args.stock.now in
@@ -19,7 +19,7 @@ returns-clause-goes g c = λ tells. if_ok c.open_found.result _ (λ o is.
     let said_read = rw is at c.open_found.ensures.read in
     let deep = rw is at c.open_found.ensures.deep in
     let begins = rw is at c.open_found.ensures.begins in
-    let found = c.in_ok-found.ensures.found tells in
+    let found = c.in_ok-found.ensures.found told in
     let bytes = found.0 in
     let there = found.1 ∙ ap (λ x. Some (x, bytes)) (sym file) in
     let read = subst (λ x. W.text x bytes ≡ Ok (said o.read.value.text)) (sym file) (said_read bytes found.2) in

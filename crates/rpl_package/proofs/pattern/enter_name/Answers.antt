@@ -5,25 +5,27 @@ use Rattle.rpl_package.specs.Built.{Reaches}
 use Rattle.rpl_package.specs.Loading.{world}
 use Rattle.rpl_package.specs.Patterns.{needed_at}
 use Rattle.rpl_package.specs.Stocks.{stock_seen}
-use Rattle.rpl_package.proofs.Bringing.{brought_leads, unreached}
+use Rattle.rpl_package.proofs.Bringing.{brought_leads, told_way, unreached}
 use Rattle.rpl_package.proofs.Building.{asks_at, puts_on}
 use Rattle.rpl_package.proofs.Outcomes.{gives_walks, if_ok, passed_on, walks_lead}
 use Rattle.rpl_package.proofs.Placing.{cuts_keeps}
 use Rattle.rpl_package.proofs.pattern.enter_name.Goals as goal
 
 pub returns-in_err-number-clause-gives : goal.returns-in_err-number-clause-gives
-returns-in_err-number-clause-gives g c = λ tells.
+returns-in_err-number-clause-gives g c = λ told.
     let W = world (g.F.Source.tree c.args.files.now) c.args.importer.folders.now in
     let asked = ap (λ l. needed_at c.args.name.now (nth (modules_seen l) c.args.top)) (sym c.deref.ensures.value) ∙ sym c.in_ok-asked.ensures ∙ c.in-Some.is in
+    let way = told_way W c.args.importer.file.now c.args.top (stock_seen c.args.stock.now) c.args.name.now c.in-Some.import _ asked c.requires.idle g.F.Source.tells told in
     let s = c.in_err-number.field-0.0 in
     passed_on _ c.from_residual-in_err-number.result s _ c.from_residual-in_err-number.ensures.1
-    (unreached W c.args.importer.file.now c.args.top (stock_seen c.args.stock.now) c.args.name.now c.in-Some.import _ asked c.requires.idle s (c.in_err-number.ensures.gives tells))
+    (unreached W c.args.importer.file.now c.args.top (stock_seen c.args.stock.now) c.args.name.now c.in-Some.import _ asked c.requires.idle s (c.in_err-number.ensures.gives way))
 
 pub returns-clause-gives : goal.returns-clause-gives
-returns-clause-gives g c = λ tells.
+returns-clause-gives g c = λ told.
     let W = world (g.F.Source.tree c.args.files.now) c.args.importer.folders.now in
     let asked = ap (λ l. needed_at c.args.name.now (nth (modules_seen l) c.args.top)) (sym c.deref.ensures.value) ∙ sym c.in_ok-asked.ensures ∙ c.in-Some.is in
-    walks_lead _ c.put.result _ _ (brought_leads W c.args.importer.file.now c.args.top (stock_seen c.args.stock.now) c.args.name.now c.in-Some.import _ asked c.requires.idle _ (c.in_ok-number.ensures.gives tells)) (gives_walks _ c.put.result _ c.put.ensures.gives)
+    let way = told_way W c.args.importer.file.now c.args.top (stock_seen c.args.stock.now) c.args.name.now c.in-Some.import _ asked c.requires.idle g.F.Source.tells told in
+    walks_lead _ c.put.result _ _ (brought_leads W c.args.importer.file.now c.args.top (stock_seen c.args.stock.now) c.args.name.now c.in-Some.import _ asked c.requires.idle _ (c.in_ok-number.ensures.gives way)) (gives_walks _ c.put.result _ c.put.ensures.gives)
 
 pub returns-in_err-number-clause-kept : goal.returns-in_err-number-clause-kept
 returns-in_err-number-clause-kept g c = λ a h. cuts_keeps c.args.top a (stock_seen c.args.stock.now) (stock_seen c.load_import.new.stock) h c.in_err-number.ensures.kept

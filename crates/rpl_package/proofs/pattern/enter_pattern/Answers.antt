@@ -1,31 +1,28 @@
-use Rattle.std.proofs.Common.{◌≡◌, None, ap, sym, subst, ◌∙◌}
+use Rattle.std.proofs.Common.{◌≡◌, ℕ, List, None, ap, sym, subst}
 use Rattle.std.specs.Prelude.{Ok}
+use Rattle.rpl_syntax.specs.Expression.{Expr}
 use Rattle.rpl_syntax.specs.View.{expr_of}
-use Rattle.rpl_scope.specs.Faults.{◌>>=◌}
 use Rattle.rpl_package.specs.Asking.{at_once, and_then}
 use Rattle.rpl_package.specs.Goals.{pattern_file}
 use Rattle.rpl_package.specs.Loading.{world}
 use Rattle.rpl_package.specs.Patterns.{enter_pattern, pattern_fault}
 use Rattle.rpl_scope.specs.Packages.{nth}
 use Rattle.rpl_package.specs.Stocks.{stock_seen}
-use Rattle.rpl_package.proofs.Outcomes.{passed_on, same, may_lead, may_then, then_follows}
+use Rattle.rpl_package.proofs.Outcomes.{passed_on, same, step_on, step_stops, then_follows}
 use Rattle.rpl_package.proofs.pattern.enter_pattern.Goals as goal
 
 pub read_goal-requires : goal.read_goal-requires
 read_goal-requires g c = c.requires.file
 
 pub returns-in_err-enter_expr-clause-gives : goal.returns-in_err-enter_expr-clause-gives
-returns-in_err-enter_expr-clause-gives g c = λ tells r h.
+returns-in_err-enter_expr-clause-gives g c = λ r h told.
     let W = world (g.F.Source.tree c.args.files.now) c.args.importer.folders.now in
-    let S = stock_seen c.args.stock.now in
-    let i = c.args.top in
     let x = expr_of c.in_ok-e.e in
-    let file = c.requires.file in
+    let entered = λ (f : List ℕ) (e : Expr). enter_pattern W f c.args.top (stock_seen c.args.stock.now) e in
+    let led = then_follows (at_once r) x (λ e. and_then (entered pattern_file e) (λ t. at_once (Ok (e, t)))) (c.in_ok-e.ensures.gives r h) in
     let s = c.in_err-enter_expr.field-0.0 in
     passed_on _ c.from_residual-in_err-enter_expr.result s _ c.from_residual-in_err-enter_expr.ensures.1
-    (may_lead s _ _ (then_follows (at_once r) x (λ e. and_then (enter_pattern W pattern_file i S e) (λ t. at_once (Ok (e, t)))) (c.in_ok-e.ensures.gives r h))
-    (may_then s (enter_pattern W pattern_file i S x) (λ t. at_once (Ok (x, t)))
-    (may_lead s _ _ (same _ _ (ap (λ f. enter_pattern W f i S x) file)) (c.in_err-enter_expr.ensures.gives tells))))
+    (step_stops g.F.Source.tells (entered c.args.importer.file.now x) (entered pattern_file x) (λ t. at_once (Ok (x, t))) _ (same _ _ (ap (λ f. entered f x) c.requires.file)) led told s c.in_err-enter_expr.ensures.gives)
 
 pub returns-clause-right : goal.returns-clause-right
 returns-clause-right g c =
@@ -34,11 +31,9 @@ returns-clause-right g c =
     subst (λ f. pattern_fault f (expr_of c.in_ok-e.e) S.modules (nth S.modules c.args.top) ≡ None) file c.in_ok-enter_expr.ensures.right
 
 pub returns-clause-gives : goal.returns-clause-gives
-returns-clause-gives g c = λ tells r h.
+returns-clause-gives g c = λ r h told.
     let W = world (g.F.Source.tree c.args.files.now) c.args.importer.folders.now in
-    let S = stock_seen c.args.stock.now in
-    let i = c.args.top in
     let x = expr_of c.in_ok-e.e in
-    let file = c.requires.file in
-    ap (λ q. q >>= λ y. (and_then (enter_pattern W pattern_file i S y) (λ t. at_once (Ok (y, t)))).answer) (c.in_ok-e.ensures.gives r h)
-    ∙ ap (λ q. q >>= λ t. Ok (x, t)) (ap (λ f. (enter_pattern W f i S x).answer) (sym file) ∙ c.in_ok-enter_expr.ensures.gives tells)
+    let entered = λ (f : List ℕ) (e : Expr). enter_pattern W f c.args.top (stock_seen c.args.stock.now) e in
+    let led = then_follows (at_once r) x (λ e. and_then (entered pattern_file e) (λ t. at_once (Ok (e, t)))) (c.in_ok-e.ensures.gives r h) in
+    sym (step_on g.F.Source.tells (entered c.args.importer.file.now x) (entered pattern_file x) (λ t. at_once (Ok (x, t))) _ (same _ _ (ap (λ f. entered f x) c.requires.file)) led told _ c.in_ok-enter_expr.ensures.gives).0

@@ -1,12 +1,17 @@
 use Rattle.std.proofs.Common.{rules, ℕ, List, Option, ap, sym, subst, ◌∙◌}
-use Rattle.std.specs.Prelude.{codes}
+use Rattle.std.specs.Prelude.{Ok, codes}
 use Rattle.std.proofs.lemmas.Str.{chars-IsAscii}
 use Rattle.std.proofs.Math.Logic.{∥∥₁_map}
 use Rattle.rpl_scope.specs.Seen.{modules_seen}
 use Rattle.rpl_package.specs.Built.{IsBuilt, packages}
-use Rattle.rpl_package.specs.Loading.{Stock}
+use Rattle.rpl_scope.specs.Faults.{◌>>=◌}
+use Rattle.rpl_package.specs.Asking.{at_once}
+use Rattle.rpl_package.specs.Loading.{Stock, world}
+use Rattle.rpl_package.specs.Patterns.{goal_entered}
 use Rattle.rpl_package.specs.Roots.{Packages}
 use Rattle.rpl_package.specs.inside.Numbering.{IsTable}
+use Rattle.rpl_package.specs.Stocks.{stock_seen}
+use Rattle.rpl_package.proofs.Outcomes.{may_then, told_then}
 use Rattle.rpl_package.proofs.Returning.{cut_home, same_inside, more_inside, more_within}
 use Rattle.rpl_package.proofs.rollback.enter_goal.Goals as goal
 
@@ -64,3 +69,17 @@ returns-in-Err-table_of-clause-kept g c =
     let now = c.cut_back-in-Err-table_of.new.stock in
     ap (λ s. pack s set.top set.roots.items)
     (cut_home set.top set.stock c.enter_pattern.new.stock now _ set.inside c.cut_back-in-Err-table_of.ensures.stock c.marks_of-marks.ensures c.in-Ok.ensures.kept)
+
+pub returns-in-Err-clause-gives : goal.returns-in-Err-clause-gives
+returns-in-Err-clause-gives g c = λ r h told.
+    let set = c.args.set.now in
+    let entered = goal_entered (world (g.F.Source.tree c.args.files.now) c.args.folders.now) set.top (stock_seen set.stock) r in
+    may_then c.in-Err.stop entered (λ t. at_once (Ok (t.0, pack t.1 set.top set.roots.items)))
+    (c.in-Err.ensures.gives r h (told_then g.F.Source.tells entered (λ t. at_once (Ok (t.0, pack t.1 set.top set.roots.items))) told))
+
+pub returns-clause-gives : goal.returns-clause-gives
+returns-clause-gives g c = λ r h told.
+    let set = c.args.set.now in
+    let entered = goal_entered (world (g.F.Source.tree c.args.files.now) c.args.folders.now) set.top (stock_seen set.stock) r in
+    ap (λ q. q >>= λ t. Ok (t.0, pack t.1 set.top set.roots.items))
+    (c.in-Ok.ensures.gives r h (told_then g.F.Source.tells entered (λ t. at_once (Ok (t.0, pack t.1 set.top set.roots.items))) told))

@@ -1,31 +1,38 @@
-use Rattle.std.proofs.Common.{ap, sym, ◌∙◌}
+use Rattle.std.proofs.Common.{◌∷◌, [], ap, sym, ◌∙◌}
 use Rattle.std.specs.Prelude.{Ok, None}
 use Rattle.rpl_syntax.specs.Modules.{said}
 use Rattle.rpl_scope.specs.Faults.{◌>>=◌}
 use Rattle.rpl_package.specs.Asking.{at_once}
 use Rattle.rpl_package.specs.Loading.{world, walk, checks}
-use Rattle.rpl_package.specs.Roots.{root_text}
+use Rattle.rpl_package.specs.Roots.{root_text, top_head}
 use Rattle.rpl_package.specs.Stocks.{state_seen}
-use Rattle.rpl_package.proofs.Outcomes.{passed_on, same, may_lead, may_then}
+use Rattle.rpl_package.proofs.Outcomes.{passed_on, same, may_lead, may_then, told_lead, told_then}
 use Rattle.rpl_package.proofs.rooted.enter_root.Goals as goal
 
 pub returns-in_err-load_text-in-None-clause-gives : goal.returns-in_err-load_text-in-None-clause-gives
-returns-in_err-load_text-in-None-clause-gives g c = λ tells.
+returns-in_err-load_text-in-None-clause-gives g c = λ told.
     let W = world (g.F.Source.tree c.args.files.now) c.args.importer.folders.now in
     let f = c.args.importer.file.now in
     let m = said c.args.text.now in
     let s0 = state_seen c.args.state.now.stock c.args.state.now.own in
     let s = c.in_err-load_text-in-None.field-0.0 in
-    let moved = ap (λ h. checks W (walk W 1024) h f m s0) c.requires.held in
+    let K = g.F.Source.tells in
+    let text = checks W (walk W 1024) (top_head ∷ []) f m s0 in
+    let led = same _ _ (sym (ap (λ n. root_text W f m n s0) c.in-None.is)) in
+    let moved = same _ _ (ap (λ h. checks W (walk W 1024) h f m s0) c.requires.held) in
+    let front = told_then K text (λ u. at_once (Ok (None, u))) (told_lead K _ _ led told) in
     passed_on _ c.from_residual.result s _ c.from_residual.ensures.1
-    (may_lead s _ _ (same _ _ (sym (ap (λ n. root_text W f m n s0) c.in-None.is)))
-    (may_then s _ (λ u. at_once (Ok (None, u))) (may_lead s _ _ (same _ _ moved) (c.in_err-load_text-in-None.ensures.gives tells))))
+    (may_lead s _ _ led
+    (may_then s text (λ u. at_once (Ok (None, u))) (may_lead s _ _ moved (c.in_err-load_text-in-None.ensures.gives (told_lead K _ _ moved front)))))
 
 pub returns-in_ok-load_text-in-None-clause-gives : goal.returns-in_ok-load_text-in-None-clause-gives
-returns-in_ok-load_text-in-None-clause-gives g c = λ tells.
+returns-in_ok-load_text-in-None-clause-gives g c = λ told.
     let W = world (g.F.Source.tree c.args.files.now) c.args.importer.folders.now in
     let f = c.args.importer.file.now in
     let m = said c.args.text.now in
     let s0 = state_seen c.args.state.now.stock c.args.state.now.own in
-    let moved = ap (λ h. (checks W (walk W 1024) h f m s0).answer) (sym c.requires.held) in
-    ap (λ n. (root_text W f m n s0).answer) c.in-None.is ∙ ap (λ r. r >>= λ u. Ok (None, u)) (moved ∙ c.in_ok-load_text-in-None.ensures.gives tells)
+    let K = g.F.Source.tells in
+    let led = same _ _ (sym (ap (λ n. root_text W f m n s0) c.in-None.is)) in
+    let moved = same _ _ (ap (λ h. checks W (walk W 1024) h f m s0) c.requires.held) in
+    let front = told_then K (checks W (walk W 1024) (top_head ∷ []) f m s0) (λ u. at_once (Ok (None, u))) (told_lead K _ _ led told) in
+    sym led.0 ∙ ap (λ r. r >>= λ u. Ok (None, u)) (sym moved.0 ∙ c.in_ok-load_text-in-None.ensures.gives (told_lead K _ _ moved front))

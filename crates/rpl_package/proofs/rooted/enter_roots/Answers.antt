@@ -8,13 +8,13 @@ use Rattle.rpl_package.specs.Built.{on, same as stays}
 use Rattle.rpl_package.specs.Roots.{Roots, top_head, counted, next, root_by, root_entry}
 use Rattle.rpl_package.specs.Stocks.{state_seen}
 use Rattle.rpl_package.proofs.Leaving.{after, still}
-use Rattle.rpl_package.proofs.Outcomes.{passed_on, same, trail, may_lead, may_then, turn_on, turn_stop}
+use Rattle.rpl_package.proofs.Outcomes.{passed_on, same, trail, may_lead, may_then, told_lead, told_then, turn_on, turn_stop, turn_told}
 use Rattle.rpl_package.proofs.Rooting.{counted_front, next_few}
 use Rattle.rpl_package.proofs.Within.{grows_seen, within_none, within_push}
 use Rattle.rpl_package.proofs.rooted.enter_roots.Goals as goal
 
 pub returns-in_err-number-clause-gives : goal.returns-in_err-number-clause-gives
-returns-in_err-number-clause-gives g c = λ tells.
+returns-in_err-number-clause-gives g c = λ told.
     let ds = c.args.folders.now in
     let W = world (g.F.Source.tree c.args.files.now) ds in
     let r = c.root-item.result in
@@ -23,10 +23,15 @@ returns-in_err-number-clause-gives g c = λ tells.
     let st : Roots = record { roots = c.loop-root.into.items; state = s0 } in
     let inv = c.loop-root.invariant in
     let stop = c.in_err-number.field-0.0 in
+    let K = g.F.Source.tells in
+    let at = counted_front k c.args.roots.now c.loop-root.root-index r c.loop-root-test.true c.root-item.is in
+    let moved = same _ _ (ap₂ (λ U j. root_by (world U ds) j r s0) inv.files.tree c.next-given.ensures) in
+    let one = root_by W (next k r) r s0 in
+    let front = told_then K one (λ t. at_once (Ok (record { roots = st.roots ++ t.0 ∷ []; state = t.1 }))) (turn_told (root_entry W) _ _ (next k r, r) st _ at (inv.left told) K told) in
     passed_on _ c.from_residual.result stop _ c.from_residual.ensures.1
-    (turn_stop (root_entry W) _ _ (next k r, r) st _ (counted_front k c.args.roots.now c.loop-root.root-index r c.loop-root-test.true c.root-item.is) (inv.left tells) stop
-    (may_then stop (root_by W (next k r) r s0) (λ t. at_once (Ok (record { roots = st.roots ++ t.0 ∷ []; state = t.1 })))
-    (may_lead stop _ _ (same _ _ (ap₂ (λ U j. root_by (world U ds) j r s0) inv.files.tree c.next-given.ensures)) (c.in_err-number.ensures.gives tells))))
+    (turn_stop (root_entry W) _ _ (next k r, r) st _ at (inv.left told) stop
+    (may_then stop one (λ t. at_once (Ok (record { roots = st.roots ++ t.0 ∷ []; state = t.1 })))
+    (may_lead stop _ _ moved (c.in_err-number.ensures.gives (told_lead K _ _ moved front)))))
 
 pub loop-root-preserved : goal.loop-root-preserved
 loop-root-preserved g c =
@@ -49,11 +54,16 @@ loop-root-preserved g c =
       few = omega (arith, inv.few, next_few k r, c.next-given.ensures);
       many = omega (arith, inv.many, pushed);
       within = within_push c.loop-root.into.items _ c.in_ok-number.number _ _ c.in_ok-push.ensures.items (grows_seen (top_head ∷ []) c.loop-root.state.stock c.enter_one.new.state.stock s0 s1 c.in_ok-number.ensures.built refl refl) inv.within c.in_ok-number.ensures.within;
-      left = λ tells.
-          let one = ap₂ (λ U j. (root_by (world U ds) j r s0).answer) (sym inv.files.tree) (sym c.next-given.ensures) ∙ c.in_ok-number.ensures.gives tells in
+      left = λ told.
+          let K = g.F.Source.tells in
+          let at = counted_front k rs n r c.loop-root-test.true c.root-item.is in
+          let moved = same _ _ (ap₂ (λ U j. root_by (world U ds) j r s0) inv.files.tree c.next-given.ensures) in
+          let front = told_then K (root_by W (next k r) r s0) (λ t. at_once (Ok (record { roots = st.roots ++ t.0 ∷ []; state = t.1 })))
+          (turn_told (root_entry W) (counted k (drop n rs)) (counted (next k r) (drop (n + 1) rs)) (next k r, r) st _ at (inv.left told) K told) in
+          let one = sym moved.0 ∙ c.in_ok-number.ensures.gives (told_lead K _ _ moved front) in
           trail _ _ _
           (same _ _ (ap₂ (λ j xs. each_in_turn (root_entry W) (counted j (drop (n + 1) rs)) (record { roots = xs; state = s1 })) c.next-given.ensures c.in_ok-push.ensures.items))
-          (turn_on (root_entry W) (counted k (drop n rs)) (counted (next k r) (drop (n + 1) rs)) (next k r, r) st _ (counted_front k rs n r c.loop-root-test.true c.root-item.is) (inv.left tells) st1
+          (turn_on (root_entry W) (counted k (drop n rs)) (counted (next k r) (drop (n + 1) rs)) (next k r, r) st _ at (inv.left told) st1
           (ap (λ x. x >>= λ t. Ok (record { roots = st.roots ++ t.0 ∷ []; state = t.1 })) one));
     }
 
@@ -68,5 +78,5 @@ loop-root-init g c =
       few = omega arith;
       many = ap length c.new-into.ensures.items;
       within = within_none _ _ c.new-into.ensures.items;
-      left = λ tells. same _ _ (ap (λ xs. each_in_turn (root_entry W) (counted 0 c.args.roots.now) (record { roots = xs; state = s0 })) c.new-into.ensures.items);
+      left = λ told. same _ _ (ap (λ xs. each_in_turn (root_entry W) (counted 0 c.args.roots.now) (record { roots = xs; state = s0 })) c.new-into.ensures.items);
     }

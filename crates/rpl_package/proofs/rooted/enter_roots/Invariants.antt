@@ -1,6 +1,6 @@
 use Rattle.std.proofs.Common.{◌≡◌, ◌≤◌, drop, length, [], ◌∷◌}
 use Rattle.std.specs.Prelude.{Ok}
-use Rattle.rpl_package.specs.Asking.{each_in_turn}
+use Rattle.rpl_package.specs.Asking.{IsTold, each_in_turn}
 use Rattle.rpl_package.specs.Loading.{world}
 use Rattle.rpl_package.specs.Built.{Becomes}
 use Rattle.rpl_package.specs.Roots.{AreWithin, counted, root_entry, top_head}
@@ -19,7 +19,7 @@ invariant-loop-root g l =
       many : length l.into.items ≡ l.root-index;
       within : AreWithin l.into.items (length l.state.stock.modules.items);
       built : Becomes (top_head ∷ []) (state_seen l.fn.state.stock l.fn.state.own) (state_seen l.state.stock l.state.own);
-      left : g.F.Source.tells → Follows
+      left : IsTold g.F.Source.tells (each_in_turn (root_entry (world (g.F.Source.tree l.fn.files) l.folders)) (counted 0 l.roots) (roots_seen [] l.fn.state)).asked → Follows
           (each_in_turn (root_entry (world (g.F.Source.tree l.fn.files) l.folders)) (counted l.given (drop l.root-index l.roots)) (roots_seen l.into.items l.state))
           (each_in_turn (root_entry (world (g.F.Source.tree l.fn.files) l.folders)) (counted 0 l.roots) (roots_seen [] l.fn.state));
     }

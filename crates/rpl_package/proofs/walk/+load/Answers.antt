@@ -1,28 +1,28 @@
-use Rattle.std.proofs.Common.{ℕ, drop, length, ◌+◌, ◌-◌, inr, refl, ap, ap₂, sym, subst, ◌∙◌, arith}
+use Rattle.std.proofs.Common.{ℕ, ◌-◌, inr, refl, ap, ap₂, sym, subst, ◌∙◌, arith}
 use Rattle.std.specs.Prelude.{Ok}
 use Rattle.std.specs.List.{All}
 use Rattle.std.proofs.lemmas.List.Elements.{All-get_or}
 use Rattle.rpl_syntax.specs.Modules.{said, entries_of}
-use Rattle.rpl_scope.specs.Faults.{StopIs}
+use Rattle.rpl_scope.specs.Faults.{Gives, StopIs}
 use Rattle.rpl_scope.specs.Imports.{take_in}
 use Rattle.rpl_scope.specs.Statements.{statements}
 use Rattle.rpl_scope.specs.Seen.{module_seen, modules_seen}
 use Rattle.rpl_scope.specs.inside.Taken.{HasAll}
 use Rattle.rpl_scope.proofs.Checking.{front}
 use Rattle.rpl_package.specs.Built.{Becomes, IsAsked, on, same as stays}
-use Rattle.rpl_package.specs.Loading.{Stock, is_loading, world, walk, load_import as reached, brought, import_entry, import_entries, said_of, with_text}
+use Rattle.rpl_package.specs.Loading.{Stock, is_loading, world, walk}
 use Rattle.rpl_package.specs.Stocks.{stock_seen, state_seen}
 use Rattle.rpl_package.proofs.Building.{asks_by, brings, texts_on}
 use Rattle.rpl_package.proofs.Keeping.{keeps_same, keeps_trans}
 use Rattle.rpl_package.proofs.Leaving.{after, still}
 use Rattle.rpl_package.proofs.Beginning.{begins_on, held_back, inner_stops, inner_taken}
-use Rattle.rpl_package.proofs.Outcomes.{if_ok, passed_on, walks_last, same, may_lead, may_then, turn_on, turn_stop}
-use Rattle.rpl_package.proofs.Taking.{all_on, entry_comes, entry_stops}
-use Rattle.rpl_package.proofs.Walking.{reach_cycle}
+use Rattle.rpl_package.proofs.Outcomes.{gives_on, if_ok, passed_on, walks_last, walks_lead}
+use Rattle.rpl_package.proofs.Taking.{all_on, rest_left, take_stops, way_stops, way_told}
+use Rattle.rpl_package.proofs.Walking.{entries_on, entries_stop, reach_cycle, told_file}
 use Rattle.rpl_package.proofs.walk.+load.Goals as goal
 
 pub load_import-returns-then-is_loading-clause-gives : goal.load_import-returns-then-is_loading-clause-gives
-load_import-returns-then-is_loading-clause-gives g t c = λ tells.
+load_import-returns-then-is_loading-clause-gives g t c = λ told.
     let k = c.args.walker.now in
     let W = world (g.F.Source.tree c.args.files.now) k.importer.folders.now in
     let i = c.args.import.now in
@@ -35,23 +35,36 @@ load_import-open_import-requires g t c = record {
   new = sym c.get.ensures ∙ c.in_default.is;
 }
 
+pub load_import-returns-in_err-read-clause-gives : goal.load_import-returns-in_err-read-clause-gives
+load_import-returns-in_err-read-clause-gives g t c = λ told.
+    let k = c.args.walker.now in
+    let W = world (g.F.Source.tree c.args.files.now) k.importer.folders.now in
+    let file = told_file g.F.Source.tells W (walk W k.depth) c.args.stock.now.held.items k.importer.file.now c.args.import.now (stock_seen c.args.stock.now) (ap (is_loading c.args.import.now.path) (sym c.deref.ensures.value) ∙ sym c.is_loading.ensures ∙ c.if-is_loading.false) (sym c.get.ensures ∙ c.in_default.is) told in
+    passed_on _ c.from_residual.result c.in_err-read.field-0.0 _ c.from_residual.ensures.1 (c.in_err-read.ensures.stops file)
+
 pub load_import-returns-in_err-load_text-clause-gives : goal.load_import-returns-in_err-load_text-clause-gives
-load_import-returns-in_err-load_text-clause-gives g t c = λ tells.
+load_import-returns-in_err-load_text-clause-gives g t c = λ told.
     let k = c.args.walker.now in
     let stop = c.in_err-load_text.field-0.0 in
     let S = stock_seen c.open_import.new.stock in
+    let K = g.F.Source.tells in
+    let W = world (g.F.Source.tree c.args.files.now) k.importer.folders.now in
+    let file = told_file K W (walk W k.depth) c.args.stock.now.held.items k.importer.file.now c.args.import.now (stock_seen c.args.stock.now) (ap (is_loading c.args.import.now.path) (sym c.deref.ensures.value) ∙ sym c.is_loading.ensures ∙ c.if-is_loading.false) (sym c.get.ensures ∙ c.in_default.is) told in
     passed_on _ c.from_residual-in_err-load_text.result stop _ c.from_residual-in_err-load_text.ensures.1
     (inner_stops (g.F.Source.tree c.args.files.now) (g.F.Source.tree c.open_import.new.files) k.importer.folders.now (k.depth - 1) c.open_import.new.stock.held.items
     (record { stock = S; own = module_seen c.in_ok-read.field-0.own.value }) (record { stock = S; own = module_seen c.deref_mut.result.now }) c.in_ok-read.field-0.read.value c.deref-2.result.now c.deref-3.result.now _
-    c.open_import.ensures.files.tree (ap (λ m. record { stock = S; own = module_seen m }) c.deref_mut.ensures.value) c.deref-2.ensures c.deref-3.ensures (c.in_ok-read.ensures.goes tells) stop (c.in_err-load_text.ensures.gives tells))
+    c.open_import.ensures.files.tree (ap (λ m. record { stock = S; own = module_seen m }) c.deref_mut.ensures.value) c.deref-2.ensures c.deref-3.ensures (c.in_ok-read.ensures.goes file) K told stop c.in_err-load_text.ensures.gives)
 
 pub load_import-returns-clause-gives : goal.load_import-returns-clause-gives
-load_import-returns-clause-gives g t c = λ tells.
+load_import-returns-clause-gives g t c = λ told.
     let k = c.args.walker.now in
     let S = stock_seen c.open_import.new.stock in
+    let K = g.F.Source.tells in
+    let W = world (g.F.Source.tree c.args.files.now) k.importer.folders.now in
+    let file = told_file K W (walk W k.depth) c.args.stock.now.held.items k.importer.file.now c.args.import.now (stock_seen c.args.stock.now) (ap (is_loading c.args.import.now.path) (sym c.deref.ensures.value) ∙ sym c.is_loading.ensures ∙ c.if-is_loading.false) (sym c.get.ensures ∙ c.in_default.is) told in
     walks_last _ c.close.result _ c.close.ensures.memory (λ n is. inner_taken (g.F.Source.tree c.args.files.now) (g.F.Source.tree c.open_import.new.files) k.importer.folders.now (k.depth - 1) c.open_import.new.stock.held.items
     (record { stock = S; own = module_seen c.in_ok-read.field-0.own.value }) (record { stock = S; own = module_seen c.deref_mut.result.now }) c.in_ok-read.field-0.read.value c.deref-2.result.now c.deref-3.result.now _
-    c.open_import.ensures.files.tree (ap (λ m. record { stock = S; own = module_seen m }) c.deref_mut.ensures.value) c.deref-2.ensures c.deref-3.ensures (c.in_ok-read.ensures.goes tells) _ (c.in_ok-load_text.ensures.gives tells)
+    c.open_import.ensures.files.tree (ap (λ m. record { stock = S; own = module_seen m }) c.deref_mut.ensures.value) c.deref-2.ensures c.deref-3.ensures (c.in_ok-read.ensures.goes file) K told _ c.in_ok-load_text.ensures.gives
     ∙ ap Ok (sym (rw is at c.close.ensures.taken)))
 
 pub load_import-returns-clause-held : goal.load_import-returns-clause-held
@@ -66,40 +79,33 @@ load_import-returns-clause-built g t c =
     if_ok c.close.result _ (λ n is. inr (v, begins_on c.args.stock.now.held.items c.args.import.now.path (stock_seen c.args.stock.now) (said o.read.value.text) c.open_import.new.stock.held.items (state_seen c.open_import.new.stock o.own.value) v c.in_ok-read.ensures.begins (subst (λ m. Becomes c.open_import.new.stock.held.items (record { stock = stock_seen c.open_import.new.stock; own = module_seen m }) v) c.deref_mut.ensures.value c.in_ok-load_text.ensures.built), rw is at c.close.ensures.taken))
 
 pub enter_imports-returns-in_err-number-clause-gives : goal.enter_imports-returns-in_err-number-clause-gives
-enter_imports-returns-in_err-number-clause-gives g t c = λ tells.
-    let ds = c.args.walker.now.importer.folders.now in
-    let W = world (g.F.Source.tree c.args.files.now) ds in
-    let d = c.args.walker.now.depth in
-    let hs = c.args.stock.now.held.items in
-    let f = c.args.walker.now.importer.file.now in
+enter_imports-returns-in_err-number-clause-gives g t c = λ told.
+    let k = c.args.walker.now in
+    let l = c.loop-import in
     let i = c.import-item.result in
-    let s0 = state_seen c.loop-import.stock c.loop-import.own in
-    let inv = c.loop-import.invariant in
+    let o = state_seen l.stock l.own in
+    let at = front c.args.imports.now l.import-index i c.loop-import-test.true c.import-item.is in
+    let led = l.invariant.left told in
     let s = c.in_err-number.field-0.0 in
     passed_on _ c.from_residual.result s _ c.from_residual.ensures.1
-    (turn_stop (import_entry W (walk W d) hs f) _ _ i s0 _
-    (front c.args.imports.now c.loop-import.import-index i c.loop-import-test.true c.import-item.is) (inv.left tells) s
-    (may_then s (reached W (walk W d) hs f i s0.stock) (brought f i s0.own)
-    (may_lead s _ _ (same _ _ (ap₂ (λ U h. reached (world U ds) (walk (world U ds) d) h f i s0.stock) inv.files.tree inv.held)) (c.in_err-number.ensures.gives tells))))
+    (way_stops k.importer.folders.now k.depth k.importer.file.now i o _ _ _ _ _ _ _ l.invariant.files.tree l.invariant.held at led s
+    (c.in_err-number.ensures.gives (way_told k.importer.folders.now k.depth k.importer.file.now i o _ _ _ _ _ _ _ l.invariant.files.tree l.invariant.held at led g.F.Source.tells told)))
 
 pub enter_imports-returns-in_err-bring-clause-gives : goal.enter_imports-returns-in_err-bring-clause-gives
-enter_imports-returns-in_err-bring-clause-gives g t c = λ tells.
+enter_imports-returns-in_err-bring-clause-gives g t c = λ told.
     let ds = c.args.walker.now.importer.folders.now in
-    let W = world (g.F.Source.tree c.args.files.now) ds in
-    let d = c.args.walker.now.depth in
-    let hs = c.args.stock.now.held.items in
     let f = c.args.walker.now.importer.file.now in
     let i = c.import-item.result in
     let s0 = state_seen c.loop-import.stock c.loop-import.own in
     let inv = c.loop-import.invariant in
+    let d = c.args.walker.now.depth in
+    let at = front c.args.imports.now c.loop-import.import-index i c.loop-import-test.true c.import-item.is in
+    let way = way_told ds d f i s0 _ _ _ _ _ _ _ inv.files.tree inv.held at (inv.left told) g.F.Source.tells told in
     let n = c.in_ok-number.number in
-    let comes = ap₂ (λ U h. (reached (world U ds) (walk (world U ds) d) h f i s0.stock).answer) (sym inv.files.tree) (sym inv.held) ∙ c.in_ok-number.ensures.gives tells in
     let s = c.in_err-bring.field-0.0 in
     passed_on _ c.from_residual-in_err-bring.result s _ c.from_residual-in_err-bring.ensures.1
-    (turn_stop (import_entry W (walk W d) hs f) _ _ i s0 _
-    (front c.args.imports.now c.loop-import.import-index i c.loop-import-test.true c.import-item.is) (inv.left tells) s
-    (entry_stops W (walk W d) hs f i s0 (n, stock_seen c.load_import.new.stock) comes s
-    (subst (λ l. StopIs s (take_in f i n (modules_seen l) s0.own)) c.deref.ensures.value c.in_err-bring.ensures.gives)))
+    (take_stops ds d f i s0 _ _ _ _ _ _ _ inv.files.tree inv.held at (inv.left told) (n, stock_seen c.load_import.new.stock) (c.in_ok-number.ensures.gives way) s
+    (subst (λ l. StopIs s (take_in f i n (modules_seen l) s0.own)) c.deref.ensures.value c.in_err-bring.ensures.gives))
 
 pub enter_imports-bring-requires : goal.enter_imports-bring-requires
 enter_imports-bring-requires g t c =
@@ -112,7 +118,6 @@ enter_imports-bring-requires g t c =
 pub enter_imports-loop-import-preserved : goal.enter_imports-loop-import-preserved
 enter_imports-loop-import-preserved g t c =
     let ds = c.args.walker.now.importer.folders.now in
-    let W = world (g.F.Source.tree c.args.files.now) ds in
     let d = c.args.walker.now.depth in
     let hs = c.args.stock.now.held.items in
     let f = c.args.walker.now.importer.file.now in
@@ -132,10 +137,10 @@ enter_imports-loop-import-preserved g t c =
       kept = keeps_trans _ _ _ inv.kept c.load_import.ensures.kept;
       built = on hs _ s0 _ inv.built (subst (λ h. Becomes h s0 (state_seen c.load_import.new.stock c.bring.new.own)) inv.held (brings c.loop-import.stock.held.items f i s0 r m asked c.in_ok-number.ensures.built takes));
       taken = subst (λ l. All (HasAll (modules_seen l) m) c.bring.new.taken.items) c.deref.ensures.value c.in_ok-bring.ensures.there;
-      left = λ tells.
-          let comes = ap₂ (λ U h. (reached (world U ds) (walk (world U ds) d) h f i s0.stock).answer) (sym inv.files.tree) (sym inv.held) ∙ c.in_ok-number.ensures.gives tells in
-          turn_on (import_entry W (walk W d) hs f) (drop k is) (drop (k + 1) is) i s0 _ (front is k i c.loop-import-test.true c.import-item.is) (inv.left tells)
-          (state_seen c.load_import.new.stock c.bring.new.own) (entry_comes W (walk W d) hs f i s0 r comes m takes);
+      left = λ told.
+          let at = front is k i c.loop-import-test.true c.import-item.is in
+          let way = way_told ds d f i s0 _ _ _ _ _ _ _ inv.files.tree inv.held at (inv.left told) g.F.Source.tells told in
+          rest_left ds d f i s0 _ _ _ _ _ _ _ inv.files.tree inv.held at (inv.left told) r (c.in_ok-number.ensures.gives way) m takes;
     }
 
 pub enter_imports-loop-import-init : goal.enter_imports-loop-import-init
@@ -145,7 +150,7 @@ enter_imports-loop-import-init g t c = record {
   kept = keeps_same _ _ refl;
   built = stays _ _;
   taken = rw c.new-taken.ensures.items (λ k d lt. absurd (omega (arith, lt)));
-  left = λ tells. (refl, λ p h. h);
+  left = λ told. (refl, λ p h. h);
 }
 
 pub enter_imports-load_import-requires : goal.enter_imports-load_import-requires
@@ -155,17 +160,12 @@ enter_imports-load_import-requires g t c = λ κs lives.
     (omega (arith, c.decreases), (lives, asked))
 
 pub load_text-returns-in_err-enter_imports-clause-gives : goal.load_text-returns-in_err-enter_imports-clause-gives
-load_text-returns-in_err-enter_imports-clause-gives g t c = λ tells.
+load_text-returns-in_err-enter_imports-clause-gives g t c = λ told.
     let W = world (g.F.Source.tree c.args.files.now) c.args.walker.now.importer.folders.now in
-    let d = c.args.walker.now.depth in
-    let hs = c.args.stock.now.held.items in
-    let f = c.args.walker.now.importer.file.now in
-    let x = said c.args.text.now in
-    let S = stock_seen c.args.stock.now in
+    let s0 = state_seen c.args.stock.now c.args.own.now in
     let s = c.in_err-enter_imports.field-0.0 in
     passed_on _ c.from_residual-in_err-enter_imports.result s _ c.from_residual-in_err-enter_imports.ensures.1
-    (may_then s (import_entries W (walk W d) hs f x.imports (record { stock = S; own = with_text (module_seen c.args.own.now) f })) (said_of f (length c.args.own.now.texts.items) x)
-    (may_lead s _ _ (same _ _ (ap₂ (λ is o. import_entries W (walk W d) hs f is (record { stock = S; own = o })) c.as_slice-imports.ensures c.in_ok-number.ensures.text)) (c.in_err-enter_imports.ensures.gives tells)))
+    (entries_stop g.F.Source.tells W (walk W c.args.walker.now.depth) c.args.stock.now.held.items c.args.walker.now.importer.file.now (said c.args.text.now) s0 _ _ c.as_slice-imports.ensures c.in_ok-number.ensures.text told s c.in_err-enter_imports.ensures.gives)
 
 pub load_text-returns-clause-built : goal.load_text-returns-clause-built
 load_text-returns-clause-built g t c =
@@ -181,3 +181,17 @@ load_text-returns-clause-built g t c =
 pub load_text-enter_imports-requires : goal.load_text-enter_imports-requires
 load_text-enter_imports-requires g t c = λ κs lives.
     (omega (arith, c.decreases), (lives, asks_by (said c.args.text.now) _ c.requires.said c.as_slice-imports.ensures))
+
+pub load_text-returns-clause-gives : goal.load_text-returns-clause-gives
+load_text-returns-clause-gives g t c = λ told.
+    let W = world (g.F.Source.tree c.args.files.now) c.args.walker.now.importer.folders.now in
+    let f = c.args.walker.now.importer.file.now in
+    let x = said c.args.text.now in
+    let s0 = state_seen c.args.stock.now c.args.own.now in
+    let u = state_seen c.enter_imports.new.stock c.enter_imports.new.own in
+    let led = entries_on g.F.Source.tells W (walk W c.args.walker.now.depth) c.args.stock.now.held.items f x s0 _ _ c.as_slice-imports.ensures c.in_ok-number.ensures.text told u c.in_ok-enter_imports.ensures.gives in
+    let alike = ap₂ (λ l is. statements f c.in_ok-number.number (modules_seen l) (entries_of is) u.own) c.deref.ensures.value c.as_slice-items.ensures
+    ∙ ap (λ k. statements f k u.stock.modules x.items u.own) c.in_ok-number.ensures.number in
+    walks_lead _ c.enter_items.result _ _ led
+    (gives_on (λ y. module_seen c.enter_items.new.own) c.enter_items.result _ (λ m. record { stock = u.stock; own = m })
+    (subst (Gives (λ y. module_seen c.enter_items.new.own) c.enter_items.result) alike c.enter_items.ensures))
