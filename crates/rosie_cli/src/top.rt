@@ -4,10 +4,10 @@
 ghost use Rattle.std.specs.Prelude.{◌≡◌, ◌≢◌, ◌∷◌, [], ℕ, true, string_bytes, IfErr};
 ghost use Rattle.rosie_jobs.specs.Lines.{reading};
 ghost use Rattle.rosie_run.specs.Causes.{Flushes};
-ghost use Rattle.rosie_run.specs.Course.{InputsCause, OutputsCause, course};
+ghost use Rattle.rosie_run.specs.Devices.{InputsCause, OutputsCause, SameInputs, SameOutputs};
+ghost use Rattle.rosie_run.specs.Devices.{course};
 ghost use Rattle.rosie_run.specs.Runs.{WritesCause, Runs, GoesOn, IsNoCut};
-ghost use Rattle.rosie_run.specs.Inputs.{SameInputs};
-ghost use Rattle.rosie_run.specs.Outputs.{SameOutputs, shown, telling};
+ghost use Rattle.rosie_run.specs.Outputs.{shown, telling};
 ghost use Rattle.rosie_run.specs.Report.{stop_piece};
 ghost use Rattle.rosie_run.specs.Where.{Nowhere};
 ghost use Rattle.rpl_package.specs.Asking.{IsTold};

@@ -1,5 +1,4 @@
 -- The inputs of a run in turn, and their pieces.
-use Rattle.rosie_run.specs.declared.inputs.Inputs.{Inputs}
 use Rattle.rosie_io.specs.Opening.{file_of}
 use Rattle.rosie_run.specs.Lines.{Makes, input_fault, input_pieces}
 use Rattle.rosie_run.specs.Report.{Piece, stop_piece}
@@ -50,7 +49,3 @@ pub record AreTold (names : List (List ℕ)) (files input : Type 0) : Type 0 whe
 -- the texts of some names
 abbrev pub names_of : {Z : Type 0} → (Z → List ℕ) → List Z → List (List ℕ)
 names_of f xs = map f xs
-
--- what a run reads from, as one value: the same files and the same standard input as before
-abbrev pub SameInputs : {F I : Type 0} → Inputs F I → Inputs F I → Type 0
-SameInputs a b = (b.files.ghost_name ≡ a.files.ghost_name) × (b.input.ghost_name ≡ a.input.ghost_name)

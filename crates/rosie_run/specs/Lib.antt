@@ -9,6 +9,7 @@ pub mod Course
 pub mod Where
 pub mod Made
 pub mod Runs
+pub mod Devices
 pub mod Causes
 pub mod Closing
 pub mod Headline

@@ -1,6 +1,5 @@
 -- The pieces of the lines of an input, given what a job makes of a line of text.
 use Rattle.rosie_io.specs.Lines.{feeds, lines}
-use Rattle.rosie_io.specs.Reader.{Reader}
 use Rattle.rosie_run.specs.Report.{Piece, fault_piece}
 use Rattle.rosie_run.specs.declared.lines.Reading.{Reading}
 use Rattle.std.specs.Fmt.{decimal}
@@ -8,10 +7,6 @@ use Rattle.std.specs.Prelude.{if◌then◌else◌, ◌++◌, ◌+◌, ◌∷◌,
 use Rattle.std.specs.Str.{is_utf8}
 use Rattle.rosie_run.specs.declared.ended.ReadStop.{ReadStop}
 use Rattle.rosie_run.specs.declared.ended.ReadStop.TheVariants.{ReadFault, Spent}
-
--- how a reader reads its lines
-abbrev pub reading_of : Reader → Reading
-reading_of r = record { whole = r.whole; most = r.most }
 
 -- what is wrong with an input, and with a line of it
 unfoldable pub input_fault : List ℕ → List ℕ → List ℕ

@@ -2,7 +2,6 @@
 use Rattle.rosie_io.specs.Counts.{capped}
 use Rattle.rosie_io.specs.declared.outside.Sink.{Ghosts}
 use Rattle.rosie_run.specs.Report.{Piece, costs, errs, outs}
-use Rattle.rosie_run.specs.declared.outputs.Outputs.{Outputs}
 use Rattle.std.specs.Prelude.{◌++◌, ◌+◌, ◌≡◌, ◌≤◌, List, length, take, ℕ}
 
 -- what the outputs tell
@@ -27,25 +26,6 @@ telling O E = record { out = O.tells; err = E.tells; counts = O.counts }
 
 abbrev pub shown : {O E : Type 0} → Ghosts O → Ghosts E → O → E → ℕ → Texts
 shown O E o e n = texts O.written O.number E.written o e n
-
--- what the outputs tell, and what stands on them before and after a call
-pub record Showing : Type 1 where
-  pub tells : Telling
-  pub before : Texts
-  pub after : Texts
-
-abbrev pub showing : {O E : Type 0} → Ghosts O → Ghosts E → O → E → ℕ → O → E → ℕ → Showing
-showing O E o e n o' e' n' = record { tells = telling O E; before = shown O E o e n; after = shown O E o' e' n' }
-
--- the same, of a call that is given the outputs as one value
-abbrev pub shows : {O E L : Type 0} → Ghosts O → Ghosts E → Outputs O E L → Outputs O E L → Showing
-shows O E a b = showing O E a.out.now a.err.now a.steps.now b.out.now b.err.now b.steps.now
-
--- that value holds the same outputs and the same count as before
-abbrev pub SameOutputs : {O E L : Type 0} → Outputs O E L → Outputs O E L → Type 0
-SameOutputs a b =
-    (b.out.ghost_name ≡ a.out.ghost_name) × (b.err.ghost_name ≡ a.err.ghost_name)
-    × (b.steps.ghost_name ≡ a.steps.ghost_name)
 
 pub record Failures : Type 0 where
   pub out : ℕ

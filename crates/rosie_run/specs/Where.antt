@@ -1,19 +1,13 @@
 -- Where reading stood when it ended a run.
 use Rattle.rosie_io.specs.Counts.{Rose}
 use Rattle.rosie_io.specs.Opening.{file_of}
-use Rattle.rosie_run.specs.Course.{Course}
-use Rattle.rosie_run.specs.Inputs.{AreTold, inputs_pieces, is_standard, reads_standard}
-use Rattle.rosie_run.specs.Lines.{Makes, input_pieces, passed}
-use Rattle.rosie_run.specs.Outputs.{Showing}
-use Rattle.rosie_run.specs.Runs.{Runs}
-use Rattle.rosie_run.specs.Sources.{Ends, Moment, Span}
-use Rattle.rosie_run.specs.declared.ended.Ended.{Ended}
+use Rattle.rosie_run.specs.Inputs.{is_standard, reads_standard}
+use Rattle.rosie_run.specs.Lines.{passed}
+use Rattle.rosie_run.specs.Sources.{Ends, Moment}
 use Rattle.rosie_run.specs.declared.ended.ReadStop.{ReadStop}
 use Rattle.rosie_run.specs.declared.ended.ReadStop.TheVariants.{ReadFault, Spent}
-use Rattle.rosie_run.specs.declared.lines.Reading.{Reading}
-use Rattle.rosie_run.specs.declared.tally.Tally.{Tally}
 use Rattle.std.specs.List.{Contains}
-use Rattle.std.specs.Prelude.{◌++◌, ◌+◌, ◌^◌, ◌∷◌, ◌≡◌, ◌≤◌, ◌⊎◌, Bool, List, Result, Some, false, length, true, ℕ}
+use Rattle.std.specs.Prelude.{◌++◌, ◌+◌, ◌^◌, ◌∷◌, ◌≡◌, ◌≤◌, ◌⊎◌, Bool, List, Some, false, length, true, ℕ}
 
 -- it wasn't reading that ended the run
 abbrev pub Nowhere : ReadStop → List ℕ → ℕ → Type 0
@@ -39,12 +33,6 @@ pub record InSource (whole : Bool) (m0 m1 : Moment) (why : ReadStop) (k : ℕ) :
 abbrev pub InNamed : List ℕ → Bool → Moment → Moment → ReadStop → List ℕ → ℕ → Type 0
 InNamed name whole m0 m1 why file k = (file ≡ name) × InSource whole m0 m1 why k
 
--- the run over such a source: its pieces are written, or it breaks off
-abbrev pub RunsSource : Result Tally Ended → Makes → Reading → List ℕ → Span → Showing → Type 0
-RunsSource result makes r file source w =
-    Runs result w.tells (input_pieces makes r file source.before.rest)
-    (InNamed file r.whole source.before source.after) w.before w.after
-
 -- where reading stood among the inputs with these names: after the pieces of those before it. `before` is their number.
 -- The standard input is read where its name comes first
 pub data InInputs (names : List (List ℕ)) (before : List (List ℕ) → ℕ) (tree : List (List ℕ × List ℕ))
@@ -55,14 +43,6 @@ pub data InInputs (names : List (List ℕ)) (before : List (List ℕ) → ℕ) (
   in_standard : (front back : List (List ℕ)) (n : ℕ) → names ≡ front ++ file ∷ back → is_standard file ≡ true
       → reads_standard front ≡ false → InSource whole i0 i1 why n → k ≡ before front + n
       → InInputs names before tree whole i0 i1 f0 f1 why file k
-
--- the run over the inputs with these names, where those are told
-abbrev pub RunsInputs : Result Tally Ended → Makes → Reading → List (List ℕ) → Course → Type 0
-RunsInputs result makes r names c =
-    AreTold names c.files_tell c.input_tells
-    → Runs result c.tells (inputs_pieces makes r c.tree c.input.before.rest names)
-    (InInputs names (λ front. length (inputs_pieces makes r c.tree c.input.before.rest front)) c.tree r.whole
-    c.input.before c.input.after c.files.before c.files.after) c.before c.after
 
 -- where it stood in the run of a command: in its loading, which asks for these paths, or among its inputs
 pub data InRun (asks : List (List ℕ)) (Inputs : ReadStop → List ℕ → ℕ → Type 0) (f0 f1 : Moment) (why : ReadStop)

@@ -2,5 +2,6 @@
 pub mod Causes
 pub mod Passing
 pub mod Reaching
+pub mod Showing
 pub mod Where
 pub mod SameLines

@@ -9,9 +9,9 @@ use Rattle.rosie_io.specs.Lines.{lines}
 use Rattle.rosie_io.specs.Reader.{Reader}
 use Rattle.rosie_io.specs.declared.reader.Line.{Line}
 use Rattle.rosie_io.specs.declared.reader.LineFault.{LineFault}
-use Rattle.rosie_run.specs.Lines.{Makes, input_pieces, line_fault, line_piece, passed, pieces_from, reading_of}
+use Rattle.rosie_run.specs.Lines.{Makes, input_pieces, line_fault, line_piece, passed, pieces_from}
 use Rattle.rosie_run.specs.Made.{IsMade}
-use Rattle.rosie_run.specs.Outputs.{Fronts, Showing, Telling, Texts, Wrote}
+use Rattle.rosie_run.specs.Outputs.{Fronts, Telling, Texts, Wrote}
 use Rattle.rosie_run.specs.Runs.{Stands}
 use Rattle.rosie_run.specs.Report.{Piece, has, is_stop, up_to_stop}
 use Rattle.rosie_run.specs.Tallies.{tally_of}
@@ -21,6 +21,8 @@ use Rattle.rosie_run.specs.declared.mark.Mark.{Mark}
 use Rattle.rosie_run.specs.declared.mark.Mark.TheVariants.{Fault}
 use Rattle.rosie_run.specs.declared.tally.Tally.{Tally}
 use Rattle.rosie_run.specs.declared.trouble.Trouble.{Trouble}
+use Rattle.rosie_run.specs.inside.SameLines.{reading_of}
+use Rattle.rosie_run.specs.inside.Showing.{Showing}
 use Rattle.std.specs.Prelude.{◌++◌, ◌+◌, ◌^◌, ◌≡◌, ◌≤◌, Bool, Err, List, None, Ok, Option, Result, Some, [], false}
 use Rattle.std.specs.Prelude.{codes, length, string_bytes, true, ℕ}
 

@@ -1,7 +1,8 @@
 use Rattle.std.proofs.Common.{◌≡◌, ◌-◌, ◌^◌, ◌≤◌, ◌<◌, true, false, [], drop}
 use Rattle.std.specs.Prelude.{encode_utf8_all}
-use Rattle.rosie_run.specs.Inputs.{AreTold, SameInputs, names_of, reads_standard}
-use Rattle.rosie_run.specs.Outputs.{SameOutputs, texts}
+use Rattle.rosie_run.specs.Devices.{SameInputs, SameOutputs}
+use Rattle.rosie_run.specs.Inputs.{AreTold, names_of, reads_standard}
+use Rattle.rosie_run.specs.Outputs.{texts}
 use Rattle.rosie_run.specs.inside.Reaching.{Reached}
 use Rattle.rosie_run.specs.inside.SameLines.{SameLines}
 use Rattle.rosie_run.proofs.inputs.run_inputs.Given as goal

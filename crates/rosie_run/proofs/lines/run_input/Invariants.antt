@@ -1,5 +1,6 @@
 use Rattle.std.proofs.Common.{◌≡◌, ◌+◌, ◌-◌, ◌^◌, ◌≤◌, ◌<◌, false}
-use Rattle.rosie_run.specs.Outputs.{SameOutputs, texts}
+use Rattle.rosie_run.specs.Devices.{SameOutputs}
+use Rattle.rosie_run.specs.Outputs.{texts}
 use Rattle.rosie_run.specs.inside.Passing.{Passed}
 use Rattle.rosie_run.specs.inside.SameLines.{SameLines}
 use Rattle.rosie_run.proofs.lines.run_input.Given as goal

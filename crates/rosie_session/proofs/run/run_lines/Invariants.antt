@@ -1,7 +1,7 @@
 use Rattle.std.proofs.Common.{◌≡◌, ◌+◌, ◌-◌, ◌^◌, ◌≤◌, ◌<◌, true, false, []}
 use Rattle.rosie_repl.specs.States.{session_of}
-use Rattle.rosie_run.specs.Inputs.{SameInputs}
-use Rattle.rosie_run.specs.Outputs.{SameOutputs, texts}
+use Rattle.rosie_run.specs.Devices.{SameInputs, SameOutputs}
+use Rattle.rosie_run.specs.Outputs.{texts}
 use Rattle.rosie_run.specs.Sources.{Still, moment_of}
 use Rattle.rosie_session.specs.Loading.{IsLoading, Loading}
 use Rattle.rosie_session.specs.inside.Kept.{SameKept}
