@@ -4,3 +4,4 @@ pub mod Limits
 pub mod Onward
 pub mod Counting
 pub mod Breaking
+pub mod Passed

@@ -1,4 +1,5 @@
 pub mod Lines
+pub mod Places
 pub mod Counting
 pub mod Views
 pub mod Runs

@@ -37,8 +37,3 @@ line_of r = if nat_eq (r % 4) 3 then undated r else dated r
 unfoldable pub sample : ℕ → ℕ → List (List ℕ)
 sample x zero = []
 sample x (suc n) = line_of (drawn (next x)) ∷ sample (next x) n
-
--- where a sample stands: the number that its line is made of, and the line
-pub record Place : Type 0 where
-  pub number : ℕ
-  pub line : List ℕ

@@ -1,5 +1,5 @@
 // The run of a sample: its lines are matched, and what comes of them is counted.
-ghost use Rattle.std.specs.Prelude.{◌≡◌, ◌<◌, ◌≤◌, ◌^◌, ◌∷◌, [], length, IfErr, IfOk};
+ghost use Rattle.std.specs.Prelude.{◌≡◌, ◌<◌, ◌≤◌, ◌^◌, ◌∷◌, [], length, IfErr, IfOk, OnOk};
 ghost use Rattle.std.specs.Prelude.{IsTrue};
 ghost use Rattle.std.specs.Str.{IsAscii};
 ghost use Rattle.rosie_jobs.specs.Jobs.{matcher_of};
@@ -83,6 +83,7 @@ fn run_line<J: LineJob, O: Sink, E: Sink, L: Ledger>(
 }
 
 impl SampleRun {
+    ghost use Rattle.rosie_sample.specs.Views.{HasPassedAll, HasPassedSome, SameAsked};
     ghost use Rattle.rosie_sample.specs.Views.{lines_of, report_of, sampled_of};
 
     /// The run of a job on so many lines of the sample of a seed.
@@ -104,6 +105,9 @@ impl SampleRun {
         err: &mut E,
         steps: &mut Steps<L>,
     ) -> Result<Counts, Ended>
+        ensures same { SameAsked self.old self.new }
+        ensures passed { OnOk result (HasPassedAll self.old self.new) }
+        ensures within { HasPassedSome self.old self.new }
         ensures runs { Runs (tallied result) (telling O.Sink E.Sink) (lines_of self.old) Nowhere
             (shown O.Sink E.Sink out.old err.old steps.old)
             (shown O.Sink E.Sink out.new err.new steps.new) }
@@ -138,6 +142,9 @@ impl SampleRun {
         err: &mut E,
         steps: &mut Steps<L>,
     ) -> Result<Tally, Ended>
+        ensures same { SameAsked self.old self.new }
+        ensures passed { OnOk result (HasPassedAll self.old self.new) }
+        ensures within { HasPassedSome self.old self.new }
         ensures runs { Runs result (telling O.Sink E.Sink) (report_of self.old) Nowhere
             (shown O.Sink E.Sink out.old err.old steps.old)
             (shown O.Sink E.Sink out.new err.new steps.new) }

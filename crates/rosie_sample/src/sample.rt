@@ -16,7 +16,7 @@ pub struct Sample {
 
 impl Model for Sample {
     ghost use Rattle.std.specs.Prelude.{string_bytes};
-    ghost use Rattle.rosie_sample.specs.Lines.{Place};
+    ghost use Rattle.rosie_sample.specs.Places.{Place};
 
     ghost Value = { Place };
 

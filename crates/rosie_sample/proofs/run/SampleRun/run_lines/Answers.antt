@@ -1,14 +1,17 @@
-use Rattle.std.proofs.Common.{◌≡◌, ◌≤◌, ◌<◌, ◌^◌, ◌∙◌, length, refl, ap, arith}
+use Rattle.std.proofs.Common.{◌≡◌, ◌+◌, ◌≤◌, ◌<◌, ◌^◌, ◌∙◌, length, refl, ap, arith}
 use Rattle.std.proofs.lemmas.Str.{is_utf8-from_IsUtf8}
 use Rattle.rosie_sample.specs.declared.run.Counts.{Counts}
 use Rattle.rosie_sample.proofs.Limits.{match_stays}
 use Rattle.rosie_sample.proofs.Onward.{all-matched, counted-break, counted-end, counted-first, counted-front, counted-on}
 use Rattle.rosie_sample.proofs.Onward.{few_matched}
 use Rattle.rosie_sample.proofs.Breaking.{lines-break}
+use Rattle.rosie_sample.proofs.Passed.{passed-first, passed-on}
 use Rattle.rosie_sample.proofs.run.SampleRun.run_lines.Goals as goal
 
 pub lines-init : goal.lines-init
 lines-init g c = record {
+  lines = refl;
+  passed = passed-first _ _ refl;
   same = refl;
   counted = counted-first _ _ _ _ _ _ c.new-counts.result refl (g.met.O.Sink.number_fits c.args.out.now)
       (ap (λ (x : Counts). x.tally) c.new-counts.ensures) (ap (λ (x : Counts). x.matched) c.new-counts.ensures);
@@ -18,6 +21,11 @@ lines-init g c = record {
 
 pub returns-in_default-clause-runs : goal.returns-in_default-clause-runs
 returns-in_default-clause-runs g c = counted-front _ _ _ _ _ _ _ _ _ c.lines.invariant.counted
+
+-- the sample stands one line further, whatever came of it
+pub returns-in_default-clause-within : goal.returns-in_default-clause-within
+returns-in_default-clause-within g c =
+    (c.lines.before + 1, omega (arith, c.lines-test.true), passed-on _ _ _ _ c.lines.invariant.passed c.in_default.ensures.number)
 
 pub with-counts-requires : goal.with-counts-requires
 with-counts-requires g c =
@@ -36,12 +44,18 @@ returns-in_err-ran-clause-runs g c =
     c.lines-test.true (is_utf8-from_IsUtf8 c.line.result.now c.line.utf8) short _ c.lines.invariant.same c.in_err-ran.field-0.0 _
     c.in_err-ran.ensures.runs)
 
+pub returns-in_err-ran-clause-within : goal.returns-in_err-ran-clause-within
+returns-in_err-ran-clause-within g c =
+    (c.lines.before + 1, omega (arith, c.lines-test.true), passed-on _ _ _ _ c.lines.invariant.passed c.in-Ok.ensures.number)
+
 pub lines-preserved : goal.lines-preserved
 lines-preserved g c =
     let same_length = ap length c.line.ensures in
     let line_short = c.in-Ok.ensures.short in
     let short : length c.line.result.now ≤ 64 = omega arith in
     let ran = c.in_ok-ran in record {
+      lines = c.lines.invariant.lines;
+      passed = passed-on _ _ _ _ c.lines.invariant.passed c.in-Ok.ensures.number;
       same = ran.ensures.same ∙ c.lines.invariant.same;
       counted = counted-on _ _ _ _ _ _ _ _ _ c.lines.invariant.counted c.line.result.now
           (c.line.ensures ∙ c.in-Ok.ensures.line) c.lines-test.true

@@ -2,12 +2,15 @@ use Rattle.std.proofs.Common.{◌≡◌}
 use Rattle.rosie_jobs.specs.Jobs.{matcher_of}
 use Rattle.rosie_jobs.specs.Makers.{makes_of}
 use Rattle.rosie_run.specs.Outputs.{texts}
+use Rattle.rosie_sample.specs.Views.{HasPassed}
 use Rattle.rosie_sample.specs.inside.Passing.{Counted}
 use Rattle.rosie_sample.proofs.run.SampleRun.run_lines.Given as goal
 
 -- so many lines were matched, and just their pieces are written
 abbrev pub invariant-lines : goal.invariant-lines
 invariant-lines g l = record {
+  lines : l.self.lines ≡ l.initial.self.lines;
+  passed : HasPassed l.before l.initial.self l.self;
   same : makes_of (matcher_of l.self.job) ≡ makes_of (matcher_of l.initial.self.job);
   counted : Counted (record { out = g.O.Sink.tells; err = g.E.Sink.tells; counts = g.O.Sink.counts })
       (makes_of (matcher_of l.initial.self.job)) l.initial.self.sample.number l.lines l.before l.self.sample.number l.counts
