@@ -6,7 +6,7 @@ use crate::tests::shown::{show_match, show_outcome, show_plain};
 use rpl_check::{CheckFault, check, check_pattern};
 use rpl_codegen::compile;
 use rpl_core::{Peg, Program, Rules, calls_are_rules, is_in_order};
-use rpl_machine::{Answer, RunFault, Scratch, Steps, run};
+use rpl_machine::{Answer, Scratch, Steps, run};
 use rpl_reference::{Outcome, Over, evaluate};
 use rpl_text::Text;
 use std::alloc::{AllocError, Global};
@@ -109,22 +109,19 @@ pub(crate) fn plain(alloc: Global, program: &Program, line: &str) -> Result<Endi
     Ok(Ending { shown, cost })
 }
 
+/// The answer of the machine, where it has one. Its steps are counted on this ledger.
 fn answer_on<L: Ledger>(
     program: &Program,
     line: Text<'_>,
     scratch: &mut Scratch,
     blank: Blank,
-) -> Result<Answer, RunFault>
+) -> Option<Answer>
     requires name { blank.name ≡ L.name }
     requires parts { blank.parts ≡ L.parts }
     requires some { 0 < blank.parts }
 {
     let mut steps = Steps::<L>::new(blank);
-    run(program, line, BUDGET, scratch, &mut steps)
-}
-
-fn answer(program: &Program, line: Text<'_>, scratch: &mut Scratch) -> Result<Answer, RunFault> {
-    answer_on::<Brand>(program, line, scratch, Blank::new(1))
+    run(program, line, BUDGET, scratch, &mut steps).ok()
 }
 
 /// The ending of the machine, with its steps. Where it has no answer, that is `open` too.
@@ -134,15 +131,15 @@ pub(crate) fn real(
     line: &str,
     scratch: &mut Scratch,
 ) -> Result<Ending, AllocError> {
-    match answer(program, Text::new(line), scratch) {
-        Ok(Answer::At { place, steps }) => {
+    match answer_on::<Brand>(program, Text::new(line), scratch, Blank::new(1)) {
+        Some(Answer::At { place, steps }) => {
             let shown = show_match(alloc, program, line, scratch.captures(), place)?;
             Ok(Ending { shown, cost: steps })
         }
-        Ok(Answer::Fail { steps }) => {
+        Some(Answer::Fail { steps }) => {
             let shown = String::from_str(alloc, "fail")?;
             Ok(Ending { shown, cost: steps })
         }
-        Err(_) => open(alloc),
+        None => open(alloc),
     }
 }

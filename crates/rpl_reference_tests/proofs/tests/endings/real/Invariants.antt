@@ -1,4 +1,4 @@
-use Rattle.rpl_reference_tests.proofs.tests.endings.answer.Given as goal
+use Rattle.rpl_reference_tests.proofs.tests.endings.real.Given as goal
 
 -- the steps are counted on the ledger of the blank
 abbrev pub ghosts-answer_on : goal.ghosts-answer_on
