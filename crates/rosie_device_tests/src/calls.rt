@@ -65,30 +65,32 @@ fn program(alloc: Global) -> Result<Program, Fail> {
     Ok(program)
 }
 
+/// What the program makes of the line, and the scratch that holds the captures.
 fn answer_on<L: Ledger>(
+    alloc: Global,
     program: &Program,
     line: Text<'_>,
-    scratch: &mut Scratch,
     blank: Blank,
-) -> Result<Answer, RunFault>
+) -> Result<(Answer, Scratch), RunFault>
     requires name { blank.name ≡ L.name }
     requires parts { blank.parts ≡ L.parts }
     requires some { 0 < blank.parts }
 {
+    let mut scratch = Scratch::new(alloc);
     let mut steps = Steps::<L>::new(blank);
-    run(program, line, 1_000, scratch, &mut steps)
+    let answer = run(program, line, 1_000, &mut scratch, &mut steps)?;
+    Ok((answer, scratch))
 }
 
-fn answer(program: &Program, line: Text<'_>, scratch: &mut Scratch) -> Result<Answer, RunFault> {
-    answer_on::<Brand>(program, line, scratch, Blank::new(1))
+fn answer(alloc: Global, program: &Program, line: Text<'_>) -> Result<(Answer, Scratch), RunFault> {
+    answer_on::<Brand>(alloc, program, line, Blank::new(1))
 }
 
 #[test]
 fn a_line_is_answered(rt: HostRuntime) -> Result<(), Fail> {
     let alloc = rt.alloc();
     let program = program(alloc)?;
-    let mut scratch = Scratch::new(alloc);
-    let answer = answer(&program, Text::new("31. May"), &mut scratch)?;
+    let (answer, scratch) = answer(alloc, &program, Text::new("31. May"))?;
     assert!(rt; matches!(answer, Answer::At { place: 3, .. }));
     let forest = build(alloc, scratch.captures())?;
     assert!(rt; forest.len() == 2);
