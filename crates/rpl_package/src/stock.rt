@@ -8,9 +8,10 @@ ghost use Rattle.rpl_package.specs.Stocks.{stock_seen};
 ghost use Rattle.rpl_scope.specs.Seen.{module_seen};
 ghost use Rattle.rpl_scope.specs.declared.fault.Stop.TheVariants.{Memory as OutOfMemory};
 
-use rpl_scope::{Module, Named, NoMemory, Stop, same};
+use rpl_scope::{Module, ModuleNames, Named, NoMemory, Stop, same};
 use rpl_text::Chars;
 use std::alloc::Global;
+use std::cell::OnceCell;
 
 /// A module that is being loaded: its path, and its package name.
 #[derive(Debug, Drop)]
@@ -149,6 +150,7 @@ pub fn empty_module(alloc: Global, path: Option<Chars>, label: Chars) -> Module
         texts: Vec::new(alloc),
         rules: Vec::new(alloc),
         prefixes: Named::new(alloc),
-        names: Named::new(alloc),
+        names: ModuleNames::new(alloc),
+        for_importers: OnceCell::new(),
     }
 }

@@ -7,6 +7,7 @@ pub mod Maps
 pub mod Paths
 pub mod Scopes
 pub mod Scoping
+pub mod SharedNames
 pub mod Sharing
 pub mod Stops
 pub mod Taken

@@ -1,6 +1,9 @@
 // What the imports of a text bring into its module.
 ghost use Rattle.std.specs.Prelude.{◌≡◌, ◌≤◌, ◌++◌, length, IfOk, OnErr, OnOk, IfErr, None, []};
-ghost use Rattle.std.specs.Prelude.{chars};
+ghost use Rattle.std.specs.Prelude.{IsTrue, chars};
+ghost use Rattle.std.specs.List.{IsDistinct};
+ghost use Rattle.std.specs.Map.{keys_of};
+ghost use Rattle.std.specs.Str.{bytes_eq};
 ghost use Rattle.rpl_scope.specs.Faults.{Gives, in_turn};
 ghost use Rattle.rpl_scope.specs.Imports.{last_part, add_prefix, with_prefix, add_name, numbered};
 ghost use Rattle.rpl_scope.specs.Imports.{rules_at, take_in};
@@ -8,11 +11,14 @@ ghost use Rattle.rpl_scope.specs.Imports.{is_same};
 ghost use Rattle.rpl_scope.specs.Packages.{nth, first_of};
 ghost use Rattle.rpl_scope.specs.declared.fault.Stop.TheVariants.{Memory as OutOfMemory};
 ghost use Rattle.rpl_scope.specs.Seen.{module_seen, modules_seen, rule_seen, rules_seen};
+ghost use Rattle.rpl_scope.specs.inside.Taken.{taken_names, taken_entry};
 
 use crate::NoMemory;
 use crate::enter::rules_so_far;
 use crate::fault::{LoadKind, Place, Stop, fault_at};
 use crate::module::{Entry, Module, Prefix, Referent, Rule};
+use crate::named::Named;
+use crate::names::ModuleNames;
 use rpl_syntax::{Import, ImportAs};
 use rpl_text::Chars;
 use std::alloc::Global;
@@ -180,6 +186,76 @@ fn add_names(
     Ok(())
 }
 
+/// Whether it is this name and entry that a module with so many rules has for a rule that it has
+/// taken in.
+fn is_taken_name(name: &str, entry: Entry, since: usize, foreign: Foreign<'_>) -> bool
+    ensures name { IsTrue result → chars name.now ≡ foreign.entry.rule.now.name }
+    ensures entry { IsTrue result → entry
+        ≡ taken_entry since foreign.entry.owner foreign.entry.number }
+{
+    name == foreign.rule.name.as_str()
+        && entry.since == since
+        && !entry.local
+        && !entry.hidden
+        && is_same(entry.referent, foreign.owner, foreign.number)
+}
+
+/// Whether these are just the names that a module with so many rules and no names takes in of the
+/// module with this number.
+fn are_taken_names(names: &Named<Entry>, since: usize, owner: usize, rules: &[Rule]) -> bool
+    ensures taken { IsTrue result → names.now
+        ≡ taken_names since owner (numbered 0 (rules_seen rules.now)) }
+    ensures apart { IsDistinct bytes_eq (keys_of names.now) }
+{
+    let count = names.count();
+    let mut next = 0;
+    for (number, rule) in rules.iter().enumerate() {
+        if rule.local || rule.hidden {
+            continue;
+        }
+        let foreign = Foreign {
+            owner,
+            number,
+            rule,
+        };
+        match names.at(next) {
+            Some((name, entry)) if is_taken_name(name, entry, since, foreign) => next += 1,
+            _ => return false,
+        }
+    }
+    next == count
+}
+
+/// The names of the rules of another module, where others see them. A module that had no names
+/// shares them with others that import the same, so that they stand in memory once.
+fn add_all(
+    alloc: Global,
+    own: &mut Module,
+    place: Place<'_>,
+    owner: usize,
+    from: &Module,
+) -> Result<(), Stop>
+    ensures { Gives (λ _. module_seen own.new) result
+        (in_turn (add_name place.entry.file.now place.entry.at owner)
+        (numbered 0 (module_seen from.now).rules) (module_seen own.old)) }
+{
+    if own.names.len() > 0 {
+        return add_names(alloc, own, place, owner, &from.rules);
+    }
+    if let Some(names) = from.for_importers.get() {
+        if are_taken_names(names, rules_so_far(own), owner, &from.rules) {
+            own.names = ModuleNames::of(alloc, names.clone()?);
+            return Ok(());
+        }
+    }
+    add_names(alloc, own, place, owner, &from.rules)?;
+    if let Some(names) = own.names.share(alloc)? {
+        // Where some are there already, those stay.
+        let _ = from.for_importers.set(names);
+    }
+    Ok(())
+}
+
 /// What an import in this file brings of a loaded module.
 #[inline(never)]
 pub fn take_in(
@@ -204,7 +280,7 @@ pub fn take_in(
         }
         ImportAs::Named(prefix) => add_prefix(alloc, own, place, prefix, from.number),
         ImportAs::Plain => match from.modules.get(from.number) {
-            Some(module) => add_names(alloc, own, place, from.number, &module.rules),
+            Some(module) => add_all(alloc, own, place, from.number, module),
             None => Ok(()),
         },
     }

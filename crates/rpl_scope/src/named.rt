@@ -1,6 +1,9 @@
 // What stands under names, in the order in which they came.
-ghost use Rattle.std.specs.Prelude.{◌≡◌, ◌-◌, ℕ, List, None, [], ◌∷◌, ◌++◌, OnErr, OnOk, chars};
+ghost use Rattle.std.specs.Prelude.{◌≡◌, ◌<◌, ◌-◌, ◌^◌, ℕ, List, None, [], ◌∷◌, ◌++◌, OnErr, OnOk, chars};
 ghost use Rattle.std.specs.Prelude.{length, take};
+ghost use Rattle.std.specs.List.{IsDistinct};
+ghost use Rattle.std.specs.Map.{keys_of};
+ghost use Rattle.std.specs.Str.{bytes_eq};
 ghost use Rattle.rpl_scope.specs.Packages.{added, first_of, nth};
 ghost use Rattle.rpl_scope.specs.Pairs.{pair_found};
 ghost use Rattle.rpl_scope.specs.inside.Numbers.{Finds, hash, value_at};
@@ -87,6 +90,15 @@ impl<V: Copy> Named<V> {
     /// How many names there are.
     pub fn len(&self) -> usize
         ensures { result ≡ length self.now }
+    {
+        self.pairs.len()
+    }
+
+    /// How many names there are; and that none of them is there twice.
+    pub(crate) fn count(&self) -> usize
+        ensures is { result ≡ length self.now }
+        ensures few { result < 2 ^ 63 }
+        ensures apart { IsDistinct bytes_eq (keys_of self.now) }
     {
         self.pairs.len()
     }

@@ -1,8 +1,9 @@
 -- Names that a module has taken in.
-use Rattle.std.specs.Prelude.{◌≡◌, ◌⊎◌, ℕ, ◌||◌, List, [], ◌∷◌, Some, true}
+use Rattle.std.specs.Prelude.{◌≡◌, ◌⊎◌, ℕ, ◌||◌, List, [], ◌∷◌, Some, true, false, if◌then◌else◌}
 use Rattle.rpl_scope.specs.Imports.{is_same, numbered}
 use Rattle.rpl_scope.specs.Packages.{Module, Rule, first_of, nth}
 use Rattle.rpl_scope.specs.declared.module.Entry.{Entry}
+use Rattle.rpl_scope.specs.declared.module.Referent.TheVariants.{Of}
 
 -- the name w stands for the rule k of the module i
 abbrev pub StandsFor : (i k : ℕ) → List ℕ → Module → Type 0
@@ -23,3 +24,15 @@ HasAll ms m j = (from : Module) × (nth ms j ≡ Some from) × HasNames j (numbe
 -- each name of m stands for the same in n
 abbrev pub Grows : Module → Module → Type 0
 Grows m n = (w : List ℕ) (x : Entry) → first_of w m.names ≡ Some x → first_of w n.names ≡ Some x
+
+-- ---- names that are taken in by a module without names, which has n rules
+
+-- what stands under the name of the rule k of the module i
+abbrev pub taken_entry : (n i k : ℕ) → Entry
+taken_entry n i k = record { since = n; local = false; hidden = false; referent = Of i k }
+
+-- the names of these rules of the module i
+abbrev pub taken_names : (n i : ℕ) → List (ℕ × Rule) → List (List ℕ × Entry)
+taken_names n i [] = []
+taken_names n i (r ∷ rs) =
+    if r.1.local || r.1.hidden then taken_names n i rs else (r.1.name, taken_entry n i r.0) ∷ taken_names n i rs

@@ -3,9 +3,14 @@ use Rattle.std.specs.Prelude.{Ok}
 use Rattle.rpl_scope.specs.Faults.{◌>>=◌}
 use Rattle.rpl_package.specs.Asking.{at_once}
 use Rattle.rpl_package.specs.Loading.{world}
+use Rattle.rpl_package.proofs.Leaving.{passed}
 use Rattle.rpl_package.specs.Roots.{begun, finish_set, load_roots}
 use Rattle.rpl_package.proofs.Outcomes.{passed_on, same, may_lead, may_then, told_lead, told_then, walks_last}
 use Rattle.rpl_package.proofs.loading.load_set.Goals as goal
+
+pub returns-in_err-into-clause-files : goal.returns-in_err-into-clause-files
+returns-in_err-into-clause-files g c =
+    passed g.F.Source c.from_residual-in_err-into.result c.in_err-into.field-0.0 _ _ c.from_residual-in_err-into.ensures.1 c.in_err-into.ensures.files
 
 pub returns-in_err-into-clause-gives : goal.returns-in_err-into-clause-gives
 returns-in_err-into-clause-gives g c = λ told.
