@@ -7,12 +7,13 @@ ghost use Rattle.rpl_package.specs.Sets.{set_seen};
 use crate::scope::Scope;
 use rpl_package::PackageSet;
 use rpl_syntax::Expr;
+use rpl_text::Chars;
 
 /// A statement of a set of packages, which makes a rule.
 #[derive(Clone, Copy)]
 pub(crate) struct Statement<'a> {
     /// The full name of the rule.
-    pub(crate) name: &'a str,
+    pub(crate) name: &'a Chars,
     pub(crate) block: Option<u32>,
     /// The rule makes a tree.
     pub(crate) captures: bool,
@@ -26,9 +27,10 @@ impl<'a> Statement<'a> {
         ensures { statement_found result ≡ statement_at (set_seen set.now) rule }
     {
         let head = set.rule(rule)?;
+        let name = set.full_name(rule)?;
         let body = set.body(rule)?;
         Some(Statement {
-            name: head.name,
+            name,
             block: head.block,
             captures: head.captures,
             scope: Scope::new(set, Some(rule)),

@@ -95,7 +95,7 @@ fn make_rule(alloc: Global, table: &Growing, statement: &Statement<'_>) -> Resul
     ensures { IfOk result (λ r. row_at r
         ≡ row_of (inners_of (rules_of table.now.rules)) (statement_seen statement.now)) }
 {
-    let name = Chars::from_str(alloc, statement.name)?;
+    let name = statement.name.copy(alloc)?;
     let label = name.copy(alloc)?;
     let base = Base {
         scope: statement.scope,

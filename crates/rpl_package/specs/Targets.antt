@@ -147,6 +147,10 @@ head p zero = Some (record { name = boundary_name; from = p.top; block = None; c
 head p (suc zero) = Some (record { name = halt_name p; from = p.top; block = None; captures = false })
 head p (suc (suc n)) = head_by p (nth (rows p.stock.modules) n)
 
+-- the full name of a rule that a statement made
+abbrev pub full_name : Packages → ℕ → Option (List ℕ)
+full_name p n = then (row_at p n) (λ w. Some w.name)
+
 -- the file and the place of a rule's statement
 abbrev pub spot_of : Option Module → Rule → Option (List ℕ × ℕ)
 spot_of m r = then m (λ o. then (nth o.texts r.text) (λ file. Some (file, r.at)))

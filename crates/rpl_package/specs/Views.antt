@@ -16,6 +16,10 @@ abbrev pub row_found : Option (Bor Row) → Option Row
 row_found None = None
 row_found (Some r) = Some r.now
 
+abbrev pub name_found : Option (Bor (List ℕ)) → Option (List ℕ)
+name_found None = None
+name_found (Some n) = Some n.now
+
 abbrev pub rule_found : Option (Bor Rule) → Option P.Rule
 rule_found None = None
 rule_found (Some r) = Some (rule_seen r.now)

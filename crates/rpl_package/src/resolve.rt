@@ -11,6 +11,7 @@ use crate::table::{Row, Table};
 use crate::targets::{NameFault, RuleHead, Target};
 use rpl_scope::{Entry, Found, Module, Referent, Rule, Scope, find, find_plain};
 use rpl_syntax::{Expr, QName};
+use rpl_text::Chars;
 
 /// The k-th rule of the module with this number.
 fn rule_in(modules: &[Module], number: usize, place: usize) -> Option<&Rule>
@@ -104,7 +105,7 @@ impl PackageSet {
     ghost use Rattle.std.specs.Prelude.{None, Some, chars, false, length};
     ghost use Rattle.rpl_package.specs.Sets.{set_seen};
     ghost use Rattle.rpl_package.specs.Views.{row_found, rule_found, site_found, expr_found};
-    ghost use Rattle.rpl_package.specs.Views.{head_found, head_seen};
+    ghost use Rattle.rpl_package.specs.Views.{head_found, head_seen, name_found};
     ghost use Rattle.rpl_package.specs.Views.{spot_found, site_seen};
     ghost use Rattle.rpl_package.specs.Tables.{rows};
     ghost use Rattle.rpl_package.specs.Targets as T;
@@ -312,5 +313,15 @@ impl PackageSet {
             block: row.block,
             captures: !made.alias,
         })
+    }
+
+    /// The full name of a rule that a statement made; None exactly where there is no such rule.
+    pub fn full_name(&self, rule: u32) -> Option<&Chars>
+        ensures { name_found result ≡ T.full_name (set_seen self.now) rule }
+    {
+        match self.row(rule) {
+            None => None,
+            Some(row) => Some(&row.name),
+        }
     }
 }

@@ -1,5 +1,5 @@
 -- How contracts see a statement.
-use Rattle.std.specs.Prelude.{Option, Some, None, chars}
+use Rattle.std.specs.Prelude.{Option, Some, None}
 use Rattle.rpl_package.specs.Sets.{set_seen}
 use Rattle.rpl_package.specs.Targets.{resolved}
 use Rattle.rpl_syntax.specs.View.{expr_of}
@@ -9,7 +9,7 @@ use Rattle.rpl_expand.specs.declared.statement.Statement.{Statement}
 
 abbrev pub statement_seen : Statement → T.Statement
 statement_seen s = record {
-  name = chars s.name.now;
+  name = s.name.now;
   block = s.block;
   captures = s.captures;
   rule = λ q. rule_of (resolved (set_seen s.scope.set.now) s.scope.at q);
