@@ -55,7 +55,3 @@ pub record IsLoading (tree : Tree) (folders : List (List ℕ)) (w : Loading) : T
   pub texts : (texts : List (List ℕ)) → IsLoad tree folders texts (w.texts texts)
   pub goals : (texts : List (List ℕ)) (pattern : List ℕ)
       → IsGoalLoad tree (request folders texts pattern) (w.goal texts pattern)
-
--- it holds of the loading over these files, where they tell their tree
-abbrev pub OfLoading : (files : Type 0) → Tree → (folders : List (List ℕ)) → (Loading → Type 0) → Type 0
-OfLoading files tree folders Holds = files → (w : Loading) → IsLoading tree folders w → Holds w

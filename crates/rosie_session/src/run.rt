@@ -12,12 +12,11 @@ ghost use Rattle.rosie_run.specs.Runs.{GoesOn};
 ghost use Rattle.rosie_run.specs.Closing.{OutFirst};
 ghost use Rattle.rosie_run.specs.Sources.{moment_of};
 ghost use Rattle.rosie_run.specs.inside.Causes.{BothCause};
-ghost use Rattle.rosie_session.specs.Loading.{OfLoading};
-ghost use Rattle.rosie_session.specs.Where.{RunsSession};
+ghost use Rattle.rosie_session.specs.Runs.{RunsSession};
 ghost use Rattle.rosie_session.specs.inside.Kept.{MakesKept, SameKept};
 ghost use Rattle.rosie_session.specs.inside.Passing.{Counts, InputCause, IsOfReading};
 ghost use Rattle.rosie_session.specs.inside.Passing.{RunsTold, SinksCause, SpentCause, Stops};
-ghost use Rattle.rosie_session.specs.inside.Turning.{FilesBy};
+ghost use Rattle.rosie_session.specs.inside.Turning.{FilesBy, OfLoading};
 
 use crate::reply::{Reply, wrong};
 use crate::session_end::{SessionEnd, end_of_run};

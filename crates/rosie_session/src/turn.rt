@@ -12,12 +12,11 @@ ghost use Rattle.rosie_repl.specs.Session as S;
 ghost use Rattle.rosie_repl.specs.Session.{Session};
 ghost use Rattle.rosie_repl.specs.States.{session_of};
 ghost use Rattle.rosie_run.specs.Report.{Piece};
-ghost use Rattle.rosie_session.specs.Loading.{OfLoading};
 ghost use Rattle.rosie_session.specs.Replay.{edit_turn, job_piece, loaded, or_no};
 ghost use Rattle.rosie_session.specs.Replay.{plain, try_turn};
 ghost use Rattle.rosie_session.specs.Replay.{undo_turn};
-ghost use Rattle.rosie_session.specs.inside.Turning.{change_of, IsReply, Judges, Leaves, Says};
-ghost use Rattle.rosie_session.specs.inside.Turning.{StepsBy, Turns, TurnsMade};
+ghost use Rattle.rosie_session.specs.inside.Turning.{change_of, IsReply, Judges, Leaves, OfLoading};
+ghost use Rattle.rosie_session.specs.inside.Turning.{Says, StepsBy, Turns, TurnsMade};
 
 use crate::loading::{load_goal, load_texts};
 use crate::reply::{NAME, Reply, accepted, refused, wrong};

@@ -1,5 +1,5 @@
 -- What comes of one line of a session.
-use Rattle.std.specs.Prelude.{◌≡◌, ◌+◌, ℕ, Some, Result, Ok, Err, IfErr, encode_utf8_all, string_bytes}
+use Rattle.std.specs.Prelude.{◌≡◌, ◌+◌, ℕ, List, Some, Result, Ok, Err, IfErr, encode_utf8_all, string_bytes}
 use Rattle.std.specs.List.{Contains}
 use Rattle.rosie_io.specs.Loading.{NotFewer}
 use Rattle.rosie_io.specs.declared.outside.Source.{Ghosts}
@@ -8,7 +8,7 @@ use Rattle.rosie_jobs.specs.Lines.{Job}
 use Rattle.rosie_jobs.specs.Makers.{Matches}
 use Rattle.rosie_jobs.specs.declared.match_job.MatchJob.{MatchJob}
 use Rattle.rosie_prepare.specs.Answers.{IsDue}
-use Rattle.rosie_prepare.specs.Prepared.{OrLine}
+use Rattle.rosie_prepare.specs.Prepared.{OrLine, Tree}
 use Rattle.rosie_prepare.specs.declared.unready.Unready.{Unready}
 use Rattle.rosie_prepare.specs.declared.unready.Unready.TheVariants as U
 use Rattle.rosie_repl.specs.Edits.{Edit}
@@ -17,11 +17,15 @@ use Rattle.rosie_run.specs.Made.{IsMade}
 use Rattle.rosie_run.specs.Report.{Piece, fault_piece}
 use Rattle.rosie_run.specs.Sources.{Moment, NoFewer, RoseIn, Still, moment_of}
 use Rattle.rosie_run.specs.declared.trouble.Trouble.TheVariants as T
-use Rattle.rosie_session.specs.Loading.{Loading}
+use Rattle.rosie_session.specs.Loading.{IsLoading, Loading}
 use Rattle.rosie_session.specs.Replay.{Turn, change_turn, loaded, ok_piece, plain}
 use Rattle.rosie_session.specs.declared.session_end.SessionEnd.{SessionEnd}
 use Rattle.rosie_session.specs.declared.session_end.SessionEnd.TheVariants as H
 use Rattle.rosie_session.specs.declared.reply.Reply.{Reply}
+
+-- it holds of the loading over these files, where they tell their tree
+abbrev pub OfLoading : (files : Type 0) → Tree → (folders : List (List ℕ)) → (Loading → Type 0) → Type 0
+OfLoading files tree folders Holds = files → (w : Loading) → IsLoading tree folders w → Holds w
 
 -- the texts and the mark are those of the piece
 abbrev pub IsReply : Reply → Piece → Type 0
