@@ -210,29 +210,6 @@ fn try_with<F: Files, L: Ledger>(
     }
 }
 
-/// Matches a line with the kept pattern.
-fn try_line<F: Files, L: Ledger>(
-    base: &Base<'_>,
-    state: &State,
-    line: &str,
-    files: &mut F,
-    steps: &mut Steps<L>,
-) -> Result<Reply, SessionEnd>
-    requires { length line.now ≤ 2 ^ 30 }
-    ensures turns { OfLoading F.tells (F.tree files.old) base.now.folders.now
-        (λ w. Turns result (try_turn w base.now.number (session_of state.now)
-        (session_of state.now).now.pattern line.now) (session_of state.now)) }
-    ensures steps { OfLoading F.tells (F.tree files.old) base.now.folders.now
-        (λ w. StepsBy result (try_turn w base.now.number (session_of state.now)
-        (session_of state.now).now.pattern line.now) steps.old steps.new) }
-    ensures leaves { Leaves F.Source result files.old files.new }
-{
-    match state.pattern() {
-        None => Ok(wrong(base.alloc, base.number, "no pattern")?),
-        Some(pattern) => try_with(base, state, &Trial { pattern, line }, files, steps),
-    }
-}
-
 /// Does what a command says.
 fn obey<F: Files, L: Ledger>(
     base: &Base<'_>,
@@ -253,7 +230,10 @@ fn obey<F: Files, L: Ledger>(
     ensures leaves { Leaves F.Source result files.old files.new }
 {
     match *edit {
-        Edit::Try(line) => try_line(base, state, line, files, steps),
+        Edit::Try(line) => match state.pattern() {
+            None => Ok(wrong(base.alloc, base.number, "no pattern")?),
+            Some(pattern) => try_with(base, state, &Trial { pattern, line }, files, steps),
+        },
         Edit::Undo => Ok(undo(base.alloc, state, base.number)?),
         _ => change(base, state, edit, files),
     }

@@ -1,22 +1,43 @@
-use Rattle.std.proofs.Common.{ap, subst, sym}
-use Rattle.std.specs.Prelude.{Ok}
+use Rattle.std.proofs.Common.{List, ℕ, ap, subst, sym}
+use Rattle.std.specs.Prelude.{Ok, Option}
 use Rattle.rosie_repl.specs.Edits.{in_chars}
 use Rattle.rosie_repl.specs.Seen.{edit_seen}
 use Rattle.rosie_repl.specs.Session.{changed, undone}
 use Rattle.rosie_repl.specs.States.{session_of}
-use Rattle.rosie_session.specs.Replay.{Turn, change_turn, undo_turn}
+use Rattle.rosie_session.specs.Replay.{Turn, change_turn, try_turn, undo_turn}
 use Rattle.rosie_session.specs.inside.Turning.{StepsBy, Turns}
-use Rattle.rosie_session.proofs.Turns.{change_cost, edit_change, steps_none, undo_cost}
+use Rattle.rosie_session.proofs.Turns.{change_cost, edit_change, none_cost, steps_none, try_none, undo_cost}
 use Rattle.rosie_session.proofs.turn.obey.Goals as goal
 
-pub try_line-requires : goal.try_line-requires
-try_line-requires g c = c.requires c.in-Try.line.now (ap edit_seen c.in-Try.is)
+pub try_with-requires : goal.try_with-requires
+try_with-requires g c = c.requires c.in-Try.line.now (ap edit_seen c.in-Try.is)
 
-pub returns-in-Try-clause-turns : goal.returns-in-Try-clause-turns
-returns-in-Try-clause-turns g c = λ t w is. rw c.in-Try.is (c.try_line.ensures.turns t w is)
+pub returns-in_ok-wrong-in-None-clause-turns : goal.returns-in_ok-wrong-in-None-clause-turns
+returns-in_ok-wrong-in-None-clause-turns g c = λ t w is.
+    let s = session_of c.args.state.now in
+    rw c.in-Try.is
+    (try_none w c.args.base.now.number s c.in-Try.line.now s.now.pattern c.in_ok-wrong-in-None.field-0
+    (sym c.in-None.ensures) c.in_ok-wrong-in-None.ensures)
 
-pub returns-in-Try-clause-steps : goal.returns-in-Try-clause-steps
-returns-in-Try-clause-steps g c = λ t w is. rw c.in-Try.is (c.try_line.ensures.steps t w is)
+pub returns-in_ok-wrong-in-None-clause-steps : goal.returns-in_ok-wrong-in-None-clause-steps
+returns-in_ok-wrong-in-None-clause-steps g c = λ t w is.
+    let s = session_of c.args.state.now in
+    rw c.in-Try.is
+    (none_cost w c.args.base.now.number s c.in-Try.line.now s.now.pattern c.args.steps.now (sym c.in-None.ensures))
+
+pub returns-in-Some-clause-turns : goal.returns-in-Some-clause-turns
+returns-in-Some-clause-turns g c = λ t w is.
+    let s = session_of c.args.state.now in
+    rw c.in-Try.is
+    (subst (λ (o : Option (List ℕ)). Turns c.try_with.result (try_turn w c.args.base.now.number s o c.in-Try.line.now) s)
+    c.in-Some.ensures (c.try_with.ensures.turns t w is))
+
+pub returns-in-Some-clause-steps : goal.returns-in-Some-clause-steps
+returns-in-Some-clause-steps g c = λ t w is.
+    let s = session_of c.args.state.now in
+    rw c.in-Try.is
+    (subst (λ (o : Option (List ℕ)). StepsBy c.try_with.result (try_turn w c.args.base.now.number s o c.in-Try.line.now)
+    c.args.steps.now c.try_with.new.steps) c.in-Some.ensures (c.try_with.ensures.steps t w is))
 
 pub returns-in_ok-undo-in-Undo-clause-turns : goal.returns-in_ok-undo-in-Undo-clause-turns
 returns-in_ok-undo-in-Undo-clause-turns g c = λ t w is. rw c.in-Undo.is c.in_ok-undo-in-Undo.ensures
