@@ -10,7 +10,7 @@ ghost use Rattle.rosie_cli.specs.inside.Planning.{Leaves, Plans};
 use crate::goal_plan::input_names;
 use crate::plan::Plan;
 use rosie_io::Files;
-use rosie_jobs::{CodeJob, Settings, Unloaded, load_code};
+use rosie_jobs::{MatchJob, Settings, Unloaded, load_code};
 use rosie_prepare::Unready;
 use rosie_words::Paths;
 use rpl_print::text_of;
@@ -34,8 +34,8 @@ pub(crate) fn plan_code<F: Files>(
     let whole = settings.whole;
     match load_code(alloc, files, text_of(&path)) {
         Ok(program) => {
-            let job = CodeJob::new(alloc, settings, program)?;
-            Ok(Plan::Run { job, whole, names })
+            let job = MatchJob::of_code(alloc, settings, program)?;
+            Ok(Plan::Match { job, whole, names })
         }
         Err(unloaded) => match unloaded {
             Unloaded::NoMemory => Err(Unready::NoMemory),

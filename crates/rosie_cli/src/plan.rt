@@ -4,7 +4,7 @@ ghost use Rattle.rosie_prepare.specs.inside.Steps.{Tells};
 ghost use Rattle.rosie_cli.specs.inside.Planning.{due_of};
 
 use rosie_io::Bytes;
-use rosie_jobs::{CodeJob, MatchJob, TraceJob};
+use rosie_jobs::{MatchJob, TraceJob};
 use rosie_prepare::{Unready, compile_line};
 use rosie_sample::SampleRun;
 use rosie_unittest::Suite;
@@ -21,7 +21,7 @@ pub(crate) enum Plan {
     Write(Bytes),
     /// The tests of a file are tried.
     Test(Suite),
-    /// A goal runs on each line of the inputs with these names.
+    /// A goal, or the code of a file, runs on each line of the inputs with these names.
     Match {
         job: MatchJob,
         whole: bool,
@@ -30,12 +30,6 @@ pub(crate) enum Plan {
     /// A goal is traced on each line of the inputs with these names.
     Trace {
         job: TraceJob,
-        whole: bool,
-        names: Paths,
-    },
-    /// The code of a file runs on each line of the inputs with these names.
-    Run {
-        job: CodeJob,
         whole: bool,
         names: Paths,
     },

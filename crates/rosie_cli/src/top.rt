@@ -113,11 +113,6 @@ fn run_plan<F: Files, I: Source, O: Sink, E: Sink, L: Ledger>(
             let names = names.as_slice();
             run_inputs(alloc, job, Wanted { names, reading }, inputs, outputs)
         }
-        Plan::Run { job, whole, names } => {
-            let reading = reading(*whole);
-            let names = names.as_slice();
-            run_inputs(alloc, job, Wanted { names, reading }, inputs, outputs)
-        }
         Plan::Sample(run) => run.run(alloc, outputs.out, outputs.err, outputs.steps),
     }
 }

@@ -1,6 +1,6 @@
 -- What a run shows.
 use Rattle.std.proofs.Common.{◌≡◌, ◌+◌, ℕ, List, sym, ap, subst, ◌∙◌, refl}
-use Rattle.std.specs.Prelude.{Result, Ok, Err, IfOk, OnOk, chars}
+use Rattle.std.specs.Prelude.{Option, Some, None, Result, Ok, Err, IfOk, OnOk, chars}
 use Rattle.std.specs.Str.{IsUtf8}
 use Rattle.std.proofs.Math.Logic.{∥∥₁_elim}
 use Rattle.std.proofs.Props.{props}
@@ -16,10 +16,13 @@ use Rattle.rpl_encode.specs.Print.{found}
 use Rattle.rpl_safe.specs.Safe.{IsSafe}
 use Rattle.rpl_safe.proofs.Kept.{safe_match_holds}
 use Rattle.rpl_compile_laws.specs.Laws.{Tells}
-use Rattle.rosie_jobs.specs.Written.{written}
+use Rattle.rosie_jobs.specs.Written.{WritesTrees, written}
 use Rattle.rosie_jobs.proofs.Written.{written_holds}
-use Rattle.rosie_jobs.specs.Lines.{Job, budget_of, matches, ran_outcome}
-use Rattle.rosie_jobs.specs.Meant.{IsMeant}
+use Rattle.rosie_jobs.specs.Jobs.{matcher}
+use Rattle.rosie_jobs.specs.Lines.{Job, budget_of, code_makes, code_outcome, match_makes, matches, ran, ran_outcome, ran_piece}
+use Rattle.rosie_jobs.specs.Makers.{makes_of}
+use Rattle.rosie_jobs.specs.Meant.{IsKnown, IsMeant, job_with}
+use Rattle.rosie_jobs.specs.declared.job.Goal.{Goal}
 use Rattle.rosie_jobs.specs.declared.settings.Settings.{Settings}
 use Rattle.rosie_jobs.specs.inside.Printed.{IsShown}
 use Rattle.rosie_jobs.proofs.OneLine.{are_scalars}
@@ -35,10 +38,6 @@ shown_meant s job line u meant =
     let b = budget_of s (chars line) in
     shown_told (outcome job.rules job.goal (chars line)) b (run job.code (chars line) b) (meant (chars line) (are_scalars line u) b)
 
--- the captures of each match are those of some trees
-abbrev pub WritesTrees : List Instr → Type 0
-WritesTrees code = (t : List ℕ) (b n i : ℕ) (cs : List Caught) → run code t b ≡ Matched n i cs → cs ≡ flat (written cs)
-
 pub safe_writes : (code : List Instr) → IsSafe code → WritesTrees code
 safe_writes code safe t b n i cs e =
     let tree = safe_match_holds code safe t b n i cs e in
@@ -53,6 +52,20 @@ shown_ran Unfinished h = tt
 
 pub shown_code : (code : List Instr) (t : List ℕ) (b : ℕ) → WritesTrees code → IsShown (run code t b) (ran_outcome (run code t b))
 shown_code code t b h = shown_ran (run code t b) (λ n i cs e. h t b n i cs e)
+
+-- the outcome of a line that the code's run shows: what its goal means, or what it captures where it has none
+abbrev pub known_outcome : Option Goal → Settings → List Instr → List ℕ → Outcome
+known_outcome (Some goal) s code line = let job = job_with goal code in outcome job.rules job.goal (chars line)
+known_outcome None s code line = code_outcome s code line
+
+pub shown_known : (goal : Option Goal) (s : Settings) (code : List Instr) (line : List ℕ) → IsUtf8 line → IsKnown goal code → IsShown (ran s code line) (known_outcome goal s code line)
+shown_known (Some goal) s code line u meant = shown_meant s (job_with goal code) line u meant
+shown_known None s code line u writes = shown_code code (chars line) (budget_of s (chars line)) writes
+
+pub known_piece : (goal : Option Goal) (s : Settings) (code : List Instr) (file : List ℕ) (n : ℕ) (line : List ℕ) → makes_of (matcher goal s code) file n line ≡ ran_piece s file n line (known_outcome goal s code line) (ran s code line)
+unfolding match_makes code_makes
+known_piece (Some goal) s code file n line = refl
+known_piece None s code file n line = refl
 
 -- a piece that is made, where it is merely known how
 made_prop : (mark : Mark) (out err : List ℕ) (p : Piece) → IsProp (IsMade mark out err p)

@@ -1,6 +1,8 @@
 -- The trees that a capture list writes out, read from its end.
-use Rattle.std.specs.Prelude.{ℕ, List, [], ◌∷◌}
-use Rattle.rpl_core.specs.Forest.{Caught, Begin, Finish, Mark, Forest, NoTree, Tree, Noted}
+use Rattle.std.specs.Prelude.{◌≡◌, ℕ, List, [], ◌∷◌}
+use Rattle.rpl_core.specs.Forest.{Caught, Begin, Finish, Mark, Forest, NoTree, Tree, Noted, flat}
+use Rattle.rpl_core.specs.Instr.{Instr}
+use Rattle.rpl_core.specs.Run.{Matched, run}
 
 -- the trees from here on, in the tree that is open here or in none; and of each tree that is open, the innermost first,
 -- where it ends, and the trees after it
@@ -25,3 +27,8 @@ behind (c ∷ cs) = before c (behind cs)
 
 abbrev pub written : List Caught → Forest
 written cs = (behind cs).here
+
+-- the captures of each match are those of some trees
+abbrev pub WritesTrees : List Instr → Type 0
+WritesTrees code =
+    (t : List ℕ) (b n i : ℕ) (cs : List Caught) → run code t b ≡ Matched n i cs → cs ≡ flat (written cs)

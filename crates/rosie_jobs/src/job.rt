@@ -7,30 +7,27 @@ ghost use Rattle.rpl_codegen.specs.Compiled.{HasLongCode};
 ghost use Rattle.rpl_core.specs.Table.{bodies_of};
 ghost use Rattle.rpl_core.specs.View.{core_of};
 ghost use Rattle.rpl_core.specs.Program.{instructions};
-ghost use Rattle.rosie_jobs.specs.Meant.{IsMeant, IsTotal};
+ghost use Rattle.rosie_jobs.specs.Meant.{IsMeant, IsTotal, job_with};
 
 use rpl_check::{Checked, CheckedPeg};
 use rpl_codegen::{CompileFault, compile};
 use rpl_core::Program;
 use std::alloc::Global;
 
-/// A goal, the rules that it may call, and their code, which does what the goal means. The goal
-/// means something on every text.
+/// A goal that was checked, and the rules that it may call.
+#[derive(Drop)]
+pub(crate) struct Goal {
+    pub(crate) rules: Checked,
+    pub(crate) peg: CheckedPeg,
+}
+
+/// A goal and its code, which does what the goal means. The goal means something on every text.
 #[derive(Drop)]
 pub struct Job {
-    rules: Checked,
-    goal: CheckedPeg,
-    program: Program,
-    ghost meant: { ∥ IsMeant (record {
-      rules = bodies_of rules;
-      goal = core_of (peg_of goal);
-      code = instructions program;
-    }) ∥₁ },
-    ghost total: { IsTotal (record {
-      rules = bodies_of rules;
-      goal = core_of (peg_of goal);
-      code = instructions program;
-    }) },
+    pub(crate) goal: Goal,
+    pub(crate) program: Program,
+    ghost meant: { ∥ IsMeant (job_with goal (instructions program)) ∥₁ },
+    ghost total: { IsTotal (job_with goal (instructions program)) },
 }
 
 impl Job {
@@ -47,31 +44,21 @@ impl Job {
             → HasLongCode (bodies_of rules) (core_of (peg_of goal))) }
     {
         let program = compile(alloc, &rules, &goal)?;
-        Ok(Job {
-            rules,
-            goal,
-            program,
-        })
+        let goal = Goal { rules, peg: goal };
+        Ok(Job { goal, program })
     }
 
     /// The rules.
     pub(crate) fn rules(&self) -> &Checked
-        ensures { result.now ≡ self.now.rules }
+        ensures { result.now ≡ self.now.goal.rules }
     {
-        &self.rules
+        &self.goal.rules
     }
 
     /// The goal.
     pub(crate) fn goal(&self) -> &CheckedPeg
-        ensures { result.now ≡ self.now.goal }
+        ensures { result.now ≡ self.now.goal.peg }
     {
-        &self.goal
-    }
-
-    /// Its code.
-    pub(crate) fn program(&self) -> &Program
-        ensures { result.now ≡ self.now.program }
-    {
-        &self.program
+        &self.goal.peg
     }
 }

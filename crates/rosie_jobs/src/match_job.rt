@@ -1,37 +1,65 @@
-//! What `match` makes of a line.
+//! What a match makes of a line.
 
 ghost use Rattle.std.specs.Prelude.{◌≡◌, string_bytes, IfOk};
-ghost use Rattle.rpl_core.specs.Program.{labels_of};
+ghost use Rattle.rpl_core.specs.Program.{instructions, labels_of};
+ghost use Rattle.rpl_safe.specs.Safe.{IsSafe};
+ghost use Rattle.rosie_jobs.specs.Meant.{IsKnown};
 
-use crate::job::Job;
+use crate::job::{Goal, Job};
 use crate::line_run::LineRun;
 use crate::settings::Settings;
 use rosie_run::{InputLine, LineJob, Mark, NoMemory};
+use rpl_core::Program;
 use rpl_machine::Steps;
 use std::alloc::Global;
 use std::sync::ledger::Ledger;
 
-/// Runs a goal's code on each line, and prints what it matched. All of its memory is kept from line
-/// to line.
+/// Runs a code on each line, and prints what it matched. All of its memory is kept from line to
+/// line.
 #[derive(Drop)]
 pub struct MatchJob {
-    job: Job,
+    /// What the code matches, where it has a goal. Contracts alone read it.
+    goal: Option<Goal>,
+    program: Program,
     line: LineRun,
-    ghost fronts: { line.fronts ≡ labels_of job.program },
+    ghost known: { ∥ IsKnown goal (instructions program) ∥₁ },
+    ghost fronts: { line.fronts ≡ labels_of program },
 }
 
 impl MatchJob {
     ghost use Rattle.rosie_jobs.specs.Jobs.{job_of, matcher_of};
     ghost use Rattle.rosie_jobs.specs.Budgets.{Pays};
-    ghost use Rattle.rosie_jobs.specs.Makers.{Matches};
+    ghost use Rattle.rosie_jobs.specs.Makers.{Matches, Runs};
 
-    /// The job of these settings.
+    /// The job of these settings that matches a goal.
     pub fn new(alloc: Global, settings: Settings, job: Job) -> Result<MatchJob, NoMemory>
         ensures maker { IfOk result (λ made. matcher_of made ≡ Matches settings (job_of job)) }
         ensures due { IfOk result (λ made. Pays (matcher_of made)) }
     {
-        let line = LineRun::new(alloc, settings, job.program())?;
-        Ok(MatchJob { job, line })
+        let line = LineRun::new(alloc, settings, &job.program)?;
+        let Job { goal, program } = job;
+        Ok(MatchJob {
+            goal: Some(goal),
+            program,
+            line,
+        })
+    }
+
+    /// The job of these settings that runs a code which has no goal. The code is safe.
+    pub fn of_code(
+        alloc: Global,
+        settings: Settings,
+        program: Program,
+    ) -> Result<MatchJob, NoMemory>
+        requires { IsSafe (instructions program) }
+        ensures { IfOk result (λ made. matcher_of made ≡ Runs settings (instructions program)) }
+    {
+        let line = LineRun::new(alloc, settings, &program)?;
+        Ok(MatchJob {
+            goal: None,
+            program,
+            line,
+        })
     }
 }
 
@@ -51,7 +79,7 @@ impl LineJob for MatchJob {
         line: InputLine<'_>,
         steps: &mut Steps<L>,
     ) -> Result<Mark, NoMemory> {
-        self.line.answer(self.job.program(), line, steps)
+        self.line.answer(&self.program, line, steps)
     }
 
     fn out(&self) -> &[u8] {

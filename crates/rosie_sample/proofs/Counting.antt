@@ -18,8 +18,9 @@ use Rattle.rosie_run.specs.declared.tally.Tally.{Tally}
 use Rattle.rosie_run.proofs.Onward.{up_alone}
 use Rattle.rosie_run.proofs.Pieces.{has-one, up-all, up-append, fronts-none, front_none, fronts-longer}
 use Rattle.rosie_run.proofs.Pieces.{stands-on, stands-end, stands-front}
-use Rattle.rosie_jobs.specs.Lines.{Job, match_makes}
-use Rattle.rosie_jobs.specs.declared.settings.Settings.{Settings}
+use Rattle.rosie_jobs.specs.Jobs.{matcher_of}
+use Rattle.rosie_jobs.specs.Makers.{makes_of}
+use Rattle.rosie_jobs.specs.declared.match_job.MatchJob.{MatchJob}
 use Rattle.rosie_sample.specs.Counting.{line_pieces, muted, hits, counts_text, sample_pieces}
 use Rattle.rosie_sample.proofs.Limits.{sample-bytes, sample-stays}
 use Rattle.rosie_sample.proofs.One.{at_time}
@@ -135,13 +136,16 @@ unfolding sample_pieces
 sample-as makes seed lines text e = ap (λ x. map muted (line_pieces makes seed lines) ++ last x ∷ []) (sym e)
 
 -- the run of a sample, from that over its lines
-module _ (W : Telling) (s : Settings) (job : Job) (seed lines : ℕ) (few : lines < 2 ^ 32)
+module _ (W : Telling) (job : MatchJob) (seed lines : ℕ) (few : lines < 2 ^ 32)
     (c0 c1 o0 e0 e1 : List ℕ) (m0 m1 k n0 n1 : ℕ) (fits : W.counts → k ≤ 2 ^ 64 - 1) where
+  abbrev makes : Makes
+  makes = makes_of (matcher_of job)
+
   abbrev all : List Piece
-  all = line_pieces (match_makes s job) seed lines
+  all = line_pieces makes seed lines
 
   abbrev told : List Piece
-  told = sample_pieces (match_makes s job) seed lines
+  told = sample_pieces makes seed lines
 
   abbrev whole : List ℕ
   whole = counts_text lines (hits all) (length (outs all))
@@ -155,24 +159,24 @@ module _ (W : Telling) (s : Settings) (job : Job) (seed lines : ℕ) (few : line
   pub sample-broken : (e : Ended) → Breaks e (counting W) all Nowhere (at_time c0 e0 m0 n0) (at_time c1 e1 m1 n1)
       → Breaks e W told Nowhere first behind
   sample-broken e f =
-      subst (λ ps. Breaks e W ps Nowhere first behind) (sym (sample-as (match_makes s job) seed lines whole refl))
-      (lines-broken W all (sample-stays s job seed lines) whole c0 c1 o0 e0 e1 m0 m1 k n0 n1 fits e f)
+      subst (λ ps. Breaks e W ps Nowhere first behind) (sym (sample-as makes seed lines whole refl))
+      (lines-broken W all (sample-stays job seed lines) whole c0 c1 o0 e0 e1 m0 m1 k n0 n1 fits e f)
 
   module _ (t : Tally) (w : Wrote (counting W) (up_to_stop all) (at_time c0 e0 m0 n0) (at_time c1 e1 m1 n1)
       × (t ≡ tally_of (up_to_stop all))) where
     pub sample-none : Fronts W (up_to_stop told) first behind
     sample-none =
         subst (λ ps. Fronts W (up_to_stop ps) first behind)
-        (sym (sample-as (match_makes s job) seed lines whole refl))
-        (told-none W all (sample-stays s job seed lines) whole c0 c1 o0 e0 e1 m0 m1 k n0 n1 fits t w)
+        (sym (sample-as makes seed lines whole refl))
+        (told-none W all (sample-stays job seed lines) whole c0 c1 o0 e0 e1 m0 m1 k n0 n1 fits t w)
 
     module _ (matched number : ℕ) (text : List ℕ) (none : m0 ≡ 0) (is : m1 ≡ capped number) (count : matched ≡ hits all)
         (says : text ≡ counts_text lines matched number) where
       told_as : told ≡ map muted all ++ last text ∷ []
       told_as =
-          let bytes : number ≡ length (outs all) = bytes-are all number m0 m1 (sample-stays s job seed lines) none is
-          (w.0.number tt) (sample-bytes s job seed lines few) in
-          sample-as (match_makes s job) seed lines text
+          let bytes : number ≡ length (outs all) = bytes-are all number m0 m1 (sample-stays job seed lines) none is
+          (w.0.number tt) (sample-bytes job seed lines few) in
+          sample-as makes seed lines text
           (says ∙ ap (λ x. counts_text lines x number) count ∙ ap (counts_text lines (hits all)) bytes)
 
       pub sample-told : (d : Texts) (u t' : Tally)
@@ -180,10 +184,10 @@ module _ (W : Telling) (s : Settings) (job : Job) (seed lines : ℕ) (few : line
           → t' ≡ added t u → Wrote W (up_to_stop told) first d × (t' ≡ tally_of (up_to_stop told))
       sample-told d u t' h e =
           subst (λ ps. Wrote W (up_to_stop ps) first d × (t' ≡ tally_of (up_to_stop ps))) (sym told_as)
-          (told-all W all (sample-stays s job seed lines) text c0 c1 o0 e0 e1 m0 m1 k n0 n1 fits t w d u t' h e)
+          (told-all W all (sample-stays job seed lines) text c0 c1 o0 e0 e1 m0 m1 k n0 n1 fits t w d u t' h e)
 
       pub sample-front : (e : Ended) (d : Texts) → Breaks e W (last text ∷ []) Nowhere behind d
           → Breaks e W told Nowhere first d
       sample-front e d f =
           subst (λ ps. Breaks e W ps Nowhere first d) (sym told_as)
-          (told-front W all (sample-stays s job seed lines) text c0 c1 o0 e0 e1 m0 m1 k n0 n1 fits t w e d f)
+          (told-front W all (sample-stays job seed lines) text c0 c1 o0 e0 e1 m0 m1 k n0 n1 fits t w e d f)

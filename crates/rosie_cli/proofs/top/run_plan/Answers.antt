@@ -1,7 +1,7 @@
 use Rattle.std.proofs.Common.{ap, sym, subst}
 use Rattle.std.specs.Prelude.{encode_utf8_all}
 use Rattle.rosie_run.specs.Inputs.{names_of}
-use Rattle.rosie_jobs.specs.Jobs.{matcher_of, runner_of, tracer_of}
+use Rattle.rosie_jobs.specs.Jobs.{matcher_of, tracer_of}
 use Rattle.rosie_cli.specs.Plans.{inputs_of}
 use Rattle.rosie_cli.specs.Report.{KnowsInputs}
 use Rattle.rosie_cli.specs.inside.Planning.{plan_of, IsSaid}
@@ -53,16 +53,6 @@ returns-in-Trace-clause-runs g c = λ knows.
     (ap (names_of encode_utf8_all) c.as_slice-names-in-Trace.ensures) c.reading-reading-in-Trace.ensures
     (c.run_inputs-in-Trace.ensures.runs (told-names _ _ _ _ (ap (names_of encode_utf8_all) c.as_slice-names-in-Trace.ensures) tells))
 
-pub returns-in-Run-clause-runs : goal.returns-in-Run-clause-runs
-returns-in-Run-clause-runs g c = λ knows.
-    let m = c.in-Run in
-    let tells = subst (λ x. KnowsInputs (plan_of x) g.F.Source.tells g.I.Source.tells) m.is knows in
-    match-runs c.run_inputs-in-Run.result _ (runner_of m.job) m.whole (names_of encode_utf8_all m.names)
-    (names_of encode_utf8_all c.as_slice-names-in-Run.result.now) _ (plan_of c.args.plan.now)
-    (g.F.Source.tree c.args.inputs.now.files.now) _ _ _ _ (ap plan_of m.is)
-    (ap (names_of encode_utf8_all) c.as_slice-names-in-Run.ensures) c.reading-reading-in-Run.ensures
-    (c.run_inputs-in-Run.ensures.runs (told-names _ _ _ _ (ap (names_of encode_utf8_all) c.as_slice-names-in-Run.ensures) tells))
-
 pub returns-in-Match-clause-unread : goal.returns-in-Match-clause-unread
 returns-in-Match-clause-unread g c = λ n.
     let m = c.in-Match in
@@ -76,13 +66,6 @@ returns-in-Trace-clause-unread g c = λ n.
     c.run_inputs-in-Trace.ensures.unread (unread-names (plan_of c.args.plan.now) (names_of encode_utf8_all m.names)
     (names_of encode_utf8_all c.as_slice-names-in-Trace.result.now) (ap (λ x. inputs_of (plan_of x)) m.is)
     (ap (names_of encode_utf8_all) c.as_slice-names-in-Trace.ensures) n)
-
-pub returns-in-Run-clause-unread : goal.returns-in-Run-clause-unread
-returns-in-Run-clause-unread g c = λ n.
-    let m = c.in-Run in
-    c.run_inputs-in-Run.ensures.unread (unread-names (plan_of c.args.plan.now) (names_of encode_utf8_all m.names)
-    (names_of encode_utf8_all c.as_slice-names-in-Run.result.now) (ap (λ x. inputs_of (plan_of x)) m.is)
-    (ap (names_of encode_utf8_all) c.as_slice-names-in-Run.ensures) n)
 
 pub returns-in-Match-clause-rest : goal.returns-in-Match-clause-rest
 returns-in-Match-clause-rest g c = λ knows.
@@ -101,12 +84,3 @@ returns-in-Trace-clause-rest g c = λ knows.
     names-go c.run_inputs-in-Trace.result (plan_of c.args.plan.now) (names_of encode_utf8_all m.names)
     (names_of encode_utf8_all c.as_slice-names-in-Trace.result.now) _ (ap (λ x. inputs_of (plan_of x)) m.is) same
     (c.run_inputs-in-Trace.ensures.rest (told-names _ _ _ _ same tells))
-
-pub returns-in-Run-clause-rest : goal.returns-in-Run-clause-rest
-returns-in-Run-clause-rest g c = λ knows.
-    let m = c.in-Run in
-    let tells = subst (λ x. KnowsInputs (plan_of x) g.F.Source.tells g.I.Source.tells) m.is knows in
-    let same = ap (names_of encode_utf8_all) c.as_slice-names-in-Run.ensures in
-    names-go c.run_inputs-in-Run.result (plan_of c.args.plan.now) (names_of encode_utf8_all m.names)
-    (names_of encode_utf8_all c.as_slice-names-in-Run.result.now) _ (ap (λ x. inputs_of (plan_of x)) m.is) same
-    (c.run_inputs-in-Run.ensures.rest (told-names _ _ _ _ same tells))

@@ -1,7 +1,7 @@
 use Rattle.std.proofs.Common.{◌≡◌, ◌+◌, ◌≤◌, ◌<◌, ◌^◌, ◌∙◌, length, refl, ap, arith}
 use Rattle.std.proofs.lemmas.Str.{is_utf8-from_IsUtf8}
 use Rattle.rosie_sample.specs.declared.run.Counts.{Counts}
-use Rattle.rosie_sample.proofs.Limits.{match_stays}
+use Rattle.rosie_sample.proofs.Limits.{job_stays}
 use Rattle.rosie_sample.proofs.Onward.{all-matched, counted-break, counted-end, counted-first, counted-front, counted-on}
 use Rattle.rosie_sample.proofs.Onward.{few_matched}
 use Rattle.rosie_sample.proofs.Breaking.{lines-break}
@@ -60,7 +60,7 @@ lines-preserved g c =
       counted = counted-on _ _ _ _ _ _ _ _ _ c.lines.invariant.counted c.line.result.now
           (c.line.ensures ∙ c.in-Ok.ensures.line) c.lines-test.true
           (is_utf8-from_IsUtf8 c.line.result.now c.line.utf8) short _ c.lines.invariant.same c.advance.new.self.number _
-          ran.ran c.with-counts.result c.in-Ok.ensures.number (match_stays _ _ _ _ _) ran.ensures.runs
+          ran.ran c.with-counts.result c.in-Ok.ensures.number (job_stays c.args.self.now.job _ _ _) ran.ensures.runs
           c.with-counts.ensures;
       out_faults = ran.ensures.sinks.0 ∙ c.lines.invariant.out_faults;
       err_faults = ran.ensures.sinks.1 ∙ c.lines.invariant.err_faults;
