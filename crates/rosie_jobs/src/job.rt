@@ -47,18 +47,4 @@ impl Job {
         let goal = Goal { rules, peg: goal };
         Ok(Job { goal, program })
     }
-
-    /// The rules.
-    pub(crate) fn rules(&self) -> &Checked
-        ensures { result.now ≡ self.now.goal.rules }
-    {
-        &self.goal.rules
-    }
-
-    /// The goal.
-    pub(crate) fn goal(&self) -> &CheckedPeg
-        ensures { result.now ≡ self.now.goal.peg }
-    {
-        &self.goal.peg
-    }
 }

@@ -80,10 +80,9 @@ impl LineJob for TraceJob {
         line: InputLine<'_>,
         _steps: &mut Steps<L>,
     ) -> Result<Mark, NoMemory> {
-        let rules = self.job.rules();
-        let goal = self.job.goal();
+        let goal = &self.job.goal;
         let text = Text::new(line.text);
-        match trace(self.alloc, rules, goal, text, self.limit) {
+        match trace(self.alloc, &goal.rules, &goal.peg, text, self.limit) {
             Ok(trace) => {
                 let out = numbered(self.alloc, line.number, &trace.printed)?;
                 let mark = mark_of(trace.end);
