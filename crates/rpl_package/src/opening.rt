@@ -228,9 +228,9 @@ pub fn open_import<F: Files>(
         (state_seen stock.new o.own.value)) }
     ensures deep { IfOk result (λ _. walker.now.depth ≢ 0) }
     ensures goes { TellsFile F.tells (F.tree files.old) walker.now import.now →
-        IfOk result (λ o. GoesOn (F.tree files.old) walker.now stock.new.held.items o
-        (state_seen stock.new o.own.value) (under load_import (F.tree files.old) walker.now
-        stock.old.held.items import.now (stock_seen stock.old))) }
+        IfOk result (λ o. GoesOn (F.tree files.old) walker.now stock.new o
+        (under load_import (F.tree files.old) walker.now stock.old.held.items import.now
+        (stock_seen stock.old))) }
     ensures stops { TellsFile F.tells (F.tree files.old) walker.now import.now →
         IfErr result (λ s. MayStop s (under load_import (F.tree files.old) walker.now
         stock.old.held.items import.now (stock_seen stock.old))) }

@@ -13,7 +13,9 @@ use Rattle.rpl_package.specs.Loading.{World, Walk, Stock, State, world, walk, ch
 use Rattle.rpl_package.specs.Loading.{label_of, taken_up, tried}
 use Rattle.rpl_package.specs.declared.opening.Opened.{Opened}
 use Rattle.rpl_package.specs.declared.opening.Walker.{Walker}
+use Rattle.rpl_package.specs.Stocks.{state_seen}
 use Rattle.rpl_package.specs.declared.stock.Head.{Head}
+use Rattle.rpl_package.specs.declared.stock.Stock as D
 use Rattle.rpl_package.specs.inside.Following.{Follows}
 
 -- a step for a walker, over these files
@@ -49,10 +51,11 @@ abbrev pub TellsFile : (tells : Type 0) → List (List ℕ × List ℕ) → Walk
 TellsFile tells tree k i = IsTold tells (tried tree k.importer.folders.now i.path)
 
 -- what comes of the text that is open is what is to come
-abbrev pub GoesOn : List (List ℕ × List ℕ) → Walker → List Head → Opened → State → Outcome (ℕ × Stock) → Type 0
-GoesOn tree i hs o s whole =
+abbrev pub GoesOn : List (List ℕ × List ℕ) → Walker → D.Stock → Opened → Outcome (ℕ × Stock) → Type 0
+GoesOn tree i stock o whole =
     let w = world tree i.importer.folders.now in
-    let text = checks w (walk w (i.depth - 1)) hs o.read.value.file (said o.read.value.text) s in
+    let s = state_seen stock o.own.value in
+    let text = checks w (walk w (i.depth - 1)) stock.held.items o.read.value.file (said o.read.value.text) s in
     Follows (and_then text (λ u. at_once (Ok (taken_up u)))) whole
 
 -- ---- a text of its own
