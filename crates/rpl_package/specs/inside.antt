@@ -4,6 +4,7 @@ pub mod Firsts
 pub mod Following
 pub mod Kept
 pub mod Leaving
+pub mod Listing
 pub mod Marks
 pub mod Noted
 pub mod Numbering

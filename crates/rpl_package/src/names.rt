@@ -1,11 +1,13 @@
 // What a pattern may name.
-ghost use Rattle.std.specs.Prelude.{◌≡◌, ◌++◌, IfOk, OnOk};
+ghost use Rattle.std.specs.Prelude.{◌≡◌, ◌≢◌, ◌++◌, [], false, Some, chars, IfOk, IsTrue, OnOk};
 ghost use Rattle.rpl_package.specs.Names.{by_bytes};
+ghost use Rattle.rpl_package.specs.Targets.{binds};
 ghost use Rattle.rpl_package.specs.Views.{text_found};
 
+use crate::resolve::binds;
 use crate::set::PackageSet;
 use rpl_list::List;
-use rpl_scope::{Module, NoMemory, written};
+use rpl_scope::{Entry, Module, NoMemory, written};
 use rpl_syntax::QName;
 use rpl_text::Chars;
 use std::alloc::Global;
@@ -39,15 +41,24 @@ fn copied(alloc: Global, prefix: Option<&str>) -> Result<Option<Chars>, NoMemory
     }
 }
 
+/// Whether the module under this prefix has taken in what has this entry there, so that it isn't
+/// passed on. No text spells the empty prefix.
+fn is_taken_in(prefix: &str, entry: Entry) -> bool
+    ensures full { IsTrue result → chars prefix.now ≢ [] }
+    ensures foreign { IsTrue result → binds (Some entry) ≡ false }
+{
+    !prefix.is_empty() && !binds(Some(entry))
+}
+
 impl PackageSet {
-    ghost use Rattle.std.specs.Prelude.{Some, chars};
+    ghost use Rattle.std.specs.Prelude.{None};
     ghost use Rattle.std.specs.List.{flat_map};
     ghost use Rattle.std.specs.List.Sorted.{IsPermutation, IsSorted};
     ghost use Rattle.rpl_scope.specs.Packages.{nth};
     ghost use Rattle.rpl_scope.specs.Seen.{module_seen};
     ghost use Rattle.rpl_package.specs.Names.{all_listed, known_in, label, listed, names_of};
     ghost use Rattle.rpl_package.specs.Sets.{set_seen};
-    ghost use Rattle.rpl_package.specs.Views.{text_found};
+    ghost use Rattle.rpl_package.specs.inside.Listing.{named, IsUnder};
 
     /// The type of the nodes of a rule.
     fn label(&self, alloc: Global, rule: u32) -> Result<Option<Chars>, NoMemory>
@@ -88,35 +99,41 @@ impl PackageSet {
         }
     }
 
-    /// The names of a module, after a prefix or without one.
-    fn push_names(
+    /// A name after a prefix or without one, with its label, where it stands for a rule.
+    fn push_name(
         &self,
         alloc: Global,
         names: &mut Vec<Listed>,
         prefix: Option<&str>,
-        from: &Module,
+        name: &str,
     ) -> Result<(), NoMemory>
         ensures { OnOk result (names.new.items ≡ names.old.items
-            ++ flat_map (listed (set_seen self.now))
-            (names_of (text_found prefix.entry) (Some (module_seen from.now)))) }
+            ++ listed (set_seen self.now) (named (text_found prefix.entry) (chars name.now))) }
     {
-        for number in 0..from.names.len() {
-            let Some((name, _)) = from.names.at(number) else {
+        let name = QName {
+            prefix: copied(alloc, prefix)?,
+            name: Chars::from_str(alloc, name)?,
+            at: 0,
+        };
+        self.push_listed(alloc, names, &name)
+    }
+
+    /// The names of the top module.
+    fn push_own(&self, alloc: Global, names: &mut Vec<Listed>, own: &Module) -> Result<(), NoMemory>
+        ensures { OnOk result (names.new.items ≡ names.old.items
+            ++ flat_map (listed (set_seen self.now)) (names_of None (Some (module_seen own.now)))) }
+    {
+        for number in 0..own.names.len() {
+            let Some((name, _)) = own.names.at(number) else {
                 return Ok(());
             };
-            let prefix = copied(alloc, prefix)?;
-            let name = Chars::from_str(alloc, name)?;
-            let name = QName {
-                prefix,
-                name,
-                at: 0,
-            };
-            self.push_listed(alloc, names, &name)?;
+            self.push_name(alloc, names, None, name)?;
         }
         Ok(())
     }
 
-    /// The names of the module under a prefix.
+    /// The names of the module under a prefix. Those that it has taken in aren't passed on, and
+    /// may be many: they are passed over.
     fn push_behind(
         &self,
         alloc: Global,
@@ -124,23 +141,34 @@ impl PackageSet {
         prefix: &str,
         number: usize,
     ) -> Result<(), NoMemory>
+        requires { IsUnder (set_seen self.now) (chars prefix.now) number }
         ensures { OnOk result (names.new.items ≡ names.old.items
             ++ flat_map (listed (set_seen self.now))
             (names_of (Some (chars prefix.now)) (nth (set_seen self.now).stock.modules number))) }
     {
-        match self.stock.modules.get(number) {
-            None => Ok(()),
-            Some(from) => self.push_names(alloc, names, Some(prefix), from),
+        let Some(from) = self.stock.modules.get(number) else {
+            return Ok(());
+        };
+        for place in 0..from.names.len() {
+            let Some((name, entry)) = from.names.at(place) else {
+                return Ok(());
+            };
+            if is_taken_in(prefix, entry) {
+                continue;
+            }
+            self.push_name(alloc, names, Some(prefix), name)?;
         }
+        Ok(())
     }
 
     /// The names of the top module, and those of the modules under its prefixes.
     fn push_all(&self, alloc: Global, names: &mut Vec<Listed>, own: &Module) -> Result<(), NoMemory>
+        requires { nth (set_seen self.now).stock.modules self.now.top ≡ Some (module_seen own.now) }
         ensures { OnOk result (names.new.items ≡ names.old.items
             ++ flat_map (listed (set_seen self.now))
             (known_in (set_seen self.now).stock.modules (Some (module_seen own.now)))) }
     {
-        self.push_names(alloc, names, None, own)?;
+        self.push_own(alloc, names, own)?;
         for number in 0..own.prefixes.len() {
             let Some((prefix, under)) = own.prefixes.at(number) else {
                 return Ok(());

@@ -92,7 +92,7 @@ struct Site {
 }
 
 /// Whether a statement of the module binds the name of an entry.
-fn binds(entry: Option<Entry>) -> bool
+pub(crate) fn binds(entry: Option<Entry>) -> bool
     ensures { result ≡ T.binds entry }
 {
     match entry {

@@ -32,7 +32,7 @@ finds n [] = refl
 finds n (p ∷ ps) = ap (λ o. if bytes_eq n p.0 then Some p.1 else o) (finds n ps)
 
 -- what stands under the name at a place
-at_place : {A : Type 0} (ps : List (List ℕ × A)) (i : ℕ) (p : List ℕ × A) → IsDistinct bytes_eq (keys_of ps) → slice_get ps i ≡ Some p → first_of p.0 ps ≡ Some p.1
+pub at_place : {A : Type 0} (ps : List (List ℕ × A)) (i : ℕ) (p : List ℕ × A) → IsDistinct bytes_eq (keys_of ps) → slice_get ps i ≡ Some p → first_of p.0 ps ≡ Some p.1
 at_place ps i p d at = sym (finds p.0 ps) ∙ lookup_from_place nat_list_eq_equiv ps i p.0 p.1 d at
 
 -- ---- what a look-up comes to
@@ -121,6 +121,10 @@ item_before [] x i y e = absurd (none-some y e)
 item_before (z ∷ xs) x zero y e = e
 item_before (z ∷ xs) x (suc i) y e = item_before xs x i y e
 
+-- names that are apart stay so with a new one at the end
+pub apart_end : {A : Type 0} (ps : List (List ℕ × A)) (l : List ℕ) (v : A) → IsDistinct bytes_eq (keys_of ps) → first_of l ps ≡ None → IsDistinct bytes_eq (keys_of (ps ++ (l, v) ∷ []))
+apart_end ps l v d none = subst (IsDistinct bytes_eq) (sym (keys_end ps (l, v))) (IsDistinct-push nat_list_eq_equiv (keys_of ps) l d (apart_from l ps none))
+
 -- names without the new one keep their numbers where those of other bytes are kept
 pub kept_numbered : {Z A : Type 0} (ps : List (List ℕ × A)) (h0 h1 : BTreeMap ℕ ℕ) (o0 o1 : BTreeMap (String Z) ℕ) (bs : List ℕ) → first_of (chars bs) ps ≡ None → IsNumbered ps h0 o0 → ((cs : List ℕ) (i : ℕ) → ¬ (cs ≡ bs) → Finds h0 o0 cs i → Finds h1 o1 cs i) → IsNumbered ps h1 o1
 kept_numbered {Z} {A} ps h0 h1 o0 o1 bs none n keeps =
@@ -139,7 +143,7 @@ with_last {Z} {A} ps hashes others l v none n new =
         | inl h ↦ n.finds i p h
         | inr h ↦ subst (λ j. FindsName hashes others p.0 j) (sym h.0) (subst (λ (q : List ℕ × A). FindsName hashes others q.0 (length ps)) h.1 new)
       ];
-      apart = subst (IsDistinct bytes_eq) (sym (keys_end ps (l, v))) (IsDistinct-push nat_list_eq_equiv (keys_of ps) l n.apart (apart_from l ps none));
+      apart = apart_end ps l v n.apart none;
     }
 
 -- ---- without the last pair

@@ -1,12 +1,13 @@
 -- Names that modules share, and the names that come after them.
-use Rattle.std.proofs.Common.{◌≡◌, ℕ, ◌+◌, ◌<◌, ◌≤◌, List, [], ◌∷◌, ◌++◌, length, drop, get_or, Option, Some, None, true, false, true≢false, refl, sym, ap, subst, ◌∙◌, append_assoc}
-use Rattle.std.specs.Prelude.{Bool, ◌||◌, if◌then◌else◌, Ok}
+use Rattle.std.proofs.Common.{arith, ◌≡◌, ℕ, zero, suc, ◌+◌, ◌-◌, ◌<◌, ◌≤◌, List, [], ◌∷◌, ◌++◌, length, drop, get_or, Option, Some, None, true, false, true≢false, refl, sym, ap, subst, ◌∙◌, append_assoc}
+use Rattle.std.specs.Prelude.{Bool, ◌||◌, if◌then◌else◌, IfSome, Result, Ok, Err, OnOk, OnErr, chars}
+use Rattle.std.specs.Borrow.{Bor}
 use Rattle.std.specs.List.{AllByRecursion, IsDistinct}
 use Rattle.std.specs.Map.{keys_of}
 use Rattle.std.specs.Str.{bytes_eq}
 use Rattle.std.proofs.lemmas.Bool.{false_from_ne_true}
 use Rattle.std.proofs.lemmas.List.{append-nil, drop_all}
-use Rattle.std.proofs.lemmas.Option.{get_or_from_slice_get, slice_get_within}
+use Rattle.std.proofs.lemmas.Option.{get_or_from_slice_get, none-some, slice_get_within}
 use Rattle.std.proofs.lemmas.Slice.Eq.{bytes_eq-Decides}
 use Rattle.rpl_scope.specs.Faults.{◌>>=◌, in_turn}
 use Rattle.rpl_scope.specs.Imports.{add_name, add_name_at, numbered}
@@ -16,7 +17,7 @@ use Rattle.rpl_scope.specs.Seen.{rules_seen}
 use Rattle.rpl_scope.specs.declared.module.Rule.{Rule as DeclaredRule}
 use Rattle.rpl_scope.specs.inside.Taken.{taken_names, taken_entry}
 use Rattle.rpl_scope.proofs.Checking.{front}
-use Rattle.rpl_scope.proofs.Maps.{nth_is}
+use Rattle.rpl_scope.proofs.Maps.{apart_end, nth_is}
 
 -- ---- under a name
 
@@ -37,6 +38,37 @@ none_by false y e r f h = f h
 pub none_last : {A : Type 0} (n : List ℕ) (ps qs : List (List ℕ × A)) → first_of n (ps ++ qs) ≡ None → first_of n qs ≡ None
 none_last n [] qs h = h
 none_last n (p ∷ ps) qs h = none_by (bytes_eq n p.0) p.1 (first_of n (ps ++ qs)) (first_of n qs) (none_last n ps qs) h
+
+-- a name that no key is equal to isn't there
+none_of : {A : Type 0} (n : List ℕ) (ps : List (List ℕ × A)) → AllByRecursion (λ y. bytes_eq n y ≡ false) (keys_of ps) → first_of n ps ≡ None
+none_of n [] a = refl
+none_of n (p ∷ ps) a = ap (λ b. if b then Some p.1 else first_of n ps) a.0 ∙ none_of n ps a.1
+
+-- of names that are apart, what stands under one of the last stands under it among all
+pub last_first : {A : Type 0} (n : List ℕ) (ps qs : List (List ℕ × A)) (x : A) → IsDistinct bytes_eq (keys_of (ps ++ qs)) → first_of n qs ≡ Some x → first_of n (ps ++ qs) ≡ Some x
+unfolding IsDistinct
+last_first n [] qs x d h = h
+last_first n (p ∷ ps) qs x d h = ap (λ b. if b then Some p.1 else first_of n (ps ++ qs)) other ∙ last_first n ps qs x d.1 h
+  where
+    other : bytes_eq n p.0 ≡ false
+    other = false_from_ne_true (bytes_eq n p.0) (λ e. none-some x (sym (ap (λ w. first_of w qs) ((bytes_eq-Decides n p.0).0 e) ∙ none_last p.0 ps qs (none_of p.0 (ps ++ qs) d.0)) ∙ h))
+
+pub lasts_first : {A : Type 0} (o : Option (Bor (List ℕ) × A)) (ps qs all : List (List ℕ × A)) → (ps ++ qs) ≡ all → IsDistinct bytes_eq (keys_of (ps ++ qs)) → IfSome o (λ p. first_of (chars p.0.now) qs ≡ Some p.1) → IfSome o (λ p. first_of (chars p.0.now) all ≡ Some p.1)
+lasts_first None ps qs all is d h = tt
+lasts_first (Some p) ps qs all is d h = ap (first_of (chars p.0.now)) (sym is) ∙ last_first (chars p.0.now) ps qs p.1 d h
+
+-- names that are apart stay so where a new one is put at the end, or none
+pub put_apart : {A X E : Type 0} (r : Result X E) (ps own new : List (List ℕ × A)) (n : List ℕ) (v : A) → IsDistinct bytes_eq (keys_of (ps ++ own)) → first_of n (ps ++ own) ≡ None → OnOk r (new ≡ own ++ (n, v) ∷ []) → OnErr r (new ≡ own) → IsDistinct bytes_eq (keys_of (ps ++ new))
+put_apart (Ok x) ps own new n v d none ok err =
+    subst (λ l. IsDistinct bytes_eq (keys_of l)) (append_assoc ps own ((n, v) ∷ []) ∙ ap (λ l. ps ++ l) (sym ok)) (apart_end (ps ++ own) n v d none)
+put_apart (Err e) ps own new n v d none ok err = subst (λ l. IsDistinct bytes_eq (keys_of (ps ++ l))) (sym err) d
+
+-- ---- at a number
+
+pub nth_past : {A : Type 0} (ps qs : List A) (i : ℕ) → nth ps i ≡ None → nth (ps ++ qs) i ≡ nth qs (i - length ps)
+nth_past [] qs i h = ap (nth qs) (omega arith)
+nth_past (p ∷ ps) qs zero h = absurd (cc)
+nth_past (p ∷ ps) qs (suc i) h = nth_past ps qs i h ∙ ap (nth qs) (omega arith)
 
 -- ---- names beside the rules of a module
 

@@ -1,6 +1,6 @@
 // What stands under names, in the order in which they came.
-ghost use Rattle.std.specs.Prelude.{◌≡◌, ◌<◌, ◌-◌, ◌^◌, ℕ, List, None, [], ◌∷◌, ◌++◌, OnErr, OnOk, chars};
-ghost use Rattle.std.specs.Prelude.{length, take};
+ghost use Rattle.std.specs.Prelude.{◌≡◌, ◌<◌, ◌-◌, ◌^◌, ℕ, List, Some, None, [], ◌∷◌, ◌++◌, OnErr, OnOk};
+ghost use Rattle.std.specs.Prelude.{IfSome, chars, length, take};
 ghost use Rattle.std.specs.List.{IsDistinct};
 ghost use Rattle.std.specs.Map.{keys_of};
 ghost use Rattle.std.specs.Str.{bytes_eq};
@@ -106,7 +106,8 @@ impl<V: Copy> Named<V> {
     /// The name with this number, from 0, and what stands under it; None exactly where there are no
     /// more than that.
     pub fn at(&self, number: usize) -> Option<(&str, V)>
-        ensures { pair_found result ≡ nth self.now number }
+        ensures is { pair_found result ≡ nth self.now number }
+        ensures first { IfSome result (λ p. first_of (chars p.0.now) self.now ≡ Some p.1) }
     {
         match self.pairs.get(number) {
             Some((name, value)) => Some((name.as_str(), *value)),

@@ -1,5 +1,6 @@
 // The names of a module, of which it may share the first with other modules.
-ghost use Rattle.std.specs.Prelude.{◌≡◌, ◌++◌, ◌∷◌, None, [], OnErr, OnOk, chars, length};
+ghost use Rattle.std.specs.Prelude.{◌≡◌, ◌++◌, ◌∷◌, Some, None, [], OnErr, OnOk, IfSome, chars};
+ghost use Rattle.std.specs.Prelude.{length};
 ghost use Rattle.rpl_scope.specs.Packages.{first_of, nth};
 ghost use Rattle.rpl_scope.specs.Pairs.{pair_found};
 
@@ -17,7 +18,8 @@ pub type SharedNames = Rc<Named<Entry>>;
 
 /// The names of a module with what stands under each. Contracts see it as the list of the pairs.
 ///
-/// Modules that take in the names of one module share those: they come first.
+/// No name is there twice. Modules that take in the names of one module share those: they come
+/// first.
 #[derive(Drop)]
 pub struct ModuleNames {
     shared: Option<SharedNames>,
@@ -26,12 +28,17 @@ pub struct ModuleNames {
 
 impl Model for ModuleNames {
     ghost use Rattle.std.specs.Prelude.{◌++◌, ℕ, List};
+    ghost use Rattle.std.specs.List.{IsDistinct};
+    ghost use Rattle.std.specs.Map.{keys_of};
+    ghost use Rattle.std.specs.Str.{bytes_eq};
     ghost use Rattle.rpl_scope.specs.declared.module.Entry.{Entry};
     ghost use Rattle.rpl_scope.specs.inside.Held.{held};
 
     ghost Value = { List (List ℕ × Entry) };
 
     ghost view = { λ n. held n.shared ++ n.own };
+
+    ghost invariant = { λ n. IsDistinct bytes_eq (keys_of (held n.shared ++ n.own)) };
 }
 
 impl ModuleNames {
@@ -49,6 +56,8 @@ impl ModuleNames {
     pub(crate) fn of(alloc: Global, shared: SharedNames) -> ModuleNames
         ensures { result ≡ shared.value }
     {
+        // It says that none of them is there twice.
+        let _ = shared.count();
         ModuleNames {
             shared: Some(shared),
             own: Named::new(alloc),
@@ -109,7 +118,8 @@ impl ModuleNames {
     /// The name with this number, from 0, and what stands under it; None exactly where there are no
     /// more than that.
     pub fn at(&self, number: usize) -> Option<(&str, Entry)>
-        ensures { pair_found result ≡ nth self.now number }
+        ensures is { pair_found result ≡ nth self.now number }
+        ensures first { IfSome result (λ p. first_of (chars p.0.now) self.now ≡ Some p.1) }
     {
         let Some(shared) = &self.shared else {
             return self.own.at(number);

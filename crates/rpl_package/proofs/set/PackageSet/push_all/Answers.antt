@@ -16,7 +16,7 @@ loop-number-preserved c =
     more (λ e. flat_map (listed p) (names_of (Some e.0) (nth p.stock.modules e.1.number))) m.prefixes
     c.loop-number.number _
     (c.args.names.now.items ++ flat_map (listed p) (names_of None (Some m))) c.loop-number.names.items _
-    (sym c.in-Some.ensures) c.loop-number.invariant c.in_ok-push_behind.ensures
+    (sym c.in-Some.ensures.is) c.loop-number.invariant c.in_ok-push_behind.ensures
 
 pub returns : goal.returns
 returns c =

@@ -1,13 +1,12 @@
-use Rattle.std.proofs.Common.{◌≡◌, ◌++◌, take}
+use Rattle.std.proofs.Common.{◌≡◌, ◌++◌, None, take}
 use Rattle.std.specs.List.{flat_map}
 use Rattle.rpl_scope.specs.Seen.{module_seen}
 use Rattle.rpl_package.specs.Names.{listed}
 use Rattle.rpl_package.specs.Sets.{set_seen}
-use Rattle.rpl_package.specs.Views.{text_found}
-use Rattle.rpl_package.proofs.set.PackageSet.push_names.Given as goal
+use Rattle.rpl_package.specs.inside.Listing.{named}
+use Rattle.rpl_package.proofs.set.PackageSet.push_own.Given as goal
 
 abbrev pub invariant-loop-number : goal.invariant-loop-number
 invariant-loop-number l =
-    l.names.items ≡ l.fn.names.items ++ flat_map
-    (λ e. listed (set_seen l.self) (record { prefix = text_found l.prefix; name = e.0; at = 0 }))
-    (take l.number (module_seen l.from).names)
+    l.names.items ≡ l.fn.names.items ++ flat_map (λ e. listed (set_seen l.self) (named None e.0))
+    (take l.number (module_seen l.own).names)
