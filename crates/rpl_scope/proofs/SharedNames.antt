@@ -1,23 +1,27 @@
 -- Names that modules share, and the names that come after them.
-use Rattle.std.proofs.Common.{arith, ◌≡◌, ℕ, zero, suc, ◌+◌, ◌-◌, ◌<◌, ◌≤◌, List, [], ◌∷◌, ◌++◌, length, drop, get_or, Option, Some, None, true, false, true≢false, refl, sym, ap, subst, ◌∙◌, append_assoc}
-use Rattle.std.specs.Prelude.{Bool, ◌||◌, if◌then◌else◌, IfSome, Result, Ok, Err, OnOk, OnErr, chars}
+use Rattle.std.proofs.Common.{arith, ap₂, length-append, ◌^◌, ◌≡◌, ℕ, zero, suc, ◌+◌, ◌-◌, ◌<◌, ◌≤◌, List, [], ◌∷◌, ◌++◌, length, drop, get_or, Option, Some, None, true, false, true≢false, ◌⊎◌, inl, inr, refl, sym, ap, subst, ◌∙◌, append_assoc}
+use Rattle.std.specs.Prelude.{Bool, ◌||◌, if◌then◌else◌, IfOk, IfSome, IsTrue, Result, Ok, Err, OnOk, OnErr, chars}
 use Rattle.std.specs.Borrow.{Bor}
+use Rattle.std.specs.declared.rc.Rc.{Rc}
 use Rattle.std.specs.List.{AllByRecursion, IsDistinct}
 use Rattle.std.specs.Map.{keys_of}
 use Rattle.std.specs.Str.{bytes_eq}
 use Rattle.std.proofs.lemmas.Bool.{false_from_ne_true}
 use Rattle.std.proofs.lemmas.List.{append-nil, drop_all}
+use Rattle.std.proofs.lemmas.Map.Entries.{place_from_lookup}
 use Rattle.std.proofs.lemmas.Option.{get_or_from_slice_get, none-some, slice_get_within}
 use Rattle.std.proofs.lemmas.Slice.Eq.{bytes_eq-Decides}
 use Rattle.rpl_scope.specs.Faults.{◌>>=◌, in_turn}
 use Rattle.rpl_scope.specs.Imports.{add_name, add_name_at, numbered}
 use Rattle.rpl_scope.specs.Packages.{Module, Rule, first_of, nth}
+use Rattle.rpl_scope.specs.Pairs.{pair_found}
 use Rattle.rpl_scope.specs.declared.module.Entry.{Entry}
 use Rattle.rpl_scope.specs.Seen.{rules_seen}
 use Rattle.rpl_scope.specs.declared.module.Rule.{Rule as DeclaredRule}
+use Rattle.rpl_scope.specs.inside.Held.{AreDisjoint, AreNames, held}
 use Rattle.rpl_scope.specs.inside.Taken.{taken_names, taken_entry}
 use Rattle.rpl_scope.proofs.Checking.{front}
-use Rattle.rpl_scope.proofs.Maps.{apart_end, nth_is}
+use Rattle.rpl_scope.proofs.Maps.{apart_end, at_place, finds, nth_is}
 
 -- ---- under a name
 
@@ -39,24 +43,6 @@ pub none_last : {A : Type 0} (n : List ℕ) (ps qs : List (List ℕ × A)) → f
 none_last n [] qs h = h
 none_last n (p ∷ ps) qs h = none_by (bytes_eq n p.0) p.1 (first_of n (ps ++ qs)) (first_of n qs) (none_last n ps qs) h
 
--- a name that no key is equal to isn't there
-none_of : {A : Type 0} (n : List ℕ) (ps : List (List ℕ × A)) → AllByRecursion (λ y. bytes_eq n y ≡ false) (keys_of ps) → first_of n ps ≡ None
-none_of n [] a = refl
-none_of n (p ∷ ps) a = ap (λ b. if b then Some p.1 else first_of n ps) a.0 ∙ none_of n ps a.1
-
--- of names that are apart, what stands under one of the last stands under it among all
-pub last_first : {A : Type 0} (n : List ℕ) (ps qs : List (List ℕ × A)) (x : A) → IsDistinct bytes_eq (keys_of (ps ++ qs)) → first_of n qs ≡ Some x → first_of n (ps ++ qs) ≡ Some x
-unfolding IsDistinct
-last_first n [] qs x d h = h
-last_first n (p ∷ ps) qs x d h = ap (λ b. if b then Some p.1 else first_of n (ps ++ qs)) other ∙ last_first n ps qs x d.1 h
-  where
-    other : bytes_eq n p.0 ≡ false
-    other = false_from_ne_true (bytes_eq n p.0) (λ e. none-some x (sym (ap (λ w. first_of w qs) ((bytes_eq-Decides n p.0).0 e) ∙ none_last p.0 ps qs (none_of p.0 (ps ++ qs) d.0)) ∙ h))
-
-pub lasts_first : {A : Type 0} (o : Option (Bor (List ℕ) × A)) (ps qs all : List (List ℕ × A)) → (ps ++ qs) ≡ all → IsDistinct bytes_eq (keys_of (ps ++ qs)) → IfSome o (λ p. first_of (chars p.0.now) qs ≡ Some p.1) → IfSome o (λ p. first_of (chars p.0.now) all ≡ Some p.1)
-lasts_first None ps qs all is d h = tt
-lasts_first (Some p) ps qs all is d h = ap (first_of (chars p.0.now)) (sym is) ∙ last_first (chars p.0.now) ps qs p.1 d h
-
 -- names that are apart stay so where a new one is put at the end, or none
 pub put_apart : {A X E : Type 0} (r : Result X E) (ps own new : List (List ℕ × A)) (n : List ℕ) (v : A) → IsDistinct bytes_eq (keys_of (ps ++ own)) → first_of n (ps ++ own) ≡ None → OnOk r (new ≡ own ++ (n, v) ∷ []) → OnErr r (new ≡ own) → IsDistinct bytes_eq (keys_of (ps ++ new))
 put_apart (Ok x) ps own new n v d none ok err =
@@ -69,6 +55,96 @@ pub nth_past : {A : Type 0} (ps qs : List A) (i : ℕ) → nth ps i ≡ None →
 nth_past [] qs i h = ap (nth qs) (omega arith)
 nth_past (p ∷ ps) qs zero h = absurd (cc)
 nth_past (p ∷ ps) qs (suc i) h = nth_past ps qs i h ∙ ap (nth qs) (omega arith)
+
+pub nth_first : {A : Type 0} (ps qs : List A) (i : ℕ) (x : A) → nth ps i ≡ Some x → nth (ps ++ qs) i ≡ Some x
+nth_first [] qs i x h = absurd (cc)
+nth_first (p ∷ ps) qs zero x h = h
+nth_first (p ∷ ps) qs (suc i) x h = nth_first ps qs i x h
+
+pub nth_none : {A : Type 0} (ps : List A) (i : ℕ) → nth ps i ≡ None → length ps ≤ i
+nth_none [] i h = omega arith
+nth_none (p ∷ ps) zero h = absurd (cc)
+nth_none (p ∷ ps) (suc i) h = let le = nth_none ps i h in omega arith
+
+pub nth_within : {A : Type 0} (ps : List A) (i : ℕ) (x : A) → nth ps i ≡ Some x → i < length ps
+nth_within ps i x h = slice_get_within ps i x (sym (nth_is ps i) ∙ h)
+
+-- of names that are apart, what stands at a number stands under its name
+pub at_first : {A : Type 0} (o : Option (Bor (List ℕ) × A)) (ps : List (List ℕ × A)) (i : ℕ) → IsDistinct bytes_eq (keys_of ps) → pair_found o ≡ nth ps i → IfSome o (λ p. first_of (chars p.0.now) ps ≡ Some p.1)
+at_first None ps i d e = tt
+at_first (Some p) ps i d e = at_place ps i (chars p.0.now, p.1) d (sym (e ∙ nth_is ps i))
+
+-- ---- names that are in one of two alone
+
+pub disjoint_turned : {A : Type 0} (ps qs : List (List ℕ × A)) → AreDisjoint ps qs → AreDisjoint qs ps
+disjoint_turned ps qs d = λ n. elim (d n) [ inl h ↦ inr h | inr h ↦ inl h ]
+
+-- where each of the others isn't among the names
+pub disjoint_by : {A : Type 0} (ps qs : List (List ℕ × A)) → ((i : ℕ) (q : List ℕ × A) → nth qs i ≡ Some q → first_of q.0 ps ≡ None) → AreDisjoint ps qs
+disjoint_by {A} ps qs new = λ n. by n (first_of n qs) refl
+  where
+    by : (n : List ℕ) (o : Option A) → first_of n qs ≡ o → (first_of n ps ≡ None) ⊎ (first_of n qs ≡ None)
+    by n None e = inr e
+    by n (Some v) e =
+        let p = place_from_lookup (bytes_eq n) qs v (finds n qs ∙ e) in
+        inl (ap (λ w. first_of w ps) ((bytes_eq-Decides n p.1).0 p.3) ∙ new p.0 (p.1, v) (nth_is qs p.0 ∙ p.2))
+
+-- two lists, one after the other
+pub disjoint_more : {A : Type 0} (ps qs ns : List (List ℕ × A)) → AreDisjoint ps ns → AreDisjoint qs ns → AreDisjoint (ps ++ qs) ns
+disjoint_more ps qs ns d e = λ n. elim (d n) [
+  | inl h ↦ elim (e n) [ inl g ↦ inl (first_after n ps qs h ∙ g) | inr g ↦ inr g ]
+  | inr h ↦ inr h
+]
+
+-- a name that isn't there is no key
+keys_apart : {A : Type 0} (n : List ℕ) (ps qs : List (List ℕ × A)) → AllByRecursion (λ y. bytes_eq n y ≡ false) (keys_of ps) → first_of n qs ≡ None → AllByRecursion (λ y. bytes_eq n y ≡ false) (keys_of (ps ++ qs))
+keys_apart n (p ∷ ps) qs a h = (a.0, keys_apart n ps qs a.1 h)
+keys_apart n [] [] a h = tt
+keys_apart n [] (q ∷ qs) a h = by (bytes_eq n q.0) refl (keys_apart n [] qs tt)
+  where
+    by : (b : Bool) → bytes_eq n q.0 ≡ b → (first_of n qs ≡ None → AllByRecursion (λ y. bytes_eq n y ≡ false) (keys_of qs)) → AllByRecursion (λ y. bytes_eq n y ≡ false) (keys_of (q ∷ qs))
+    by true e rest = absurd (none-some q.1 (sym h ∙ ap (λ b. if b then Some q.1 else first_of n qs) e))
+    by false e rest = (e, rest (sym (ap (λ b. if b then Some q.1 else first_of n qs) e) ∙ h))
+
+-- names that are apart on both sides are apart among all
+pub apart_all : {A : Type 0} (ps qs : List (List ℕ × A)) → IsDistinct bytes_eq (keys_of ps) → IsDistinct bytes_eq (keys_of qs) → AreDisjoint ps qs → IsDistinct bytes_eq (keys_of (ps ++ qs))
+unfolding IsDistinct
+apart_all [] qs d e new = e
+apart_all {A} (p ∷ ps) qs d e new = (keys_apart p.0 ps qs d.0 there, apart_all ps qs d.1 e (λ n. elim (new n) [ inl h ↦ inl (none_by (bytes_eq n p.0) p.1 (first_of n ps) (first_of n ps) (λ g. g) h) | inr h ↦ inr h ]))
+  where
+    there : first_of p.0 qs ≡ None
+    there = elim (new p.0) [
+      | inl h ↦ absurd (none-some p.1 (sym h ∙ ap (λ b. if b then Some p.1 else first_of p.0 ps) ((bytes_eq-Decides p.0 p.0).1 refl)))
+      | inr h ↦ h
+    ]
+
+-- ---- tables of names
+
+module _ {Z : Type 0} where
+  -- the tables from one on
+  pub held_front : (ts : List (Rc (List (List ℕ × Entry)) Z)) (k : ℕ) (t : Rc (List (List ℕ × Entry)) Z) → k < length ts → t ≡ get_or ts k t → held (drop k ts) ≡ t.value ++ held (drop (k + 1) ts)
+  held_front ts k t lt is = ap held (front ts k t lt is)
+
+  -- one table more
+  pub held_end : (ts : List (Rc (List (List ℕ × Entry)) Z)) (t : Rc (List (List ℕ × Entry)) Z) → held (ts ++ t ∷ []) ≡ held ts ++ t.value
+  held_end [] t = append-nil t.value
+  held_end (s ∷ ts) t = ap (λ l. s.value ++ l) (held_end ts t) ∙ sym (append_assoc s.value (held ts) t.value)
+
+  module _ (ts us : List (Rc (List (List ℕ × Entry)) Z)) (t : Rc (List (List ℕ × Entry)) Z) (own ns : List (List ℕ × Entry)) (are : us ≡ ts ++ t ∷ []) (of : t.value ≡ ns) (none : own ≡ []) where
+    -- tables with one more, and no names beside them
+    pub joined : held us ++ own ≡ held ts ++ ns
+    joined = ap₂ (λ l o. held l ++ o) are none ∙ append-nil (held (ts ++ t ∷ [])) ∙ held_end ts t ∙ ap (λ l. held ts ++ l) of
+
+    pub joined_names : IsDistinct bytes_eq (keys_of (held ts ++ ns)) → length (held ts) + length ns ≤ 2 ^ 62 → AreNames us own
+    joined_names d room =
+        let count : length (held us) ≡ length (held ts) + length ns = ap length (ap held are ∙ held_end ts t ∙ ap (λ l. held ts ++ l) of) ∙ length-append (held ts) ns in
+        record { apart = subst (λ l. IsDistinct bytes_eq (keys_of l)) (sym joined) d; few = omega (arith, count, room) }
+
+  -- a table of other names, where there are none beside the tables
+  pub apart_joined : (ts us : List (Rc (List (List ℕ × Entry)) Z)) (own ns ms : List (List ℕ × Entry)) → us ≡ ts → ms ≡ ns → own ≡ [] → AreNames ts own → IsDistinct bytes_eq (keys_of ms) → AreDisjoint (held us) ms → IsDistinct bytes_eq (keys_of (held ts ++ ns))
+  apart_joined ts us own ns ms are same none n d new =
+      apart_all (held ts) ns (subst (λ l. IsDistinct bytes_eq (keys_of l)) (ap (λ o. held ts ++ o) none ∙ append-nil (held ts)) n.apart)
+      (subst (λ l. IsDistinct bytes_eq (keys_of l)) same d) (subst (λ l. AreDisjoint (held ts) l) same (subst (λ l. AreDisjoint (held l) ms) are new))
 
 -- ---- names beside the rules of a module
 
@@ -162,8 +238,11 @@ module _ (f : List ℕ) (at i : ℕ) (m : Module) where
           seen r rs done e (new_name r.1.name (taken_entry (length m.rules) i r.0) done (of rs) apart)
           (rest (done ++ pair r ∷ []) (subst AreApart (sym (append_assoc done (pair r ∷ []) (of rs))) apart))
 
-  -- a module without names that takes in these has just their names
-  pub whole : (rs : List (ℕ × Rule)) (ps : List (List ℕ × Entry)) → m.names ≡ [] → ps ≡ of rs → AreApart ps → in_turn (add_name f at i) rs m ≡ Ok (holding m ps)
-  whole rs ps none is apart =
-      ap (λ ns. in_turn (add_name f at i) rs (holding m ns)) none
-      ∙ all_taken rs [] (subst AreApart is apart) ∙ ap (λ ns. Ok (holding m ns)) (sym is)
+-- names that a module shares are all that it takes in
+pub all_shared : {E : Type 0} (i : ℕ) (m : Module) (ps new : List (List ℕ × Entry)) (rs : List (ℕ × Rule)) (r : Result Bool E) → ps ≡ taken_names (length m.rules) i rs → IfOk r (λ joined. new ≡ (if joined then m.names ++ ps else m.names)) → IsDistinct bytes_eq (keys_of new)
+    → IfOk r (λ shared. IsTrue shared → (f : List ℕ) (at : ℕ) → in_turn (add_name f at i) rs m ≡ Ok (holding m new))
+all_shared i m ps new rs (Err e) is j d = tt
+all_shared i m ps new rs (Ok false) is j d = λ e. absurd (true≢false (sym e))
+all_shared i m ps new rs (Ok true) is j d =
+    let all : new ≡ m.names ++ taken_names (length m.rules) i rs = j ∙ ap (λ l. m.names ++ l) is in
+    λ e f at. all_taken f at i m rs m.names (subst (λ l. IsDistinct bytes_eq (keys_of l)) all d) ∙ ap (λ l. Ok (holding m l)) (sym all)

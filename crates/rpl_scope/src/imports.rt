@@ -1,6 +1,6 @@
 // What the imports of a text bring into its module.
 ghost use Rattle.std.specs.Prelude.{◌≡◌, ◌≤◌, ◌++◌, length, IfOk, OnErr, OnOk, IfErr, None, []};
-ghost use Rattle.std.specs.Prelude.{IsTrue, chars};
+ghost use Rattle.std.specs.Prelude.{ℕ, List, Ok, IsTrue, IsFalse, chars};
 ghost use Rattle.std.specs.List.{IsDistinct};
 ghost use Rattle.std.specs.Map.{keys_of};
 ghost use Rattle.std.specs.Str.{bytes_eq};
@@ -18,7 +18,6 @@ use crate::enter::rules_so_far;
 use crate::fault::{LoadKind, Place, Stop, fault_at};
 use crate::module::{Entry, Module, Prefix, Referent, Rule};
 use crate::named::Named;
-use crate::names::ModuleNames;
 use rpl_syntax::{Import, ImportAs};
 use rpl_text::Chars;
 use std::alloc::Global;
@@ -226,8 +225,24 @@ fn are_taken_names(names: &Named<Entry>, since: usize, owner: usize, rules: &[Ru
     next == count
 }
 
-/// The names of the rules of another module, where others see them. A module that had no names
-/// shares them with others that import the same, so that they stand in memory once.
+/// Shares the names that other importers took in of this module, where the module can: they are
+/// then all that it takes in.
+fn share_names(own: &mut Module, owner: usize, from: &Module) -> Result<bool, NoMemory>
+    ensures all { IfOk result (λ shared. IsTrue shared → (file : List ℕ) (at : ℕ)
+        → in_turn (add_name file at owner) (numbered 0 (module_seen from.now).rules) (module_seen own.old)
+        ≡ Ok (module_seen own.new)) }
+    ensures none { IfOk result (λ shared. IsFalse shared → module_seen own.new ≡ module_seen own.old) }
+{
+    if let Some(names) = from.for_importers.get() {
+        if are_taken_names(names, rules_so_far(own), owner, &from.rules) {
+            return own.names.join(names);
+        }
+    }
+    Ok(false)
+}
+
+/// The names of the rules of another module, where others see them. Where the module has no names
+/// but shared ones, it shares these too, so that they stand in memory once.
 fn add_all(
     alloc: Global,
     own: &mut Module,
@@ -239,19 +254,19 @@ fn add_all(
         (in_turn (add_name place.entry.file.now place.entry.at owner)
         (numbered 0 (module_seen from.now).rules) (module_seen own.old)) }
 {
-    if own.names.len() > 0 {
+    if !own.names.may_share() {
         return add_names(alloc, own, place, owner, &from.rules);
     }
-    if let Some(names) = from.for_importers.get() {
-        if are_taken_names(names, rules_so_far(own), owner, &from.rules) {
-            own.names = ModuleNames::of(alloc, names.clone()?);
-            return Ok(());
-        }
+    if share_names(own, owner, from)? {
+        return Ok(());
     }
+    let since = rules_so_far(own);
     add_names(alloc, own, place, owner, &from.rules)?;
     if let Some(names) = own.names.share(alloc)? {
-        // Where some are there already, those stay.
-        let _ = from.for_importers.set(names);
+        // Others can share them where none was left out. Where some are there already, those stay.
+        if are_taken_names(&names, since, owner, &from.rules) {
+            let _ = from.for_importers.set(names);
+        }
     }
     Ok(())
 }

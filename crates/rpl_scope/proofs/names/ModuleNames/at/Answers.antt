@@ -1,28 +1,31 @@
-use Rattle.std.proofs.Common.{◌-◌, ◌++◌, length, sym, ap, ◌∙◌}
-use Rattle.std.specs.Prelude.{chars}
-use Rattle.rpl_scope.specs.Packages.{first_of, nth}
+use Rattle.std.proofs.Common.{◌-◌, Some, length, sym, ap, subst, ◌∙◌}
+use Rattle.std.specs.List.{IsDistinct}
+use Rattle.std.specs.Map.{keys_of}
+use Rattle.std.specs.Str.{bytes_eq}
+use Rattle.rpl_scope.specs.Packages.{nth}
 use Rattle.rpl_scope.specs.inside.Held.{held}
-use Rattle.rpl_scope.proofs.Growing.{first_more}
-use Rattle.rpl_scope.proofs.SharedNames.{lasts_first, nth_past}
+use Rattle.rpl_scope.proofs.SharedNames.{at_first, nth_first, nth_past}
 use Rattle.rpl_scope.proofs.names.ModuleNames.at.Goals as goal
 
-pub returns-in-Some-at-clause-first : goal.returns-in-Some-at-clause-first
-returns-in-Some-at-clause-first c =
-    let p = c.in-Some-at.pair in
-    let n = chars p.0.now in
-    let own = c.self.inside.own in
-    ap (first_of n) (sym c.self.view_is) ∙ ap (λ s. first_of n (held s ++ own)) c.in-Some.is
-    ∙ first_more n c.in-Some.shared.value own p.1 (ap (first_of n) (sym c.deref.ensures) ∙ c.in-Some-at.ensures.first)
-
-pub returns-in-None-clause-is : goal.returns-in-None-clause-is
-returns-in-None-clause-is c =
+pub returns-in-Some : goal.returns-in-Some
+returns-in-Some c =
     let i = c.args.number in
-    let own = c.self.inside.own in
-    let shared = c.in-Some.shared.value in
-    c.at-in-None.ensures.is ∙ ap (λ k. nth own (i - k)) (c.len.ensures ∙ ap length c.deref-in-None.ensures)
-    ∙ sym (nth_past shared own i (ap (λ l. nth l i) (sym c.deref.ensures) ∙ sym c.in-None.ensures.is))
-    ∙ ap (λ s. nth (held s ++ own) i) (sym c.in-Some.is) ∙ ap (λ l. nth l i) c.self.view_is
+    let ts = c.self.inside.shared.items in
+    let is = sym (nth_first (held ts) c.self.inside.own i _ (ap (λ l. nth (held l) i) (sym c.as_slice-tables.ensures.value) ∙ sym c.in-Some.ensures)) ∙ ap (λ l. nth l i) c.self.view_is in
+    record {
+      is = is;
+      first = at_first (Some c.in-Some.pair) c.args.self.now i (subst (λ l. IsDistinct bytes_eq (keys_of l)) c.self.view_is c.self.invariant.apart) is;
+    }
 
-pub returns-in-None-clause-first : goal.returns-in-None-clause-first
-returns-in-None-clause-first c =
-    lasts_first c.at-in-None.result (held c.self.inside.shared) c.self.inside.own c.args.self.now c.self.view_is c.self.invariant c.at-in-None.ensures.first
+pub returns-in-None : goal.returns-in-None
+returns-in-None c =
+    let i = c.args.number in
+    let ts = c.self.inside.shared.items in
+    let own = c.self.inside.own in
+    let is =
+    c.at.ensures.is ∙ ap (λ k. nth own (i - k)) (c.count_in.ensures ∙ ap (λ l. length (held l)) c.as_slice-tables.ensures.value)
+    ∙ sym (nth_past (held ts) own i (ap (λ l. nth (held l) i) (sym c.as_slice-tables.ensures.value) ∙ sym c.in-None.ensures)) ∙ ap (λ l. nth l i) c.self.view_is in
+    record {
+      is = is;
+      first = at_first c.at.result c.args.self.now i (subst (λ l. IsDistinct bytes_eq (keys_of l)) c.self.view_is c.self.invariant.apart) is;
+    }
