@@ -109,6 +109,8 @@ pub fn enter_goal<F: Files>(
             cut_back(&mut set.stock, set.top, marks);
             Err(stop)
         }
+        // Where it brings no module, the table stays.
+        Ok(e) if set.stock.modules.len() == marks.modules => Ok(e),
         Ok(e) => match table_of(alloc, &set.stock.modules) {
             Err(stop) => {
                 cut_back(&mut set.stock, set.top, marks);

@@ -1,8 +1,10 @@
-use Rattle.std.proofs.Common.{rules, ℕ, List, Option, ap, sym, subst, ◌∙◌}
+use Rattle.std.proofs.Common.{rules, ◌≡◌, ℕ, List, Option, length, ap, sym, subst, arith, ◌∙◌}
 use Rattle.std.specs.Prelude.{Ok, codes}
+use Rattle.std.proofs.lemmas.Bool.Decides.{nat_tests}
+use Rattle.std.proofs.lemmas.List.{length-map}
 use Rattle.std.proofs.lemmas.Str.{chars-IsAscii}
 use Rattle.std.proofs.Math.Logic.{∥∥₁_map}
-use Rattle.rpl_scope.specs.Seen.{modules_seen}
+use Rattle.rpl_scope.specs.Seen.{module_seen, modules_seen}
 use Rattle.rpl_package.specs.Built.{IsBuilt, packages}
 use Rattle.rpl_scope.specs.Faults.{◌>>=◌}
 use Rattle.rpl_package.specs.Asking.{at_once}
@@ -12,7 +14,7 @@ use Rattle.rpl_package.specs.Roots.{Packages}
 use Rattle.rpl_package.specs.inside.Numbering.{IsTable}
 use Rattle.rpl_package.specs.Stocks.{stock_seen}
 use Rattle.rpl_package.proofs.Outcomes.{may_then, told_then}
-use Rattle.rpl_package.proofs.Returning.{cut_home, same_inside, more_inside, more_within}
+use Rattle.rpl_package.proofs.Returning.{cut_home, same_inside, same_table, more_inside, more_within}
 use Rattle.rpl_package.proofs.rollback.enter_goal.Goals as goal
 
 pub enter_pattern-requires-clause-file : goal.enter_pattern-requires-clause-file
@@ -44,6 +46,21 @@ invariant_of-set-in-Err-table_of g c =
       within = λ i k. same_inside i set.stock now (set.within i k) back;
       told = subst (IsTable set.table) (sym (ap (λ s. s.modules) back)) set.told;
       built = subst (λ s. ∥ IsBuilt (packages s set.top set.roots.items) ∥₁) (sym back) set.built;
+    }
+
+pub invariant_of-set-then-len-marks : goal.invariant_of-set-then-len-marks
+invariant_of-set-then-len-marks g c =
+    let set = c.args.set.now in
+    let later = c.enter_pattern.new.stock in
+    let k = ap (λ m. m.modules) c.marks_of-marks.ensures in
+    let n = length-map set.stock.modules.items module_seen in
+    let count : length later.modules.items ≡ length set.stock.modules.items = grind (arith, nat_tests, c.len.ensures, c.if-len-marks.true, k, n) in
+    record {
+      idle = c.in-Ok.ensures.held;
+      inside = more_inside set.top set.stock later set.inside c.in-Ok.ensures.kept;
+      within = λ i k. more_within set.top set.stock later set.inside c.in-Ok.ensures.kept i (set.within i k);
+      told = same_table set.top set.stock later set.table set.inside c.in-Ok.ensures.kept count set.told;
+      built = ∥∥₁_map set.built (c.in-Ok.ensures.built set.roots.items);
     }
 
 pub invariant_of-set-in-Ok-table_of : goal.invariant_of-set-in-Ok-table_of
