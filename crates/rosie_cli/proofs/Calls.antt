@@ -25,10 +25,10 @@ module _ (c : Call) (r : Result Tally Ended) (mid : Texts) (failed : Failures)
     (sinks : WritesCause r c.failed.out failed.out c.failed.err failed.err)
     (ends : ClosesCause r c.answer failed.out c.fails.out failed.err c.fails.err)
     (runs : (p : Planned) → IsTold c.run.files_tell p.asked → c.comes p
-    → KnowsInputs p.plan c.run.files_tell c.run.input_tells
+    → KnowsInputs p.plan c.run.files_tell c.run.input_tells c.run.input.before.rest
     → Runs r c.run.tells (pieces p.plan c.run.tree c.run.input.before.rest) (where_of c p) c.run.before mid)
     (rest : (p : Planned) → IsTold c.run.files_tell p.asked → c.comes p
-    → KnowsInputs p.plan c.run.files_tell c.run.input_tells
+    → KnowsInputs p.plan c.run.files_tell c.run.input_tells c.run.input.before.rest
     → GoesOn r (ReadsInput p.plan → c.run.input.after.rest ≡ []))
     (due : (p : Planned) → c.comes p → IsPromised p.plan) where
   headline_of : (p : Planned) → Comes c p

@@ -43,7 +43,7 @@ call comes F I O E f f' i i' o o' e e' n n' answer = record {
 pub record Comes (c : Call) (p : Planned) : Type 0 where
   pub is : c.comes p
   pub files : IsTold c.run.files_tell p.asked
-  pub inputs : KnowsInputs p.plan c.run.files_tell c.run.input_tells
+  pub inputs : KnowsInputs p.plan c.run.files_tell c.run.input_tells c.run.input.before.rest
 
 abbrev pub report_of : Call → Planned → List Piece
 report_of c p = report p.plan c.run.tree c.run.input.before.rest

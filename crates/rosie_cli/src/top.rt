@@ -90,8 +90,8 @@ fn run_plan<F: Files, I: Source, O: Sink, E: Sink, L: Ledger>(
     ensures same_outputs { SameOutputs outputs.old outputs.new }
     ensures runs { RunsPlan result (plan_of plan.old)
         (course F.Source I.Source O.Sink E.Sink inputs.old inputs.new outputs.old outputs.new) }
-    ensures rest { KnowsInputs (plan_of plan.old) F.tells I.tells → GoesOn result
-        (ReadsInput (plan_of plan.old) → I.rest inputs.new.input.now ≡ []) }
+    ensures rest { KnowsInputs (plan_of plan.old) F.tells I.tells (I.rest inputs.old.input.now)
+        → GoesOn result (ReadsInput (plan_of plan.old) → I.rest inputs.new.input.now ≡ []) }
     ensures cause { InputsCause F.Source I.Source result inputs.old inputs.new }
     ensures sinks { OutputsCause O.Sink E.Sink result outputs.old outputs.new }
     ensures untouched { IsSaid (plan_of plan.old) → (inputs.new.files.now ≡ inputs.old.files.now) ×
@@ -130,7 +130,7 @@ fn run_planned<F: Files, I: Source, O: Sink, E: Sink, L: Ledger>(
     ensures runs { OfPlans command F.tells (F.tree inputs.old.files.now) (RunsPlanned result
         (course F.Source I.Source O.Sink E.Sink inputs.old inputs.new outputs.old outputs.new)) }
     ensures rest { OfPlans command F.tells (F.tree inputs.old.files.now)
-        (λ p. KnowsInputs p.plan F.tells I.tells
+        (λ p. KnowsInputs p.plan F.tells I.tells (I.rest inputs.old.input.now)
         → GoesOn result (ReadsInput p.plan → I.rest inputs.new.input.now ≡ [])) }
     ensures unread { OfPlans command F.tells (F.tree inputs.old.files.now)
         (λ p. LeavesInput p.plan → inputs.new.input.now ≡ inputs.old.input.now) }

@@ -4,6 +4,7 @@ pub mod Compiling
 pub mod Onward
 pub mod Lines
 pub mod Ending
+pub mod Told
 pub mod Turns
 pub mod Pegs
 pub mod Paying

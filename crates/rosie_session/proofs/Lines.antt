@@ -16,8 +16,9 @@ use Rattle.rosie_run.specs.declared.trouble.Trouble.TheVariants as T
 use Rattle.rosie_run.specs.inside.Passing.{ReadsOn}
 use Rattle.rosie_run.proofs.Passing.{errs_cons, fronts-same, outs_cons, wrote-same}
 use Rattle.rosie_run.proofs.Pieces.{longer}
+use Rattle.rpl_package.specs.Asking.{IsTold}
 use Rattle.rosie_session.specs.Loading.{Loading}
-use Rattle.rosie_session.specs.Replay.{Turn, edit_turn, pieces_of, refused, session_fault, turn, turns_from}
+use Rattle.rosie_session.specs.Replay.{Turn, asked_by, edit_turn, pieces_of, refused, session_fault, turn, turns_from}
 use Rattle.rosie_session.specs.declared.session_end.SessionEnd.{SessionEnd}
 use Rattle.rosie_session.specs.declared.session_end.SessionEnd.TheVariants as H
 use Rattle.rosie_session.specs.declared.reply.Reply.{Reply}
@@ -25,6 +26,7 @@ use Rattle.rosie_session.specs.inside.Passing.{Breaks, IsOfReading, MakesEnd, Ma
 use Rattle.rosie_session.specs.inside.Turning.{EndSteps, IsEndOf, IsReply, Says}
 use Rattle.rosie_session.proofs.Onward.{turns-next}
 use Rattle.rosie_session.proofs.Sessions.{by_tests, turn_by}
+use Rattle.rosie_session.proofs.Told.{told_left}
 
 module _ (w : Loading) (n : ℕ) (s : Session) (line : List ℕ) where
   tested : (long text : Bool) → nat_lt 1048576 (length line) ≡ long → is_utf8 line ≡ text
@@ -49,6 +51,18 @@ module _ (w : Loading) (n m : ℕ) (s0 s1 : Session) (ended : Bool) (left0 left1
       (is : is_utf8 text ≡ true) where
     same : turn w (n + 1) s0 text ≡ edit_turn w m s0 (edit_of text)
     same = turn-text w (n + 1) s0 text short is ∙ ap (λ k. edit_turn w k s0 (edit_of text)) (sym count)
+
+    -- its turn is told where all the lines to come are
+    pub told-text :
+        (tells : Type 0) → IsTold tells (asked_by (to_come w n s0 left0))
+        → IsTold tells (edit_turn w m s0 (edit_of text)).asked
+    told-text tells told =
+        let one = turn w (n + 1) s0 text in
+        let later = turns_from w (n + 1) one.session (lines false left1) in
+        let next : to_come w n s0 left0 ≡ one ∷ later =
+        turns-next w n (n + 1) s0 one.session text (lines false left1) (lines false left0) sp.lines refl refl in
+        let all : IsTold tells (one.asked ++ asked_by later) = subst (λ ts. IsTold tells (asked_by ts)) next told in
+        subst (λ (t : Turn). IsTold tells t.asked) same (told_left tells one.asked (asked_by later) all)
 
     pub makes-text :
         (reply : Reply) (steps0 steps1 : ℕ) → Says reply (edit_turn w m s0 (edit_of text)) s1

@@ -18,11 +18,13 @@ use Rattle.rosie_run.specs.declared.tally.Tally.{Tally}
 use Rattle.rosie_run.specs.declared.trouble.Trouble.TheVariants as T
 use Rattle.rosie_run.proofs.Onward.{Same, lines_none, wrote-still}
 use Rattle.rosie_run.proofs.Pieces.{fronts-after, tally-append, tally-one, wrote-append, wrote-none}
+use Rattle.rpl_package.specs.Asking.{IsTold}
 use Rattle.rosie_session.specs.Loading.{Loading}
-use Rattle.rosie_session.specs.Replay.{Turn, pieces_of, turn, turns, turns_from}
+use Rattle.rosie_session.specs.Replay.{Turn, asked_by, asked_in, pieces_of, turn, turns, turns_from}
 use Rattle.rosie_session.specs.declared.session_end.SessionEnd.{SessionEnd}
 use Rattle.rosie_session.specs.declared.session_end.SessionEnd.TheVariants as H
 use Rattle.rosie_session.specs.inside.Passing.{Breaks, Cuts, CutsLoad, EndsLines, IsUnread, Passed, StopsBy, to_come}
+use Rattle.rosie_session.proofs.Told.{told_later}
 
 pub pieces-append : (ts us : List Turn) → pieces_of (ts ++ us) ≡ pieces_of ts ++ pieces_of us
 pieces-append ts us = map-append (λ t. t.piece) ts us
@@ -116,6 +118,11 @@ module _ (W : Telling) (w : Loading) (input : List ℕ) where
           reads = let x = h.reads in omega arith;
           at_end = at_end;
         }
+
+    -- those to come are told where all are
+    pub passed-told : (tells : Type 0) → IsTold tells (asked_in w input)
+        → IsTold tells (asked_by (to_come w n s (left held rest)))
+    passed-told tells told = told_later tells (turns w input) h.done (to_come w n s (left held rest)) h.split told
 
     -- there is no further line
     pub passed-end :

@@ -20,6 +20,7 @@ use Rattle.rosie_prepare.specs.Answers.{HasCause, IsAsked, IsDue}
 use Rattle.rosie_prepare.specs.Prepared.{IsPrepared, OrLine, Ready, TableComes, Tree, PatternRequest}
 use Rattle.rosie_prepare.specs.declared.unready.Unready.{Unready}
 use Rattle.rosie_prepare.specs.declared.unready.Unready.TheVariants as U
+use Rattle.rosie_prepare.proofs.Loads.{told_bytes}
 use Rattle.rosie_repl.specs.Edits.{Edit, Add, Replace, Remove, Pattern, Try, Undo, by_sign, edit_of, in_chars, is_space}
 use Rattle.rosie_repl.specs.Edits.{removal, replacement, replaces}
 use Rattle.rosie_repl.specs.Outcomes.{GoesOn}
@@ -38,6 +39,7 @@ use Rattle.rosie_run.specs.declared.trouble.Trouble.TheVariants as T
 use Rattle.rosie_run.proofs.Passing.{fronts-same}
 use Rattle.rosie_run.specs.inside.Causes.{SourceEnds}
 use Rattle.rosie_run.specs.inside.Passing.{StopsAt}
+use Rattle.rpl_package.specs.Asking.{IsTold}
 use Rattle.rpl_package.specs.Loading.{world}
 use Rattle.rpl_package.specs.Roots.{Packages, load}
 use Rattle.rpl_package.specs.declared.rooted.Root.{Root}
@@ -92,6 +94,25 @@ pub texts_asked :
 texts_asked tree folders texts l roots e is =
     ap (λ (rs : List Root). map encode_utf8_all (load (world tree folders) rs).asked) e ∙ sym is.asked
 
+judged_asked : {A : Type 0} (before after : Session) (asked : List (List ℕ)) (o : OrLine A)
+    → (judged_by before after asked o).asked ≡ asked
+judged_asked before after asked (Ok a) = refl
+judged_asked before after asked (Err line) = refl
+
+-- the load of a change is told where its turn is
+pub judged_told :
+    {A : Type 0} (tells : Type 0) (before after : Session) (l : Load A) → IsTold tells (judged before after l).asked
+    → IsTold tells l.asked
+judged_told tells before after l told = subst (IsTold tells) (judged_asked before after l.asked l.answer) told
+
+pub texts_told :
+    (tells : Type 0) (tree : Tree) (folders texts : List (List ℕ)) (l : Load Packages) (roots : List Root)
+    (before after : Session) → roots ≡ given texts → IsLoad tree folders texts l
+    → IsTold tells (judged before after l).asked → IsTold tells (load (world tree folders) roots).asked
+texts_told tells tree folders texts l roots before after e is told =
+    told_bytes tells (load (world tree folders) roots).asked
+    (subst (IsTold tells) (sym (texts_asked tree folders texts l roots e is)) (judged_told tells before after l told))
+
 -- what was loaded has no fault, and so the change stands
 pub judged_ok :
     {A : Type 0} (before after : Session) (l : Load A) (a : A) → l.answer ≡ Ok a
@@ -100,11 +121,6 @@ judged_ok before after l a e = (
   ap (λ o. (judged_by before after l.asked o).piece) e,
   ap (λ o. (judged_by before after l.asked o).session) e,
 )
-
-judged_asked : {A : Type 0} (before after : Session) (asked : List (List ℕ)) (o : OrLine A)
-    → (judged_by before after asked o).asked ≡ asked
-judged_asked before after asked (Ok a) = refl
-judged_asked before after asked (Err line) = refl
 
 -- or it has one
 pub judges_end :

@@ -1,6 +1,6 @@
 -- What a session answers: each line is a command, and its answer hangs on what is kept by then.
 use Rattle.std.specs.Prelude.{ℕ, ◌+◌, false, nat_lt, if◌then◌else◌, List, [], ◌∷◌, ◌++◌, length, map, codes}
-use Rattle.std.specs.Prelude.{Option, Some, None, Ok, Err}
+use Rattle.std.specs.Prelude.{Option, Some, None, Ok, Err, flat_map}
 use Rattle.std.specs.Fmt.{decimal}
 use Rattle.std.specs.Str.{is_utf8}
 use Rattle.rosie_io.specs.Lines.{lines}
@@ -124,5 +124,12 @@ turns w input = turns_from w 0 begun (lines false input)
 abbrev pub pieces_of : List Turn → List Piece
 pieces_of ts = map (λ t. t.piece) ts
 
+-- all the paths that were asked for
+abbrev pub asked_by : List Turn → List (List ℕ)
+asked_by ts = flat_map (λ t. t.asked) ts
+
 abbrev pub replay : Loading → List ℕ → List Piece
 replay w input = pieces_of (turns w input)
+
+abbrev pub asked_in : Loading → List ℕ → List (List ℕ)
+asked_in w input = asked_by (turns w input)

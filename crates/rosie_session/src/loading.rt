@@ -10,7 +10,7 @@ ghost use Rattle.rosie_repl.specs.Session.{Session};
 ghost use Rattle.rosie_repl.specs.States.{session_of};
 ghost use Rattle.rosie_session.specs.Loading.{Compiles, given};
 ghost use Rattle.rosie_session.specs.Replay.{judged};
-ghost use Rattle.rosie_session.specs.inside.Turning.{GivesJob, IsOwn, Judges, OfLoading};
+ghost use Rattle.rosie_session.specs.inside.Turning.{GivesJob, IsOwn, Judges, OfLoad, OfTurn};
 ghost use Rattle.rpl_check.specs.Checked.{IsWhole};
 ghost use Rattle.rpl_check.specs.Goal.{peg_of};
 ghost use Rattle.rpl_codegen.specs.Compiled.{HasLongCode};
@@ -57,9 +57,9 @@ pub(crate) fn load_texts<F: Files>(
     state: &State,
     files: &mut F,
 ) -> Result<(), Unready>
-    ensures judges { OfLoading F.tells (F.tree files.old) folders.now
-        (λ w. (before after : Session) → Judges result
-        (judged before after (w.texts (session_of state.now).now.texts)) before after) }
+    ensures judges { (before after : Session) → OfTurn F.tells (F.tree files.old) folders.now
+        (λ w. judged before after (w.texts (session_of state.now).now.texts))
+        (λ t. Judges result t before after) }
     ensures cause { CauseIn F.Source result files.old files.new }
     ensures taken { NotFewer (F.taken files.old) (F.taken files.new) }
     ensures tree { F.tree files.new ≡ F.tree files.old }
@@ -110,12 +110,12 @@ pub(crate) fn load_goal<F: Files>(
     pattern: &str,
     files: &mut F,
 ) -> Result<MatchJob, Unready>
-    ensures gives { OfLoading F.tells (F.tree files.old) folders.now
-        (λ w. GivesJob result
-        (w.goal (session_of state.now).now.texts (chars pattern.now)).answer) }
-    ensures asked { OfLoading F.tells (F.tree files.old) folders.now
-        (λ w. IfErr result (λ u. IsAsked u
-        (w.goal (session_of state.now).now.texts (chars pattern.now)).asked)) }
+    ensures gives { OfLoad F.tells (F.tree files.old) folders.now
+        (λ w. w.goal (session_of state.now).now.texts (chars pattern.now))
+        (λ l. GivesJob result l.answer) }
+    ensures asked { OfLoad F.tells (F.tree files.old) folders.now
+        (λ w. w.goal (session_of state.now).now.texts (chars pattern.now))
+        (λ l. IfErr result (λ u. IsAsked u l.asked)) }
     ensures cause { CauseIn F.Source result files.old files.new }
     ensures taken { NotFewer (F.taken files.old) (F.taken files.new) }
     ensures tree { F.tree files.new ≡ F.tree files.old }

@@ -16,7 +16,7 @@ ghost use Rattle.rosie_session.specs.Runs.{RunsSession};
 ghost use Rattle.rosie_session.specs.inside.Kept.{MakesKept, SameKept};
 ghost use Rattle.rosie_session.specs.inside.Passing.{Counts, InputCause, IsOfReading};
 ghost use Rattle.rosie_session.specs.inside.Passing.{RunsTold, SinksCause, SpentCause, Stops};
-ghost use Rattle.rosie_session.specs.inside.Turning.{FilesBy, OfLoading};
+ghost use Rattle.rosie_session.specs.inside.Turning.{FilesBy};
 
 use crate::reply::{Reply, wrong};
 use crate::session_end::{SessionEnd, end_of_run};
@@ -53,9 +53,9 @@ fn next_turn<F: Files, I: Source, L: Ledger>(
     requires most { kept.old.reader.now.most ≡ 1048576 }
     ensures same_kept { SameKept kept.old kept.new }
     ensures same_inputs { SameInputs inputs.old inputs.new }
-    ensures makes { I.tells → OfLoading F.tells (F.tree inputs.old.files.now) folders.now
-        (λ w. MakesKept result w kept.old kept.new
-        (I.rest inputs.old.input.now) (I.rest inputs.new.input.now) steps.old steps.new) }
+    ensures makes { I.tells → MakesKept F.tells (F.tree inputs.old.files.now) folders.now result
+        kept.old kept.new (I.rest inputs.old.input.now) (I.rest inputs.new.input.now)
+        steps.old steps.new }
     ensures numbers { Counts result kept.old.reader.now kept.new.reader.now }
     ensures fits { kept.new.reader.now.number ≤ 2 ^ 48 }
     ensures keeps { Keeps kept.old.reader.now kept.new.reader.now }
@@ -200,7 +200,7 @@ pub fn run_session<F: Files, I: Source, O: Sink, E: Sink, L: Ledger>(
     ensures same_outputs { SameOutputs outputs.old outputs.new }
     ensures runs { RunsSession result folders.now (course F.Source I.Source O.Sink E.Sink
         inputs.old inputs.new outputs.old outputs.new) }
-    ensures rest { F.tells → I.tells → GoesOn result (I.rest inputs.new.input.now ≡ []) }
+    ensures rest { I.tells → GoesOn result (I.rest inputs.new.input.now ≡ []) }
     ensures cause { InputsCause F.Source I.Source result inputs.old inputs.new }
     ensures sinks { OutputsCause O.Sink E.Sink result outputs.old outputs.new }
     ensures tree { F.tree inputs.new.files.now ≡ F.tree inputs.old.files.now }

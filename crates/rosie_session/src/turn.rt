@@ -15,8 +15,8 @@ ghost use Rattle.rosie_run.specs.Report.{Piece};
 ghost use Rattle.rosie_session.specs.Replay.{edit_turn, job_piece, loaded, or_no};
 ghost use Rattle.rosie_session.specs.Replay.{plain, try_turn};
 ghost use Rattle.rosie_session.specs.Replay.{undo_turn};
-ghost use Rattle.rosie_session.specs.inside.Turning.{change_of, IsReply, Judges, Leaves, OfLoading};
-ghost use Rattle.rosie_session.specs.inside.Turning.{Says, StepsBy, Turns, TurnsMade};
+ghost use Rattle.rosie_session.specs.inside.Turning.{change_of, IsReply, Judges, Leaves, OfMade};
+ghost use Rattle.rosie_session.specs.inside.Turning.{OfTurn, Says, StepsBy, Turns};
 
 use crate::loading::{load_goal, load_texts};
 use crate::reply::{NAME, Reply, accepted, refused, wrong};
@@ -55,10 +55,9 @@ fn load_change<F: Files>(
     edit: &Edit<'_>,
     files: &mut F,
 ) -> Result<(), Unready>
-    ensures judges { OfLoading F.tells (F.tree files.old) folders.now
-        (λ w. (before : Session) → Judges result
-        (loaded w (in_chars (edit_seen edit.now)) before (session_of state.now)) before
-        (session_of state.now)) }
+    ensures judges { (before : Session) → OfTurn F.tells (F.tree files.old) folders.now
+        (λ w. loaded w (in_chars (edit_seen edit.now)) before (session_of state.now))
+        (λ t. Judges result t before (session_of state.now)) }
     ensures cause { CauseIn F.Source result files.old files.new }
     ensures taken { NotFewer (F.taken files.old) (F.taken files.new) }
     ensures tree { F.tree files.new ≡ F.tree files.old }
@@ -80,9 +79,8 @@ fn judge<F: Files>(
     edit: &Edit<'_>,
     files: &mut F,
 ) -> Result<Reply, SessionEnd>
-    ensures turns { OfLoading F.tells (F.tree files.old) folders.now
-        (λ w. TurnsMade result w (in_chars (edit_seen edit.now)) (session_of state.old)
-        (session_of state.new)) }
+    ensures turns { OfMade F.tells (F.tree files.old) folders.now (in_chars (edit_seen edit.now))
+        (session_of state.old) (λ t. Turns result t (session_of state.new)) }
     ensures leaves { Leaves F.Source result files.old files.new }
 {
     match load_change(alloc, folders, state, edit, files) {
@@ -105,9 +103,9 @@ fn change<F: Files>(
     edit: &Edit<'_>,
     files: &mut F,
 ) -> Result<Reply, SessionEnd>
-    ensures turns { OfLoading F.tells (F.tree files.old) base.now.folders.now
-        (λ w. Turns result (change_of w base.now.number (session_of state.old)
-        (in_chars (edit_seen edit.now))) (session_of state.new)) }
+    ensures turns { OfTurn F.tells (F.tree files.old) base.now.folders.now
+        (λ w. change_of w base.now.number (session_of state.old) (in_chars (edit_seen edit.now)))
+        (λ t. Turns result t (session_of state.new)) }
     ensures leaves { Leaves F.Source result files.old files.new }
 {
     if state.change(edit)? {
@@ -192,12 +190,14 @@ fn try_with<F: Files, L: Ledger>(
     steps: &mut Steps<L>,
 ) -> Result<Reply, SessionEnd>
     requires { length trial.now.line.now ≤ 2 ^ 30 }
-    ensures turns { OfLoading F.tells (F.tree files.old) base.now.folders.now
-        (λ w. Turns result (try_turn w base.now.number (session_of state.now)
-        (Some (chars trial.now.pattern.now)) trial.now.line.now) (session_of state.now)) }
-    ensures steps { OfLoading F.tells (F.tree files.old) base.now.folders.now
-        (λ w. StepsBy result (try_turn w base.now.number (session_of state.now)
-        (Some (chars trial.now.pattern.now)) trial.now.line.now) steps.old steps.new) }
+    ensures turns { OfTurn F.tells (F.tree files.old) base.now.folders.now
+        (λ w. try_turn w base.now.number (session_of state.now)
+        (Some (chars trial.now.pattern.now)) trial.now.line.now)
+        (λ t. Turns result t (session_of state.now)) }
+    ensures steps { OfTurn F.tells (F.tree files.old) base.now.folders.now
+        (λ w. try_turn w base.now.number (session_of state.now)
+        (Some (chars trial.now.pattern.now)) trial.now.line.now)
+        (λ t. StepsBy result t steps.old steps.new) }
     ensures leaves { Leaves F.Source result files.old files.new }
 {
     match load_goal(base.alloc, base.folders, state, trial.pattern, files) {
@@ -219,14 +219,12 @@ fn obey<F: Files, L: Ledger>(
     steps: &mut Steps<L>,
 ) -> Result<Reply, SessionEnd>
     requires { (line : List ℕ) → edit_seen edit.now ≡ Try line → length line ≤ 2 ^ 30 }
-    ensures turns { OfLoading F.tells (F.tree files.old) base.now.folders.now
-        (λ w. Turns result
-        (edit_turn w base.now.number (session_of state.old) (Some (edit_seen edit.now)))
-        (session_of state.new)) }
-    ensures steps { OfLoading F.tells (F.tree files.old) base.now.folders.now
-        (λ w. StepsBy result
-        (edit_turn w base.now.number (session_of state.old) (Some (edit_seen edit.now)))
-        steps.old steps.new) }
+    ensures turns { OfTurn F.tells (F.tree files.old) base.now.folders.now
+        (λ w. edit_turn w base.now.number (session_of state.old) (Some (edit_seen edit.now)))
+        (λ t. Turns result t (session_of state.new)) }
+    ensures steps { OfTurn F.tells (F.tree files.old) base.now.folders.now
+        (λ w. edit_turn w base.now.number (session_of state.old) (Some (edit_seen edit.now)))
+        (λ t. StepsBy result t steps.old steps.new) }
     ensures leaves { Leaves F.Source result files.old files.new }
 {
     match *edit {
@@ -248,12 +246,12 @@ pub(crate) fn answer<F: Files, L: Ledger>(
     steps: &mut Steps<L>,
 ) -> Result<Reply, SessionEnd>
     requires { length line.now ≤ 2 ^ 30 }
-    ensures turns { OfLoading F.tells (F.tree files.old) base.now.folders.now
-        (λ w. Turns result (edit_turn w base.now.number (session_of state.old) (edit_of line.now))
-        (session_of state.new)) }
-    ensures steps { OfLoading F.tells (F.tree files.old) base.now.folders.now
-        (λ w. StepsBy result (edit_turn w base.now.number (session_of state.old) (edit_of line.now))
-        steps.old steps.new) }
+    ensures turns { OfTurn F.tells (F.tree files.old) base.now.folders.now
+        (λ w. edit_turn w base.now.number (session_of state.old) (edit_of line.now))
+        (λ t. Turns result t (session_of state.new)) }
+    ensures steps { OfTurn F.tells (F.tree files.old) base.now.folders.now
+        (λ w. edit_turn w base.now.number (session_of state.old) (edit_of line.now))
+        (λ t. StepsBy result t steps.old steps.new) }
     ensures leaves { Leaves F.Source result files.old files.new }
 {
     match read_edit(line) {

@@ -28,13 +28,13 @@ call_over comes F I O E i i' o o' answer =
 -- the pieces of a plan are written, or the run breaks off, where what is read for it is told
 abbrev pub RunsPlan : Result Tally Ended → Plan → Course → Type 0
 RunsPlan result plan c =
-    KnowsInputs plan c.files_tell c.input_tells
+    KnowsInputs plan c.files_tell c.input_tells c.input.before.rest
     → Runs result c.tells (pieces plan c.tree c.input.before.rest) (among plan c.tree c.input c.files) c.before c.after
 
 -- and so with its planning
 abbrev pub RunsPlanned : Result Tally Ended → Course → Planned → Type 0
 RunsPlanned result c p =
-    KnowsInputs p.plan c.files_tell c.input_tells
+    KnowsInputs p.plan c.files_tell c.input_tells c.input.before.rest
     → Runs result c.tells (pieces p.plan c.tree c.input.before.rest) (stood p c.tree c.input c.files) c.before c.after
 
 -- it holds of each plan that a command comes to, where the files tell or it asks for no path on the way

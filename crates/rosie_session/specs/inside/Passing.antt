@@ -17,8 +17,9 @@ use Rattle.rosie_run.specs.declared.tally.Tally.{Tally}
 use Rattle.rosie_run.specs.declared.trouble.Trouble.TheVariants as T
 use Rattle.rosie_run.specs.inside.Causes.{SinksEnd, SourceEnds, SpentEnds}
 use Rattle.rosie_run.specs.inside.Passing.{ReadsOn, StopsAt}
+use Rattle.rpl_package.specs.Asking.{IsTold}
 use Rattle.rosie_session.specs.Loading.{IsLoading, Loading}
-use Rattle.rosie_session.specs.Replay.{Turn, pieces_of, turn, turns, turns_from}
+use Rattle.rosie_session.specs.Replay.{Turn, asked_in, pieces_of, turn, turns, turns_from}
 use Rattle.rosie_session.specs.declared.session_end.SessionEnd.{SessionEnd}
 use Rattle.rosie_session.specs.declared.session_end.SessionEnd.TheVariants as H
 use Rattle.rosie_session.specs.declared.reply.Reply.{Reply}
@@ -164,10 +165,11 @@ RunsLines (Ok tally) W w rest0 rest1 a b =
     Wrote W (pieces_of (turns w rest0)) a b × (tally ≡ tally_of (pieces_of (turns w rest0)))
 RunsLines (Err session_end) W w rest0 rest1 a b = EndsLines session_end W w rest0 rest1 a b
 
--- where files and input are told
+-- where the input tells, and the files tell or no line asks for a path
 abbrev pub RunsTold : Result Tally SessionEnd → (folders : List (List ℕ)) → Course → Type 0
 RunsTold result folders c =
-    c.files_tell → c.input_tells → (w : Loading) → IsLoading c.tree folders w
+    c.input_tells → (w : Loading) → IsLoading c.tree folders w
+    → IsTold c.files_tell (asked_in w c.input.before.rest)
     → RunsLines result c.tells w c.input.before.rest c.input.after.rest c.before c.after
 
 -- so many bytes were taken where the reads are spent

@@ -17,15 +17,30 @@ use Rattle.rosie_run.specs.Made.{IsMade}
 use Rattle.rosie_run.specs.Report.{Piece, fault_piece}
 use Rattle.rosie_run.specs.Sources.{Moment, NoFewer, RoseIn, Still, moment_of}
 use Rattle.rosie_run.specs.declared.trouble.Trouble.TheVariants as T
-use Rattle.rosie_session.specs.Loading.{IsLoading, Loading}
+use Rattle.rpl_package.specs.Asking.{IsTold}
+use Rattle.rosie_session.specs.Loading.{IsLoading, Load, Loading}
 use Rattle.rosie_session.specs.Replay.{Turn, change_turn, loaded, ok_piece, plain}
 use Rattle.rosie_session.specs.declared.session_end.SessionEnd.{SessionEnd}
 use Rattle.rosie_session.specs.declared.session_end.SessionEnd.TheVariants as H
 use Rattle.rosie_session.specs.declared.reply.Reply.{Reply}
 
--- it holds of the loading over these files, where they tell their tree
-abbrev pub OfLoading : (files : Type 0) → Tree → (folders : List (List ℕ)) → (Loading → Type 0) → Type 0
-OfLoading files tree folders Holds = files → (w : Loading) → IsLoading tree folders w → Holds w
+-- it holds of what this load comes to over these files, where they tell or it asks for no path
+abbrev pub OfLoad :
+    {A : Type 0} → (files : Type 0) → Tree → (folders : List (List ℕ)) → (Loading → Load A) → (Load A → Type 0) → Type 0
+OfLoad files tree folders load Holds =
+    (w : Loading) → IsLoading tree folders w → IsTold files (load w).asked → Holds (load w)
+
+-- and so of this turn
+abbrev pub OfTurn :
+    (files : Type 0) → Tree → (folders : List (List ℕ)) → (Loading → Turn) → (Turn → Type 0) → Type 0
+OfTurn files tree folders turn Holds =
+    (w : Loading) → IsLoading tree folders w → IsTold files (turn w).asked → Holds (turn w)
+
+-- and of the turn of a change that was made, whatever the session was before it
+abbrev pub OfMade :
+    (files : Type 0) → Tree → (folders : List (List ℕ)) → Edit → (made : Session) → (Turn → Type 0) → Type 0
+OfMade files tree folders e made Holds =
+    (before : Session) → changed e before ≡ Some made → OfTurn files tree folders (λ w. loaded w e before made) Holds
 
 -- the texts and the mark are those of the piece
 abbrev pub IsReply : Reply → Piece → Type 0
@@ -73,11 +88,6 @@ Turns (Err session_end) t now = IsEndOf session_end t
 -- a change comes to this
 abbrev pub change_of : Loading → ℕ → Session → Edit → Turn
 change_of w n s e = change_turn w n s e (changed e s)
-
--- and a change that was made, to whatever the session was before it
-abbrev pub TurnsMade : Result Reply SessionEnd → Loading → Edit → (made now : Session) → Type 0
-TurnsMade result w e made now =
-    (before : Session) → changed e before ≡ Some made → Turns result (loaded w e before made) now
 
 -- the steps that were made
 abbrev pub EndSteps : SessionEnd → ℕ → ℕ → Type 0

@@ -9,12 +9,13 @@ use Rattle.rosie_cli.proofs.top.replay.Goals as goal
 pub returns-clause-answers : goal.returns-clause-answers
 returns-clause-answers g c =
     let e = c.run_session-run.ensures in
+    let rest = g.I.Source.rest c.args.inputs.now.input.now in
     answers-of _ c.run_session-run.result _ _ (c.finish.ensures.closes c.run_session-run.new.outputs.steps.now) e.cause e.sinks
     c.finish.ensures.cause
     (λ p t s inputs.
-    let tells = subst (λ (q : Planned). KnowsInputs q.plan g.F.Source.tells g.I.Source.tells) s.plan inputs in
-    session-runs c.run_session-run.result _ p s.loading _ _ _ _ _ s.plan (e.runs tells.0 tells.1 s.loading s.loads))
+    let tells = subst (λ (q : Planned). KnowsInputs q.plan g.F.Source.tells g.I.Source.tells rest) s.plan inputs in
+    session-runs c.run_session-run.result _ p s.loading _ _ _ _ _ s.plan (e.runs tells.0 s.loading s.loads tells.1))
     (λ p t s inputs.
-    let tells = subst (λ (q : Planned). KnowsInputs q.plan g.F.Source.tells g.I.Source.tells) s.plan inputs in
-    session-goes c.run_session-run.result p _ (e.rest tells.0 tells.1))
+    let tells = subst (λ (q : Planned). KnowsInputs q.plan g.F.Source.tells g.I.Source.tells rest) s.plan inputs in
+    session-goes c.run_session-run.result p _ (e.rest tells.0))
     (λ p s. pays_session _ _ p s)

@@ -36,7 +36,8 @@ returns-in-Sample-clause-rest g c = λ knows.
 pub returns-in-Match-clause-runs : goal.returns-in-Match-clause-runs
 returns-in-Match-clause-runs g c = λ knows.
     let m = c.in-Match in
-    let tells = subst (λ x. KnowsInputs (plan_of x) g.F.Source.tells g.I.Source.tells) m.is knows in
+    let rest = g.I.Source.rest c.args.inputs.now.input.now in
+    let tells = subst (λ x. KnowsInputs (plan_of x) g.F.Source.tells g.I.Source.tells rest) m.is knows in
     match-runs c.run_inputs.result _ (matcher_of m.job) m.whole (names_of encode_utf8_all m.names)
     (names_of encode_utf8_all c.as_slice-names.result.now) _ (plan_of c.args.plan.now)
     (g.F.Source.tree c.args.inputs.now.files.now) _ _ _ _ (ap plan_of m.is)
@@ -46,7 +47,8 @@ returns-in-Match-clause-runs g c = λ knows.
 pub returns-in-Trace-clause-runs : goal.returns-in-Trace-clause-runs
 returns-in-Trace-clause-runs g c = λ knows.
     let m = c.in-Trace in
-    let tells = subst (λ x. KnowsInputs (plan_of x) g.F.Source.tells g.I.Source.tells) m.is knows in
+    let rest = g.I.Source.rest c.args.inputs.now.input.now in
+    let tells = subst (λ x. KnowsInputs (plan_of x) g.F.Source.tells g.I.Source.tells rest) m.is knows in
     match-runs c.run_inputs-in-Trace.result _ (tracer_of m.job) m.whole (names_of encode_utf8_all m.names)
     (names_of encode_utf8_all c.as_slice-names-in-Trace.result.now) _ (plan_of c.args.plan.now)
     (g.F.Source.tree c.args.inputs.now.files.now) _ _ _ _ (ap plan_of m.is)
@@ -70,7 +72,8 @@ returns-in-Trace-clause-unread g c = λ n.
 pub returns-in-Match-clause-rest : goal.returns-in-Match-clause-rest
 returns-in-Match-clause-rest g c = λ knows.
     let m = c.in-Match in
-    let tells = subst (λ x. KnowsInputs (plan_of x) g.F.Source.tells g.I.Source.tells) m.is knows in
+    let rest = g.I.Source.rest c.args.inputs.now.input.now in
+    let tells = subst (λ x. KnowsInputs (plan_of x) g.F.Source.tells g.I.Source.tells rest) m.is knows in
     let same = ap (names_of encode_utf8_all) c.as_slice-names.ensures in
     names-go c.run_inputs.result (plan_of c.args.plan.now) (names_of encode_utf8_all m.names)
     (names_of encode_utf8_all c.as_slice-names.result.now) _ (ap (λ x. inputs_of (plan_of x)) m.is) same
@@ -79,7 +82,8 @@ returns-in-Match-clause-rest g c = λ knows.
 pub returns-in-Trace-clause-rest : goal.returns-in-Trace-clause-rest
 returns-in-Trace-clause-rest g c = λ knows.
     let m = c.in-Trace in
-    let tells = subst (λ x. KnowsInputs (plan_of x) g.F.Source.tells g.I.Source.tells) m.is knows in
+    let rest = g.I.Source.rest c.args.inputs.now.input.now in
+    let tells = subst (λ x. KnowsInputs (plan_of x) g.F.Source.tells g.I.Source.tells rest) m.is knows in
     let same = ap (names_of encode_utf8_all) c.as_slice-names-in-Trace.ensures in
     names-go c.run_inputs-in-Trace.result (plan_of c.args.plan.now) (names_of encode_utf8_all m.names)
     (names_of encode_utf8_all c.as_slice-names-in-Trace.result.now) _ (ap (λ x. inputs_of (plan_of x)) m.is) same

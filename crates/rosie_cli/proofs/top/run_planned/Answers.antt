@@ -13,15 +13,17 @@ returns-in-Ok-clause-runs g c = λ p t is inputs.
     let e = c.in-Ok.ensures in
     let left = e.leaves in
     let same = (e.plans p t is).0 in
+    let rest = g.I.Source.rest c.args.inputs.now.input.now in
     planned-runs c.run_plan.result _ p (plan_of c.in-Ok.plan) _ _ _ _ _ _ _ _ same left.tree left.cause.faults
     left.cause.opens left.taken
-    (c.run_plan.ensures.runs (subst (λ x. KnowsInputs x g.F.Source.tells g.I.Source.tells) same inputs))
+    (c.run_plan.ensures.runs (subst (λ x. KnowsInputs x g.F.Source.tells g.I.Source.tells rest) same inputs))
 
 pub returns-in-Ok-clause-rest : goal.returns-in-Ok-clause-rest
 returns-in-Ok-clause-rest g c = λ p t is inputs.
     let same = (c.in-Ok.ensures.plans p t is).0 in
+    let rest = g.I.Source.rest c.args.inputs.now.input.now in
     planned-goes c.run_plan.result p (plan_of c.in-Ok.plan) _ same
-    (c.run_plan.ensures.rest (subst (λ x. KnowsInputs x g.F.Source.tells g.I.Source.tells) same inputs))
+    (c.run_plan.ensures.rest (subst (λ x. KnowsInputs x g.F.Source.tells g.I.Source.tells rest) same inputs))
 
 pub returns-in-NoMemory-clause-runs : goal.returns-in-NoMemory-clause-runs
 returns-in-NoMemory-clause-runs g c = λ p t is inputs. fronts-none _ _ _

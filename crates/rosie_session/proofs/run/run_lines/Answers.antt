@@ -8,7 +8,7 @@ use Rattle.rosie_run.proofs.Passing.{fronts-same, wrote-one, wrote-same}
 use Rattle.rosie_run.specs.Outputs.{texts}
 use Rattle.rosie_session.specs.Loading.{IsLoading}
 use Rattle.rosie_session.specs.inside.Passing.{InputEnds, SinksBy}
-use Rattle.rosie_session.proofs.Onward.{passed-end, passed-front, passed-session_end, passed-line, passed-start, passed-still}
+use Rattle.rosie_session.proofs.Onward.{passed-end, passed-front, passed-session_end, passed-line, passed-start, passed-still, passed-told}
 use Rattle.rosie_session.proofs.Lines.{breaks-none, fronts-turn, sinks-none}
 use Rattle.rosie_session.proofs.Turns.{files-session_end, memory_runs, spent-session_end}
 use Rattle.rosie_session.proofs.run.run_lines.Goals as goal
@@ -21,7 +21,7 @@ lines-init g c = let e = c.in_ok-reader.ensures in rw e (record {
   opened = refl;
   parts = refl;
   most = refl;
-  passed = λ ft it w is. passed-start _ w _ (session_of c.new-state.result) _ _ _ c.new-state.ensures refl
+  passed = λ it w is t. passed-start _ w _ (session_of c.new-state.result) _ _ _ c.new-state.ensures refl
       (g.met.O.Sink.number_fits c.args.outputs.now.out.now) c.new-tally.ensures;
   input_faults = refl;
   files_still = record { faults = refl; opens = refl };
@@ -45,14 +45,15 @@ lines-preserved g c =
       opened = numbers.1;
       parts = e.keeps.whole ∙ c.lines.invariant.parts;
       most = e.keeps.most ∙ c.lines.invariant.most;
-      passed = λ ft it w is.
+      passed = λ it w is t.
           let is' = subst (λ (x : Tree). IsLoading x c.args.folders.now w) (sym c.lines.invariant.tree) is in
-          let m = rw c.in-Some.is at (e.makes it ft w is') in
+          let told = passed-told _ w _ _ _ _ _ _ _ _ (c.lines.invariant.passed it w is t) g.F.Source.tells t in
+          let m = rw c.in-Some.is at (e.makes it w is' told) in
           let a = texts g.O.Sink.written g.O.Sink.number g.E.Sink.written c.flush_reply.new.out c.flush_reply.new.err c.lines.outputs.steps.now in
           let b =
           texts g.O.Sink.written g.O.Sink.number g.E.Sink.written c.write_reply.new.out c.write_reply.new.err
           c.next_turn.new.steps in
-          passed-line _ w _ _ _ _ _ _ _ _ (passed-still _ w _ _ _ _ _ _ _ _ (c.lines.invariant.passed ft it w is) a
+          passed-line _ w _ _ _ _ _ _ _ _ (passed-still _ w _ _ _ _ _ _ _ _ (c.lines.invariant.passed it w is t) a
           (record { out = c.in-Ok.ensures.out; err = c.in-Ok.ensures.err; number = c.in-Ok.ensures.number; steps = refl }))
           c.next_turn.new.kept.reader.now.number (session_of c.next_turn.new.kept.state.now) c.next_turn.new.kept.reader.now.held
           (g.I.Source.rest c.next_turn.new.inputs.input.now) m.line b _ _ m.splits numbers.0 m.says.1 m.says.0.marks
@@ -79,18 +80,19 @@ lines-preserved g c =
     }
 
 pub returns-in-Err-clause-runs : goal.returns-in-Err-clause-runs
-returns-in-Err-clause-runs g c = λ ft it w is.
-    passed-front _ w _ _ _ _ _ _ _ _ (passed-still _ w _ _ _ _ _ _ _ _ (c.lines.invariant.passed ft it w is) _
+returns-in-Err-clause-runs g c = λ it w is t.
+    passed-front _ w _ _ _ _ _ _ _ _ (passed-still _ w _ _ _ _ _ _ _ _ (c.lines.invariant.passed it w is t) _
     (record { out = c.in-Err.ensures.out; err = c.in-Err.ensures.err; number = c.in-Err.ensures.number; steps = refl })) _ (fronts-same _ _ _ _ refl refl)
 
 pub returns-in-None-clause-runs : goal.returns-in-None-clause-runs
-returns-in-None-clause-runs g c = λ ft it w is.
+returns-in-None-clause-runs g c = λ it w is t.
     let is' = subst (λ (x : Tree). IsLoading x c.args.folders.now w) (sym c.lines.invariant.tree) is in
-    let p = rw c.in-None.is at (c.in-Ok-next_turn.ensures.makes it ft w is') in
+    let told = passed-told _ w _ _ _ _ _ _ _ _ (c.lines.invariant.passed it w is t) g.F.Source.tells t in
+    let p = rw c.in-None.is at (c.in-Ok-next_turn.ensures.makes it w is' told) in
     let a = texts g.O.Sink.written g.O.Sink.number g.E.Sink.written c.flush_reply.new.out c.flush_reply.new.err c.lines.outputs.steps.now in
     let b =
     texts g.O.Sink.written g.O.Sink.number g.E.Sink.written c.flush_reply.new.out c.flush_reply.new.err c.next_turn.new.steps in
-    passed-end _ w _ _ _ _ _ _ _ _ (passed-still _ w _ _ _ _ _ _ _ _ (c.lines.invariant.passed ft it w is) a
+    passed-end _ w _ _ _ _ _ _ _ _ (passed-still _ w _ _ _ _ _ _ _ _ (c.lines.invariant.passed it w is t) a
     (record { out = c.in-Ok.ensures.out; err = c.in-Ok.ensures.err; number = c.in-Ok.ensures.number; steps = refl })) b p.0
     (wrote-same _ a b refl refl refl p.2 (g.met.O.Sink.number_fits c.flush_reply.new.out))
 
@@ -101,16 +103,17 @@ returns-in-None-clause-rest g c = λ it.
     (rw c.in-None.is at e.numbers)
 
 pub returns-in-Err-next_turn-clause-runs : goal.returns-in-Err-next_turn-clause-runs
-returns-in-Err-next_turn-clause-runs g c = λ ft it w is.
+returns-in-Err-next_turn-clause-runs g c = λ it w is t.
     let e = c.in-Err-next_turn.ensures in
     let is' = subst (λ (x : Tree). IsLoading x c.args.folders.now w) (sym c.lines.invariant.tree) is in
+    let told = passed-told _ w _ _ _ _ _ _ _ _ (c.lines.invariant.passed it w is t) g.F.Source.tells t in
     let a = texts g.O.Sink.written g.O.Sink.number g.E.Sink.written c.flush_reply.new.out c.flush_reply.new.err c.lines.outputs.steps.now in
     let b =
     texts g.O.Sink.written g.O.Sink.number g.E.Sink.written c.flush_reply.new.out c.flush_reply.new.err c.next_turn.new.steps in
-    passed-session_end _ w _ _ _ _ _ _ _ _ (passed-still _ w _ _ _ _ _ _ _ _ (c.lines.invariant.passed ft it w is) a
+    passed-session_end _ w _ _ _ _ _ _ _ _ (passed-still _ w _ _ _ _ _ _ _ _ (c.lines.invariant.passed it w is t) a
     (record { out = c.in-Ok.ensures.out; err = c.in-Ok.ensures.err; number = c.in-Ok.ensures.number; steps = refl }))
     c.in-Err-next_turn.session_end _ it c.lines.kept.reader.now c.next_turn.new.kept.reader.now _ b refl c.lines.invariant.parts e.stops
-    (breaks-none _ w _ (session_of c.lines.kept.state.now) _ a b c.in-Err-next_turn.session_end (e.makes it ft w is') refl refl refl
+    (breaks-none _ w _ (session_of c.lines.kept.state.now) _ a b c.in-Err-next_turn.session_end (e.makes it w is' told) refl refl refl
     (g.met.O.Sink.number_fits c.flush_reply.new.out)) (e.reads.bytes it)
 
 pub returns-in-Err-next_turn-clause-cause : goal.returns-in-Err-next_turn-clause-cause
@@ -142,13 +145,14 @@ returns-in-Err-next_turn-clause-sinks g c =
     (sinks-none session_end o1 r1 c.in-Err-next_turn.ensures.of_reading))
 
 pub returns-in-Err-write_reply-clause-runs : goal.returns-in-Err-write_reply-clause-runs
-returns-in-Err-write_reply-clause-runs g c = λ ft it w is.
+returns-in-Err-write_reply-clause-runs g c = λ it w is t.
     let e = c.in-Ok-next_turn.ensures in
     let o = c.in-Err-write_reply.ensures in
     let is' = subst (λ (x : Tree). IsLoading x c.args.folders.now w) (sym c.lines.invariant.tree) is in
-    let m = rw c.in-Some.is at (e.makes it ft w is') in
+    let told = passed-told _ w _ _ _ _ _ _ _ _ (c.lines.invariant.passed it w is t) g.F.Source.tells t in
+    let m = rw c.in-Some.is at (e.makes it w is' told) in
     let a = texts g.O.Sink.written g.O.Sink.number g.E.Sink.written c.flush_reply.new.out c.flush_reply.new.err c.lines.outputs.steps.now in
-    passed-front _ w _ _ _ _ _ _ _ _ (passed-still _ w _ _ _ _ _ _ _ _ (c.lines.invariant.passed ft it w is) a
+    passed-front _ w _ _ _ _ _ _ _ _ (passed-still _ w _ _ _ _ _ _ _ _ (c.lines.invariant.passed it w is t) a
     (record { out = c.in-Ok.ensures.out; err = c.in-Ok.ensures.err; number = c.in-Ok.ensures.number; steps = refl })) _
     (fronts-turn _ w c.lines.kept.reader.now.number (session_of c.lines.kept.state.now) _ a _ m.line _ _ _ _ m.splits.lines m.says.0
     o.out o.err)
@@ -170,5 +174,5 @@ returns-in-Err-write_reply-clause-sinks g c =
     c.in-Err-write_reply.ensures.cause)
 
 pub returns-in_err-reader-clause-runs : goal.returns-in_err-reader-clause-runs
-returns-in_err-reader-clause-runs g c = λ ft it w is.
+returns-in_err-reader-clause-runs g c = λ it w is t.
     memory_runs c.from_residual.result _ w _ _ _ _ c.from_residual.ensures.1 refl refl

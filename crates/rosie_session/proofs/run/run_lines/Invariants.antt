@@ -3,7 +3,9 @@ use Rattle.rosie_repl.specs.States.{session_of}
 use Rattle.rosie_run.specs.Devices.{SameInputs, SameOutputs}
 use Rattle.rosie_run.specs.Outputs.{texts}
 use Rattle.rosie_run.specs.Sources.{Still, moment_of}
+use Rattle.rpl_package.specs.Asking.{IsTold}
 use Rattle.rosie_session.specs.Loading.{IsLoading, Loading}
+use Rattle.rosie_session.specs.Replay.{asked_in}
 use Rattle.rosie_session.specs.inside.Kept.{SameKept}
 use Rattle.rosie_session.specs.inside.Passing.{Passed}
 use Rattle.rosie_session.proofs.run.run_lines.Given as goal
@@ -17,8 +19,8 @@ invariant-lines g l = record {
   opened : l.kept.reader.now.done ≡ false;
   parts : l.kept.reader.now.whole ≡ false;
   most : l.kept.reader.now.most ≡ 1048576;
-  passed : g.F.Source.tells → g.I.Source.tells → (w : Loading)
-      → IsLoading (g.F.Source.tree l.initial.inputs.files.now) l.folders w
+  passed : g.I.Source.tells → (w : Loading) → IsLoading (g.F.Source.tree l.initial.inputs.files.now) l.folders w
+      → IsTold g.F.Source.tells (asked_in w (g.I.Source.rest l.initial.inputs.input.now))
       → Passed (record { out = g.O.Sink.tells; err = g.E.Sink.tells; counts = g.O.Sink.counts }) w
       (g.I.Source.rest l.initial.inputs.input.now) l.kept.reader.now.number (session_of l.kept.state.now) l.kept.reader.now.held (g.I.Source.rest l.inputs.input.now)
       l.tally (texts g.O.Sink.written g.O.Sink.number g.E.Sink.written l.initial.outputs.out.now l.initial.outputs.err.now l.initial.outputs.steps.now)

@@ -2,8 +2,9 @@ use Rattle.std.proofs.Common.{◌≡◌, ◌+◌, ◌∙◌, refl, ap, subst, sy
 use Rattle.std.specs.Prelude.{Option, Some}
 use Rattle.rosie_repl.specs.Edits.{Edit}
 use Rattle.rosie_repl.specs.States.{session_of}
-use Rattle.rosie_session.specs.Replay.{edit_turn}
+use Rattle.rosie_session.specs.Replay.{Turn, edit_turn}
 use Rattle.rosie_session.specs.inside.Turning.{Says, StepsBy, Turns}
+use Rattle.rosie_session.proofs.Told.{same_turn}
 use Rattle.rosie_session.proofs.Turns.{tried_short}
 use Rattle.rosie_session.proofs.turn.answer.Goals as goal
 
@@ -14,25 +15,25 @@ obey-requires g c = λ line e.
     omega arith
 
 pub returns-in_ok-wrong-in-None-clause-turns : goal.returns-in_ok-wrong-in-None-clause-turns
-returns-in_ok-wrong-in-None-clause-turns g c = λ t w is.
+returns-in_ok-wrong-in-None-clause-turns g c = λ w is t.
     let s = session_of c.args.state.now in
     subst (λ (o : Option Edit). Says c.in_ok-wrong-in-None.field-0 (edit_turn w c.args.base.now.number s o) s) c.in-None.ensures
     (c.in_ok-wrong-in-None.ensures, refl)
 
 pub returns-in_ok-wrong-in-None-clause-steps : goal.returns-in_ok-wrong-in-None-clause-steps
-returns-in_ok-wrong-in-None-clause-steps g c = λ t w is.
+returns-in_ok-wrong-in-None-clause-steps g c = λ w is t.
     let s = session_of c.args.state.now in
     subst (λ (o : Option Edit). c.args.steps.now ≡ c.args.steps.now + (edit_turn w c.args.base.now.number s o).piece.cost)
     c.in-None.ensures (omega arith)
 
 pub returns-in-Some-clause-turns : goal.returns-in-Some-clause-turns
-returns-in-Some-clause-turns g c = λ t w is.
+returns-in-Some-clause-turns g c = λ w is.
     let s = session_of c.args.state.now in
-    subst (λ (o : Option Edit). Turns c.obey.result (edit_turn w c.args.base.now.number s o) (session_of c.obey.new.state))
-    c.in-Some.ensures (c.obey.ensures.turns t w is)
+    same_turn g.F.Source.tells (λ (x : Turn). Turns c.obey.result x (session_of c.obey.new.state)) _ _
+    (ap (edit_turn w c.args.base.now.number s) c.in-Some.ensures) (c.obey.ensures.turns w is)
 
 pub returns-in-Some-clause-steps : goal.returns-in-Some-clause-steps
-returns-in-Some-clause-steps g c = λ t w is.
+returns-in-Some-clause-steps g c = λ w is.
     let s = session_of c.args.state.now in
-    subst (λ (o : Option Edit). StepsBy c.obey.result (edit_turn w c.args.base.now.number s o) c.args.steps.now c.obey.new.steps)
-    c.in-Some.ensures (c.obey.ensures.steps t w is)
+    same_turn g.F.Source.tells (λ (x : Turn). StepsBy c.obey.result x c.args.steps.now c.obey.new.steps) _ _
+    (ap (edit_turn w c.args.base.now.number s) c.in-Some.ensures) (c.obey.ensures.steps w is)

@@ -6,6 +6,7 @@ use Rattle.rosie_repl.specs.Session.{changed, undone}
 use Rattle.rosie_repl.specs.States.{session_of}
 use Rattle.rosie_session.specs.Replay.{Turn, change_turn, try_turn, undo_turn}
 use Rattle.rosie_session.specs.inside.Turning.{StepsBy, Turns}
+use Rattle.rosie_session.proofs.Told.{same_turn}
 use Rattle.rosie_session.proofs.Turns.{change_cost, edit_change, none_cost, steps_none, try_none, undo_cost}
 use Rattle.rosie_session.proofs.turn.obey.Goals as goal
 
@@ -13,51 +14,53 @@ pub try_with-requires : goal.try_with-requires
 try_with-requires g c = c.requires c.in-Try.line.now (ap edit_seen c.in-Try.is)
 
 pub returns-in_ok-wrong-in-None-clause-turns : goal.returns-in_ok-wrong-in-None-clause-turns
-returns-in_ok-wrong-in-None-clause-turns g c = λ t w is.
+returns-in_ok-wrong-in-None-clause-turns g c = λ w is.
     let s = session_of c.args.state.now in
-    rw c.in-Try.is
-    (try_none w c.args.base.now.number s c.in-Try.line.now s.now.pattern c.in_ok-wrong-in-None.field-0
+    rw c.in-Try.is (λ t.
+    try_none w c.args.base.now.number s c.in-Try.line.now s.now.pattern c.in_ok-wrong-in-None.field-0
     (sym c.in-None.ensures) c.in_ok-wrong-in-None.ensures)
 
 pub returns-in_ok-wrong-in-None-clause-steps : goal.returns-in_ok-wrong-in-None-clause-steps
-returns-in_ok-wrong-in-None-clause-steps g c = λ t w is.
+returns-in_ok-wrong-in-None-clause-steps g c = λ w is.
     let s = session_of c.args.state.now in
-    rw c.in-Try.is
-    (none_cost w c.args.base.now.number s c.in-Try.line.now s.now.pattern c.args.steps.now (sym c.in-None.ensures))
+    rw c.in-Try.is (λ t.
+    none_cost w c.args.base.now.number s c.in-Try.line.now s.now.pattern c.args.steps.now (sym c.in-None.ensures))
 
 pub returns-in-Some-clause-turns : goal.returns-in-Some-clause-turns
-returns-in-Some-clause-turns g c = λ t w is.
+returns-in-Some-clause-turns g c = λ w is.
     let s = session_of c.args.state.now in
+    let turn : Option (List ℕ) → Turn = λ o. try_turn w c.args.base.now.number s o c.in-Try.line.now in
     rw c.in-Try.is
-    (subst (λ (o : Option (List ℕ)). Turns c.try_with.result (try_turn w c.args.base.now.number s o c.in-Try.line.now) s)
-    c.in-Some.ensures (c.try_with.ensures.turns t w is))
+    (same_turn g.F.Source.tells (λ (x : Turn). Turns c.try_with.result x s) _ _ (ap turn c.in-Some.ensures)
+    (c.try_with.ensures.turns w is))
 
 pub returns-in-Some-clause-steps : goal.returns-in-Some-clause-steps
-returns-in-Some-clause-steps g c = λ t w is.
+returns-in-Some-clause-steps g c = λ w is.
     let s = session_of c.args.state.now in
+    let turn : Option (List ℕ) → Turn = λ o. try_turn w c.args.base.now.number s o c.in-Try.line.now in
     rw c.in-Try.is
-    (subst (λ (o : Option (List ℕ)). StepsBy c.try_with.result (try_turn w c.args.base.now.number s o c.in-Try.line.now)
-    c.args.steps.now c.try_with.new.steps) c.in-Some.ensures (c.try_with.ensures.steps t w is))
+    (same_turn g.F.Source.tells (λ (x : Turn). StepsBy c.try_with.result x c.args.steps.now c.try_with.new.steps) _ _
+    (ap turn c.in-Some.ensures) (c.try_with.ensures.steps w is))
 
 pub returns-in_ok-undo-in-Undo-clause-turns : goal.returns-in_ok-undo-in-Undo-clause-turns
-returns-in_ok-undo-in-Undo-clause-turns g c = λ t w is. rw c.in-Undo.is c.in_ok-undo-in-Undo.ensures
+returns-in_ok-undo-in-Undo-clause-turns g c = λ w is. rw c.in-Undo.is (λ t. c.in_ok-undo-in-Undo.ensures)
 
 pub returns-in_ok-undo-in-Undo-clause-steps : goal.returns-in_ok-undo-in-Undo-clause-steps
-returns-in_ok-undo-in-Undo-clause-steps g c = λ t w is.
+returns-in_ok-undo-in-Undo-clause-steps g c = λ w is.
     let s = session_of c.args.state.now in
-    rw c.in-Undo.is
-    (steps_none (Ok c.in_ok-undo-in-Undo.field-0) (undo_turn c.args.base.now.number s (undone s)) c.args.steps.now
+    rw c.in-Undo.is (λ t.
+    steps_none (Ok c.in_ok-undo-in-Undo.field-0) (undo_turn c.args.base.now.number s (undone s)) c.args.steps.now
     (undo_cost c.args.base.now.number s (undone s)))
 
 pub returns-in_default-clause-turns : goal.returns-in_default-clause-turns
-returns-in_default-clause-turns g c = λ t w is.
+returns-in_default-clause-turns g c = λ w is.
     let s = session_of c.args.state.now in
-    subst (λ (x : Turn). Turns c.change.result x (session_of c.change.new.state))
+    same_turn g.F.Source.tells (λ (x : Turn). Turns c.change.result x (session_of c.change.new.state)) _ _
     (sym (edit_change w c.args.base.now.number s c.args.edit.now c.in_default.not-Try c.in_default.not-Undo))
-    (c.change.ensures.turns t w is)
+    (c.change.ensures.turns w is)
 
 pub returns-in_default-clause-steps : goal.returns-in_default-clause-steps
-returns-in_default-clause-steps g c = λ t w is.
+returns-in_default-clause-steps g c = λ w is t.
     let s = session_of c.args.state.now in
     let e = in_chars (edit_seen c.args.edit.now) in
     subst (λ (x : Turn). StepsBy c.change.result x c.args.steps.now c.args.steps.now)
