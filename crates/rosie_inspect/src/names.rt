@@ -35,10 +35,10 @@ fn make_line(alloc: Global, listed: &Listed) -> Result<String, NoMemory>
     Ok(line)
 }
 
-/// The lines of names.
-fn make_lines(alloc: Global, names: &Names) -> Result<Vec<String>, NoMemory>
+/// The lines of names, which are let go of: both may take much memory.
+fn make_lines(alloc: Global, names: Names) -> Result<Vec<String>, NoMemory>
     ensures { IfOk result (λ lines. map (λ l. string_bytes l) lines.items
-        ≡ map name_line names.now) }
+        ≡ map name_line names) }
 {
     let mut lines = Vec::new(alloc);
     for listed in names.as_slice() {
@@ -66,7 +66,7 @@ pub fn names_text(alloc: Global, set: &PackageSet) -> Result<String, NoMemory>
         (string_bytes text)) }
 {
     let names = set.names(alloc)?;
-    let mut lines = make_lines(alloc, &names)?;
+    let mut lines = make_lines(alloc, names)?;
     // They are in this order already, since no name of a set has a character before the space. What
     // is proved here asks for no such thing.
     lines.sort()?;

@@ -60,18 +60,16 @@ impl PackageSet {
     ghost use Rattle.rpl_package.specs.Sets.{set_seen};
     ghost use Rattle.rpl_package.specs.inside.Listing.{named, IsUnder};
 
-    /// The type of the nodes of a rule.
+    /// The type of the nodes of a rule, as the very text of the rule table.
     fn label(&self, alloc: Global, rule: u32) -> Result<Option<Chars>, NoMemory>
         ensures { IfOk result (λ text. text ≡ label (set_seen self.now) rule) }
     {
-        match self.rule(rule) {
-            None => Ok(None),
-            Some(head) => {
-                if head.captures {
-                    return Ok(Some(Chars::from_str(alloc, head.name)?));
-                }
-                Ok(None)
-            }
+        let Some(head) = self.rule(rule) else {
+            return Ok(None);
+        };
+        match self.full_name(rule) {
+            Some(name) if head.captures => Ok(Some(name.copy(alloc)?)),
+            _ => Ok(None),
         }
     }
 
