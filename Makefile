@@ -3,7 +3,7 @@ PREFIX ?= /usr/local
 BIN = $(DESTDIR)$(PREFIX)/bin
 SHARE = $(DESTDIR)$(PREFIX)/share
 PROGRAM = crates/rosie/out/rosie
-DOCUMENTS = docs/COMMAND.md docs/LANGUAGE.md docs/TUTORIAL.md docs/RECIPES.md docs/MESSAGES.md CHANGELOG.md LICENSE docs/COMING-FROM.md
+DOCUMENTS = docs/COMMAND.md docs/LANGUAGE.md docs/TUTORIAL.md docs/RECIPES.md docs/MESSAGES.md CHANGELOG.md SECURITY.md LICENSE docs/COMING-FROM.md
 TOOLS = rosie-at rosie-why
 VIM = syntax/rpl.vim ftdetect/rpl.vim ftplugin/rpl.vim compiler/rosie.vim
 
@@ -38,6 +38,7 @@ test:
 	tests/run_messages
 	tests/run_regular
 	tests/run_tools
+	tests/run_completions
 	tests/run_editors
 	tests/run_install
 	tests/run_dist

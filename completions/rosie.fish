@@ -8,28 +8,42 @@ function __rosie_for
     or not __fish_seen_subcommand_from $__rosie_commands
 end
 
-# What a pattern may go on with, where it ends with a name that is begun: the names of its package after a dot, and else the packages.
+# Prints what rosie lists, within two seconds where there is `timeout`: a file of the library path may be a pipe that nobody writes to.
+function __rosie_list
+    if command -sq timeout
+        command timeout 2 rosie list $argv 2>/dev/null </dev/null | string replace -r ' .*' ''
+    else
+        command rosie list $argv 2>/dev/null </dev/null | string replace -r ' .*' ''
+    end
+end
+
+# The names that can continue a pattern, where its last name is begun: those of its package after a dot; otherwise the packages. Only
+# names that RPL can write are offered.
 function __rosie_names
     set -l token (commandline -ct)
-    set -l name (string match -r '[A-Za-z][A-Za-z0-9_]*(?:\.[A-Za-z0-9_]*)?$' -- $token)
-    set -l before (string replace -r '[A-Za-z][A-Za-z0-9_]*(\.[A-Za-z0-9_]*)?$' '' -- $token)
+    set -l name (string match -r '[A-Za-z][A-Za-z0-9_]*(?:\.[A-Za-z0-9_]*)?$' -- "$token")
+    set -l before (string replace -r '[A-Za-z][A-Za-z0-9_]*(\.[A-Za-z0-9_]*)?$' '' -- "$token")
     set -l folders .
     set -l words (commandline -opc)
     for index in (seq (count $words))
         switch $words[$index]
             case --libpath
-                set folders $words[(math $index + 1)]
+                test $index -lt (count $words); and set folders $words[(math $index + 1)]
             case '--libpath=*'
                 set folders (string replace -- --libpath= '' $words[$index])
         end
     end
-    if string match -q '*.*' -- $name
-        command rosie list --libpath $folders --rpl "import "(string replace -r '\..*' '' -- $name) 2>/dev/null </dev/null |
-            string replace -r ' .*' '' | string replace -r '^' -- $before
+    set -l found
+    if string match -q '*.*' -- "$name"
+        set found (__rosie_list --libpath $folders --rpl "import "(string replace -r '\..*' '' -- $name))
     else
         for file in (string split : -- $folders)/*.rpl
-            echo $before(basename $file .rpl).
+            test -f $file; and string match -qr '(^|/)[A-Za-z][A-Za-z0-9_]*\.rpl\z' -- $file
+            and set found $found (string replace -r '\.rpl$' . -- (string replace -r '^.*/' '' -- $file))
         end
+    end
+    for name in $found
+        string match -qr '^[A-Za-z][A-Za-z0-9_]*(\.[A-Za-z0-9_]*)?\z' -- $name; and printf '%s\n' "$before$name"
     end
 end
 
