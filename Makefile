@@ -5,6 +5,8 @@ SHARE = $(DESTDIR)$(PREFIX)/share
 PROGRAM = crates/rosie/out/rosie
 DOCUMENTS = docs/COMMAND.md docs/LANGUAGE.md docs/TUTORIAL.md docs/RECIPES.md docs/MESSAGES.md CHANGELOG.md SECURITY.md LICENSE docs/COMING-FROM.md
 TOOLS = rosie-at rosie-why
+# What the tools share. They look for it beside themselves, and then in share/rosie/tools.
+MODULES = rosie_why.py
 VIM = syntax/rpl.vim ftdetect/rpl.vim ftplugin/rpl.vim compiler/rosie.vim
 
 .PHONY: build check try test compare bench install uninstall dist clean
@@ -67,6 +69,8 @@ install: build
 	tools/manual_page > $(SHARE)/man/man1/rosie.1
 	tools/manual_page rosie-language > $(SHARE)/man/man7/rosie-language.7
 	install -m 644 $(TOOLS:%=tools/%.1) $(SHARE)/man/man1
+	install -d $(SHARE)/rosie/tools
+	install -m 644 $(MODULES:%=tools/%) $(SHARE)/rosie/tools
 	install -m 644 $(DOCUMENTS) $(SHARE)/doc/rosie
 	install -m 644 examples/README.md examples/*.rpl examples/*.log $(SHARE)/rosie/examples
 	install -m 644 examples/fixtures/* $(SHARE)/rosie/examples/fixtures
