@@ -37,6 +37,7 @@ test:
 	tests/run_costs
 	tests/run_packages
 	tests/run_documents
+	tests/run_words
 	tests/run_messages
 	tests/run_regular
 	tests/run_tools
