@@ -8,6 +8,8 @@ TOOLS = rosie-at rosie-why
 # What the tools share. They look for it beside themselves, and then in share/rosie/tools.
 MODULES = rosie_why.py
 VIM = syntax/rpl.vim ftdetect/rpl.vim ftplugin/rpl.vim compiler/rosie.vim
+# Emacs finds a package in the folder of this name at its start, below /usr and /usr/local.
+EMACS = emacs/site-lisp/elpa/rpl-mode-1.0
 
 .PHONY: build check try test compare bench install uninstall dist clean
 
@@ -77,18 +79,20 @@ install: build
 	install -m 644 examples/fixtures/* $(SHARE)/rosie/examples/fixtures
 	for v in vim/vimfiles nvim/site; do for f in $(VIM); do \
 		install -d $(SHARE)/$$v/$$(dirname $$f) && install -m 644 editors/vim/$$f $(SHARE)/$$v/$$f || exit 1; done; done
-	install -d $(SHARE)/rosie/editors
+	install -d $(SHARE)/$(EMACS) $(SHARE)/rosie/editors
+	install -m 644 editors/emacs/*.el $(SHARE)/$(EMACS)
 	install -m 644 editors/rpl.tmLanguage.json $(SHARE)/rosie/editors
 	install -m 644 completions/rosie.bash $(SHARE)/bash-completion/completions/rosie
 	install -m 644 completions/_rosie $(SHARE)/zsh/site-functions/_rosie
 	install -m 644 completions/rosie.fish $(SHARE)/fish/vendor_completions.d/rosie.fish
+	@test -n "$(DESTDIR)" || tools/editor_places $(SHARE)
 
 uninstall:
 	rm -f $(BIN)/rosie $(TOOLS:%=$(BIN)/%) $(SHARE)/man/man1/rosie.1 $(TOOLS:%=$(SHARE)/man/man1/%.1)
 	rm -f $(SHARE)/man/man7/rosie-language.7 $(SHARE)/bash-completion/completions/rosie
 	rm -f $(SHARE)/zsh/site-functions/_rosie $(SHARE)/fish/vendor_completions.d/rosie.fish
 	rm -f $(VIM:%=$(SHARE)/vim/vimfiles/%) $(VIM:%=$(SHARE)/nvim/site/%)
-	rm -rf $(SHARE)/rosie $(SHARE)/doc/rosie
+	rm -rf $(SHARE)/rosie $(SHARE)/doc/rosie $(SHARE)/$(EMACS)
 
 # What is installed, packed for machines without Rattle: a folder, a .tar.gz, and a Debian package where there is dpkg-deb, all in dist/.
 dist: build
