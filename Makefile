@@ -45,6 +45,7 @@ test:
 	tests/run_tools
 	tests/run_completions
 	tests/run_editors
+	tests/run_python
 	tests/run_install
 	tests/run_dist
 	tests/compare/run --where-installed 1-300
@@ -82,6 +83,9 @@ install: build
 	install -d $(SHARE)/$(EMACS) $(SHARE)/rosie/editors
 	install -m 644 editors/emacs/*.el $(SHARE)/$(EMACS)
 	install -m 644 editors/rpl.tmLanguage.json $(SHARE)/rosie/editors
+	for d in $$(cd python && find rosie -type d ! -name __pycache__); do \
+		install -d $(SHARE)/rosie/python/$$d && install -m 644 $$(find python/$$d -maxdepth 1 -type f) $(SHARE)/rosie/python/$$d || exit 1; done
+	install -m 644 python/README.md $(SHARE)/rosie/python
 	install -m 644 completions/rosie.bash $(SHARE)/bash-completion/completions/rosie
 	install -m 644 completions/_rosie $(SHARE)/zsh/site-functions/_rosie
 	install -m 644 completions/rosie.fish $(SHARE)/fish/vendor_completions.d/rosie.fish

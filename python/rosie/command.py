@@ -1,0 +1,124 @@
+"""Where the command `rosie` is, and how it is run once."""
+from __future__ import annotations
+
+import functools
+import os
+import shutil
+import subprocess
+from typing import Iterable, NamedTuple, Optional, Sequence, Union
+
+from .faults import RosieError
+
+Path = Union[str, "os.PathLike[str]"]
+# Linux takes no longer word on a command line (MAX_ARG_STRLEN), with its end.
+LONGEST_WORD = 131072
+
+
+class CommandMissing(RosieError):
+    """The command `rosie` isn't where it was looked for."""
+
+
+class Done(NamedTuple):
+    """How a run of the command ended."""
+
+    status: int
+    out: bytes
+    err: bytes
+
+
+def folders_above() -> "list[str]":
+    """The folders in which this package may stand: of the source tree, and of an installation (PREFIX/share/rosie)."""
+    package = os.path.dirname(os.path.abspath(__file__))
+    share = os.path.dirname(os.path.dirname(package))
+    return [share, os.path.dirname(os.path.dirname(share))]
+
+
+def find_command(given: Optional[Path] = None) -> str:
+    """The path of the command: the given one, that of the variable ROSIE, the one beside this package, or that on PATH.
+
+    Raises CommandMissing where there is none.
+    """
+    source, prefix = folders_above()
+    choices = [given or os.environ.get("ROSIE")]
+    if not choices[0]:
+        built = os.path.join(source, "crates", "rosie", "out", "rosie")
+        choices = [os.path.join(prefix, "bin", "rosie"), built, "rosie"]
+    for choice in choices:
+        found = shutil.which(os.fspath(choice))
+        if found:
+            return os.path.abspath(found)
+    name = os.fspath(choices[-1])
+    raise CommandMissing(f"there is no command {name}; install rosie, or name it by the variable ROSIE")
+
+
+def find_tool(name: str, command: str) -> Optional[str]:
+    """The path of a tool beside the command, as `rosie-why`, or None where there is none."""
+    source, prefix = folders_above()
+    beside = [os.path.dirname(command), os.path.join(source, "tools"), os.path.join(prefix, "bin")]
+    for folder in beside:
+        found = shutil.which(name, path=folder)
+        if found:
+            return found
+    return shutil.which(name)
+
+
+def find_packages(command: str) -> Optional[str]:
+    """The folder of the packages that come with the command, or None where it isn't found."""
+    source, prefix = folders_above()
+    for path in dict.fromkeys([command, os.path.realpath(command)]):
+        folder = os.path.dirname(os.path.dirname(path))
+        choices = [os.path.join(folder, "share", "rosie", "examples"), os.path.join(source, "examples"),
+                   os.path.join(prefix, "share", "rosie", "examples")]
+        for choice in choices:
+            if os.path.isfile(os.path.join(choice, "num.rpl")):
+                return choice
+    return None
+
+
+def checked_words(words: Iterable[str]) -> "list[str]":
+    """The words, where a command line can hold them; else RosieError says why not."""
+    made = list(words)
+    for word in made:
+        if "\0" in word:
+            raise RosieError("a pattern or a text with the character NUL: write \\x00")
+        if len(os.fsencode(word)) >= LONGEST_WORD:
+            raise RosieError(f"a command line holds no text of more than {LONGEST_WORD - 1} bytes: put it into a file")
+    return made
+
+
+class Command:
+    """The command at a path, with the folders in which it looks for packages.
+
+    `libpath` is where imports are looked for. By default that is `.`, and then the packages that come with the command.
+    """
+
+    def __init__(self, path: Optional[Path] = None, libpath: Union[None, str, Sequence[Path]] = None) -> None:
+        self.path = find_command(path)
+        self.libpath = self._folders(libpath)
+
+    def _folders(self, libpath: Union[None, str, Sequence[Path]]) -> "list[str]":
+        if libpath is None:
+            packages = find_packages(self.path)
+            return [".", packages] if packages and ":" not in packages else ["."]
+        folders = libpath.split(":") if isinstance(libpath, str) else [os.fspath(folder) for folder in libpath]
+        for folder in folders:
+            if not folder or ":" in folder:
+                raise ValueError(f"no folder of a library path: {folder!r}")
+        return folders or ["."]
+
+    def run(self, words: Iterable[str], text: bytes = b"", folder: Optional[str] = None) -> Done:
+        """Runs the command with these words and this standard input, in `folder`."""
+        made = [self.path, *checked_words(words)]
+        done = subprocess.run(made, input=text, capture_output=True, cwd=folder, check=False)
+        return Done(done.returncode, done.stdout, done.stderr)
+
+    @functools.cached_property
+    def libpath_words(self) -> "list[str]":
+        """The words that say where imports are looked for."""
+        return ["--libpath", ":".join(self.libpath)]
+
+
+def root_words(rpl: Sequence[str], files: Sequence[str]) -> "list[str]":
+    """The words that load these texts and files as roots."""
+    named = [word for path in files for word in ("-f", path)]
+    return named + [word for text in rpl for word in ("--rpl", text)]

@@ -1,0 +1,171 @@
+"""The protocol with the command: one answer for each line, in order.
+
+The command runs with `--steps`, and its standard error goes into the same pipe as its standard output. Of each line it
+then writes
+
+- the tree, which begins with `{`, and after it `steps N`, where the line matched,
+- `steps N` alone, where it didn't,
+- `rosie: -:NUMBER: CAUSE` alone, where it has no answer.
+
+So the last line of each answer is no tree, and nothing of the input is written: no line of the input can be taken for
+an answer. The command writes out its standard output before it writes to standard error, and both before it waits for
+input; so an answer comes as soon as the line is there. That a process has answered all is known by counting, never by
+the end of its output.
+"""
+from __future__ import annotations
+
+import contextlib
+import os
+import re
+import select
+import subprocess
+import tempfile
+from typing import IO, List, Optional, Sequence, Tuple, Union
+
+from .faults import RosieError
+
+# An answer: the text of the tree, None where the line didn't match, or the cause of a fault.
+Answer = Union[bytes, None, str]
+READ_SIZE = 1 << 18
+FAULT = re.compile(rb"rosie: -:\d+: ([A-Za-z0-9 -]+)")
+
+
+class CommandEnded(RosieError):
+    """The command ended where it should have answered. `status` is its status, and `written` what it wrote last."""
+
+    def __init__(self, status: int, written: str) -> None:
+        super().__init__(status, written)
+        self.status, self.written = status, written
+
+    def __str__(self) -> str:
+        return f"the command ended with status {self.status}: {self.written or 'it wrote nothing'}"
+
+
+def file_of(text: bytes) -> IO[bytes]:
+    """A file without a name that holds these bytes, to be read from its start."""
+    file = tempfile.TemporaryFile(prefix="rosie-")
+    file.write(text)
+    file.seek(0)
+    return file
+
+
+class LineProcess:
+    """A process of the command that answers lines.
+
+    `code` is a compiled pattern, which the process reads as its code file. With `text` that is all of its input;
+    without, it is asked line by line.
+    """
+
+    def __init__(self, words: Sequence[str], code: Optional[bytes] = None, text: Optional[bytes] = None) -> None:
+        self.owner = os.getpid()
+        self._tree: Optional[bytes] = None
+        self._begun: List[bytes] = []
+        with contextlib.ExitStack() as files:
+            made = [*words]
+            kept: Tuple[int, ...] = ()
+            if code is not None:
+                kept = (files.enter_context(file_of(code)).fileno(),)
+                made += ["--code-file", f"/dev/fd/{kept[0]}"]
+            given = subprocess.PIPE if text is None else files.enter_context(file_of(text))
+            self._process = subprocess.Popen(made, bufsize=0, stdin=given, stdout=subprocess.PIPE,
+                                             stderr=subprocess.STDOUT, pass_fds=kept)
+        self._out = self._process.stdout.fileno()
+        self._poll = select.poll()
+        self._poll.register(self._out, select.POLLIN)
+        if text is None:
+            self._in = self._process.stdin.fileno()
+            os.set_blocking(self._in, False)
+
+    def whole_answer(self) -> Answer:
+        """The answer to the text that the process was given."""
+        answers: List[Answer] = []
+        while not answers:
+            answers = self.receive()
+        return answers[0]
+
+    def ask(self, line: bytes) -> Answer:
+        """The answer to a line without a line feed. No other line may wait for its answer."""
+        answers = self.exchange(line + b"\n")
+        return answers[0] if answers else self.whole_answer()
+
+    def exchange(self, text: bytes) -> List[Answer]:
+        """Writes whole lines; the answers that came meanwhile."""
+        answers: List[Answer] = []
+        left = memoryview(text)[self._write(text):]
+        while left:
+            self._poll.register(self._in, select.POLLOUT)
+            try:
+                ready = dict(self._poll.poll())
+            finally:
+                self._poll.unregister(self._in)
+            if self._out in ready:
+                answers += self.receive()
+            elif self._in in ready:
+                left = left[self._write(left):]
+        return answers
+
+    def _write(self, text: Union[bytes, memoryview]) -> int:
+        try:
+            return os.write(self._in, text)
+        except BlockingIOError:
+            return 0
+        except BrokenPipeError:
+            # What it wrote at its end says why.
+            return len(text)
+
+    def receive(self) -> List[Answer]:
+        """Waits until something comes; the answers that are whole then. Raises CommandEnded at the output's end."""
+        read = os.read(self._out, READ_SIZE)
+        if not read:
+            self._raise_end()
+        if b"\n" not in read:
+            self._begun.append(read)
+            return []
+        lines = read.split(b"\n")
+        if self._begun:
+            lines[0] = b"".join([*self._begun, lines[0]])
+        last = lines.pop()
+        self._begun = [last] if last else []
+        return self._answers(lines)
+
+    def _answers(self, lines: List[bytes]) -> List[Answer]:
+        answers: List[Answer] = []
+        tree = self._tree
+        for line in lines:
+            if line.startswith(b"{"):
+                tree = line
+            elif line.startswith(b"steps "):
+                answers.append(tree)
+                tree = None
+            else:
+                answers.append(self._cause(line))
+                tree = None
+        self._tree = tree
+        return answers
+
+    def _cause(self, line: bytes) -> str:
+        found = FAULT.fullmatch(line)
+        if found is None:
+            self._begun = [line]
+            self._raise_end()
+        return found.group(1).decode()
+
+    def _raise_end(self) -> None:
+        written = b"".join(self._begun).decode("utf-8", "replace").strip()
+        if self.owner == os.getpid():
+            with contextlib.suppress(subprocess.TimeoutExpired):
+                self._process.wait(1)
+        self.close()
+        raise CommandEnded(self._process.returncode, written)
+
+    def close(self) -> None:
+        """Ends the process. In a process that was forked, this lets go of the pipes alone."""
+        if self._process.stdin is not None:
+            self._process.stdin.close()
+        self._process.stdout.close()
+        if self.owner == os.getpid():
+            self._process.kill()
+            self._process.wait()
+        else:
+            # It is no child of this process, which so mustn't wait for it.
+            self._process.returncode = 0
