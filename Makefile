@@ -11,11 +11,15 @@ VIM = syntax/rpl.vim ftdetect/rpl.vim ftplugin/rpl.vim compiler/rosie.vim
 # Emacs finds a package in the folder of this name at its start, below /usr and /usr/local.
 EMACS = emacs/site-lisp/elpa/rpl-mode-1.0
 
-.PHONY: build check try test compare bench install uninstall dist clean
+.PHONY: build lint check try test compare bench install uninstall dist clean
 
 # Proves the crates side by side and builds the program, where a source is newer than it. Stopped, it goes on from there at the next call.
 build:
 	tools/build
+
+# What reads the sources alone: the rules of style, the words of the documents, and shellcheck and pyflakes where they are installed.
+lint:
+	tests/run_lint
 
 # Between commits: proves the crates that changed and those above them, over what earlier checks kept; no edits, no tests.
 check:
@@ -29,6 +33,7 @@ try:
 
 # The proofs, the must-fail edits, the unit tests and the stored run, then the built program as a real process, and the manual.
 test:
+	tests/run_lint
 	tests/run_proofs
 	tests/run_build
 	tools/build
@@ -39,7 +44,6 @@ test:
 	tests/run_costs
 	tests/run_packages
 	tests/run_documents
-	tests/run_words
 	tests/run_messages
 	tests/run_regular
 	tests/run_tools
