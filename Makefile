@@ -102,7 +102,8 @@ uninstall:
 	rm -f $(VIM:%=$(SHARE)/vim/vimfiles/%) $(VIM:%=$(SHARE)/nvim/site/%)
 	rm -rf $(SHARE)/rosie $(SHARE)/doc/rosie $(SHARE)/$(EMACS)
 
-# What is installed, packed for machines without Rattle: a folder, a .tar.gz, and a Debian package where there is dpkg-deb, all in dist/.
+# What is installed, packed for machines without Rattle: a folder, a .tar.gz, a Debian package where there is dpkg-deb, and SHA256SUMS,
+# all in dist/.
 dist: build
 	tools/dist
 
