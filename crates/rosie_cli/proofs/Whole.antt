@@ -174,7 +174,7 @@ pub read-of : (r : Result Tally Ended) (s : Status) (W : Telling) (b d : Texts) 
 read-of (Ok tally) s W b d P c is goes = elim c.1 [ inl e ↦ goes (read_flags tally.stop tally.fault tally.hit (subst CameToEnd e is)) | inr e ↦ absurd (subst CameToEnd e is) ]
 read-of (Err E.NoMemory) s W b d P c is goes = absurd (subst CameToEnd c.1 is)
 read-of (Err E.WriteFault) s W b d P c is goes = absurd (subst CameToEnd c.1 is)
-read-of (Err (E.Cut why text)) s W b d P c is goes = elim c.1 [ inl e ↦ absurd (read_why why (subst CameToEnd e.0 is)) | inr e ↦ absurd (subst CameToEnd e.0 is) ]
+read-of (Err (E.Cut why text)) s W b d P c is goes = elim c.3 [ inl e ↦ absurd (read_why why (subst CameToEnd e.0 is)) | inr e ↦ absurd (subst CameToEnd e.0 is) ]
 
 -- the standard input is among the inputs where one of them has its name
 or_true : (b c : Bool) → c ≡ true → cond b true c ≡ true

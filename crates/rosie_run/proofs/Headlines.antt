@@ -2,13 +2,13 @@
 use Rattle.std.proofs.Common.{ℕ, ◌≡◌, ◌⊎◌, inl, inr, ◌+◌, Bool, true, false, List, ◌++◌, length, length-append, take, refl, sym, ◌∙◌, ap, subst, append_assoc, arith}
 use Rattle.std.specs.Prelude.{Result, Ok, Err, string_bytes}
 use Rattle.std.proofs.lemmas.Bool.{false≢true}
-use Rattle.rosie_io.specs.Counts.{Rose}
+use Rattle.rosie_io.specs.Counts.{Rose, capped}
 use Rattle.std.proofs.Math.Seq.{take-append_seam, take-append-add, take-length}
 use Rattle.rosie_run.specs.Causes.{OutputCause, ReadsCause}
 use Rattle.rosie_run.specs.Runs.{SourcesCause, WritesCause, CutShort, Runs}
 use Rattle.rosie_run.specs.Headline.{IsBehind, Reported, Left, in_the_run, at_the_end, Headline, IsComplete}
 use Rattle.rosie_run.specs.Outputs.{Telling, Texts, Wrote, IsFront, Fronts}
-use Rattle.rosie_run.specs.Report.{Piece, outs, errs, up_to_stop, has, is_hit, is_stop, is_fault, flags_status}
+use Rattle.rosie_run.specs.Report.{Piece, costs, outs, errs, up_to_stop, has, is_hit, is_stop, is_fault, flags_status}
 use Rattle.rosie_run.specs.Tallies.{tally_of}
 use Rattle.rosie_run.specs.Sources.{Still, NoFewer, RoseIn, Moment}
 use Rattle.rosie_run.specs.Closing.{stop_status, Stays, Closes, ClosesCause}
@@ -77,8 +77,8 @@ module _ (W : Telling) (all : List Piece) (Where : ReadStop → List ℕ → ℕ
   headline_why Y.ReadFault a d h = h
   headline_why Y.Spent a d h = h
 
-  headline_cut : (why : ReadStop) (text : List ℕ) (s : Status) (a b d : Texts) → CutShort W all Where why text a b → (W.out → d.out ≡ b.out) → ((s ≡ stop_status why) × (W.err → d.err ≡ b.err ++ text)) ⊎ ((s ≡ WriteFault) × (W.err → IsFront b.err d.err text)) → Headline s W (up_to_stop all) Where a d
-  headline_cut why text s a b d h out (inl e) =
+  headline_cut : (why : ReadStop) (text : List ℕ) (s : Status) (a b d : Texts) → CutShort W all Where why text a b → (W.out → d.out ≡ b.out) → (W.counts → d.number ≡ b.number) → d.steps ≡ b.steps → ((s ≡ stop_status why) × (W.err → d.err ≡ b.err ++ text)) ⊎ ((s ≡ WriteFault) × (W.err → IsFront b.err d.err text)) → Headline s W (up_to_stop all) Where a d
+  headline_cut why text s a b d h out number steps (inl e) =
       let first = first_done h.done (up_to_stop h.todo) (ap up_to_stop h.split ∙ up-append h.done h.todo h.goes_on) in
       subst (λ x. Headline x W (up_to_stop all) Where a d) (sym e.0) (headline_why why a d (record {
         file = h.file;
@@ -87,8 +87,10 @@ module _ (W : Telling) (all : List Piece) (Where : ReadStop → List ℕ → ℕ
         stood = h.stood;
         out = λ t. out t ∙ h.wrote.out t ∙ ap (λ ps. a.out ++ outs ps) (sym first);
         err = λ t. last_text a.err b.err d.err (errs h.done) text (h.wrote.err t) (e.1 t) ∙ ap (λ ps. a.err ++ (errs ps ++ text)) (sym first) ∙ ap (λ x. a.err ++ (errs (take (length h.done) (up_to_stop all)) ++ x)) h.says;
+        number = λ t. number t ∙ h.wrote.number t ∙ ap (λ ps. capped (a.number + length (outs ps))) (sym first);
+        steps = steps ∙ h.wrote.steps ∙ ap (λ ps. a.steps + costs ps) (sym first);
       }))
-  headline_cut why text s a b d h out (inr e) =
+  headline_cut why text s a b d h out number steps (inr e) =
       let first = first_done h.done (up_to_stop h.todo) (ap up_to_stop h.split ∙ up-append h.done h.todo h.goes_on) in
       subst (λ x. Headline x W (up_to_stop all) Where a d) (sym e.0) (at_the_end why h.file (length h.done) (behind_done h.done h.todo h.split h.goes_on) h.stood
       (λ t. subst (λ ps. IsFront a.out d.out (outs ps)) (sym first) (front_still a.out b.out d.out (outs h.done) (length (outs h.done), omega arith, h.wrote.out t ∙ ap (λ xs. a.out ++ xs) (sym (take-length (outs h.done)))) (out t)))
@@ -99,7 +101,7 @@ module _ (W : Telling) (all : List Piece) (Where : ReadStop → List ℕ → ℕ
   headline (Ok tally) s a b d r c = headline_ok tally s a b d r c.0 c.1
   headline (Err E.NoMemory) s a b d r c = subst (λ x. Headline x W (up_to_stop all) Where a d) (sym c.1) (fronts_still (up_to_stop all) a b d r c.0)
   headline (Err E.WriteFault) s a b d r c = subst (λ x. Headline x W (up_to_stop all) Where a d) (sym c.1) (in_the_run (fronts_still (up_to_stop all) a b d r c.0))
-  headline (Err (E.Cut why text)) s a b d r c = headline_cut why (string_bytes text) s a b d r c.0 c.1
+  headline (Err (E.Cut why text)) s a b d r c = headline_cut why (string_bytes text) s a b d r c.0 c.1 c.2 c.3
 
 output_from : (s : Status) (o0 o1 o2 e0 e1 e2 : ℕ) → o1 ≡ o0 → e1 ≡ e0 → OutputCause s o1 o2 e1 e2 → OutputCause s o0 o2 e0 e2
 output_from s o0 o1 o2 e0 e1 e2 p q h = subst (λ x. OutputCause s x o2 e0 e2) p (subst (λ x. OutputCause s o1 o2 x e2) q h)
@@ -123,11 +125,11 @@ reads-cause (Ok tally) s W b d i0 i1 f0 f1 c h = by c.1 where
   by (inr e) = subst (λ x. ReadsCause x i0 i1 f0 f1) (sym e) (few_of i0 i1 h.0, few_of f0 f1 h.1)
 reads-cause (Err E.NoMemory) s W b d i0 i1 f0 f1 c h = subst (λ x. ReadsCause x i0 i1 f0 f1) (sym c.1) h
 reads-cause (Err E.WriteFault) s W b d i0 i1 f0 f1 c h = subst (λ x. ReadsCause x i0 i1 f0 f1) (sym c.1) (few_of i0 i1 h.0, few_of f0 f1 h.1)
-reads-cause (Err (E.Cut Y.ReadFault text)) s W b d i0 i1 f0 f1 c h = by c.1 where
+reads-cause (Err (E.Cut Y.ReadFault text)) s W b d i0 i1 f0 f1 c h = by c.3 where
   by : ((s ≡ ReadFault) × (W.err → d.err ≡ b.err ++ string_bytes text)) ⊎ ((s ≡ WriteFault) × (W.err → IsFront b.err d.err (string_bytes text))) → ReadsCause s i0 i1 f0 f1
   by (inl e) = subst (λ x. ReadsCause x i0 i1 f0 f1) (sym e.0) h
   by (inr e) = subst (λ x. ReadsCause x i0 i1 f0 f1) (sym e.0) (h.0, h.1)
-reads-cause (Err (E.Cut Y.Spent text)) s W b d i0 i1 f0 f1 c h = by c.1 where
+reads-cause (Err (E.Cut Y.Spent text)) s W b d i0 i1 f0 f1 c h = by c.3 where
   by : ((s ≡ Spent) × (W.err → d.err ≡ b.err ++ string_bytes text)) ⊎ ((s ≡ WriteFault) × (W.err → IsFront b.err d.err (string_bytes text))) → ReadsCause s i0 i1 f0 f1
   by (inl e) = subst (λ x. ReadsCause x i0 i1 f0 f1) (sym e.0) h
   by (inr e) = subst (λ x. ReadsCause x i0 i1 f0 f1) (sym e.0) (few_of i0 i1 h.0, few_of f0 f1 h.1)

@@ -27,7 +27,7 @@ Closes (Ok tally) s W b d = Stays W b d × ((s ≡ flags_status tally.stop tally
 Closes (Err E.NoMemory) s W b d = Stays W b d × (s ≡ NoMemory)
 Closes (Err E.WriteFault) s W b d = Stays W b d × (s ≡ WriteFault)
 Closes (Err (E.Cut why text)) s W b d =
-    (W.out → d.out ≡ b.out)
+    (W.out → d.out ≡ b.out) × (W.counts → d.number ≡ b.number) × (d.steps ≡ b.steps)
     × (((s ≡ stop_status why) × (W.err → d.err ≡ b.err ++ string_bytes text))
     ⊎ ((s ≡ WriteFault) × (W.err → IsFront b.err d.err (string_bytes text))))
 

@@ -1,17 +1,17 @@
 -- What the answer of a run says of its report.
 use Rattle.rosie_run.specs.declared.ended.ReadStop.TheVariants as Y
-use Rattle.rosie_io.specs.Counts.{Rose}
+use Rattle.rosie_io.specs.Counts.{Rose, capped}
 use Rattle.rosie_io.specs.Opening.{file_of}
 use Rattle.rosie_run.specs.Inputs.{reads_standard}
 use Rattle.rosie_run.specs.Lines.{input_fault, stop_text}
 use Rattle.rosie_run.specs.Outputs.{Failures, Fronts, IsFront, Telling, Texts, Wrote}
-use Rattle.rosie_run.specs.Report.{Piece, errs, has, is_hit, is_stop, outs, status_of}
+use Rattle.rosie_run.specs.Report.{Piece, costs, errs, has, is_hit, is_stop, outs, status_of}
 use Rattle.rosie_run.specs.Sources.{RoseIn, Span}
 use Rattle.rosie_run.specs.declared.ended.ReadStop.{ReadStop}
 use Rattle.rosie_run.specs.declared.status.Status.TheVariants.{Matched, NoMatch, Refused, LineFault, ReadFault}
 use Rattle.rosie_run.specs.declared.status.Status.TheVariants.{WriteFault, NoMemory, Spent}
 use Rattle.rosie_run.specs.declared.status.Status.{Status}
-use Rattle.std.specs.Prelude.{◌++◌, ◌<◌, ◌^◌, ◌∷◌, ◌≡◌, ◌≤◌, List, Some, false, length, take, true, ℕ}
+use Rattle.std.specs.Prelude.{◌++◌, ◌+◌, ◌<◌, ◌^◌, ◌∷◌, ◌≡◌, ◌≤◌, List, Some, false, length, take, true, ℕ}
 
 -- all is as the report has it: the status, the texts and the steps
 pub record Reported (W : Telling) (ps : List Piece) (answer : Status) (a b : Texts) : Type 0 where
@@ -32,6 +32,8 @@ pub record Left (W : Telling) (ps : List Piece) (Where : ReadStop → List ℕ �
   pub stood : Where why file k
   pub out : W.out → b.out ≡ a.out ++ outs (take k ps)
   pub err : W.err → b.err ≡ a.err ++ (errs (take k ps) ++ input_fault file (stop_text why))
+  pub number : W.counts → b.number ≡ capped (a.number + length (outs (take k ps)))
+  pub steps : b.steps ≡ a.steps + costs (take k ps)
 
 -- a write or a flush failed: each output has a front of its text, or of what is left where reading ended the run
 pub data WriteFailed (W : Telling) (ps : List Piece) (Where : ReadStop → List ℕ → ℕ → Type 0) (a b : Texts)
