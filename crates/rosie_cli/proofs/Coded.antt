@@ -17,7 +17,7 @@ use Rattle.rosie_prepare.proofs.OneAnswer.{one_answer}
 use Rattle.rosie_prepare.specs.Lines.{compile_line}
 use Rattle.rosie_prepare.specs.Prepared.{IsPrepared, OrLine as OrRefused, Ready, Tree, PatternRequest, bodies}
 use Rattle.rosie_run.specs.Inputs.{file_pieces, inputs_pieces, is_standard, left_after, one_pieces}
-use Rattle.rosie_run.specs.Lines.{Makes, input_pieces, line_fault, line_piece, pieces_from}
+use Rattle.rosie_run.specs.Lines.{Makes, input_pieces, line_message, line_piece, pieces_from}
 use Rattle.rosie_run.specs.Report.{Piece, fault_piece, up_to_stop}
 use Rattle.rosie_run.specs.declared.lines.Reading.{Reading}
 use Rattle.rosie_session.proofs.Paying.{fit_prepared}
@@ -140,19 +140,19 @@ module _ (m n : Makes) (r : Reading)
   same_text file k line true e p = alike file k line e
   same_text file k line false e p = refl
 
-  same_line : (file : List ℕ) (k : ℕ) (line : List ℕ) → line_piece m r.most file k line ≡ line_piece n r.most file k line
+  same_line : (file : List ℕ) (k : ℕ) (line : List ℕ) → line_piece m r file k line ≡ line_piece n r file k line
   unfolding line_piece
   same_line file k line =
-      ap (cond (nat_lt r.most (length line)) (fault_piece (line_fault file k (codes "line too long"))))
-      (same_text file k line (is_utf8 line) refl (fault_piece (line_fault file k (codes "not UTF-8"))))
+      ap (cond (nat_lt r.most (length line)) (fault_piece (line_message r.tool file k (codes "line too long"))))
+      (same_text file k line (is_utf8 line) refl (fault_piece (line_message r.tool file k (codes "not UTF-8"))))
 
   same_lines : (file : List ℕ) (k : ℕ) (ls : List (List ℕ))
-      → pieces_from m r.most file k ls ≡ pieces_from n r.most file k ls
+      → pieces_from m r file k ls ≡ pieces_from n r file k ls
   unfolding pieces_from
   same_lines file k [] = refl
   same_lines file k (line ∷ more) =
-      ap (λ x. x ∷ pieces_from m r.most file (k + 1) more) (same_line file (k + 1) line)
-      ∙ ap (λ xs. line_piece n r.most file (k + 1) line ∷ xs) (same_lines file (k + 1) more)
+      ap (λ x. x ∷ pieces_from m r file (k + 1) more) (same_line file (k + 1) line)
+      ∙ ap (λ xs. line_piece n r file (k + 1) line ∷ xs) (same_lines file (k + 1) more)
 
   same_file : (path : List ℕ) (o : Option (List ℕ)) → file_pieces m r path o ≡ file_pieces n r path o
   same_file path None = refl

@@ -10,6 +10,7 @@ use Rattle.rosie_run.specs.Inputs.{is_standard, file_pieces, one_pieces, left_af
 use Rattle.rosie_run.specs.Lines.{Makes, line_fault, line_piece, pieces_from, input_pieces}
 use Rattle.rosie_run.specs.Report.{Piece, has, is_stop, is_fault, fault_piece, text_piece}
 use Rattle.rosie_run.specs.declared.lines.Reading.{Reading}
+use Rattle.rosie_run.specs.declared.mark.Mark.{Mark}
 use Rattle.rosie_run.proofs.Onward.{lines_none}
 use Rattle.rosie_run.proofs.Pieces.{has-nil, has-append, has-up, up-all}
 use Rattle.rosie_jobs.specs.Lines.{reading}
@@ -22,7 +23,6 @@ use Rattle.rosie_cli.specs.Plans.{Plan, Says, Writes, Tries, Reads, pieces, Samp
 use Rattle.rosie_sample.specs.Counting.{counts_piece, line_pieces, muted, sample_pieces}
 use Rattle.rosie_sample.specs.Lines.{sample}
 use Rattle.rosie_sample.specs.Runs.{Sampled}
-use Rattle.rosie_sample.proofs.Counting.{has-muted}
 use Rattle.rosie_session.proofs.Sessions.{never_stops}
 use Rattle.rosie_cli.specs.Promises.{IsPromised}
 use Rattle.rosie_cli.specs.Sound.{SoundFile, IsSound}
@@ -59,7 +59,7 @@ module _ (m : Maker) (due : Pays m) (whole : Bool) where
   abbrev r : Reading
   r = reading whole
 
-  good_line : (file : List ℕ) (n : ℕ) (line : List ℕ) → IsAllowed m line → IsGood (line_piece makes r.most file n line)
+  good_line : (file : List ℕ) (n : ℕ) (line : List ℕ) → IsAllowed m line → IsGood (line_piece makes r file n line)
   unfolding line_piece
   good_line file n line a =
       let h = short_line m line a in
@@ -70,11 +70,11 @@ module _ (m : Maker) (due : Pays m) (whole : Bool) where
       (text_line m line a) (good_made m due file n line a))
 
   clean_lines : (file : List ℕ) (n : ℕ) (ls : List (List ℕ)) → All (IsAllowed m) ls
-      → Clean (pieces_from makes r.most file n ls)
+      → Clean (pieces_from makes r file n ls)
   unfolding pieces_from
   clean_lines file n [] a = clean_nil
   clean_lines file n (line ∷ more) a =
-      clean_cons (line_piece makes r.most file (n + 1) line) (pieces_from makes r.most file (n + 1) more)
+      clean_cons (line_piece makes r file (n + 1) line) (pieces_from makes r file (n + 1) more)
       (good_line file (n + 1) line (a 0 line (omega arith)))
       (clean_lines file (n + 1) more (λ k d h. a (suc k) d (omega arith)))
 
@@ -119,6 +119,11 @@ module _ (m : Maker) (due : Pays m) (whole : Bool) where
       (left_allowed left name (reads_standard more) (is_standard name) refl here)
       (λ front back n e isn't. k (name ∷ front) back n (ap (λ xs. name ∷ xs) e) isn't))
 
+has_muted : (test : Mark → Bool) (ps : List Piece) → has test (map muted ps) ≡ has test ps
+unfolding has
+has_muted test [] = refl
+has_muted test (p ∷ ps) = ap (λ b. test p.mark || b) (has_muted test ps)
+
 clean_sample : (r : Sampled) → Pays r.maker → All (IsAllowed r.maker) (sample r.seed r.lines)
     → Clean (sample_pieces (makes_of r.maker) r.seed r.lines)
 unfolding sample_pieces
@@ -126,7 +131,7 @@ clean_sample r due h =
     let all = line_pieces (makes_of r.maker) r.seed r.lines in
     let clean : Clean all = clean_lines r.maker due false (codes "-") 0 (sample r.seed r.lines) h in
     clean_append (map muted all) (counts_piece r.lines all ∷ [])
-    (record { stays = has-muted is_stop all ∙ clean.stays; answers = has-muted is_fault all ∙ clean.answers })
+    (record { stays = has_muted is_stop all ∙ clean.stays; answers = has_muted is_fault all ∙ clean.answers })
     (clean_cons (counts_piece r.lines all) [] (refl, refl) clean_nil)
 
 plan_clean : (plan : Plan) (tree : List (List ℕ × List ℕ)) (input : List ℕ) → IsPromised plan

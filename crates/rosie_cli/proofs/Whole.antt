@@ -154,7 +154,7 @@ planned-goes s p plan P is h = subst (λ x. GoesOn s (ReadsInput x → P)) (sym 
 
 -- a read that failed on the way to the plan
 pub unread : (e : Ended) (W : Telling) (p : Planned) (tree : List (List ℕ × List ℕ)) (path : List ℕ) (i f : Span)
-    (a : Texts) → (W.counts → a.number ≤ 2 ^ 64 - 1) → IsCutOf e Y.ReadFault path → Contains p.asked path
+    (a : Texts) → (W.counts → a.number ≤ 2 ^ 64 - 1) → IsCutOf e W.tool Y.ReadFault path → Contains p.asked path
     → RoseIn f.before f.after → Breaks e W (pieces p.plan tree i.before.rest) (stood p tree i f) a a
 unread e W p tree path i f a fits is some rose =
     let all = pieces p.plan tree i.before.rest in

@@ -13,6 +13,7 @@ use Rattle.rosie_run.specs.Outputs.{Failures, failures}
 use Rattle.rosie_run.specs.Report.{Piece}
 use Rattle.rosie_run.specs.declared.ended.ReadStop.{ReadStop}
 use Rattle.rosie_run.specs.declared.status.Status.{Status}
+use Rattle.rosie_run.specs.declared.tool.Tool.TheVariants.{Rosie}
 use Rattle.rpl_package.specs.Asking.{IsTold}
 use Rattle.rosie_cli.specs.Plans.{Planned, ReadsInput, inputs_of, stood}
 use Rattle.rosie_cli.specs.Sound.{IsSound}
@@ -33,7 +34,7 @@ abbrev pub call :
     → K.Ghosts E → F → F → I → I → O → O → E → E → ℕ → ℕ → Status → Call
 call comes F I O E f f' i i' o o' e e' n n' answer = record {
   comes = comes;
-  run = course_of F I O E f f' i i' o o' e e' n n';
+  run = course_of Rosie F I O E f f' i i' o o' e e' n n';
   failed = failures O E o e;
   fails = failures O E o' e';
   answer = answer;

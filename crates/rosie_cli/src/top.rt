@@ -10,6 +10,7 @@ ghost use Rattle.rosie_run.specs.Runs.{WritesCause, Runs, GoesOn, IsNoCut};
 ghost use Rattle.rosie_run.specs.Outputs.{shown, telling};
 ghost use Rattle.rosie_run.specs.Report.{stop_piece};
 ghost use Rattle.rosie_run.specs.Where.{Nowhere};
+ghost use Rattle.rosie_run.specs.declared.tool.Tool.TheVariants.{Rosie};
 ghost use Rattle.rpl_package.specs.Asking.{IsTold};
 ghost use Rattle.rosie_words.specs.declared.command.What.TheVariants as W;
 ghost use Rattle.rosie_cli.specs.Planned.{IsPlanned, IsPlannedAs};
@@ -28,7 +29,7 @@ use rosie_io::{Files, Sink, Source};
 use rosie_jobs::MAX_LINE_BYTES;
 use rosie_prepare::Unready;
 use rosie_run::{
-    Ended, Inputs, Mark, Outputs, ReadStop, Reading, Status, Tally, Wanted, cut, finish,
+    Ended, Inputs, Mark, Outputs, ReadStop, Reading, Status, Tally, Tool, Wanted, cut, finish,
     run_inputs, say,
 };
 use rosie_session::run_session;
@@ -44,6 +45,7 @@ fn reading(whole: bool) -> Reading
     ensures { result ≡ reading whole }
 {
     Reading {
+        tool: Tool::Rosie,
         whole,
         most: MAX_LINE_BYTES,
     }
@@ -63,12 +65,17 @@ fn outputs_of<'a, O: Sink, E: Sink, L: Ledger>(
     ensures err { result.err.now ≡ err.old }
     ensures steps { result.steps.now ≡ steps.old }
 {
-    Outputs { out, err, steps }
+    Outputs {
+        out,
+        err,
+        steps,
+        pending: false,
+    }
 }
 
 /// Refuses the words, with this line.
 fn refuse<O: Sink, E: Sink>(line: String, out: &mut O, err: &mut E) -> Result<Tally, Ended>
-    ensures runs { (n : ℕ) → Runs result (telling O.Sink E.Sink)
+    ensures runs { (n : ℕ) → Runs result (telling Rosie O.Sink E.Sink)
         (stop_piece (string_bytes line) ∷ []) Nowhere
         (shown O.Sink E.Sink out.old err.old n)
         (shown O.Sink E.Sink out.new err.new n) }
@@ -88,8 +95,8 @@ fn run_plan<F: Files, I: Source, O: Sink, E: Sink, L: Ledger>(
 ) -> Result<Tally, Ended>
     ensures same_inputs { SameInputs inputs.old inputs.new }
     ensures same_outputs { SameOutputs outputs.old outputs.new }
-    ensures runs { RunsPlan result (plan_of plan.old)
-        (course F.Source I.Source O.Sink E.Sink inputs.old inputs.new outputs.old outputs.new) }
+    ensures runs { RunsPlan result (plan_of plan.old) (course Rosie F.Source I.Source O.Sink E.Sink
+        inputs.old inputs.new outputs.old outputs.new) }
     ensures rest { KnowsInputs (plan_of plan.old) F.tells I.tells (I.rest inputs.old.input.now)
         → GoesOn result (ReadsInput (plan_of plan.old) → I.rest inputs.new.input.now ≡ []) }
     ensures cause { InputsCause F.Source I.Source result inputs.old inputs.new }
@@ -102,7 +109,7 @@ fn run_plan<F: Files, I: Source, O: Sink, E: Sink, L: Ledger>(
     match plan {
         Plan::Answer(text) => say(outputs.out, outputs.err, text.as_bytes(), &[], Mark::Hit),
         Plan::Write(bytes) => say(outputs.out, outputs.err, bytes.as_slice(), &[], Mark::Hit),
-        Plan::Test(suite) => suite.run(alloc, outputs.out, outputs.err, outputs.steps),
+        Plan::Test(suite) => suite.run(alloc, outputs),
         Plan::Match { job, whole, names } => {
             let reading = reading(*whole);
             let names = names.as_slice();
@@ -113,7 +120,7 @@ fn run_plan<F: Files, I: Source, O: Sink, E: Sink, L: Ledger>(
             let names = names.as_slice();
             run_inputs(alloc, job, Wanted { names, reading }, inputs, outputs)
         }
-        Plan::Sample(run) => run.run(alloc, outputs.out, outputs.err, outputs.steps),
+        Plan::Sample(run) => run.run(outputs),
     }
 }
 
@@ -128,7 +135,8 @@ fn run_planned<F: Files, I: Source, O: Sink, E: Sink, L: Ledger>(
     ensures same_inputs { SameInputs inputs.old inputs.new }
     ensures same_outputs { SameOutputs outputs.old outputs.new }
     ensures runs { OfPlans command F.tells (F.tree inputs.old.files.now) (RunsPlanned result
-        (course F.Source I.Source O.Sink E.Sink inputs.old inputs.new outputs.old outputs.new)) }
+        (course Rosie F.Source I.Source O.Sink E.Sink inputs.old inputs.new outputs.old
+        outputs.new)) }
     ensures rest { OfPlans command F.tells (F.tree inputs.old.files.now)
         (λ p. KnowsInputs p.plan F.tells I.tells (I.rest inputs.old.input.now)
         → GoesOn result (ReadsInput p.plan → I.rest inputs.new.input.now ≡ [])) }
@@ -145,7 +153,10 @@ fn run_planned<F: Files, I: Source, O: Sink, E: Sink, L: Ledger>(
         Err(unready) => match unready {
             Unready::NoMemory => Err(Ended::NoMemory),
             Unready::Refused(line) => refuse(line, outputs.out, outputs.err),
-            Unready::ReadFault(path) => Err(cut(alloc, ReadStop::ReadFault, text_of(&path))),
+            Unready::ReadFault(path) => {
+                let file = text_of(&path);
+                Err(cut(alloc, Tool::Rosie, ReadStop::ReadFault, file))
+            }
         },
     }
 }

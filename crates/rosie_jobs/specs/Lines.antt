@@ -6,6 +6,7 @@ use Rattle.rosie_run.specs.Lines.{Makes, line_fault}
 use Rattle.rosie_run.specs.Report.{Piece}
 use Rattle.rosie_run.specs.declared.lines.Reading.{Reading}
 use Rattle.rosie_run.specs.declared.mark.Mark.TheVariants.{Hit, Miss, Fault}
+use Rattle.rosie_run.specs.declared.tool.Tool.TheVariants.{Rosie}
 use Rattle.rpl_encode.specs.Answer.{max_answer_bytes}
 use Rattle.rpl_encode.specs.Print.{print}
 use Rattle.rpl_core.specs.Core.{Core}
@@ -24,7 +25,7 @@ pub record Job : Type 0 where
 
 -- how lines are read: the longest has 16,777,216 bytes
 abbrev pub reading : Bool → Reading
-reading whole = record { whole = whole; most = 16777216 }
+reading whole = record { tool = Rosie; whole = whole; most = 16777216 }
 
 -- the steps that a line may take: those that are given, or a million, and a thousand for each of its characters
 abbrev pub budget_or : Option ℕ → List ℕ → ℕ

@@ -1,6 +1,6 @@
 //! What `trace` makes of a line.
 
-ghost use Rattle.std.specs.Prelude.{◌≡◌, ◌++◌, ◌≤◌, ◌^◌, codes, length, string_bytes, IfOk};
+ghost use Rattle.std.specs.Prelude.{⊤, ◌≡◌, ◌++◌, ◌≤◌, ◌^◌, codes, length, string_bytes, IfOk};
 ghost use Rattle.std.specs.Prelude.{if◌then◌else◌, is_some};
 ghost use Rattle.std.specs.Fmt.{decimal};
 ghost use Rattle.std.specs.Str.{encode_utf8_all};
@@ -70,6 +70,8 @@ impl LineJob for TraceJob {
     ghost use Rattle.rosie_jobs.specs.Makers.{makes_of};
 
     ghost makes = { λ j. makes_of (tracer_of j) };
+
+    ghost idle = { ⊤ };
 
     ghost out_text = { λ j. string_bytes j.out };
 

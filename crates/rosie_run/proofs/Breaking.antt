@@ -1,19 +1,17 @@
 -- A run that comes to its end, or breaks off: from one part of it to all of it.
 use Rattle.std.proofs.Common.{ℕ, ◌≡◌, ◌+◌, ◌-◌, ◌^◌, ◌≤◌, Bool, true, false, cond, List, [], ◌∷◌, ◌++◌, length, refl, sym, ◌∙◌, ap, subst, arith}
-use Rattle.std.specs.Prelude.{Some, None, Result, IfErr, Ok, Err, codes, string_bytes}
+use Rattle.std.specs.Prelude.{Some, None, Result, IfErr, IsErrAnd, Ok, Err, codes, string_bytes}
 use Rattle.rosie_io.specs.Counts.{Rose}
 use Rattle.rosie_io.specs.Opening.{file_of}
-use Rattle.rosie_run.specs.Runs.{FilesCause, CutShort, Breaks, Runs, IsCutOf, IsEndedBy, IsNoCut}
+use Rattle.rosie_run.specs.Runs.{FilesCause, CutShort, Breaks, Runs, IsCutOf, IsNoCut}
 use Rattle.rosie_run.specs.Inputs.{is_standard, file_pieces, one_pieces}
-use Rattle.rosie_run.specs.Lines.{Makes, input_pieces, input_fault}
+use Rattle.rosie_run.specs.Lines.{Makes, input_message, input_pieces}
 use Rattle.rosie_run.specs.Outputs.{Telling, Texts, Wrote, IsFront, Fronts}
 use Rattle.rosie_run.specs.Report.{Piece, has, is_stop, up_to_stop, stop_piece}
 use Rattle.rosie_run.specs.Tallies.{tally_of, counted, added}
 use Rattle.rosie_run.specs.Sources.{Moment, Ends, TookMany}
 use Rattle.rosie_run.specs.Where.{Nowhere, not_opened, opened, InNamed}
 use Rattle.rosie_run.specs.inside.Where.{InFileNamed, InOne, of_standard, of_file}
-use Rattle.rosie_run.specs.inside.Causes.{SourceEnds, SpentEnds}
-use Rattle.rosie_run.specs.inside.Passing.{BreaksInput}
 use Rattle.rosie_io.specs.Lines.{lines}
 use Rattle.rosie_run.specs.declared.ended.Ended.{Ended}
 use Rattle.rosie_run.specs.declared.ended.Ended.TheVariants as E
@@ -21,10 +19,8 @@ use Rattle.rosie_run.specs.declared.ended.ReadStop.{ReadStop}
 use Rattle.rosie_run.specs.declared.ended.ReadStop.TheVariants.{ReadFault, Spent}
 use Rattle.rosie_run.specs.declared.lines.Reading.{Reading}
 use Rattle.rosie_run.specs.declared.tally.Tally.{Tally}
-use Rattle.rosie_run.specs.declared.trouble.Trouble.{Trouble}
-use Rattle.rosie_run.specs.declared.trouble.Trouble.TheVariants as T
 use Rattle.rosie_run.proofs.Onward.{up_alone, lines_none, pieces_none}
-use Rattle.rosie_run.proofs.Pieces.{up_nil, outs-one, errs-one, has-nil, tally-one, tally-append, up-append, wrote-none, fronts-whole, fronts-longer}
+use Rattle.rosie_run.proofs.Pieces.{up_nil, outs-one, errs-one, has-nil, tally-one, tally-append, up-append, wrote-none, fronts-none, fronts-whole, fronts-longer}
 
 pub add-none : (n : ℕ) → n ≡ n + 0
 add-none n = omega arith
@@ -32,7 +28,7 @@ add-none n = omega arith
 -- a run that isn't ended by reading leaves the counts of the files
 pub files-still : (s : Result Tally Ended) (f0 f1 : Moment) → IfErr s IsNoCut → f1.faults ≡ f0.faults → f1.opens ≡ f0.opens → FilesCause s f0 f1
 files-still (Ok tally) f0 f1 none f o = record { faults = f; opens = o }
-files-still (Err E.NoMemory) f0 f1 none f o = record { faults = omega arith; opens = omega arith }
+files-still (Err E.NoMemory) f0 f1 none f o = record { faults = f; opens = o }
 files-still (Err E.WriteFault) f0 f1 none f o = record { faults = f; opens = o }
 files-still (Err (E.Cut why text)) f0 f1 none f o = absurd none
 
@@ -57,6 +53,11 @@ module _ (W : Telling) where
       let whole : up_to_stop all ≡ done ++ up_to_stop todo = ap up_to_stop split ∙ up-append done todo goes in
       subst (λ ps. Fronts W ps a b) (sym whole) (fronts-longer W done (up_to_stop todo) a b (fronts-whole W done a b w))
 
+  -- there was no memory for it
+  pub memory-runs : (r : Result Tally Ended) (all : List Piece) (P : ReadStop → List ℕ → ℕ → Type 0) (a : Texts) → IsErrAnd r (λ x. x ≡ E.NoMemory) → Runs r W all P a a
+  memory-runs (Ok tally) all P a h = absurd h
+  memory-runs (Err e) all P a h = subst (λ x. Breaks x W all P a a) (sym h) (fronts-none W (up_to_stop all) a)
+
   -- it says less of where reading stood
   pub breaks-weaken : (e : Ended) (all : List Piece) (P Q : ReadStop → List ℕ → ℕ → Type 0) (a b : Texts) → ((why : ReadStop) (file : List ℕ) (k : ℕ) → P why file k → Q why file k) → Breaks e W all P a b → Breaks e W all Q a b
   breaks-weaken E.NoMemory all P Q a b f h = h
@@ -68,19 +69,11 @@ module _ (W : Telling) where
   runs-weaken (Err e) all P Q a b f h = breaks-weaken e all P Q a b f h
 
   -- the end of a run that reading ended
-  pub breaks-cut : (e : Ended) (why : ReadStop) (name : List ℕ) (all done todo : List Piece) (P : ReadStop → List ℕ → ℕ → Type 0) (a b : Texts) → IsCutOf e why name → all ≡ done ++ todo → has is_stop done ≡ false → Wrote W done a b → P why name (length done) → Breaks e W all P a b
+  pub breaks-cut : (e : Ended) (why : ReadStop) (name : List ℕ) (all done todo : List Piece) (P : ReadStop → List ℕ → ℕ → Type 0) (a b : Texts) → IsCutOf e W.tool why name → all ≡ done ++ todo → has is_stop done ≡ false → Wrote W done a b → P why name (length done) → Breaks e W all P a b
   breaks-cut E.NoMemory why name all done todo P a b is split goes w p = fronts-cut all done todo a b split goes w
   breaks-cut E.WriteFault why name all done todo P a b is split goes w p = absurd is
   breaks-cut (E.Cut w' text) why name all done todo P a b is split goes w p =
       subst (λ x. CutShort W all P x (string_bytes text) a b) (sym is.0) (record { file = name; done = done; todo = todo; split = split; goes_on = goes; wrote = w; says = is.1; stood = p })
-
-  pub breaks-input : (trouble : Trouble) (e : Ended) (name : List ℕ) (all : List Piece) (whole : Bool) (m0 m1 : Moment) (a b : Texts) → IsEndedBy trouble e name → SourceEnds trouble m0.faults m1.faults → SpentEnds trouble m0.taken m1.taken → BreaksInput trouble W all whole m0.rest m1.rest a b → Breaks e W all (InNamed name whole m0 m1) a b
-  breaks-input T.NoMemory e name all whole m0 m1 a b is f s h = subst (λ x. Breaks x W all (InNamed name whole m0 m1) a b) (sym is) h
-  breaks-input T.WriteFault e name all whole m0 m1 a b is f s h = subst (λ x. Breaks x W all (InNamed name whole m0 m1) a b) (sym is) h
-  breaks-input T.ReadFault e name all whole m0 m1 a b is f s h =
-      breaks-cut e ReadFault name all h.done h.todo (InNamed name whole m0 m1) a b is h.split h.goes_on h.wrote (refl, record { got = h.got; ends = f.1; took = h.took; count = h.count; long = λ e. absurd (cc) })
-  breaks-input T.Spent e name all whole m0 m1 a b is f s h =
-      breaks-cut e Spent name all h.0.done h.0.todo (InNamed name whole m0 m1) a b is h.0.split h.0.goes_on h.0.wrote (refl, record { got = h.0.got; ends = s; took = h.0.took; count = h.0.count; long = λ _. h.1 })
 
 ends_from : (why : ReadStop) (m0 m m1 : Moment) → m.faults ≡ m0.faults → m.taken ≡ m0.taken → Ends why m m1 → Ends why m0 m1
 ends_from ReadFault m0 m m1 f t h = subst (λ x. Rose x m1.faults) f h
@@ -97,12 +90,12 @@ module _ (W : Telling) (makes : Makes) (r : Reading) (path : List ℕ) (tree : L
       (breaks-weaken W e (input_pieces makes r path f.rest) (InNamed path r.whole f f1) (InFileNamed path tree r.whole f0 f1) a b (of_opened is faults taken opens opens1) h)
 
 module _ (W : Telling) (makes : Makes) (r : Reading) (path : List ℕ) (tree : List (List ℕ × List ℕ)) (f0 f1 : Moment) where
-  pub runs-missing : (s : Result Tally Ended) (text : List ℕ) (a b : Texts) → file_of path tree ≡ None → text ≡ input_fault path (codes "no such file") → Runs s W (stop_piece text ∷ []) Nowhere a b → Runs s W (file_pieces makes r path (file_of path tree)) (InFileNamed path tree r.whole f0 f1) a b
+  pub runs-missing : (s : Result Tally Ended) (text : List ℕ) (a b : Texts) → file_of path tree ≡ None → text ≡ input_message r.tool path (codes "no such file") → Runs s W (stop_piece text ∷ []) Nowhere a b → Runs s W (file_pieces makes r path (file_of path tree)) (InFileNamed path tree r.whole f0 f1) a b
   runs-missing s text a b is e h =
       subst (λ o. Runs s W (file_pieces makes r path o) (InFileNamed path tree r.whole f0 f1) a b) (sym is)
       (subst (λ x. Runs s W (stop_piece x ∷ []) (InFileNamed path tree r.whole f0 f1) a b) e (runs-weaken W s (stop_piece text ∷ []) Nowhere (InFileNamed path tree r.whole f0 f1) a b (λ why file k h'. absurd h') h))
 
-  pub breaks-failed : (e : Ended) (a : Texts) → (W.counts → a.number ≤ 2 ^ 64 - 1) → IsCutOf e ReadFault path → Rose f0.opens f1.opens → Breaks e W (file_pieces makes r path (file_of path tree)) (InFileNamed path tree r.whole f0 f1) a a
+  pub breaks-failed : (e : Ended) (a : Texts) → (W.counts → a.number ≤ 2 ^ 64 - 1) → IsCutOf e W.tool ReadFault path → Rose f0.opens f1.opens → Breaks e W (file_pieces makes r path (file_of path tree)) (InFileNamed path tree r.whole f0 f1) a a
   breaks-failed e a fits is rose =
       breaks-cut W e ReadFault path (file_pieces makes r path (file_of path tree)) [] (file_pieces makes r path (file_of path tree)) (InFileNamed path tree r.whole f0 f1) a a is refl (has-nil is_stop) (wrote-none W a a refl fits) (refl, not_opened refl rose refl)
 
@@ -116,7 +109,7 @@ module _ (W : Telling) (makes : Makes) (r : Reading) (name : List ℕ) (tree : L
   -- the standard input a second time
   pub again : (a : Texts) (t : Tally) → is_standard name ≡ true → left ≡ [] → (W.counts → a.number ≤ 2 ^ 64 - 1) → t ≡ tally_of [] → Wrote W (up_to_stop (one_pieces makes r tree left name)) a a × (t ≡ tally_of (up_to_stop (one_pieces makes r tree left name)))
   again a t is none fits e =
-      let z : one_pieces makes r tree left name ≡ [] = one_standard is ∙ pieces_none makes r.most name 0 (lines r.whole left) (ap (lines r.whole) none ∙ lines_none r.whole) in
+      let z : one_pieces makes r tree left name ≡ [] = one_standard is ∙ pieces_none makes r name 0 (lines r.whole left) (ap (lines r.whole) none ∙ lines_none r.whole) in
       let u : up_to_stop (one_pieces makes r tree left name) ≡ [] = ap up_to_stop z ∙ up_nil in
       (subst (λ ps. Wrote W ps a a) (sym u) (wrote-none W a a refl fits), e ∙ ap tally_of (sym u))
 

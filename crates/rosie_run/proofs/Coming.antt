@@ -1,104 +1,133 @@
 -- What is made of the answer of a reader, for each answer.
-use Rattle.std.proofs.Common.{ℕ, ◌≡◌, ◌+◌, false, List, [], Result, Ok, Err, Option, None, Some, string_bytes, IfErr, refl, ◌∙◌, ap, subst}
-use Rattle.rosie_io.specs.Answering.{Passes, Numbers, Stops, HasCause}
+use Rattle.std.proofs.Common.{ℕ, ◌≡◌, ◌+◌, false, true, List, [], ◌∷◌, Result, Ok, Err, Option, None, Some, refl, sym, ◌∙◌, ap, subst}
+use Rattle.std.specs.Prelude.{IsErrAnd, codes}
+use Rattle.rosie_io.specs.Answering.{HasCause, Numbers, Passes, Stops}
+use Rattle.rosie_io.specs.Gathering.{Reads, Splits, left}
+use Rattle.rosie_io.specs.Held.{Held}
+use Rattle.rosie_io.specs.Lines.{lines}
 use Rattle.rosie_io.specs.Reader.{Reader}
+use Rattle.rosie_io.specs.declared.outside.Source.{Ghosts}
 use Rattle.rosie_io.specs.declared.reader.Line.{Line}
+use Rattle.rosie_io.specs.declared.reader.Line.TheVariants as L
 use Rattle.rosie_io.specs.declared.reader.LineFault.{LineFault}
 use Rattle.rosie_io.specs.declared.reader.LineFault.TheVariants as F
-use Rattle.rosie_run.specs.Lines.{Makes}
-use Rattle.rosie_run.specs.Made.{IsMade}
-use Rattle.rosie_run.specs.Report.{Piece}
-use Rattle.rosie_run.specs.declared.lines.Made.{Made}
-use Rattle.rosie_run.specs.declared.lines.Made.TheVariants as M
-use Rattle.rosie_run.specs.declared.mark.Mark.TheVariants.{Fault}
-use Rattle.rosie_run.specs.declared.trouble.Trouble.{Trouble}
-use Rattle.rosie_run.specs.declared.trouble.Trouble.TheVariants as T
-use Rattle.rosie_run.specs.inside.Causes.{SourceCause, IsOfReading}
-use Rattle.rosie_run.specs.inside.Passing.{ComesOf, CountsLine, IsNoReadFault, MakesLine, MakesPiece, StopsLine, TellsFault}
-use Rattle.rosie_run.proofs.OneLine.{text-same, long-made, long-cost, no-text-made, no-text-cost}
+use Rattle.rosie_run.specs.Going.{CutBy, Gives, OnPiece, ReadsOn, count_of, end_of, how_of}
+use Rattle.rosie_run.specs.Lines.{Makes, line_message, line_piece, pieces_from}
+use Rattle.rosie_run.specs.Report.{Piece, fault_piece}
+use Rattle.rosie_run.specs.declared.ended.Ended.{Ended}
+use Rattle.rosie_run.specs.declared.ended.Ended.TheVariants as E
+use Rattle.rosie_run.specs.declared.ended.ReadStop.{ReadStop}
+use Rattle.rosie_run.specs.declared.ended.ReadStop.TheVariants as Y
+use Rattle.rosie_run.specs.declared.lines.Reading.{Reading}
+use Rattle.rosie_run.specs.declared.mark.Mark.{Mark}
+use Rattle.rosie_run.specs.declared.tool.Tool.{Tool}
+use Rattle.rosie_run.specs.inside.FromLines.{LeavesBy, Since, reading_of, to_come}
+use Rattle.rosie_run.specs.inside.Passing.{IsStop, IsStopOrMemory, MakesOf, MakesPiece}
+use Rattle.rosie_run.proofs.FromLines.{past-next, since-next, stops-failed, stops-spent}
+use Rattle.rosie_run.proofs.OneLine.{long-is, no-text-is, text-is}
+use Rattle.rosie_run.proofs.Onward.{lines_none, pieces_none}
+use Rattle.rosie_run.proofs.Passing.{pieces_next}
 
-quiet_same : (found : Result Line LineFault) (f0 f1 : ℕ) → IsNoReadFault found → HasCause found f0 f1 → f1 ≡ f0
-quiet_same (Ok line) f0 f1 quiet h = h
-quiet_same (Err F.NoMemory) f0 f1 quiet h = h
-quiet_same (Err (F.TooLong n)) f0 f1 quiet h = h
-quiet_same (Err (F.NotText n)) f0 f1 quiet h = h
-quiet_same (Err F.ReadFault) f0 f1 quiet h = absurd quiet
-quiet_same (Err F.Spent) f0 f1 quiet h = h
+-- what is known of the pieces after it, said otherwise
+pub gives-to : (result : Result (Option Mark) Ended) (ps : List Piece) (C D : List Piece → Type 0) (out err : List ℕ) (s0 s1 : ℕ) (P : Type 0) → OnPiece result P → (P → (more : List Piece) → C more → D more) → Gives result ps C out err s0 s1 → Gives result ps D out err s0 s1
+gives-to (Ok (Some mark)) ps C D out err s0 s1 P h f g = record { piece = g.piece; more = g.more; is = g.is; made = g.made; steps = g.steps; comes = f h g.more g.comes }
+gives-to (Ok None) ps C D out err s0 s1 P h f g = g
+gives-to (Err e) ps C D out err s0 s1 P h f g = g
 
-told_same : (fault : LineFault) (file text : List ℕ) (f0 f1 : ℕ) → TellsFault fault file text → HasCause (Err fault) f0 f1 → f1 ≡ f0
-told_same F.NoMemory file text f0 f1 says h = h
-told_same (F.TooLong n) file text f0 f1 says h = h
-told_same (F.NotText n) file text f0 f1 says h = h
-told_same F.ReadFault file text f0 f1 says h = absurd says
-told_same F.Spent file text f0 f1 says h = h
+module _ (makes : Makes) (tool : Tool) (file : List ℕ) (old now : Reader) (left0 left1 out err : List ℕ) (s0 s1 : ℕ) where
+  abbrev pub r : Reading
+  r = reading_of tool old
 
-pub cause-comes : (result : Result (Option Made) Trouble) (found : Result Line LineFault) (makes : Makes) (file : List ℕ) (n : ℕ) (line out err : List ℕ) (s0 s1 f0 f1 : ℕ) → ComesOf result found makes file n line out err s0 s1 → HasCause found f0 f1 → SourceCause result f0 f1
-cause-comes (Ok (Some (M.Answer mark))) found makes file n line out err s0 s1 f0 f1 c h = rw c.0 at h
-cause-comes (Ok (Some (M.Fault text))) found makes file n line out err s0 s1 f0 f1 c h = told_same c.0.0 file (string_bytes text) f0 f1 c.0.2 (rw c.0.1 at h)
-cause-comes (Ok None) found makes file n line out err s0 s1 f0 f1 c h = rw c.0 at h
-cause-comes (Err T.NoMemory) found makes file n line out err s0 s1 f0 f1 c h = quiet_same found f0 f1 c h
-cause-comes (Err T.WriteFault) found makes file n line out err s0 s1 f0 f1 c h = absurd c
-cause-comes (Err T.ReadFault) found makes file n line out err s0 s1 f0 f1 c h = rw c.0 at h
-cause-comes (Err T.Spent) found makes file n line out err s0 s1 f0 f1 c h = rw c.0 at h
+  abbrev long : ℕ → Piece
+  long n = fault_piece (line_message tool file n (codes "line too long"))
 
-pub reading-comes : (result : Result (Option Made) Trouble) (found : Result Line LineFault) (makes : Makes) (file : List ℕ) (n : ℕ) (line out err : List ℕ) (s0 s1 : ℕ) → ComesOf result found makes file n line out err s0 s1 → IfErr result IsOfReading
-reading-comes (Ok made) found makes file n line out err s0 s1 c = tt
-reading-comes (Err T.NoMemory) found makes file n line out err s0 s1 c = tt
-reading-comes (Err T.WriteFault) found makes file n line out err s0 s1 c = absurd c
-reading-comes (Err T.ReadFault) found makes file n line out err s0 s1 c = tt
-reading-comes (Err T.Spent) found makes file n line out err s0 s1 c = tt
+  abbrev no_text : ℕ → Piece
+  no_text n = fault_piece (line_message tool file n (codes "not UTF-8"))
 
-told_counts : (fault : LineFault) (file text : List ℕ) (old now : Reader) → TellsFault fault file text → Numbers (Err fault) old now → (now.number ≡ old.number + 1) × (now.done ≡ false)
-told_counts F.NoMemory file text old now says h = absurd says
-told_counts (F.TooLong n) file text old now says h = (h.1, h.2)
-told_counts (F.NotText n) file text old now says h = (h.1, h.2)
-told_counts F.ReadFault file text old now says h = absurd says
-told_counts F.Spent file text old now says h = absurd says
+  abbrev pub first : List Piece
+  first = to_come makes tool file old left0
 
-pub counts-comes : (result : Result (Option Made) Trouble) (found : Result Line LineFault) (makes : Makes) (file : List ℕ) (n : ℕ) (line out err : List ℕ) (s0 s1 : ℕ) (old now : Reader) → ComesOf result found makes file n line out err s0 s1 → Numbers found old now → CountsLine result old now
-counts-comes (Ok (Some (M.Answer mark))) found makes file n line out err s0 s1 old now c h = rw c.0 at h
-counts-comes (Ok (Some (M.Fault text))) found makes file n line out err s0 s1 old now c h = told_counts c.0.0 file (string_bytes text) old now c.0.2 (rw c.0.1 at h)
-counts-comes (Ok None) found makes file n line out err s0 s1 old now c h = (rw c.0 at h).3
-counts-comes (Err e) found makes file n line out err s0 s1 old now c h = tt
+  abbrev pub IsLater : List Piece → Type 0
+  IsLater more = more ≡ pieces_from makes r file (old.number + 1) (lines old.whole left1)
 
-pub stops-comes : (result : Result (Option Made) Trouble) (found : Result Line LineFault) (makes : Makes) (file : List ℕ) (n : ℕ) (line out err : List ℕ) (s0 s1 : ℕ) (tells : Type 0) (old now : Reader) (rest0 rest1 : List ℕ) → ComesOf result found makes file n line out err s0 s1 → Stops found tells old now rest0 rest1 → StopsLine result tells old now rest0 rest1
-stops-comes (Ok made) found makes file n line out err s0 s1 tells old now rest0 rest1 c h = tt
-stops-comes (Err T.NoMemory) found makes file n line out err s0 s1 tells old now rest0 rest1 c h = tt
-stops-comes (Err T.WriteFault) found makes file n line out err s0 s1 tells old now rest0 rest1 c h = tt
-stops-comes (Err T.ReadFault) found makes file n line out err s0 s1 tells old now rest0 rest1 c h = let s = rw c.0 at h in (s.0, s.1)
-stops-comes (Err T.Spent) found makes file n line out err s0 s1 tells old now rest0 rest1 c h = rw c.0 at h
+  piece_gives : (result : Result (Option Mark) Ended) (line : List ℕ) (p : Piece) → Splits old.whole now.held.ended line left0 left1 → line_piece makes r file (old.number + 1) line ≡ p → MakesPiece result p out err s0 s1 → Gives result first IsLater out err s0 s1
+  piece_gives (Ok (Some mark)) line p sp e m = record {
+    piece = p;
+    more = pieces_from makes r file (old.number + 1) (lines old.whole left1);
+    is = pieces_next makes r file old.number line (lines old.whole left1) (lines old.whole left0) sp.lines ∙ ap (λ x. x ∷ pieces_from makes r file (old.number + 1) (lines old.whole left1)) e;
+    made = m.0;
+    steps = m.1;
+    comes = refl;
+  }
+  piece_gives (Ok None) line p sp e m = absurd m
+  piece_gives (Err x) line p sp e m = subst (λ y. ReadsOn y s0 s1) (sym m) tt
 
-told_made : (fault : LineFault) (makes : Makes) (file text : List ℕ) (s0 s1 : ℕ) (old now : Reader) (left0 left1 : List ℕ) → TellsFault fault file text → s1 ≡ s0 → Numbers (Err fault) old now → Passes (Err fault) old now left0 left1 → MakesPiece makes (record { whole = old.whole; most = old.most }) file old now left0 left1 Fault [] text s0 s1
-told_made F.NoMemory makes file text s0 s1 old now left0 left1 says same h p = absurd says
-told_made (F.TooLong n) makes file text s0 s1 old now left0 left1 says same h p = record {
-  line = p.0;
-  splits = p.1;
-  made = long-made makes old.most file old.number n p.0 (h.0 ∙ h.1) text p.2 says;
-  steps = long-cost makes old.most file old.number n p.0 (h.0 ∙ h.1) s0 s1 same p.2;
-}
-told_made (F.NotText n) makes file text s0 s1 old now left0 left1 says same h p = record {
-  line = p.0;
-  splits = p.1;
-  made = no-text-made makes old.most file old.number n p.0 (h.0 ∙ h.1) text p.2 p.3 says;
-  steps = no-text-cost makes old.most file old.number n p.0 (h.0 ∙ h.1) s0 s1 same p.2 p.3;
-}
-told_made F.ReadFault makes file text s0 s1 old now left0 left1 says same h p = absurd says
-told_made F.Spent makes file text s0 s1 old now left0 left1 says same h p = absurd says
+  stop_gives : (result : Result (Option Mark) Ended) (P : Ended → Type 0) → IsErrAnd result P → s1 ≡ s0 → Gives result first IsLater out err s0 s1
+  stop_gives (Ok found) P m same = absurd m
+  stop_gives (Err E.NoMemory) P m same = tt
+  stop_gives (Err E.WriteFault) P m same = tt
+  stop_gives (Err (E.Cut why text)) P m same = same
 
-pub makes-comes : (result : Result (Option Made) Trouble) (found : Result Line LineFault) (makes : Makes) (file : List ℕ) (old now : Reader) (left0 left1 out err : List ℕ) (s0 s1 : ℕ) → ComesOf result found makes file now.number now.text out err s0 s1 → Numbers found old now → Passes found old now left0 left1 → MakesLine result makes (record { whole = old.whole; most = old.most }) file old now left0 left1 out err s0 s1
-makes-comes (Ok (Some (M.Answer mark))) found makes file old now left0 left1 out err s0 s1 c h p =
-    let passed = rw c.0 at p in
-    let numbers = rw c.0 at h in
-    let e = text-same makes old.most file old.number now.number now.text numbers.0 now.text refl passed.1 passed.2 in record {
-      line = now.text;
-      splits = passed.0;
-      made = subst (IsMade _ _ _) e c.1;
-      steps = c.2 ∙ ap (λ (q : Piece). s0 + q.cost) e;
-    }
-makes-comes (Ok (Some (M.Fault text))) found makes file old now left0 left1 out err s0 s1 c h p =
-    told_made c.0.0 makes file (string_bytes text) s0 s1 old now left0 left1 c.0.2 c.1 (rw c.0.1 at h) (rw c.0.1 at p)
-makes-comes (Ok None) found makes file old now left0 left1 out err s0 s1 c h p = let passed = rw c.0 at p in (passed.0, passed.1, c.1)
-makes-comes (Err T.NoMemory) found makes file old now left0 left1 out err s0 s1 c h p = tt
-makes-comes (Err T.WriteFault) found makes file old now left0 left1 out err s0 s1 c h p = absurd c
-makes-comes (Err T.ReadFault) found makes file old now left0 left1 out err s0 s1 c h p = c.1
-makes-comes (Err T.Spent) found makes file old now left0 left1 out err s0 s1 c h p = c.1
+  pub gives-of : (found : Result Line LineFault) (result : Result (Option Mark) Ended) → MakesOf found result makes tool file now.number now.text out err s0 s1 → Numbers found old now → Passes found old now left0 left1 → Gives result first IsLater out err s0 s1
+  gives-of (Ok L.Text) result m n p =
+      piece_gives result now.text (makes file now.number now.text) p.0 (text-is makes r file (old.number + 1) now.text p.1 p.2 ∙ ap (λ k. makes file k now.text) (sym n.0)) m
+  gives-of (Ok L.End) result m n p =
+      subst (λ x. Gives x first IsLater out err s0 s1) (sym m.0) (pieces_none makes r file old.number (lines old.whole left0) (ap (lines old.whole) p.0 ∙ lines_none old.whole), m.1)
+  gives-of (Err (F.TooLong k)) result m n p =
+      piece_gives result p.0 (long k) p.1 (subst (λ x. line_piece makes r file x p.0 ≡ long k) (n.0 ∙ n.1) (long-is makes r file k p.0 p.2)) m
+  gives-of (Err (F.NotText k)) result m n p =
+      piece_gives result p.0 (no_text k) p.1 (subst (λ x. line_piece makes r file x p.0 ≡ no_text k) (n.0 ∙ n.1) (no-text-is makes r file k p.0 p.2 p.3)) m
+  gives-of (Err F.NoMemory) result m n p = subst (λ x. Gives x first IsLater out err s0 s1) (sym m) tt
+  gives-of (Err F.ReadFault) result m n p = stop_gives result (IsStop Y.ReadFault) m.0 m.1
+  gives-of (Err F.Spent) result m n p = stop_gives result (IsStopOrMemory Y.Spent) m.0 m.1
+
+  -- how many lines were passed, and whether there may be more
+  goes_some : (result : Result (Option Mark) Ended) (P : Type 0) → P → OnPiece result P
+  goes_some (Ok (Some mark)) P h = h
+  goes_some (Ok None) P h = tt
+  goes_some (Err e) P h = tt
+
+  goes_none : (result : Result (Option Mark) Ended) (P : Type 0) (Q : Ended → Type 0) → IsErrAnd result Q → OnPiece result P
+  goes_none (Ok found) P Q h = absurd h
+  goes_none (Err e) P Q h = tt
+
+  abbrev pub Onward : Type 0
+  Onward = (now.number ≡ old.number + 1) × (now.done ≡ false)
+
+  pub goes-of : (found : Result Line LineFault) (result : Result (Option Mark) Ended) → MakesOf found result makes tool file now.number now.text out err s0 s1 → Numbers found old now → OnPiece result Onward
+  goes-of (Ok L.Text) result m n = goes_some result Onward n
+  goes-of (Ok L.End) result m n = subst (λ x. OnPiece x Onward) (sym m.0) tt
+  goes-of (Err (F.TooLong k)) result m n = goes_some result Onward (n.1, n.2)
+  goes-of (Err (F.NotText k)) result m n = goes_some result Onward (n.1, n.2)
+  goes-of (Err F.NoMemory) result m n = subst (λ x. OnPiece x Onward) (sym m) tt
+  goes-of (Err F.ReadFault) result m n = goes_none result Onward (IsStop Y.ReadFault) m.0
+  goes-of (Err F.Spent) result m n = goes_none result Onward (IsStopOrMemory Y.Spent) m.0
+
+  -- what is left of the source
+  module _ {S : Type 0} (G : Ghosts S) (begin : Reader) (a b b' : S) (k : ℕ) (h : Since G begin old a b k) (whole : old.whole ≡ begin.whole) (reads : Reads G.tells old.held now.held (G.rest b) (G.rest b') (G.taken b) (G.taken b')) (at_end : G.tells → old.held.ended ≡ false → now.held.ended ≡ true → G.rest b' ≡ []) (ended : old.held.ended ≡ true → b' ≡ b) where
+    piece_leaves : (result : Result (Option Mark) Ended) (p : Piece) → MakesPiece result p out err s0 s1 → G.faults b' ≡ G.faults b → (G.tells → (line : List ℕ) × Splits old.whole now.held.ended line (left old.held (G.rest b)) (left now.held (G.rest b'))) → LeavesBy (how_of result) G begin now a b' (count_of result k)
+    piece_leaves (Ok (Some mark)) p m f sp = since-next G begin old a b k h whole now b' reads f sp at_end ended
+    piece_leaves (Ok None) p m f sp = absurd m
+    piece_leaves (Err e) p m f sp = subst (λ x. LeavesBy (end_of x) G begin now a b' k) (sym m) (f ∙ h.faults)
+
+    failed_leaves : (result : Result (Option Mark) Ended) → IsErrAnd result (IsStop Y.ReadFault) → LeavesBy (CutBy Y.ReadFault) G begin now a b' k → LeavesBy (how_of result) G begin now a b' (count_of result k)
+    failed_leaves (Ok found) m x = absurd m
+    failed_leaves (Err E.NoMemory) m x = absurd m
+    failed_leaves (Err E.WriteFault) m x = absurd m
+    failed_leaves (Err (E.Cut why text)) m x = subst (λ w. LeavesBy (CutBy w) G begin now a b' k) (sym m) x
+
+    spent_leaves : (result : Result (Option Mark) Ended) → IsErrAnd result (IsStopOrMemory Y.Spent) → G.faults b' ≡ G.faults b → LeavesBy (CutBy Y.Spent) G begin now a b' k → LeavesBy (how_of result) G begin now a b' (count_of result k)
+    spent_leaves (Ok found) m f x = absurd m
+    spent_leaves (Err E.NoMemory) m f x = f ∙ h.faults
+    spent_leaves (Err E.WriteFault) m f x = absurd m
+    spent_leaves (Err (E.Cut why text)) m f x = subst (λ w. LeavesBy (CutBy w) G begin now a b' k) (sym m) x
+
+    pub leaves-of : (found : Result Line LineFault) (result : Result (Option Mark) Ended) → MakesOf found result makes tool file now.number now.text out err s0 s1 → Numbers found old now → (G.tells → Passes found old now (left old.held (G.rest b)) (left now.held (G.rest b'))) → HasCause found (G.faults b) (G.faults b') → Stops found G.tells old now (G.rest b) (G.rest b') → LeavesBy (how_of result) G begin now a b' (count_of result k)
+    leaves-of (Ok L.Text) result m n p c s = piece_leaves result (makes file now.number now.text) m c (λ t. (now.text, (p t).0))
+    leaves-of (Ok L.End) result m n p c s =
+        subst (λ x. LeavesBy (how_of x) G begin now a b' (count_of x k)) (sym m.0) (past-next G begin old a b k h whole now b' reads c at_end ended n.3)
+    leaves-of (Err (F.TooLong i)) result m n p c s = piece_leaves result (long i) m c (λ t. ((p t).0, (p t).1))
+    leaves-of (Err (F.NotText i)) result m n p c s = piece_leaves result (no_text i) m c (λ t. ((p t).0, (p t).1))
+    leaves-of (Err F.NoMemory) result m n p c s = subst (λ x. LeavesBy (how_of x) G begin now a b' (count_of x k)) (sym m) (c ∙ h.faults)
+    leaves-of (Err F.ReadFault) result m n p c s = failed_leaves result m.0 (stops-failed G begin old a b k h whole now b' reads s.0 s.1 c)
+    leaves-of (Err F.Spent) result m n p c s = spent_leaves result m.0 c (stops-spent G begin old a b k h whole now b' reads s.0 s.1 c s.2)

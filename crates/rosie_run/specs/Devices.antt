@@ -13,6 +13,7 @@ use Rattle.rosie_run.specs.declared.inputs.Inputs.{Inputs}
 use Rattle.rosie_run.specs.declared.lines.Reading.{Reading}
 use Rattle.rosie_run.specs.declared.outputs.Outputs.{Outputs}
 use Rattle.rosie_run.specs.declared.tally.Tally.{Tally}
+use Rattle.rosie_run.specs.declared.tool.Tool.{Tool}
 
 -- what a run reads from, as one value: the same files and the same standard input as before
 abbrev pub SameInputs : {F I : Type 0} → Inputs F I → Inputs F I → Type 0
@@ -26,10 +27,10 @@ SameOutputs a b =
 
 -- the run that is given them as two values
 abbrev pub course :
-    {F I O E L : Type 0} → S.Ghosts F → S.Ghosts I → K.Ghosts O → K.Ghosts E → Inputs F I → Inputs F I
+    {F I O E L : Type 0} → Tool → S.Ghosts F → S.Ghosts I → K.Ghosts O → K.Ghosts E → Inputs F I → Inputs F I
     → Outputs O E L → Outputs O E L → Course
-course F I O E a b c d =
-    course_of F I O E a.files.now b.files.now a.input.now b.input.now c.out.now d.out.now c.err.now d.err.now
+course tool F I O E a b c d =
+    course_of tool F I O E a.files.now b.files.now a.input.now b.input.now c.out.now d.out.now c.err.now d.err.now
     c.steps.now d.steps.now
 
 -- the run over the inputs with these names, where those are told

@@ -3,7 +3,7 @@ use Rattle.rosie_run.specs.declared.ended.ReadStop.TheVariants as Y
 use Rattle.rosie_io.specs.Counts.{Rose, capped}
 use Rattle.rosie_io.specs.Opening.{file_of}
 use Rattle.rosie_run.specs.Inputs.{reads_standard}
-use Rattle.rosie_run.specs.Lines.{input_fault, stop_text}
+use Rattle.rosie_run.specs.Lines.{input_message, stop_text}
 use Rattle.rosie_run.specs.Outputs.{Failures, Fronts, IsFront, Telling, Texts, Wrote}
 use Rattle.rosie_run.specs.Report.{Piece, costs, errs, has, is_hit, is_stop, outs, status_of}
 use Rattle.rosie_run.specs.Sources.{RoseIn, Span}
@@ -31,7 +31,7 @@ pub record Left (W : Telling) (ps : List Piece) (Where : ReadStop → List ℕ �
   pub behind : IsBehind ps k
   pub stood : Where why file k
   pub out : W.out → b.out ≡ a.out ++ outs (take k ps)
-  pub err : W.err → b.err ≡ a.err ++ (errs (take k ps) ++ input_fault file (stop_text why))
+  pub err : W.err → b.err ≡ a.err ++ (errs (take k ps) ++ input_message W.tool file (stop_text why))
   pub number : W.counts → b.number ≡ capped (a.number + length (outs (take k ps)))
   pub steps : b.steps ≡ a.steps + costs (take k ps)
 
@@ -41,7 +41,7 @@ pub data WriteFailed (W : Telling) (ps : List Piece) (Where : ReadStop → List 
   in_the_run : Fronts W ps a b → WriteFailed W ps Where a b
   at_the_end : (why : ReadStop) (file : List ℕ) (k : ℕ) → IsBehind ps k → Where why file k
       → (W.out → IsFront a.out b.out (outs (take k ps)))
-      → (W.err → IsFront a.err b.err (errs (take k ps) ++ input_fault file (stop_text why)))
+      → (W.err → IsFront a.err b.err (errs (take k ps) ++ input_message W.tool file (stop_text why)))
       → WriteFailed W ps Where a b
 
 -- what an answer says of the report

@@ -1,6 +1,6 @@
 -- The inputs of a run in turn, and their pieces.
 use Rattle.rosie_io.specs.Opening.{file_of}
-use Rattle.rosie_run.specs.Lines.{Makes, input_fault, input_pieces}
+use Rattle.rosie_run.specs.Lines.{Makes, input_message, input_pieces}
 use Rattle.rosie_run.specs.Report.{Piece, stop_piece}
 use Rattle.rosie_run.specs.declared.lines.Reading.{Reading}
 use Rattle.std.specs.Prelude.{if◌then◌else◌, ◌≡◌, ◌++◌, ◌∷◌, Bool, List, None, Option, Some, [], codes, false, map}
@@ -13,7 +13,7 @@ is_standard name = bytes_eq name (codes "-")
 
 -- the pieces of a file; where there is none the run ends
 abbrev pub file_pieces : Makes → Reading → List ℕ → Option (List ℕ) → List Piece
-file_pieces makes r path None = stop_piece (input_fault path (codes "no such file")) ∷ []
+file_pieces makes r path None = stop_piece (input_message r.tool path (codes "no such file")) ∷ []
 file_pieces makes r path (Some bytes) = input_pieces makes r path bytes
 
 -- the pieces of one input, given the tree and what is left of the standard input

@@ -1,4 +1,5 @@
 pub mod Statuses
+pub mod Tools
 pub mod Tallies
 pub mod Report
 pub mod Lines
@@ -9,6 +10,7 @@ pub mod Course
 pub mod Where
 pub mod Made
 pub mod Runs
+pub mod Going
 pub mod Devices
 pub mod Causes
 pub mod Closing

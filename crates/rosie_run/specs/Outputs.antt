@@ -2,10 +2,12 @@
 use Rattle.rosie_io.specs.Counts.{capped}
 use Rattle.rosie_io.specs.declared.outside.Sink.{Ghosts}
 use Rattle.rosie_run.specs.Report.{Piece, costs, errs, outs}
+use Rattle.rosie_run.specs.declared.tool.Tool.{Tool}
 use Rattle.std.specs.Prelude.{◌++◌, ◌+◌, ◌≡◌, ◌≤◌, List, length, take, ℕ}
 
--- what the outputs tell
+-- what the outputs tell, and whose messages are written
 pub record Telling : Type 1 where
+  pub tool : Tool
   pub out : Type 0
   pub err : Type 0
   pub counts : Type 0
@@ -21,8 +23,8 @@ abbrev pub texts : {O E : Type 0} → (O → List ℕ) → (O → ℕ) → (E �
 texts written number written' o e n = record { out = written o; err = written' e; number = number o; steps = n }
 
 -- what the two outputs tell, what stands on them, and how many of their writes and flushes failed
-abbrev pub telling : {O E : Type 0} → Ghosts O → Ghosts E → Telling
-telling O E = record { out = O.tells; err = E.tells; counts = O.counts }
+abbrev pub telling : {O E : Type 0} → Tool → Ghosts O → Ghosts E → Telling
+telling tool O E = record { tool = tool; out = O.tells; err = E.tells; counts = O.counts }
 
 abbrev pub shown : {O E : Type 0} → Ghosts O → Ghosts E → O → E → ℕ → Texts
 shown O E o e n = texts O.written O.number E.written o e n

@@ -1,6 +1,6 @@
 -- What the run of a command leaves: it comes to the end of its report, or it breaks off.
 use Rattle.rosie_run.specs.declared.ended.Ended.TheVariants as E
-use Rattle.rosie_run.specs.Lines.{input_fault, stop_text}
+use Rattle.rosie_run.specs.Lines.{input_message, stop_text}
 use Rattle.rosie_run.specs.Outputs.{Fronts, Telling, Texts, Wrote}
 use Rattle.rosie_run.specs.Report.{Piece, has, is_stop, up_to_stop}
 use Rattle.rosie_run.specs.Tallies.{tally_of}
@@ -11,8 +11,7 @@ use Rattle.std.specs.Prelude.{◌++◌, ◌≡◌, Err, List, Ok, Result, false,
 use Rattle.rosie_io.specs.Counts.{Rose}
 use Rattle.rosie_run.specs.Sources.{Moment, NoFewer, RoseIn, Still, TookMany}
 use Rattle.rosie_run.specs.declared.ended.ReadStop.TheVariants as Y
-use Rattle.rosie_run.specs.declared.trouble.Trouble.{Trouble}
-use Rattle.rosie_run.specs.declared.trouble.Trouble.TheVariants as T
+use Rattle.rosie_run.specs.declared.tool.Tool.{Tool}
 
 -- Reading ended a run: it had gone past the pieces `done`, none of which ends it, and just these are written. `text` is
 -- the line that says so, and `Where` tells, of the reason, the name in that line and their number, where reading stood.
@@ -25,7 +24,7 @@ pub record CutShort (W : Telling) (all : List Piece) (Where : ReadStop → List 
   pub split : all ≡ done ++ todo
   pub goes_on : has is_stop done ≡ false
   pub wrote : Wrote W done a b
-  pub says : text ≡ input_fault file (stop_text why)
+  pub says : text ≡ input_message W.tool file (stop_text why)
   pub stood : Where why file (length done)
 
 abbrev pub Breaks : Ended → Telling → List Piece → (ReadStop → List ℕ → ℕ → Type 0) → Texts → Texts → Type 0
@@ -39,17 +38,10 @@ Runs (Ok tally) W all Where a b = Wrote W (up_to_stop all) a b × (tally ≡ tal
 Runs (Err ended) W all Where a b = Breaks ended W all Where a b
 
 -- a line that says why reading ended the run, unless there is no memory for it
-abbrev pub IsCutOf : Ended → ReadStop → List ℕ → Type 0
-IsCutOf E.NoMemory why file = Unit {0}
-IsCutOf E.WriteFault why file = ⊥
-IsCutOf (E.Cut w text) why file = (w ≡ why) × (string_bytes text ≡ input_fault file (stop_text why))
-
--- the end of a run, by what ended the run over an input of this name
-abbrev pub IsEndedBy : Trouble → Ended → List ℕ → Type 0
-IsEndedBy T.NoMemory e file = e ≡ E.NoMemory
-IsEndedBy T.WriteFault e file = e ≡ E.WriteFault
-IsEndedBy T.ReadFault e file = IsCutOf e Y.ReadFault file
-IsEndedBy T.Spent e file = IsCutOf e Y.Spent file
+abbrev pub IsCutOf : Ended → Tool → ReadStop → List ℕ → Type 0
+IsCutOf E.NoMemory tool why file = Unit {0}
+IsCutOf E.WriteFault tool why file = ⊥
+IsCutOf (E.Cut w text) tool why file = (w ≡ why) × (string_bytes text ≡ input_message tool file (stop_text why))
 
 -- a run that wasn't ended by a piece
 abbrev pub GoesOn : Result Tally Ended → Type 0 → Type 0
@@ -64,7 +56,7 @@ IsNoCut (E.Cut why text) = ⊥
 
 -- of the files
 abbrev pub FilesEnd : Ended → Moment → Moment → Type 0
-FilesEnd E.NoMemory f0 f1 = NoFewer f0 f1
+FilesEnd E.NoMemory f0 f1 = Still f0 f1
 FilesEnd E.WriteFault f0 f1 = Still f0 f1
 FilesEnd (E.Cut Y.ReadFault text) f0 f1 = NoFewer f0 f1 × RoseIn f0 f1
 FilesEnd (E.Cut Y.Spent text) f0 f1 = Still f0 f1 × TookMany f0.taken f1.taken
@@ -75,7 +67,7 @@ FilesCause (Err e) f0 f1 = FilesEnd e f0 f1
 
 -- of the standard input and the files
 abbrev pub SourcesEnd : Ended → Moment → Moment → Moment → Moment → Type 0
-SourcesEnd E.NoMemory i0 i1 f0 f1 = NoFewer i0 i1 × NoFewer f0 f1
+SourcesEnd E.NoMemory i0 i1 f0 f1 = Still i0 i1 × NoFewer f0 f1
 SourcesEnd E.WriteFault i0 i1 f0 f1 = Still i0 i1 × Still f0 f1
 SourcesEnd (E.Cut Y.ReadFault text) i0 i1 f0 f1 = NoFewer i0 i1 × NoFewer f0 f1 × (RoseIn i0 i1 ⊎ RoseIn f0 f1)
 SourcesEnd (E.Cut Y.Spent text) i0 i1 f0 f1 =

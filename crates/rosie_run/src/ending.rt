@@ -2,6 +2,7 @@
 ghost use Rattle.std.specs.Prelude.{ℕ, ◌≡◌};
 ghost use Rattle.rosie_run.specs.Causes.{Flushes};
 ghost use Rattle.rosie_run.specs.Outputs.{shown, telling};
+ghost use Rattle.rosie_run.specs.declared.tool.Tool.{Tool};
 ghost use Rattle.rosie_run.specs.Closing.{Closes, ClosesCause};
 
 use crate::write::{close_with, flush_both};
@@ -10,7 +11,7 @@ use rosie_io::Sink;
 
 /// Ends a run: says why reading ended it, where it did, and flushes all that was written.
 pub fn finish<O: Sink, E: Sink>(out: &mut O, err: &mut E, run: Result<Tally, Ended>) -> Status
-    ensures closes { (n : ℕ) → Closes run result (telling O.Sink E.Sink)
+    ensures closes { (tool : Tool) (n : ℕ) → Closes run result (telling tool O.Sink E.Sink)
         (shown O.Sink E.Sink out.old err.old n)
         (shown O.Sink E.Sink out.new err.new n) }
     ensures cause { ClosesCause run result (O.faults out.old) (O.faults out.new) (E.faults err.old)

@@ -6,19 +6,20 @@ ghost use Rattle.std.specs.Str.{bytes_eq};
 ghost use Rattle.rosie_io.specs.Answering.{Keeps};
 ghost use Rattle.rosie_run.specs.Devices.{InputsCause, OutputsCause, RunsInputs, SameInputs};
 ghost use Rattle.rosie_run.specs.Devices.{SameOutputs, course};
-ghost use Rattle.rosie_run.specs.Runs.{FilesCause, GoesOn, IsEndedBy};
+ghost use Rattle.rosie_run.specs.Runs.{FilesCause, GoesOn};
 ghost use Rattle.rosie_run.specs.Inputs.{is_standard, left_after};
 ghost use Rattle.rosie_run.specs.Inputs.{AreTold, reads_standard, names_of};
 ghost use Rattle.rosie_run.specs.Sources.{moment_of, span_of};
 ghost use Rattle.rosie_run.specs.inside.SameLines.{SameLines, reading_of};
+ghost use Rattle.rosie_run.specs.inside.Passing.{IsPrepared};
 ghost use Rattle.rosie_run.specs.inside.Showing.{shows};
 ghost use Rattle.rosie_run.specs.inside.Where.{RunsFile, RunsOne, RunsSource};
 
 use crate::line_job::LineJob;
-use crate::lines::{Lines, Reading, run_input};
-use crate::saying::{cut, say};
-use crate::write::input_fault;
-use crate::{Ended, Mark, Outputs, ReadStop, Tally, Trouble};
+use crate::lines::{Lines, Messages, Reading, SourceLines};
+use crate::running::run_pieces;
+use crate::saying::say;
+use crate::{Ended, Mark, Outputs, Tally};
 use rosie_io::{Files, LineReader, PathAnswer, Sink, Source};
 use rpl_text::Chars;
 use std::alloc::Global;
@@ -41,18 +42,6 @@ pub struct Wanted<'a> {
     pub reading: Reading,
 }
 
-/// The end of a run, by what ended the run over an input. `file` is what was read.
-pub fn ended_by(alloc: Global, trouble: Trouble, file: &str) -> Ended
-    ensures { IsEndedBy trouble result file.now }
-{
-    match trouble {
-        Trouble::NoMemory => Ended::NoMemory,
-        Trouble::WriteFault => Ended::WriteFault,
-        Trouble::ReadFault => cut(alloc, ReadStop::ReadFault, file),
-        Trouble::Spent => cut(alloc, ReadStop::Spent, file),
-    }
-}
-
 /// Runs on each line of a source that is open.
 fn run_source<J: LineJob, S: Source, O: Sink, E: Sink, L: Ledger>(
     lines: &mut Lines<'_, J>,
@@ -60,26 +49,27 @@ fn run_source<J: LineJob, S: Source, O: Sink, E: Sink, L: Ledger>(
     source: &mut S,
     outputs: &mut Outputs<'_, O, E, L>,
 ) -> Result<Tally, Ended>
+    requires { IsPrepared lines.old.messages.now file.now }
     ensures same_lines { SameLines lines.old lines.new }
     ensures same_outputs { SameOutputs outputs.old outputs.new }
     ensures keeps { Keeps lines.old.reader.now lines.new.reader.now }
     ensures same { J.makes lines.new.job.now ≡ J.makes lines.old.job.now }
-    ensures runs { S.tells → RunsSource result (J.makes lines.old.job.now)
-        (reading_of lines.old.reader.now) file.now
+    ensures runs { S.tells → RunsSource result (J.makes lines.old.job.now) (reading_of lines.old)
+        file.now
         (span_of S.Source source.old source.new)
-        (shows O.Sink E.Sink outputs.old outputs.new) }
+        (shows lines.old.messages.now.tool O.Sink E.Sink outputs.old outputs.new) }
     ensures rest { S.tells → GoesOn result (S.rest source.new ≡ []) }
     ensures cause { FilesCause result (moment_of S.Source source.old)
         (moment_of S.Source source.new) }
+    ensures idle { J.idle → outputs.new.steps.now ≡ outputs.old.steps.now }
     ensures sinks { OutputsCause O.Sink E.Sink result outputs.old outputs.new }
     ensures taken { S.taken source.new < 2 ^ 64 - 1 → S.taken source.old ≤ S.taken source.new }
     ensures tree { S.tree source.new ≡ S.tree source.old }
     ensures opens { S.failed_opens source.new ≡ S.failed_opens source.old }
 {
-    match run_input(lines, file, source, outputs) {
-        Ok(tally) => Ok(tally),
-        Err(trouble) => Err(ended_by(lines.alloc, trouble, file)),
-    }
+    lines.reader.restart();
+    let mut source_lines = SourceLines::new(file, lines.job, lines.reader, lines.messages, source);
+    run_pieces(&mut source_lines, outputs)
 }
 
 /// Runs on each line of a file; where there is none, it is said, and the run ends.
@@ -91,12 +81,13 @@ fn run_file<J: LineJob, F: Files, O: Sink, E: Sink, L: Ledger>(
 ) -> Result<Tally, Ended>
     ensures same_lines { SameLines lines.old lines.new }
     ensures same_outputs { SameOutputs outputs.old outputs.new }
-    ensures runs { F.tells → RunsFile result (J.makes lines.old.job.now)
-        (reading_of lines.old.reader.now) path.now
+    ensures runs { F.tells → RunsFile result (J.makes lines.old.job.now) (reading_of lines.old)
+        path.now
         (F.tree files.old) (span_of F.Source files.old files.new)
-        (shows O.Sink E.Sink outputs.old outputs.new) }
+        (shows lines.old.messages.now.tool O.Sink E.Sink outputs.old outputs.new) }
     ensures cause { FilesCause result (moment_of F.Source files.old)
         (moment_of F.Source files.new) }
+    ensures idle { J.idle → outputs.new.steps.now ≡ outputs.old.steps.now }
     ensures sinks { OutputsCause O.Sink E.Sink result outputs.old outputs.new }
     ensures taken { F.taken files.new < 2 ^ 64 - 1 → F.taken files.old ≤ F.taken files.new }
     ensures closed { IfOk result (λ _. F.is_open files.new ≡ false) }
@@ -104,6 +95,7 @@ fn run_file<J: LineJob, F: Files, O: Sink, E: Sink, L: Ledger>(
     ensures keeps { Keeps lines.old.reader.now lines.new.reader.now }
     ensures same { J.makes lines.new.job.now ≡ J.makes lines.old.job.now }
 {
+    lines.messages.prepare(path)?;
     match files.open_path(path) {
         PathAnswer::Opened => {
             match run_source(lines, path, files, outputs) {
@@ -114,11 +106,11 @@ fn run_file<J: LineJob, F: Files, O: Sink, E: Sink, L: Ledger>(
                 Err(ended) => Err(ended),
             }
         }
-        PathAnswer::Missing => match input_fault(lines.alloc, path, "no such file") {
-            Ok(text) => say(outputs.out, outputs.err, &[], text.as_bytes(), Mark::Stop),
-            Err(_) => Err(Ended::NoMemory),
-        },
-        PathAnswer::Failed => Err(cut(lines.alloc, ReadStop::ReadFault, path)),
+        PathAnswer::Missing => {
+            let text = lines.messages.missing(path)?;
+            say(outputs.out, outputs.err, &[], text.as_bytes(), Mark::Stop)
+        }
+        PathAnswer::Failed => Err(lines.messages.end_of_read()),
     }
 }
 
@@ -133,13 +125,15 @@ fn run_one<J: LineJob, F: Files, I: Source, O: Sink, E: Sink, L: Ledger>(
     ensures same_lines { SameLines lines.old lines.new }
     ensures same_inputs { SameInputs inputs.old inputs.new }
     ensures same_outputs { SameOutputs outputs.old outputs.new }
-    ensures runs { RunsOne result (J.makes lines.old.job.now)
-        (reading_of lines.old.reader.now) name.now read.old
-        (course F.Source I.Source O.Sink E.Sink inputs.old inputs.new outputs.old outputs.new) }
+    ensures runs { RunsOne result (J.makes lines.old.job.now) (reading_of lines.old) name.now
+        read.old
+        (course lines.old.messages.now.tool F.Source I.Source O.Sink E.Sink inputs.old inputs.new
+        outputs.old outputs.new) }
     ensures rest { (is_standard name.now ≡ true → I.tells) →
         (read.old ≡ true → I.rest inputs.old.input.now ≡ []) → GoesOn result
         (I.rest inputs.new.input.now ≡ left_after name.now (I.rest inputs.old.input.now)) }
     ensures cause { InputsCause F.Source I.Source result inputs.old inputs.new }
+    ensures idle { J.idle → outputs.new.steps.now ≡ outputs.old.steps.now }
     ensures sinks { OutputsCause O.Sink E.Sink result outputs.old outputs.new }
     ensures input_taken { I.taken inputs.new.input.now < 2 ^ 64 - 1 →
         I.taken inputs.old.input.now ≤ I.taken inputs.new.input.now }
@@ -157,6 +151,7 @@ fn run_one<J: LineJob, F: Files, I: Source, O: Sink, E: Sink, L: Ledger>(
             return Ok(Tally::new());
         }
         *read = true;
+        lines.messages.prepare(name)?;
         return run_source(lines, name, inputs.input, outputs);
     }
     run_file(lines, name, inputs.files, outputs)
@@ -183,7 +178,8 @@ pub fn run_inputs<J: LineJob, F: Files, I: Source, O: Sink, E: Sink, L: Ledger>(
     ensures same { J.makes job.new ≡ J.makes job.old }
     ensures runs { RunsInputs result (J.makes job.old) wanted.entry.reading
         (names_of encode_utf8_all wanted.entry.names.now)
-        (course F.Source I.Source O.Sink E.Sink inputs.old inputs.new outputs.old outputs.new) }
+        (course wanted.entry.reading.tool F.Source I.Source O.Sink E.Sink inputs.old inputs.new
+        outputs.old outputs.new) }
     ensures rest { AreTold (names_of encode_utf8_all wanted.entry.names.now) F.tells I.tells →
         GoesOn result
         (reads_standard (names_of encode_utf8_all wanted.entry.names.now) ≡ true →
@@ -191,18 +187,15 @@ pub fn run_inputs<J: LineJob, F: Files, I: Source, O: Sink, E: Sink, L: Ledger>(
     ensures unread { reads_standard (names_of encode_utf8_all wanted.entry.names.now) ≡ false →
         inputs.new.input.now ≡ inputs.old.input.now }
     ensures cause { InputsCause F.Source I.Source result inputs.old inputs.new }
+    ensures idle { J.idle → outputs.new.steps.now ≡ outputs.old.steps.now }
     ensures sinks { OutputsCause O.Sink E.Sink result outputs.old outputs.new }
     ensures tree { F.tree inputs.new.files.now ≡ F.tree inputs.old.files.now }
 {
     let Ok(mut reader) = LineReader::new(alloc, wanted.reading.whole, wanted.reading.most) else {
         return Err(Ended::NoMemory);
     };
-    let mut lines = Lines {
-        alloc,
-        job,
-        reader: &mut reader,
-        pending: false,
-    };
+    let mut messages = Messages::new(alloc, wanted.reading.tool);
+    let mut lines = Lines::new(job, &mut reader, &mut messages);
     let mut tally = Tally::new();
     let mut read = false;
     'inputs: for name in wanted.names {

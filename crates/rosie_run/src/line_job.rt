@@ -28,6 +28,9 @@ pub trait LineJob {
     /// What it makes of a line of text: of the input's name, the line's number and its text.
     ghost makes: { Self → List ℕ → ℕ → List ℕ → Piece };
 
+    /// It makes no step of the machine.
+    ghost idle: { Type 0 } = { ⊥ };
+
     /// The texts that it made last.
     ghost out_text: { Self → List ℕ };
 
@@ -45,7 +48,8 @@ pub trait LineJob {
         ensures made { IfOk result (λ mark. IsMade mark (out_text self.new) (err_text self.new)
             (makes self.old line.entry.file.now line.entry.number line.entry.text.now)) }
         ensures steps { OnOk result (steps.new ≡ steps.old
-            + (makes self.old line.entry.file.now line.entry.number line.entry.text.now).cost) };
+            + (makes self.old line.entry.file.now line.entry.number line.entry.text.now).cost) }
+        ensures idle { idle → steps.new ≡ steps.old };
 
     /// The text for `out` that it made last.
     fn out(&self) -> &[u8]

@@ -1,243 +1,286 @@
-// The run over the lines of one input.
-ghost use Rattle.std.specs.Prelude.{◌≡◌, ◌+◌, ◌-◌, ◌^◌, ◌<◌, ◌≤◌, ℕ, List, [], Err, true, false};
-ghost use Rattle.std.specs.Prelude.{length, IfOk, IfErr};
-ghost use Rattle.std.specs.Prelude.{OnOk};
-ghost use Rattle.rosie_io.specs.Answering.{Keeps};
-ghost use Rattle.rosie_io.specs.Appending.{Appends};
-ghost use Rattle.rosie_io.specs.Counts.{capped};
-ghost use Rattle.rosie_io.specs.Gathering.{Reads};
-ghost use Rattle.rosie_run.specs.Lines.{line_fault};
-ghost use Rattle.rosie_run.specs.Devices.{SameOutputs};
-ghost use Rattle.rosie_run.specs.Closing.{OutFirst};
-ghost use Rattle.rosie_run.specs.inside.Causes.{BothCause, SinksCause, SourceCause, SpentCause};
-ghost use Rattle.rosie_run.specs.inside.Causes.{IsOfReading};
-ghost use Rattle.rosie_run.specs.inside.Passing.{MakesNext, CountsLine, StopsLine, RunsLines};
-ghost use Rattle.rosie_run.specs.inside.Passing.{ComesOf, SaysFault};
-ghost use Rattle.rosie_run.specs.inside.Passing.{made_out, made_err, made_mark};
-ghost use Rattle.rosie_run.specs.inside.SameLines.{SameLines, reading_of};
-ghost use Rattle.rosie_run.specs.inside.Showing.{shows};
+// The lines of a source, as pieces.
+ghost use Rattle.std.specs.Prelude.{◌≡◌, ◌+◌, ◌-◌, ◌^◌, ◌≤◌, ℕ, List, codes, length};
+ghost use Rattle.std.specs.Prelude.{string_bytes, IfErr, IfOk, OnOk};
+ghost use Rattle.rosie_run.specs.Going.{IsSaidBy, OnPiece};
+ghost use Rattle.rosie_run.specs.Lines.{input_message, line_message};
+ghost use Rattle.rosie_run.specs.Report.{fault_piece};
+ghost use Rattle.rosie_run.specs.Runs.{IsCutOf};
+ghost use Rattle.rosie_run.specs.declared.ended.ReadStop.TheVariants.{ReadFault, Spent};
+ghost use Rattle.rosie_run.specs.inside.FromLines.{ComesFrom, LeavesLines, SameLines};
+ghost use Rattle.rosie_run.specs.inside.Passing.{IsPrepared, IsStop, MakesOf, MakesPiece};
+ghost use Rattle.rosie_run.specs.inside.Passing.{kept_err, kept_out};
 
 use crate::line_job::{InputLine, LineJob};
-use crate::write::{flush_before_wait, line_fault, write_both};
-use crate::{Mark, Outputs, Tally, Trouble};
-use rosie_io::{Line, LineFault, LineReader, Sink, Source, WriteFault};
+use crate::saying::cut;
+use crate::write::{input_message, line_message};
+use crate::{Ended, Mark, NoMemory, PieceSource, ReadStop, Tool};
+use rosie_io::{Line, LineFault, LineReader, Source};
 use rpl_machine::Steps;
 use std::alloc::Global;
+use std::mem;
 use std::sync::ledger::Ledger;
 
 /// How the lines of an input are read.
 #[derive(Clone, Copy, Debug)]
 pub struct Reading {
+    /// Whose run it is.
+    pub tool: Tool,
     /// An input is one line.
     pub whole: bool,
     /// The bytes that a line may have.
     pub most: usize,
 }
 
+/// What the run itself says of an input. It isn't a part of what holds the job and the source:
+/// where such a value owns memory, nothing is known of them afterwards.
+#[derive(Drop)]
+pub(crate) struct Messages {
+    alloc: Global,
+    /// Whose run it is.
+    tool: Tool,
+    /// What is wrong with the line, where the job has no answer to it.
+    fault: Option<String>,
+    /// That a read failed. It is made before the input is opened, so that no want of memory hides a
+    /// failed read.
+    read_failed: String,
+}
+
 /// A job over the lines of inputs.
 #[derive(Drop)]
 pub(crate) struct Lines<'a, J> {
-    pub(crate) alloc: Global,
     /// Makes the piece of a line.
     pub(crate) job: &'a mut J,
     /// Gives the lines.
     pub(crate) reader: &'a mut LineReader,
-    /// Something that was written isn't flushed.
-    pub(crate) pending: bool,
+    pub(crate) messages: &'a mut Messages,
 }
 
-/// What was made of a line.
+/// The pieces of the lines of a source that is open.
 #[derive(Drop)]
-enum Made {
-    /// The job has its texts.
-    Answer(Mark),
-    /// What is wrong with the line.
-    Fault(String),
+pub(crate) struct SourceLines<'a, J, S> {
+    /// What messages call the source.
+    file: &'a str,
+    /// Makes the piece of a line.
+    job: &'a mut J,
+    /// Gives the lines.
+    reader: &'a mut LineReader,
+    messages: &'a mut Messages,
+    source: &'a mut S,
 }
 
-/// Goes on to the next line of an input and makes its piece. `None` where there is no further line.
-fn make_line<J: LineJob, S: Source, L: Ledger>(
-    lines: &mut Lines<'_, J>,
-    file: &str,
-    source: &mut S,
-    steps: &mut Steps<L>,
-) -> Result<Option<Made>, Trouble>
-    requires { lines.old.reader.now.done ≡ false }
-    ensures same_lines { SameLines lines.old lines.new }
-    ensures same { J.makes lines.new.job.now ≡ J.makes lines.old.job.now }
-    ensures makes { S.tells → MakesNext result (J.makes lines.old.job.now) file.now
-        lines.old.reader.now lines.new.reader.now
-        (S.rest source.old) (S.rest source.new)
-        (J.out_text lines.new.job.now) (J.err_text lines.new.job.now) steps.old steps.new }
-    ensures numbers { CountsLine result lines.old.reader.now lines.new.reader.now }
-    ensures fits { lines.new.reader.now.number ≤ 2 ^ 48 }
-    ensures keeps { Keeps lines.old.reader.now lines.new.reader.now }
-    ensures stops { StopsLine result S.tells lines.old.reader.now lines.new.reader.now
-        (S.rest source.old)
-        (S.rest source.new) }
-    ensures of_reading { IfErr result IsOfReading }
-    ensures cause { SourceCause result (S.faults source.old) (S.faults source.new) }
-    ensures reads { Reads S.tells lines.old.reader.now.held lines.new.reader.now.held
-        (S.rest source.old)
-        (S.rest source.new)
-        (S.taken source.old) (S.taken source.new) }
-    ensures at_end { S.tells → lines.old.reader.now.held.ended ≡ false →
-        lines.new.reader.now.held.ended ≡ true →
-        S.rest source.new ≡ [] }
-    ensures ended { lines.old.reader.now.held.ended ≡ true → source.new ≡ source.old }
-    ensures tree { S.tree source.new ≡ S.tree source.old }
-    ensures opens { S.failed_opens source.new ≡ S.failed_opens source.old }
-{
-    let found = lines.reader.next(source);
-    make_of(lines, file, found, steps)
+impl Messages {
+    /// Nothing is said.
+    pub(crate) fn new(alloc: Global, tool: Tool) -> Messages
+        ensures { result.tool ≡ tool }
+    {
+        Messages {
+            alloc,
+            tool,
+            fault: None,
+            read_failed: String::new(alloc),
+        }
+    }
+
+    /// Makes ready to say that a read of an input failed.
+    pub(crate) fn prepare(&mut self, file: &str) -> Result<(), NoMemory>
+        ensures tool { self.new.tool ≡ self.old.tool }
+        ensures prepared { OnOk result (IsPrepared self.new file.now) }
+    {
+        self.read_failed = input_message(self.alloc, self.tool, file, "read failed")?;
+        Ok(())
+    }
+
+    /// The end of a run of which a read failed.
+    pub(crate) fn end_of_read(&mut self) -> Ended
+        ensures stops { IsStop ReadFault result }
+        ensures cut { (file : List ℕ) → IsPrepared self.old file →
+            IsCutOf result self.old.tool ReadFault file }
+        ensures says { (file : List ℕ) → IsPrepared self.old file →
+            IsSaidBy self.old.tool file result }
+        ensures tool { self.new.tool ≡ self.old.tool }
+    {
+        let text = mem::replace(&mut self.read_failed, String::new(self.alloc));
+        Ended::Cut(ReadStop::ReadFault, text)
+    }
+
+    /// The end of a run over an input of which all reads are made.
+    fn end_of_reads(&self, file: &str) -> Ended
+        ensures { IsCutOf result self.now.tool Spent file.now }
+    {
+        cut(self.alloc, self.tool, ReadStop::Spent, file)
+    }
+
+    /// Says that there is no such input.
+    pub(crate) fn missing(&self, file: &str) -> Result<String, NoMemory>
+        ensures { IfOk result (λ text. string_bytes text
+            ≡ input_message self.now.tool file.now (codes "no such file")) }
+    {
+        input_message(self.alloc, self.tool, file, "no such file")
+    }
+
+    /// Says what is wrong with a line.
+    fn say(&mut self, file: &str, number: u64, why: &str) -> Result<Option<Mark>, Ended>
+        ensures tool { self.new.tool ≡ self.old.tool }
+        ensures stays { self.new.read_failed ≡ self.old.read_failed }
+        ensures says { (name : List ℕ) → IfErr result (IsSaidBy self.old.tool name) }
+        ensures makes { (out err : List ℕ) (n : ℕ) → MakesPiece result
+            (fault_piece (line_message self.old.tool file.now number why.now))
+            (kept_out self.new.fault out) (kept_err self.new.fault err) n n }
+    {
+        let text = line_message(self.alloc, self.tool, file, number, why)?;
+        self.fault = Some(text);
+        Ok(Some(Mark::Fault))
+    }
 }
 
-/// Makes the piece of what the reader answered. `None` where there is no further line.
-#[inline(always)]
-fn make_of<J: LineJob, L: Ledger>(
-    lines: &mut Lines<'_, J>,
-    file: &str,
-    found: Result<Line, LineFault>,
-    steps: &mut Steps<L>,
-) -> Result<Option<Made>, Trouble>
-    requires { length lines.old.reader.now.text ≤ 2 ^ 30 }
-    ensures same_lines { SameLines lines.old lines.new }
-    ensures same { J.makes lines.new.job.now ≡ J.makes lines.old.job.now }
-    ensures reader { lines.new.reader.now ≡ lines.old.reader.now }
-    ensures comes { ComesOf result found (J.makes lines.old.job.now) file.now
-        lines.old.reader.now.number lines.old.reader.now.text
-        (J.out_text lines.new.job.now) (J.err_text lines.new.job.now) steps.old steps.new }
-{
-    match found {
-        Ok(Line::Text) => {
-            let line = InputLine {
-                file,
-                number: lines.reader.number(),
-                text: lines.reader.line(),
-                is_ascii: lines.reader.is_ascii(),
-            };
-            match lines.job.answer(line, steps) {
-                Ok(mark) => Ok(Some(Made::Answer(mark))),
-                Err(_) => Err(Trouble::NoMemory),
+impl<'a, J: LineJob> Lines<'a, J> {
+    /// The lines of a job, of their parts.
+    pub(crate) fn new(
+        job: &'a mut J,
+        reader: &'a mut LineReader,
+        messages: &'a mut Messages,
+    ) -> Lines<'a, J>
+        ensures same_job { result.job.ghost_name ≡ job.entry.ghost_name }
+        ensures same_reader { result.reader.ghost_name ≡ reader.entry.ghost_name }
+        ensures same_messages { result.messages.ghost_name ≡ messages.entry.ghost_name }
+        ensures job { result.job.now ≡ job.old }
+        ensures reader { result.reader.now ≡ reader.old }
+        ensures messages { result.messages.now ≡ messages.old }
+    {
+        Lines {
+            job,
+            reader,
+            messages,
+        }
+    }
+}
+
+impl<'a, J: LineJob, S: Source> SourceLines<'a, J, S> {
+    /// The lines that the reader has of a source.
+    pub(crate) fn new(
+        file: &'a str,
+        job: &'a mut J,
+        reader: &'a mut LineReader,
+        messages: &'a mut Messages,
+        source: &'a mut S,
+    ) -> SourceLines<'a, J, S>
+        ensures same_job { result.job.ghost_name ≡ job.entry.ghost_name }
+        ensures same_reader { result.reader.ghost_name ≡ reader.entry.ghost_name }
+        ensures same_messages { result.messages.ghost_name ≡ messages.entry.ghost_name }
+        ensures same_source { result.source.ghost_name ≡ source.entry.ghost_name }
+        ensures job { result.job.now ≡ job.old }
+        ensures reader { result.reader.now ≡ reader.old }
+        ensures messages { result.messages.now ≡ messages.old }
+        ensures source { result.source.now ≡ source.old }
+        ensures file { result.file.now ≡ file.entry.now }
+    {
+        SourceLines {
+            file,
+            job,
+            reader,
+            messages,
+            source,
+        }
+    }
+
+    /// Makes the piece of what the reader answered. `None` where there is no further line.
+    #[inline(always)]
+    fn make_of<L: Ledger>(
+        &mut self,
+        found: Result<Line, LineFault>,
+        steps: &mut Steps<L>,
+    ) -> Result<Option<Mark>, Ended>
+        requires fits { length self.old.reader.now.text ≤ 2 ^ 30 }
+        requires prepared { IsPrepared self.old.messages.now self.old.file.now }
+        ensures same_lines { SameLines self.old self.new }
+        ensures same { J.makes self.new.job.now ≡ J.makes self.old.job.now }
+        ensures reader { self.new.reader.now ≡ self.old.reader.now }
+        ensures source { self.new.source.now ≡ self.old.source.now }
+        ensures tool { self.new.messages.now.tool ≡ self.old.messages.now.tool }
+        ensures prepared { OnPiece result (IsPrepared self.new.messages.now self.new.file.now) }
+        ensures says { IfErr result (IsSaidBy self.old.messages.now.tool self.old.file.now) }
+        ensures idle { J.idle → steps.new ≡ steps.old }
+        ensures makes { MakesOf found result (J.makes self.old.job.now)
+            self.old.messages.now.tool self.old.file.now self.old.reader.now.number
+            self.old.reader.now.text
+            (kept_out self.new.messages.now.fault (J.out_text self.new.job.now))
+            (kept_err self.new.messages.now.fault (J.err_text self.new.job.now))
+            steps.old steps.new }
+    {
+        match found {
+            Ok(Line::Text) => {
+                self.messages.fault = None;
+                let line = InputLine {
+                    file: self.file,
+                    number: self.reader.number(),
+                    text: self.reader.line(),
+                    is_ascii: self.reader.is_ascii(),
+                };
+                let mark = self.job.answer(line, steps)?;
+                Ok(Some(mark))
             }
-        }
-        Ok(Line::End) => Ok(None),
-        Err(LineFault::TooLong { line }) => fault_of(lines.alloc, file, line, "line too long"),
-        Err(LineFault::NotText { line }) => fault_of(lines.alloc, file, line, "not UTF-8"),
-        Err(LineFault::NoMemory) => Err(Trouble::NoMemory),
-        Err(LineFault::ReadFault) => Err(Trouble::ReadFault),
-        Err(LineFault::Spent) => Err(Trouble::Spent),
-    }
-}
-
-/// What is wrong with a line, as what was made of it.
-#[inline(never)]
-fn fault_of(alloc: Global, file: &str, number: u64, why: &str) -> Result<Option<Made>, Trouble>
-    ensures { SaysFault result (line_fault file.now number why.now) }
-{
-    match line_fault(alloc, file, number, why) {
-        Ok(text) => Ok(Some(Made::Fault(text))),
-        Err(_) => Err(Trouble::NoMemory),
-    }
-}
-
-/// Writes what was made of a line. Where there is some of it, that is pending until both outputs
-/// are flushed.
-#[inline(always)]
-fn write_made<J: LineJob, O: Sink, E: Sink>(
-    job: &J,
-    made: Made,
-    pending: &mut bool,
-    out: &mut O,
-    err: &mut E,
-) -> Result<Mark, WriteFault>
-    ensures mark { IfOk result (λ mark. mark ≡ made_mark made) }
-    ensures out { O.tells → Appends result (O.written out.old) (O.written out.new)
-        (made_out made (J.out_text job.now)) }
-    ensures err { E.tells → Appends result (E.written err.old) (E.written err.new)
-        (made_err made (J.err_text job.now)) }
-    ensures number { O.counts → OnOk result (O.number out.new ≡ capped
-        (O.number out.old + length (made_out made (J.out_text job.now)))) }
-    ensures order { O.counts → E.tells → OutFirst (E.written err.old) (E.written err.new)
-        (O.flushed out.new)
-        (O.number out.new) }
-    ensures pending { pending.new ≡ false → (pending.old ≡ false) ×
-        (made_out made (J.out_text job.now) ≡ [])
-        × (made_err made (J.err_text job.now) ≡ []) }
-    ensures cause { BothCause result (O.faults out.old) (O.faults out.new) (E.faults err.old)
-        (E.faults err.new) }
-{
-    match made {
-        Made::Answer(mark) => {
-            *pending |= !job.out().is_empty() || !job.err().is_empty();
-            write_both(out, err, job.out(), job.err())?;
-            Ok(mark)
-        }
-        Made::Fault(text) => {
-            *pending = true;
-            write_both(out, err, &[], text.as_bytes())?;
-            Ok(Mark::Fault)
+            Ok(Line::End) => Ok(None),
+            Err(fault) => match fault {
+                LineFault::TooLong { line } => self.messages.say(self.file, line, "line too long"),
+                LineFault::NotText { line } => self.messages.say(self.file, line, "not UTF-8"),
+                LineFault::NoMemory => Err(Ended::NoMemory),
+                LineFault::ReadFault => Err(self.messages.end_of_read()),
+                LineFault::Spent => Err(self.messages.end_of_reads(self.file)),
+            },
         }
     }
 }
 
-/// Runs on each line of one input, which faults call `file`, up to the line that ends the run.
-pub(crate) fn run_input<J: LineJob, S: Source, O: Sink, E: Sink, L: Ledger>(
-    lines: &mut Lines<'_, J>,
-    file: &str,
-    source: &mut S,
-    outputs: &mut Outputs<'_, O, E, L>,
-) -> Result<Tally, Trouble>
-    ensures same_lines { SameLines lines.old lines.new }
-    ensures same_outputs { SameOutputs outputs.old outputs.new }
-    ensures same { J.makes lines.new.job.now ≡ J.makes lines.old.job.now }
-    ensures runs { S.tells → RunsLines result (J.makes lines.old.job.now)
-        (reading_of lines.old.reader.now) file.now
-        (S.rest source.old) (S.rest source.new)
-        (shows O.Sink E.Sink outputs.old outputs.new) }
-    ensures keeps { Keeps lines.old.reader.now lines.new.reader.now }
-    ensures cause { SourceCause result (S.faults source.old) (S.faults source.new) }
-    ensures sinks { SinksCause result (O.faults outputs.old.out.now) (O.faults outputs.new.out.now)
-        (E.faults outputs.old.err.now) (E.faults outputs.new.err.now) }
-    ensures spent { SpentCause result (S.taken source.old) (S.taken source.new) }
-    ensures taken { S.taken source.new < 2 ^ 64 - 1 → S.taken source.old ≤ S.taken source.new }
-    ensures tree { S.tree source.new ≡ S.tree source.old }
-    ensures opens { S.failed_opens source.new ≡ S.failed_opens source.old }
-{
-    lines.reader.restart();
-    let mut tally = Tally::new();
-    'lines: loop {
-        // What was written appears before the reader waits for input.
-        match flush_before_wait(
-            &mut lines.pending,
-            lines.reader.is_ready(),
-            outputs.out,
-            outputs.err,
-        ) {
-            Ok(()) => {}
-            Err(_) => return Err(Trouble::WriteFault),
-        }
-        let found = match make_line(lines, file, source, outputs.steps) {
-            Ok(found) => found,
-            Err(trouble) => return Err(trouble),
-        };
-        let made = match found {
-            Some(made) => made,
-            None => return Ok(tally),
-        };
-        let mark = match write_made(
-            lines.job,
-            made,
-            &mut lines.pending,
-            outputs.out,
-            outputs.err,
-        ) {
-            Ok(mark) => mark,
-            Err(_) => return Err(Trouble::WriteFault),
-        };
-        tally = tally.with(mark);
-        if tally.stop {
-            return Ok(tally);
+impl<'a, J: LineJob, S: Source> PieceSource for SourceLines<'a, J, S> {
+    ghost use Rattle.std.specs.Prelude.{refl};
+    ghost use Rattle.rosie_run.specs.inside.FromLines.{GoesOnFrom, begins_lines};
+
+    ghost comes = { λ s ps. ComesFrom J.makes S.Source s ps };
+
+    ghost same = { λ s z. SameLines s z };
+
+    ghost leaves = { λ how s z k. LeavesLines J.makes S.Source how s z k };
+
+    ghost goes_on = { λ s. GoesOnFrom s };
+
+    ghost bound = { λ s. 2 ^ 48 + 1 - s.reader.now.number };
+
+    ghost out_text = { λ s. kept_out s.messages.now.fault (J.out_text s.job.now) };
+
+    ghost err_text = { λ s. kept_err s.messages.now.fault (J.err_text s.job.now) };
+
+    ghost tool = { λ s. s.messages.now.tool };
+
+    ghost source_name = { λ s. s.file.now };
+
+    ghost idle = { J.idle };
+
+    #[inline(always)]
+    fn is_ready(&self) -> bool {
+        self.reader.is_ready()
+    }
+
+    #[inline(always)]
+    fn next<L: Ledger>(&mut self, steps: &mut Steps<L>) -> Result<Option<Mark>, Ended> {
+        let found = self.reader.next(self.source);
+        self.make_of(found, steps)
+    }
+
+    #[inline(always)]
+    fn out(&self) -> &[u8] {
+        match &self.messages.fault {
+            Some(_) => &[],
+            None => self.job.out(),
         }
     }
+
+    #[inline(always)]
+    fn err(&self) -> &[u8] {
+        match &self.messages.fault {
+            Some(text) => text.as_bytes(),
+            None => self.job.err(),
+        }
+    }
+
+    ghost begins = { λ s. ((refl, refl, refl, refl, refl), begins_lines J.makes S.Source s) };
 }

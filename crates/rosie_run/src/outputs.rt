@@ -11,4 +11,6 @@ pub struct Outputs<'a, O, E, L: Ledger> {
     pub err: &'a mut E,
     /// The steps of the machine.
     pub steps: &'a mut Steps<L>,
+    /// Something that was written isn't flushed.
+    pub pending: bool,
 }

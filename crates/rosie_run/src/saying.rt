@@ -4,9 +4,10 @@ ghost use Rattle.rosie_run.specs.Runs.{WritesCause, Runs, IsCutOf, IsNoCut};
 ghost use Rattle.rosie_run.specs.Outputs.{shown, telling};
 ghost use Rattle.rosie_run.specs.Report.{is_stop};
 ghost use Rattle.rosie_run.specs.Where.{Nowhere};
+ghost use Rattle.rosie_run.specs.declared.tool.Tool.{Tool};
 
-use crate::write::{input_fault, write_both};
-use crate::{Ended, Mark, ReadStop, Tally};
+use crate::write::{input_message, write_both};
+use crate::{Ended, Mark, ReadStop, Tally, Tool};
 use rosie_io::Sink;
 use std::alloc::Global;
 
@@ -18,7 +19,7 @@ pub fn say<O: Sink, E: Sink>(
     err_text: &[u8],
     mark: Mark,
 ) -> Result<Tally, Ended>
-    ensures runs { (n : ℕ) → Runs result (telling O.Sink E.Sink)
+    ensures runs { (tool : Tool) (n : ℕ) → Runs result (telling tool O.Sink E.Sink)
         (record { out = out_text.now; err = err_text.now; mark = mark; cost = 0 } ∷ []) Nowhere
         (shown O.Sink E.Sink out.old err.old n)
         (shown O.Sink E.Sink out.new err.new n) }
@@ -34,12 +35,12 @@ pub fn say<O: Sink, E: Sink>(
 }
 
 /// The end of a run that reading ended. `file` is what was read.
-pub fn cut(alloc: Global, why: ReadStop, file: &str) -> Ended
-    ensures { IsCutOf result why file.now }
+pub fn cut(alloc: Global, tool: Tool, why: ReadStop, file: &str) -> Ended
+    ensures { IsCutOf result tool why file.now }
 {
     let text = match why {
-        ReadStop::ReadFault => input_fault(alloc, file, "read failed"),
-        ReadStop::Spent => input_fault(alloc, file, "reads spent"),
+        ReadStop::ReadFault => input_message(alloc, tool, file, "read failed"),
+        ReadStop::Spent => input_message(alloc, tool, file, "reads spent"),
     };
     match text {
         Ok(text) => Ended::Cut(why, text),

@@ -2,11 +2,11 @@
 ghost use Rattle.std.specs.Prelude.{◌≡◌, ◌+◌, IfOk, OnOk, false, length, string_bytes, true};
 ghost use Rattle.rosie_io.specs.Counts.{capped};
 ghost use Rattle.rosie_io.specs.Appending.{Appends, HasCause};
-ghost use Rattle.rosie_run.specs.Lines.{line_fault, input_fault};
+ghost use Rattle.rosie_run.specs.Lines.{input_fault, input_message, line_fault, line_message};
 ghost use Rattle.rosie_run.specs.Closing.{OutFirst};
 ghost use Rattle.rosie_run.specs.inside.Causes.{BothCause};
 
-use crate::NoMemory;
+use crate::{NoMemory, Tool};
 use rosie_io::{FlushAnswer, Sink, WriteFault, write_all};
 use std::alloc::Global;
 
@@ -26,7 +26,7 @@ fn flush<S: Sink>(sink: &mut S) -> Result<(), WriteFault>
 /// Writes the two texts of a piece. `out` is flushed before anything is written on `err`, so that
 /// whoever sees both on one screen, or in one pipe, has them in this order.
 #[inline(always)]
-pub fn write_both<O: Sink, E: Sink>(
+pub(crate) fn write_both<O: Sink, E: Sink>(
     out: &mut O,
     err: &mut E,
     out_text: &[u8],
@@ -67,7 +67,7 @@ fn write_behind<O: Sink, E: Sink>(out: &mut O, err: &mut E, text: &[u8]) -> Resu
 }
 
 /// Flushes what was written on both.
-pub fn flush_both<O: Sink, E: Sink>(out: &mut O, err: &mut E) -> Result<(), WriteFault>
+pub(crate) fn flush_both<O: Sink, E: Sink>(out: &mut O, err: &mut E) -> Result<(), WriteFault>
     ensures out { O.tells → O.written out.new ≡ O.written out.old }
     ensures err { E.tells → E.written err.new ≡ E.written err.old }
     ensures out_number { O.counts → O.number out.new ≡ O.number out.old }
@@ -137,17 +137,39 @@ pub(crate) fn flush_before_wait<O: Sink, E: Sink>(
 }
 
 /// The text that says what is wrong with a line of an input.
-#[tactic(auto, unfolding(crate::specs::Lines::line_fault))]
-pub fn line_fault(alloc: Global, file: &str, number: u64, text: &str) -> Result<String, NoMemory>
-    ensures { IfOk result (λ line. string_bytes line ≡ line_fault file.now number text.now) }
+#[tactic(auto, unfolding(crate::specs::Lines::line_message))]
+pub fn line_message(
+    alloc: Global,
+    tool: Tool,
+    file: &str,
+    number: u64,
+    text: &str,
+) -> Result<String, NoMemory>
+    ensures { IfOk result (λ line. string_bytes line ≡ line_message tool file.now number text.now) }
 {
-    format!(in alloc; "rosie: {file}:{number}: {text}\n")
+    let tool = tool.name();
+    format!(in alloc; "{tool}: {file}:{number}: {text}\n")
 }
 
 /// The text that says what is wrong with an input.
-#[tactic(auto, unfolding(crate::specs::Lines::input_fault))]
+#[tactic(auto, unfolding(crate::specs::Lines::input_message))]
+pub fn input_message(alloc: Global, tool: Tool, file: &str, text: &str) -> Result<String, NoMemory>
+    ensures { IfOk result (λ line. string_bytes line ≡ input_message tool file.now text.now) }
+{
+    let tool = tool.name();
+    format!(in alloc; "{tool}: {file}: {text}\n")
+}
+
+/// What `rosie` says is wrong with a line of an input.
+pub fn line_fault(alloc: Global, file: &str, number: u64, text: &str) -> Result<String, NoMemory>
+    ensures { IfOk result (λ line. string_bytes line ≡ line_fault file.now number text.now) }
+{
+    line_message(alloc, Tool::Rosie, file, number, text)
+}
+
+/// What `rosie` says is wrong with an input.
 pub fn input_fault(alloc: Global, file: &str, text: &str) -> Result<String, NoMemory>
     ensures { IfOk result (λ line. string_bytes line ≡ input_fault file.now text.now) }
 {
-    format!(in alloc; "rosie: {file}: {text}\n")
+    input_message(alloc, Tool::Rosie, file, text)
 }

@@ -12,7 +12,8 @@ use Rattle.rpl_core.specs.Run.{Answer}
 use Rattle.rpl_encode.specs.Answer.{max_answer_bytes}
 use Rattle.rpl_encode.specs.Print.{print}
 use Rattle.rosie_jobs.specs.Jobs.{matcher_of}
-use Rattle.rosie_jobs.specs.Lines.{budget_of, is_over, made, matches, ran, unanswered, answered, outcome_piece, ran_piece}
+use Rattle.rosie_jobs.specs.Lines.{answered, budget_of, is_over, made, matches, outcome_piece, ran, ran_piece, reading}
+use Rattle.rosie_jobs.specs.Lines.{unanswered}
 use Rattle.rosie_jobs.specs.Makers.{makes_of}
 use Rattle.rosie_jobs.specs.declared.match_job.MatchJob.{MatchJob}
 use Rattle.rosie_jobs.specs.declared.settings.Settings.{Settings}
@@ -67,7 +68,7 @@ of_job P holds job file n line =
 pub job_stays : (job : MatchJob) (file : List ℕ) (n : ℕ) (line : List ℕ) → is_stop (makes_of (matcher_of job) file n line).mark ≡ false
 job_stays = of_job (λ p. is_stop p.mark ≡ false) piece_stays
 
-job_bytes : (job : MatchJob) (file : List ℕ) (n : ℕ) (line : List ℕ) → length (makes_of (matcher_of job) file n line).out ≤ max_answer_bytes
+pub job_bytes : (job : MatchJob) (file : List ℕ) (n : ℕ) (line : List ℕ) → length (makes_of (matcher_of job) file n line).out ≤ max_answer_bytes
 job_bytes = of_job (λ p. length p.out ≤ max_answer_bytes) piece_bytes
 
 -- the pieces of the lines of a sample
@@ -75,7 +76,7 @@ module _ (job : MatchJob) where
   abbrev makes : Makes
   makes = makes_of (matcher_of job)
 
-  line_stays : (file : List ℕ) (n : ℕ) (line : List ℕ) → is_stop (line_piece makes 16777216 file n line).mark ≡ false
+  line_stays : (file : List ℕ) (n : ℕ) (line : List ℕ) → is_stop (line_piece makes (reading false) file n line).mark ≡ false
   unfolding line_piece
   line_stays file n line =
       stays_by (nat_lt 16777216 (length line)) (fault_piece (line_fault file n (codes "line too long")))
@@ -83,7 +84,7 @@ module _ (job : MatchJob) where
       (stays_by (is_utf8 line) (makes file n line) (fault_piece (line_fault file n (codes "not UTF-8")))
       (job_stays job file n line) refl)
 
-  line_bytes : (file : List ℕ) (n : ℕ) (line : List ℕ) → length (line_piece makes 16777216 file n line).out ≤ max_answer_bytes
+  line_bytes : (file : List ℕ) (n : ℕ) (line : List ℕ) → length (line_piece makes (reading false) file n line).out ≤ max_answer_bytes
   unfolding line_piece
   line_bytes file n line =
       no_longer (nat_lt 16777216 (length line)) (fault_piece (line_fault file n (codes "line too long")))
@@ -91,23 +92,23 @@ module _ (job : MatchJob) where
       (no_longer (is_utf8 line) (makes file n line) (fault_piece (line_fault file n (codes "not UTF-8")))
       (job_bytes job file n line) (omega arith))
 
-  lines_stay : (file : List ℕ) (n : ℕ) (ls : List (List ℕ)) → has is_stop (pieces_from makes 16777216 file n ls) ≡ false
+  lines_stay : (file : List ℕ) (n : ℕ) (ls : List (List ℕ)) → has is_stop (pieces_from makes (reading false) file n ls) ≡ false
   unfolding pieces_from has
   lines_stay file n [] = refl
   lines_stay file n (line ∷ more) =
-      ap (λ b. b || has is_stop (pieces_from makes 16777216 file (n + 1) more)) (line_stays file (n + 1) line)
+      ap (λ b. b || has is_stop (pieces_from makes (reading false) file (n + 1) more)) (line_stays file (n + 1) line)
       ∙ lines_stay file (n + 1) more
 
   pub sample-stays : (seed lines : ℕ) → has is_stop (line_pieces makes seed lines) ≡ false
   sample-stays seed lines = lines_stay (codes "-") 0 (sample seed lines)
 
-  lines_bytes : (file : List ℕ) (n : ℕ) (ls : List (List ℕ)) → length (outs (pieces_from makes 16777216 file n ls)) ≤ max_answer_bytes * length ls
+  lines_bytes : (file : List ℕ) (n : ℕ) (ls : List (List ℕ)) → length (outs (pieces_from makes (reading false) file n ls)) ≤ max_answer_bytes * length ls
   unfolding pieces_from outs
   lines_bytes file n [] = omega arith
   lines_bytes file n (line ∷ more) =
       let h = line_bytes file (n + 1) line in
       let k = lines_bytes file (n + 1) more in
-      omega (arith, length-append (line_piece makes 16777216 file (n + 1) line).out (outs (pieces_from makes 16777216 file (n + 1) more)))
+      omega (arith, length-append (line_piece makes (reading false) file (n + 1) line).out (outs (pieces_from makes (reading false) file (n + 1) more)))
 
   sample_length : (x n : ℕ) → length (sample x n) ≡ n
   unfolding sample

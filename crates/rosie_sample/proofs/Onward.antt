@@ -1,27 +1,28 @@
 -- A run over the lines of a sample goes from one to the next.
-use Rattle.std.proofs.Common.{ℕ, zero, suc, ◌≡◌, ◌+◌, ◌-◌, ◌^◌, ◌<◌, ◌≤◌, Bool, true, false, cond}
-use Rattle.std.proofs.Common.{List, [], ◌∷◌, ◌++◌, length, length-append, refl, sym, ◌∙◌, ap, subst, arith}
-use Rattle.std.specs.Prelude.{codes, nat_lt}
+use Rattle.std.proofs.Common.{ℕ, zero, suc, ◌≡◌, ◌+◌, ◌-◌, ◌<◌, ◌≤◌, true, false, cond}
+use Rattle.std.proofs.Common.{List, [], ◌∷◌, ◌++◌, length, length-append, refl, sym, ◌∙◌, ap, append_assoc, arith}
+use Rattle.std.specs.Prelude.{codes, nat_lt, map}
 use Rattle.std.specs.Str.{is_utf8}
-use Rattle.std.proofs.lemmas.List.{append-nil}
 use Rattle.rosie_run.specs.Lines.{Makes, line_fault, line_piece, pieces_from}
-use Rattle.rosie_run.specs.Outputs.{Telling, Texts, Wrote, Fronts}
-use Rattle.rosie_run.specs.Runs.{Stands, Breaks}
-use Rattle.rosie_run.specs.Report.{Piece, is_stop, is_hit, up_to_stop, fault_piece}
-use Rattle.rosie_run.specs.Tallies.{tally_of, added}
-use Rattle.rosie_run.specs.Where.{Nowhere}
-use Rattle.rosie_run.specs.declared.ended.Ended.{Ended}
-use Rattle.rosie_run.specs.declared.ended.Ended.TheVariants as E
-use Rattle.rosie_run.specs.declared.tally.Tally.{Tally}
-use Rattle.rosie_run.proofs.Onward.{up_alone}
-use Rattle.rosie_run.proofs.Pieces.{up_nil, has-one, fronts-none, stands-first, stands-on, stands-end, stands-front}
-use Rattle.rosie_sample.specs.Counting.{line_pieces, hits}
+use Rattle.rosie_run.specs.Report.{Piece, is_hit, outs, fault_piece}
+use Rattle.rosie_run.specs.declared.mark.Mark.{Mark}
+use Rattle.rosie_run.specs.declared.mark.Mark.TheVariants as M
+use Rattle.rosie_run.proofs.Pieces.{outs-append, outs-nil, outs-one}
+use Rattle.std.specs.Prelude.{Option, None, String}
+use Rattle.rosie_sample.specs.Views.{report_of}
+use Rattle.std.proofs.Common.{subst}
+use Rattle.std.proofs.lemmas.List.{append-nil}
+use Rattle.rosie_jobs.specs.Jobs.{matcher_of}
+use Rattle.rosie_jobs.specs.Lines.{reading}
+use Rattle.rosie_jobs.specs.Makers.{makes_of}
+use Rattle.rosie_run.specs.Going.{GivesPiece}
+use Rattle.rosie_sample.specs.declared.run.SampleRun.{SampleRun}
+use Rattle.rosie_sample.specs.inside.Passing.{ComesBy, IsLeft, lines_left, said_err, said_out}
+use Rattle.rosie_sample.specs.Counting.{counts_piece, counts_text, hits, muted, sample_pieces}
 use Rattle.rosie_sample.specs.Lines.{next, drawn, line_of, sample}
-use Rattle.rosie_sample.specs.declared.run.Counts.{Counts}
-use Rattle.rosie_sample.specs.inside.Passing.{Counted, with_line}
 
 -- the lines of a sample in turn
-sample_none : (x n : ℕ) → n ≡ 0 → sample x n ≡ []
+pub sample_none : (x n : ℕ) → n ≡ 0 → sample x n ≡ []
 unfolding sample
 sample_none x n e = ap (sample x) e
 
@@ -32,7 +33,7 @@ sample_step x (suc n) h =
     let e : n ≡ suc n - 1 = omega arith in ap (λ k. line_of (drawn (next x)) ∷ sample (next x) k) e
 
 line_plain : (makes : Makes) (file : List ℕ) (n : ℕ) (line : List ℕ) → is_utf8 line ≡ true → length line ≤ 64
-    → line_piece makes 16777216 file n line ≡ makes file n line
+    → line_piece makes (reading false) file n line ≡ makes file n line
 unfolding line_piece
 line_plain makes file n line u l =
     let short : nat_lt 16777216 (length line) ≡ false = grind (arith, l) in
@@ -40,15 +41,15 @@ line_plain makes file n line u l =
     (cond (is_utf8 line) (makes file n line) (fault_piece (line_fault file n (codes "not UTF-8"))))) short
     ∙ ap (λ b. cond b (makes file n line) (fault_piece (line_fault file n (codes "not UTF-8")))) u
 
-pieces_none : (makes : Makes) (file : List ℕ) (n : ℕ) (ls : List (List ℕ)) → ls ≡ [] → pieces_from makes 16777216 file n ls ≡ []
+pub pieces_none : (makes : Makes) (file : List ℕ) (n : ℕ) (ls : List (List ℕ)) → ls ≡ [] → pieces_from makes (reading false) file n ls ≡ []
 unfolding pieces_from
-pieces_none makes file n ls e = ap (pieces_from makes 16777216 file n) e
+pieces_none makes file n ls e = ap (pieces_from makes (reading false) file n) e
 
 pieces_step : (makes : Makes) (file : List ℕ) (n : ℕ) (line : List ℕ) (more ls : List (List ℕ)) → ls ≡ line ∷ more
-    → pieces_from makes 16777216 file n ls
-    ≡ line_piece makes 16777216 file (n + 1) line ∷ pieces_from makes 16777216 file (n + 1) more
+    → pieces_from makes (reading false) file n ls
+    ≡ line_piece makes (reading false) file (n + 1) line ∷ pieces_from makes (reading false) file (n + 1) more
 unfolding pieces_from
-pieces_step makes file n line more ls e = ap (pieces_from makes 16777216 file n) e
+pieces_step makes file n line more ls e = ap (pieces_from makes (reading false) file n) e
 
 hits-append : (ps qs : List Piece) → hits (ps ++ qs) ≡ hits ps + hits qs
 unfolding hits
@@ -59,103 +60,77 @@ one_hit : (p : Piece) → hits (p ∷ []) ≡ cond (is_hit p.mark) 1 0
 unfolding hits
 one_hit p = omega arith
 
-hit_few : (b : Bool) → cond b 1 0 ≤ 1
-hit_few true = omega arith
-hit_few false = omega arith
+-- those that are left, by the next
+pub left-next : (makes : Makes) (lines passed x : ℕ) (line : List ℕ) → line ≡ line_of (drawn (next x)) → is_utf8 line ≡ true → length line ≤ 64 → passed < lines
+    → pieces_from makes (reading false) (codes "-") passed (sample x (lines - passed))
+    ≡ makes (codes "-") (passed + 1) line ∷ pieces_from makes (reading false) (codes "-") (passed + 1) (sample (next x) (lines - (passed + 1)))
+left-next makes lines passed x line e u l more =
+    let k : lines - passed - 1 ≡ lines - (passed + 1) = omega arith in
+    pieces_step makes (codes "-") passed (line_of (drawn (next x))) (sample (next x) (lines - passed - 1)) (sample x (lines - passed)) (sample_step x (lines - passed) (omega arith))
+    ∙ ap (λ y. line_piece makes (reading false) (codes "-") (passed + 1) y ∷ pieces_from makes (reading false) (codes "-") (passed + 1) (sample (next x) (lines - passed - 1))) (sym e)
+    ∙ ap (λ p. p ∷ pieces_from makes (reading false) (codes "-") (passed + 1) (sample (next x) (lines - passed - 1))) (line_plain makes (codes "-") (passed + 1) line u l)
+    ∙ ap (λ n. makes (codes "-") (passed + 1) line ∷ pieces_from makes (reading false) (codes "-") (passed + 1) (sample (next x) n)) k
 
-hits_few : (ps : List Piece) → hits ps ≤ length ps
+pub hits-more : (done : List Piece) (p : Piece) (n m : ℕ) → n ≡ hits done → m ≡ n + cond (is_hit p.mark) 1 0 → m ≡ hits (done ++ p ∷ [])
+hits-more done p n m h e = let a = hits-append done (p ∷ []) in let b = one_hit p in omega arith
+
+pub bytes-more : (done : List Piece) (p : Piece) (n m : ℕ) → n ≡ length (outs done) → m ≡ n + length p.out → m ≡ length (outs (done ++ p ∷ []))
+bytes-more done p n m h e = let a = ap length (outs-append done (p ∷ [])) in let b = ap length (outs-one p) in omega (arith, length-append (outs done) (outs (p ∷ [])))
+
+pub all-more : (lines : ℕ) (done left left' : List Piece) (p : Piece) (ps : List Piece) → left ≡ p ∷ left'
+    → ps ≡ map muted left ++ counts_piece lines (done ++ left) ∷ []
+    → ps ≡ muted p ∷ (map muted left' ++ counts_piece lines ((done ++ p ∷ []) ++ left') ∷ [])
+all-more lines done left left' p ps e h =
+    h ∙ ap (λ xs. map muted xs ++ counts_piece lines (done ++ xs) ∷ []) e
+    ∙ ap (λ xs. muted p ∷ (map muted left' ++ counts_piece lines xs ∷ [])) (sym (append_assoc done (p ∷ []) left'))
+
+pub one_most : (m : Mark) → cond (is_hit m) 1 0 ≤ 1
+one_most M.Hit = omega arith
+one_most M.Miss = omega arith
+one_most M.Fault = omega arith
+one_most M.Stop = omega arith
+
+pub gives-line : {Z : Type 0} (o : Option (String Z)) → o ≡ None → (s : SampleRun) (ps : List Piece) (mark : Mark) (err : List ℕ) (s0 s1 : ℕ)
+    → GivesPiece ps (IsLeft s) mark [] err s0 s1 → GivesPiece ps (ComesBy o s) mark (said_out o) (said_err o err) s0 s1
+gives-line o e s ps mark err s0 s1 h = subst (λ x. GivesPiece ps (ComesBy x s) mark (said_out x) (said_err x err) s0 s1) (sym e) h
+
+-- the last piece
+pub gives-last : (s : SampleRun) (ps : List Piece) (text : List ℕ) (n : ℕ) (D : List Piece → Type 0) → IsLeft s ps → s.lines ≤ s.passed
+    → text ≡ counts_text s.lines s.matched s.bytes → D [] → GivesPiece ps D M.Miss text [] n n
+gives-last s ps text n D h past says d =
+    let makes = makes_of (matcher_of s.job) in
+    let none : lines_left s ≡ [] = pieces_none makes (codes "-") s.passed (sample s.sample.number (s.lines - s.passed)) (sample_none s.sample.number (s.lines - s.passed) (omega arith)) in
+    let all : h.done ≡ h.done ++ lines_left s = sym (ap (λ xs. h.done ++ xs) none ∙ append-nil h.done) in record {
+      piece = counts_piece s.lines (h.done ++ lines_left s);
+      more = [];
+      is = h.is ∙ ap (λ xs. map muted xs ++ counts_piece s.lines (h.done ++ lines_left s) ∷ []) none;
+      made = record {
+        marks = refl;
+        writes = says ∙ ap (λ k. counts_text s.lines k s.bytes) (h.matched ∙ ap hits all) ∙ ap (counts_text s.lines (hits (h.done ++ lines_left s))) (h.bytes ∙ ap (λ xs. length (outs xs)) all);
+        tells = refl;
+      };
+      steps = omega arith;
+      comes = d;
+    }
+
+pub left-by : {Z : Type 0} (o : Option (String Z)) → o ≡ None → (s : SampleRun) (ps : List Piece) → ComesBy o s ps → IsLeft s ps
+left-by o e s ps h = subst (λ x. ComesBy x s ps) e h
+
+report_is : (makes : Makes) (seed lines n : ℕ) → n ≡ lines → sample_pieces makes seed lines ≡ map muted (pieces_from makes (reading false) (codes "-") 0 (sample seed n)) ++ counts_piece lines (pieces_from makes (reading false) (codes "-") 0 (sample seed n)) ∷ []
+unfolding sample_pieces
+report_is makes seed lines n e = ap (λ k. map muted (pieces_from makes (reading false) (codes "-") 0 (sample seed k)) ++ counts_piece lines (pieces_from makes (reading false) (codes "-") 0 (sample seed k)) ∷ []) (sym e)
+
+hits_none : 0 ≡ hits []
 unfolding hits
-hits_few [] = omega arith
-hits_few (p ∷ ps) = let h = hits_few ps in let k = hit_few (is_hit p.mark) in omega arith
+hits_none = refl
 
-matched_on : (ps : List Piece) (p : Piece) (matched : ℕ) (hit : Bool) → matched ≡ hits ps → hit ≡ is_hit p.mark
-    → matched + cond hit 1 0 ≡ hits (ps ++ p ∷ [])
-matched_on ps p matched hit m h =
-    ap (λ n. n + cond hit 1 0) m ∙ ap (λ b. hits ps + cond b 1 0) h ∙ ap (λ n. hits ps + n) (sym (one_hit p))
-    ∙ sym (hits-append ps (p ∷ []))
-
-tally_hit : (p : Piece) → (tally_of (p ∷ [])).hit ≡ is_hit p.mark
-tally_hit p = has-one is_hit p
-
-module _ (W : Telling) (makes : Makes) (seed lines : ℕ) (a : Texts) where
-  pub counted-first : (b : Texts) (counts : Counts) → b ≡ a → (W.counts → a.number ≤ 2 ^ 64 - 1) → counts.tally ≡ tally_of []
-      → counts.matched ≡ 0 → Counted W makes seed lines 0 seed counts a b
-  unfolding hits
-  counted-first b counts e fits none unmatched =
-      let all : lines - 0 ≡ lines = omega arith in record {
-        done = [];
-        stands = subst (λ k. Stands W (line_pieces makes seed lines) [] (pieces_from makes 16777216 (codes "-") 0 (sample seed k)) a b counts.tally)
-            (sym all) (stands-first W (line_pieces makes seed lines) a b counts.tally e fits none);
-        count = refl;
-        matched = unmatched;
-      }
-
-  module _ (before x : ℕ) (counts : Counts) (b : Texts) (h : Counted W makes seed lines before x counts a b) where
-    pub few_matched : counts.matched ≤ before
-    few_matched = let m = h.matched in let k = h.count in let f = hits_few h.done in omega arith
-
-    pub counted-end : (before ≡ lines) → Wrote W (up_to_stop (line_pieces makes seed lines)) a b
-        × (counts.tally ≡ tally_of (up_to_stop (line_pieces makes seed lines)))
-    counted-end e =
-        stands-end W (line_pieces makes seed lines) h.done _ a b counts.tally h.stands
-        (pieces_none makes (codes "-") before (sample x (lines - before)) (sample_none x (lines - before) (omega arith)))
-
-    pub all-matched : (before ≡ lines) → counts.matched ≡ hits (line_pieces makes seed lines)
-    all-matched e =
-        let none = pieces_none makes (codes "-") before (sample x (lines - before)) (sample_none x (lines - before) (omega arith)) in
-        h.matched ∙ ap hits (sym (h.stands.split ∙ ap (λ xs. h.done ++ xs) none ∙ append-nil h.done))
-
-    pub counted-front : Fronts W (up_to_stop (line_pieces makes seed lines)) a b
-    counted-front = stands-front W (line_pieces makes seed lines) h.done [] _ a b b counts.tally h.stands
-        (subst (λ ps. Fronts W ps b b) (sym up_nil) (fronts-none W [] b))
-
-    -- the next line, of which the same piece is made
-    module _ (line : List ℕ) (is : line ≡ line_of (drawn (next x))) (more : before < lines) (u : is_utf8 line ≡ true)
-        (l : length line ≤ 64) (makes' : Makes) (same : makes' ≡ makes) where
-      abbrev p : Piece
-      p = makes (codes "-") (before + 1) line
-
-      abbrev p' : Piece
-      p' = makes' (codes "-") (before + 1) line
-
-      abbrev todo : List Piece
-      todo = pieces_from makes 16777216 (codes "-") (before + 1) (sample (next x) (lines - (before + 1)))
-
-      goes_on : pieces_from makes 16777216 (codes "-") before (sample x (lines - before)) ≡ p ∷ todo
-      goes_on =
-          let one : lines - before - 1 ≡ lines - (before + 1) = omega arith in
-          pieces_step makes (codes "-") before line (sample (next x) (lines - (before + 1))) (sample x (lines - before))
-          (sample_step x (lines - before) (omega arith) ∙ ap (λ k. line_of (drawn (next x)) ∷ sample (next x) k) one
-          ∙ ap (λ y. y ∷ sample (next x) (lines - (before + 1))) (sym is))
-          ∙ ap (λ y. y ∷ todo) (line_plain makes (codes "-") (before + 1) line u l)
-
-      there : Stands W (line_pieces makes seed lines) h.done ((p ∷ []) ++ todo) a b counts.tally
-      there = subst (λ ps. Stands W (line_pieces makes seed lines) h.done ps a b counts.tally) goes_on h.stands
-
-      pub counted-on : (x' : ℕ) (d : Texts) (part : Tally) (counts' : Counts) → x' ≡ next x → is_stop p.mark ≡ false
-          → Wrote W (up_to_stop (p' ∷ [])) b d × (part ≡ tally_of (up_to_stop (p' ∷ [])))
-          → counts' ≡ with_line counts part → Counted W makes seed lines (before + 1) x' counts' a d
-      counted-on x' d part counts' e stays w' with =
-          let w = subst (λ (m : Makes). Wrote W (up_to_stop (m (codes "-") (before + 1) line ∷ [])) b d
-          × (part ≡ tally_of (up_to_stop (m (codes "-") (before + 1) line ∷ [])))) same w' in
-          let of_part : part ≡ tally_of (p ∷ []) = w.1 ∙ ap tally_of (up_alone p) in
-          let hit : part.hit ≡ is_hit p.mark = ap (λ (y : Tally). y.hit) of_part ∙ tally_hit p in record {
-            done = h.done ++ p ∷ [];
-            stands = subst (λ y. Stands W (line_pieces makes seed lines) (h.done ++ p ∷ []) (pieces_from makes 16777216 (codes "-") (before + 1) (sample y (lines - (before + 1)))) a d counts'.tally) (sym e)
-                (stands-on W (line_pieces makes seed lines) h.done (p ∷ []) todo a b d counts.tally counts'.tally there
-                (subst (λ ps. Wrote W ps b d) (up_alone p) w.0) (has-one is_stop p ∙ stays)
-                (ap (λ (y : Counts). y.tally) with ∙ ap (added counts.tally) of_part));
-            count = let k = h.count in omega (arith, length-append h.done (p ∷ []));
-            matched = ap (λ (y : Counts). y.matched) with ∙ matched_on h.done p counts.matched part.hit h.matched hit;
-          }
-
-      broken : (e : Ended) (d : Texts) → Breaks e W (p ∷ []) Nowhere b d
-          → Breaks e W (line_pieces makes seed lines) Nowhere a d
-      broken E.NoMemory d f = stands-front W (line_pieces makes seed lines) h.done (p ∷ []) todo a b d counts.tally there f
-      broken E.WriteFault d f = stands-front W (line_pieces makes seed lines) h.done (p ∷ []) todo a b d counts.tally there f
-      broken (E.Cut why text) d f = absurd f.stood
-
-      pub counted-break : (e : Ended) (d : Texts) → Breaks e W (p' ∷ []) Nowhere b d
-          → Breaks e W (line_pieces makes seed lines) Nowhere a d
-      counted-break e d f =
-          broken e d (subst (λ (m : Makes). Breaks e W (m (codes "-") (before + 1) line ∷ []) Nowhere b d) same f)
+-- where it begins, all of its report is to come
+pub report-left : (s : SampleRun) → s.passed ≡ 0 → s.matched ≡ 0 → s.bytes ≡ 0 → IsLeft s (report_of s)
+report-left s passed matched bytes =
+    let makes = makes_of (matcher_of s.job) in record {
+      done = [];
+      matched = matched ∙ hits_none;
+      bytes = bytes ∙ sym (ap length outs-nil);
+      is = report_is makes s.sample.number s.lines (s.lines - s.passed) (omega arith)
+          ∙ ap (λ n. map muted (pieces_from makes (reading false) (codes "-") n (sample s.sample.number (s.lines - s.passed))) ++ counts_piece s.lines (pieces_from makes (reading false) (codes "-") n (sample s.sample.number (s.lines - s.passed))) ∷ []) (sym passed);
+    }

@@ -1,7 +1,8 @@
 -- What `sample` says: the lines of a sample are matched, and it tells how many there are, how many match, and how much
 -- is written of them.
-use Rattle.std.specs.Prelude.{ℕ, cond, ◌+◌, List, [], ◌∷◌, ◌++◌, length, map, codes}
+use Rattle.std.specs.Prelude.{ℕ, cond, false, ◌+◌, List, [], ◌∷◌, ◌++◌, length, map, codes}
 use Rattle.std.specs.Fmt.{decimal}
+use Rattle.rosie_jobs.specs.Lines.{reading}
 use Rattle.rosie_run.specs.Lines.{Makes, pieces_from}
 use Rattle.rosie_run.specs.Report.{Piece, outs, is_hit}
 use Rattle.rosie_run.specs.declared.mark.Mark.TheVariants.{Miss}
@@ -16,7 +17,7 @@ sample_pattern = codes "date level"
 
 -- the pieces of its lines, which are those of a standard input
 abbrev pub line_pieces : Makes → (seed lines : ℕ) → List Piece
-line_pieces makes seed lines = pieces_from makes 16777216 (codes "-") 0 (sample seed lines)
+line_pieces makes seed lines = pieces_from makes (reading false) (codes "-") 0 (sample seed lines)
 
 -- nothing of them is written on `out`
 abbrev pub muted : Piece → Piece

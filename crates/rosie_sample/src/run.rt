@@ -1,164 +1,168 @@
-// The run of a sample: its lines are matched, and what comes of them is counted.
-ghost use Rattle.std.specs.Prelude.{◌≡◌, ◌<◌, ◌≤◌, ◌^◌, ◌∷◌, [], length, IfErr, IfOk, OnOk};
-ghost use Rattle.std.specs.Prelude.{IsTrue};
-ghost use Rattle.std.specs.Str.{IsAscii};
+// The run of a sample, piece by piece: its lines are matched, and at the end it says what they come
+// to.
+ghost use Rattle.std.specs.Prelude.{◌≡◌, ◌+◌, ◌-◌, ◌<◌, [], None, IfErr, IfOk, OnOk, cond, List, string_bytes};
 ghost use Rattle.rosie_jobs.specs.Jobs.{matcher_of};
-ghost use Rattle.rosie_run.specs.Runs.{WritesCause, Runs, IsNoCut};
+ghost use Rattle.rosie_run.specs.Devices.{OutputsCause, SameOutputs};
+ghost use Rattle.rosie_run.specs.Going.{GivesPiece};
 ghost use Rattle.rosie_run.specs.Outputs.{shown, telling};
-ghost use Rattle.rosie_run.specs.Tallies.{tally_of};
+ghost use Rattle.rosie_run.specs.Report.{Piece, is_hit};
+ghost use Rattle.rosie_run.specs.Runs.{IsNoCut, Runs};
 ghost use Rattle.rosie_run.specs.Where.{Nowhere};
-ghost use Rattle.rosie_sample.specs.Counting.{hits};
-ghost use Rattle.rosie_sample.specs.inside.Passing.{tallied, with_line};
+ghost use Rattle.rosie_run.specs.declared.tool.Tool.TheVariants.{Rosie};
+ghost use Rattle.rosie_sample.specs.inside.Passing.{CountsFit, IsLeft, SameRun};
 
-use crate::Sample;
 use crate::text::counts_text;
-use rosie_io::{CountSink, Sink};
+use crate::{NoMemory, Sample};
+use rosie_io::Sink;
 use rosie_jobs::MatchJob;
-use rosie_run::{Ended, InputLine, LineJob, Mark, Tally, say};
+use rosie_run::{Ended, InputLine, LineJob, Mark, Outputs, PieceSource, Tally, run_pieces};
 use rpl_machine::Steps;
 use std::alloc::Global;
 use std::sync::ledger::Ledger;
 
-/// A job, and so many lines of a sample that it runs on.
+/// A job, and so many lines of a sample that it runs on, one after the other.
 #[derive(Drop)]
 pub struct SampleRun {
+    alloc: Global,
     job: MatchJob,
     sample: Sample,
     lines: u32,
-}
-
-/// What lines come to, and how many of them match.
-#[derive(Clone, Copy)]
-struct Counts {
-    tally: Tally,
+    /// How many of the lines were matched, how many of these match, and the bytes of their answers.
+    passed: u32,
     matched: u64,
+    bytes: u64,
+    /// What they come to, once that is said.
+    text: Option<String>,
 }
 
-impl Counts {
-    /// No line yet.
-    fn new() -> Counts
-        ensures { result ≡ record { tally = tally_of []; matched = 0 } }
-    {
-        Counts {
-            tally: Tally::new(),
-            matched: 0,
-        }
-    }
-
-    /// The counts with one line more, which comes to this.
-    fn with(self, line: Tally) -> Counts
-        requires { self.matched < 2 ^ 63 }
-        ensures { result ≡ with_line self line }
-    {
-        Counts {
-            tally: self.tally.and(line),
-            matched: self.matched + line.hit as u64,
-        }
-    }
-}
-
-/// Matches a line, and writes its piece.
-fn run_line<J: LineJob, O: Sink, E: Sink, L: Ledger>(
-    job: &mut J,
-    line: InputLine<'_>,
-    out: &mut O,
-    err: &mut E,
-    steps: &mut Steps<L>,
-) -> Result<Tally, Ended>
-    requires fits { length line.text.now ≤ 64 }
-    requires ascii { IsTrue line.is_ascii → IsAscii line.text.now }
-    ensures same { J.makes job.new ≡ J.makes job.old }
-    ensures runs { Runs result (telling O.Sink E.Sink)
-        (J.makes job.old line.entry.file.now line.entry.number line.entry.text.now ∷ []) Nowhere
-        (shown O.Sink E.Sink out.old err.old steps.old)
-        (shown O.Sink E.Sink out.new err.new steps.new) }
-    ensures no_cut { IfErr result IsNoCut }
-    ensures sinks { WritesCause result (O.faults out.old) (O.faults out.new) (E.faults err.old)
-        (E.faults err.new) }
+/// What a mark adds to the number of lines that match.
+fn one_if_hit(mark: Mark) -> u64
+    ensures { result ≡ cond (is_hit mark) 1 0 }
 {
-    match job.answer(line, steps) {
-        Ok(mark) => say(out, err, job.out(), job.err(), mark),
-        Err(_) => Err(Ended::NoMemory),
+    match mark {
+        Mark::Hit => 1,
+        _ => 0,
     }
 }
 
 impl SampleRun {
-    ghost use Rattle.rosie_sample.specs.Views.{HasPassedAll, HasPassedSome, SameAsked};
-    ghost use Rattle.rosie_sample.specs.Views.{lines_of, report_of, sampled_of};
+    ghost use Rattle.rosie_sample.specs.Views.{report_of, sampled_of};
 
     /// The run of a job on so many lines of the sample of a seed.
     pub fn new(alloc: Global, job: MatchJob, seed: u32, lines: u32) -> SampleRun
-        ensures { sampled_of result ≡ record
+        ensures sampled { sampled_of result ≡ record
             { maker = matcher_of job; seed = seed; lines = lines } }
     {
         SampleRun {
+            alloc,
             job,
             sample: Sample::new(alloc, seed),
             lines,
+            passed: 0,
+            matched: 0,
+            bytes: 0,
+            text: None,
         }
     }
 
-    /// Matches the lines, and writes their pieces.
-    fn run_lines<O: Sink, E: Sink, L: Ledger>(
-        &mut self,
-        out: &mut O,
-        err: &mut E,
-        steps: &mut Steps<L>,
-    ) -> Result<Counts, Ended>
-        ensures same { SameAsked self.old self.new }
-        ensures passed { OnOk result (HasPassedAll self.old self.new) }
-        ensures within { HasPassedSome self.old self.new }
-        ensures runs { Runs (tallied result) (telling O.Sink E.Sink) (lines_of self.old) Nowhere
-            (shown O.Sink E.Sink out.old err.old steps.old)
-            (shown O.Sink E.Sink out.new err.new steps.new) }
-        ensures matched { IfOk result (λ counts. counts.matched ≡ hits (lines_of self.old)) }
-        ensures no_cut { IfErr result IsNoCut }
-        ensures sinks { WritesCause (tallied result) (O.faults out.old) (O.faults out.new)
-            (E.faults err.old) (E.faults err.new) }
+    /// Matches the next line, of which nothing is written on `out`.
+    fn next_line<L: Ledger>(&mut self, steps: &mut Steps<L>) -> Result<Mark, NoMemory>
+        requires more { self.old.passed < self.old.lines }
+        requires fits { CountsFit self.old }
+        ensures fits { OnOk result (CountsFit self.new) }
+        ensures same { SameRun self.old self.new }
+        ensures passed { OnOk result (self.new.passed ≡ self.old.passed + 1) }
+        ensures gives { (ps : List Piece) → IsLeft self.old ps
+            → IfOk result (λ mark. GivesPiece ps (IsLeft self.new) mark []
+            (string_bytes self.new.job.line.texts.told) steps.old steps.new) }
     {
-        let lines = self.lines;
-        let mut counts = Counts::new();
-        'lines: for before in 0..lines {
-            let Ok(()) = self.sample.advance() else {
-                return Err(Ended::NoMemory);
-            };
-            let line = InputLine {
-                file: "-",
-                number: before as u64 + 1,
-                text: self.sample.line(),
-                is_ascii: false,
-            };
-            let ran = run_line(&mut self.job, line, out, err, steps)?;
-            counts = counts.with(ran);
-        }
-        Ok(counts)
+        self.sample.advance()?;
+        let line = InputLine {
+            file: "-",
+            number: self.passed as u64 + 1,
+            text: self.sample.line(),
+            is_ascii: false,
+        };
+        let mark = self.job.answer(line, steps)?;
+        self.passed += 1;
+        self.matched += one_if_hit(mark);
+        self.bytes += self.job.out().len() as u64;
+        Ok(mark)
     }
 
-    /// Matches the lines, and says what they come to.
+    /// Matches so many lines from where the sample stands, and says what they come to.
     pub fn run<O: Sink, E: Sink, L: Ledger>(
         &mut self,
-        alloc: Global,
-        out: &mut O,
-        err: &mut E,
-        steps: &mut Steps<L>,
+        outputs: &mut Outputs<'_, O, E, L>,
     ) -> Result<Tally, Ended>
-        ensures same { SameAsked self.old self.new }
-        ensures passed { OnOk result (HasPassedAll self.old self.new) }
-        ensures within { HasPassedSome self.old self.new }
-        ensures runs { Runs result (telling O.Sink E.Sink) (report_of self.old) Nowhere
-            (shown O.Sink E.Sink out.old err.old steps.old)
-            (shown O.Sink E.Sink out.new err.new steps.new) }
+        ensures same_outputs { SameOutputs outputs.old outputs.new }
+        ensures runs { Runs result (telling Rosie O.Sink E.Sink) (report_of self.old) Nowhere
+            (shown O.Sink E.Sink outputs.old.out.now outputs.old.err.now outputs.old.steps.now)
+            (shown O.Sink E.Sink outputs.new.out.now outputs.new.err.now outputs.new.steps.now) }
         ensures no_cut { IfErr result IsNoCut }
-        ensures sinks { WritesCause result (O.faults out.old) (O.faults out.new)
-            (E.faults err.old) (E.faults err.new) }
+        ensures sinks { OutputsCause O.Sink E.Sink result outputs.old outputs.new }
     {
-        let lines = self.lines;
-        let mut counted = CountSink::new();
-        let counts = self.run_lines(&mut counted, err, steps)?;
-        let Ok(text) = counts_text(alloc, lines, counts.matched, counted.number()) else {
-            return Err(Ended::NoMemory);
-        };
-        let last = say(out, err, text.as_bytes(), &[], Mark::Miss)?;
-        Ok(counts.tally.and(last))
+        self.passed = 0;
+        self.matched = 0;
+        self.bytes = 0;
+        self.text = None;
+        run_pieces(self, outputs)
     }
+}
+
+impl PieceSource for SampleRun {
+    ghost use Rattle.rosie_sample.specs.inside.Passing.{ComesBy, one_left, said_err, said_out};
+    ghost use Rattle.rosie_run.specs.Going.{NeverReads};
+
+    ghost comes = { λ s ps. ComesBy s.text s ps };
+
+    ghost same = { λ _ _. Unit {0} };
+
+    ghost leaves = { λ how _ _ _. NeverReads how };
+
+    ghost goes_on = { λ s. CountsFit s };
+
+    ghost bound = { λ s. (s.lines - s.passed) + one_left s.text };
+
+    ghost out_text = { λ s. said_out s.text };
+
+    ghost err_text = { λ s. said_err s.text (string_bytes s.job.line.texts.told) };
+
+    ghost tool = { λ _. Rosie };
+
+    ghost source_name = { λ _. [] };
+
+    fn is_ready(&self) -> bool {
+        true
+    }
+
+    fn next<L: Ledger>(&mut self, steps: &mut Steps<L>) -> Result<Option<Mark>, Ended> {
+        match &self.text {
+            Some(_) => return Ok(None),
+            None => {}
+        }
+        if self.passed < self.lines {
+            let mark = self.next_line(steps)?;
+            return Ok(Some(mark));
+        }
+        let text = counts_text(self.alloc, self.lines, self.matched, self.bytes)?;
+        self.text = Some(text);
+        Ok(Some(Mark::Miss))
+    }
+
+    fn out(&self) -> &[u8] {
+        match &self.text {
+            Some(text) => text.as_bytes(),
+            None => &[],
+        }
+    }
+
+    fn err(&self) -> &[u8] {
+        match &self.text {
+            Some(_) => &[],
+            None => self.job.err(),
+        }
+    }
+
+    ghost begins = { λ _. (tt, tt) };
 }

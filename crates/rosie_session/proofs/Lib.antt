@@ -3,7 +3,7 @@ pub mod OneLoad
 pub mod Compiling
 pub mod Onward
 pub mod Lines
-pub mod Ending
+pub mod Passing
 pub mod Told
 pub mod Turns
 pub mod Pegs

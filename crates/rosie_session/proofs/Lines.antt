@@ -1,30 +1,33 @@
 -- What comes of the next line, case by case.
-use Rattle.std.proofs.Common.{ℕ, ◌≡◌, ◌+◌, ◌<◌, ◌≤◌, ◌-◌, ◌^◌, Bool, true, false, List, [], ◌∷◌, ◌++◌, length, refl, sym, ◌∙◌, ap}
-use Rattle.std.proofs.Common.{subst, arith}
-use Rattle.std.specs.Prelude.{codes, nat_lt, encode_utf8_all}
-use Rattle.std.specs.List.{Contains}
+use Rattle.std.proofs.Common.{ℕ, ◌≡◌, ◌+◌, ◌<◌, ◌≤◌, Bool, true, false, List, [], ◌∷◌, ◌++◌, length, refl, sym, ◌∙◌, ap}
+use Rattle.std.proofs.Common.{subst, arith, Result, Ok, Err, Option, Some, None}
+use Rattle.std.specs.Prelude.{IsErrAnd, codes, nat_lt}
 use Rattle.std.specs.Str.{is_utf8}
-use Rattle.rosie_io.specs.Gathering.{Splits}
+use Rattle.rosie_io.specs.Answering.{Numbers, Passes}
+use Rattle.rosie_io.specs.Gathering.{Splits, left}
 use Rattle.rosie_io.specs.Lines.{lines}
+use Rattle.rosie_io.specs.Reader.{Reader}
+use Rattle.rosie_io.specs.declared.reader.Line.{Line}
+use Rattle.rosie_io.specs.declared.reader.Line.TheVariants as L
+use Rattle.rosie_io.specs.declared.reader.LineFault.{LineFault}
+use Rattle.rosie_io.specs.declared.reader.LineFault.TheVariants as F
+use Rattle.rosie_prepare.specs.Prepared.{Tree}
 use Rattle.rosie_repl.specs.Edits.{edit_of}
 use Rattle.rosie_repl.specs.Session.{Session}
+use Rattle.rosie_run.specs.Going.{Gives, ReadsOn}
 use Rattle.rosie_run.specs.Made.{IsMade}
-use Rattle.rosie_run.specs.Outputs.{Fronts, IsFront, Telling, Texts}
-use Rattle.rosie_run.specs.Report.{errs, fault_piece, outs}
+use Rattle.rosie_run.specs.Report.{Piece, fault_piece}
+use Rattle.rosie_run.specs.declared.ended.Ended.{Ended}
+use Rattle.rosie_run.specs.declared.ended.Ended.TheVariants as E
+use Rattle.rosie_run.specs.declared.ended.ReadStop.TheVariants as Y
 use Rattle.rosie_run.specs.declared.mark.Mark.{Mark}
-use Rattle.rosie_run.specs.declared.trouble.Trouble.TheVariants as T
-use Rattle.rosie_run.specs.inside.Passing.{ReadsOn}
-use Rattle.rosie_run.proofs.Passing.{errs_cons, fronts-same, outs_cons, wrote-same}
-use Rattle.rosie_run.proofs.Pieces.{longer}
+use Rattle.rosie_run.specs.inside.Passing.{IsStop, IsStopOrMemory, MakesPiece}
+use Rattle.rosie_run.proofs.Onward.{lines_none}
 use Rattle.rpl_package.specs.Asking.{IsTold}
-use Rattle.rosie_session.specs.Loading.{Loading}
+use Rattle.rosie_session.specs.Loading.{IsLoading, Loading}
 use Rattle.rosie_session.specs.Replay.{Turn, asked_by, edit_turn, pieces_of, refused, session_fault, turn, turns_from}
-use Rattle.rosie_session.specs.declared.session_end.SessionEnd.{SessionEnd}
-use Rattle.rosie_session.specs.declared.session_end.SessionEnd.TheVariants as H
-use Rattle.rosie_session.specs.declared.reply.Reply.{Reply}
-use Rattle.rosie_session.specs.inside.Passing.{Breaks, IsOfReading, MakesEnd, MakesTurn, SinksBy, to_come}
-use Rattle.rosie_session.specs.inside.Turning.{EndSteps, IsEndOf, IsReply, Says}
-use Rattle.rosie_session.proofs.Onward.{turns-next}
+use Rattle.rosie_session.specs.inside.Passing.{MakesOf, MakesTurn, to_come}
+use Rattle.rosie_session.proofs.Onward.{turns-next, turns_none}
 use Rattle.rosie_session.proofs.Sessions.{by_tests, turn_by}
 use Rattle.rosie_session.proofs.Told.{told_left}
 
@@ -45,114 +48,111 @@ module _ (w : Loading) (n : ℕ) (s : Session) (line : List ℕ) where
       length line ≤ 1048576 → is_utf8 line ≡ false → turn w n s line ≡ refused s [] (session_fault n (codes "not UTF-8"))
   turn-no-text h u = tested false false (grind (arith, h)) u
 
-module _ (w : Loading) (n m : ℕ) (s0 s1 : Session) (ended : Bool) (left0 left1 : List ℕ) (count : m ≡ n + 1) where
+module _ (w : Loading) (old now : Reader) (s0 s1 : Session) (left0 left1 : List ℕ) (parts : old.whole ≡ false)
+    (most : old.most ≡ 1048576) where
+  -- the turns before the line, and after it
+  abbrev pub before : List Turn
+  before = to_come w old.number s0 left0
+
+  abbrev pub after : List Turn
+  after = to_come w now.number s1 left1
+
+  abbrev pub OneTurn : Result (Option Mark) Ended → List ℕ → List ℕ → ℕ → ℕ → Type 0
+  OneTurn (Ok (Some mark)) out err steps0 steps1 =
+      (t : Turn) × (before ≡ t ∷ after) × IsMade mark out err t.piece × (steps1 ≡ steps0 + t.piece.cost)
+  OneTurn (Ok None) out err steps0 steps1 = (before ≡ []) × (steps1 ≡ steps0)
+  OneTurn (Err e) out err steps0 steps1 = ReadsOn e steps0 steps1
+
+  -- the line with the next number has this turn
+  module _ (line : List ℕ) (sp : Splits false now.held.ended line left0 left1) (t : Turn)
+      (is : turn w (old.number + 1) s0 line ≡ t) where
+    pub turn-next : now.number ≡ old.number + 1 → s1 ≡ t.session → before ≡ t ∷ after
+    turn-next count session =
+        turns-next w old.number now.number s0 s1 line (lines false left1) (lines false left0) sp.lines count
+        (session ∙ ap (λ (x : Turn). x.session) (sym is)) ∙ ap (λ x. x ∷ after) is
+
+    -- it comes first, whatever the session is after it
+    pub turn-first : (later : List Turn) × (before ≡ t ∷ later)
+    turn-first =
+        let later = turns_from w (old.number + 1) t.session (lines false left1) in (
+          later,
+          turns-next w old.number (old.number + 1) s0 t.session line (lines false left1) (lines false left0) sp.lines refl
+              (ap (λ (x : Turn). x.session) (sym is)) ∙ ap (λ x. x ∷ later) is,
+        )
+
+    -- and is told where all the lines to come are
+    pub turn-told : (tells : Type 0) → IsTold tells (asked_by before) → IsTold tells t.asked
+    turn-told tells told =
+        let all : IsTold tells (t.asked ++ asked_by turn-first.0) = subst (λ ts. IsTold tells (asked_by ts)) turn-first.1 told in
+        told_left tells t.asked (asked_by turn-first.0) all
+
   -- a line of text
-  module _ (text : List ℕ) (sp : Splits false ended text left0 left1) (short : length text ≤ 1048576)
-      (is : is_utf8 text ≡ true) where
-    same : turn w (n + 1) s0 text ≡ edit_turn w m s0 (edit_of text)
-    same = turn-text w (n + 1) s0 text short is ∙ ap (λ k. edit_turn w k s0 (edit_of text)) (sym count)
+  pub text-is : now.number ≡ old.number + 1 → length now.text ≤ old.most → is_utf8 now.text ≡ true
+      → turn w (old.number + 1) s0 now.text ≡ edit_turn w now.number s0 (edit_of now.text)
+  text-is count short u =
+      let l = most in
+      turn-text w (old.number + 1) s0 now.text (omega arith) u ∙ ap (λ k. edit_turn w k s0 (edit_of now.text)) (sym count)
 
-    -- its turn is told where all the lines to come are
-    pub told-text :
-        (tells : Type 0) → IsTold tells (asked_by (to_come w n s0 left0))
-        → IsTold tells (edit_turn w m s0 (edit_of text)).asked
-    told-text tells told =
-        let one = turn w (n + 1) s0 text in
-        let later = turns_from w (n + 1) one.session (lines false left1) in
-        let next : to_come w n s0 left0 ≡ one ∷ later =
-        turns-next w n (n + 1) s0 one.session text (lines false left1) (lines false left0) sp.lines refl refl in
-        let all : IsTold tells (one.asked ++ asked_by later) = subst (λ ts. IsTold tells (asked_by ts)) next told in
-        subst (λ (t : Turn). IsTold tells t.asked) same (told_left tells one.asked (asked_by later) all)
+  pub text-splits : Splits old.whole now.held.ended now.text left0 left1 → Splits false now.held.ended now.text left0 left1
+  text-splits sp = subst (λ b. Splits b now.held.ended now.text left0 left1) parts sp
 
-    pub makes-text :
-        (reply : Reply) (steps0 steps1 : ℕ) → Says reply (edit_turn w m s0 (edit_of text)) s1
-        → steps1 ≡ steps0 + (edit_turn w m s0 (edit_of text)).piece.cost
-        → MakesTurn w n s0 s1 ended left0 left1 reply steps0 steps1
-    makes-text reply steps0 steps1 says steps = record {
-      line = text;
-      splits = sp;
-      says = subst (λ t. Says reply t s1) (sym same) says;
-      steps = steps ∙ ap (λ (t : Turn). steps0 + t.piece.cost) (sym same);
-    }
+  module _ (out err : List ℕ) (steps0 steps1 : ℕ) where
+    text_one : (result : Result (Option Mark) Ended) (t : Turn) (unread : Option (List ℕ)) → (s1 ≡ t.session → before ≡ t ∷ after)
+        → MakesTurn result t s1 unread out err steps0 steps1 → OneTurn result out err steps0 steps1
+    text_one (Ok (Some mark)) t unread next m = (t, next m.1, m.0, m.2)
+    text_one (Ok None) t unread next m = absurd m
+    text_one (Err E.NoMemory) t unread next m = tt
+    text_one (Err E.WriteFault) t unread next m = absurd m
+    text_one (Err (E.Cut why text)) t unread next m = m.1
 
-    pub makes-session_end :
-        (session_end : SessionEnd) (steps0 steps1 : ℕ) → IsEndOf session_end (edit_turn w m s0 (edit_of text))
-        → EndSteps session_end steps0 steps1 → MakesEnd session_end w n s0 left0 steps0 steps1
-    makes-session_end (H.Run trouble) steps0 steps1 h steps = subst (λ x. ReadsOn x steps0 steps1) (sym h) tt
-    makes-session_end (H.Unread path) steps0 steps1 h steps = (
-      record {
-        line = text;
-        more = lines false left1;
-        lines = sp.lines;
-        asks = subst (λ t. Contains t.asked (encode_utf8_all path)) (sym same) h;
-      },
-      steps,
-    )
+    fault_one : (result : Result (Option Mark) Ended) (text : List ℕ) → before ≡ refused s0 [] text ∷ after
+        → MakesPiece result (fault_piece text) out err steps0 steps1 → OneTurn result out err steps0 steps1
+    fault_one (Ok (Some mark)) text next m = (refused s0 [] text, next, m.0, m.1)
+    fault_one (Ok None) text next m = absurd m
+    fault_one (Err e) text next m = subst (λ x. ReadsOn x steps0 steps1) (sym m) tt
 
-  -- one that is too long, or no text
-  wrong_made :
-      (line why : List ℕ) (reply : Reply) (steps0 steps1 : ℕ) → Splits false ended line left0 left1
-      → turn w (n + 1) s0 line ≡ refused s0 [] (session_fault (n + 1) why)
-      → IsReply reply (fault_piece (session_fault m why)) → s1 ≡ s0 → steps1 ≡ steps0
-      → MakesTurn w n s0 s1 ended left0 left1 reply steps0 steps1
-  wrong_made line why reply steps0 steps1 sp e is stays steps =
-      let told : refused s0 [] (session_fault m why) ≡ turn w (n + 1) s0 line =
-      ap (λ k. refused s0 [] (session_fault k why)) count ∙ sym e in record {
-        line = line;
-        splits = sp;
-        says = subst (λ t. Says reply t s1) told (is, stays);
-        steps = let z = ap (λ (t : Turn). t.piece.cost) e in omega arith;
-      }
+    stop_one : (result : Result (Option Mark) Ended) (P : Ended → Type 0) → IsErrAnd result P → steps1 ≡ steps0
+        → OneTurn result out err steps0 steps1
+    stop_one (Ok found) P m same = absurd m
+    stop_one (Err E.NoMemory) P m same = tt
+    stop_one (Err E.WriteFault) P m same = tt
+    stop_one (Err (E.Cut why text)) P m same = same
 
-  pub makes-long :
-      (line : List ℕ) (reply : Reply) (steps0 steps1 : ℕ) → Splits false ended line left0 left1 → 1048576 < length line
-      → IsReply reply (fault_piece (session_fault m (codes "line too long"))) → s1 ≡ s0 → steps1 ≡ steps0
-      → MakesTurn w n s0 s1 ended left0 left1 reply steps0 steps1
-  makes-long line reply steps0 steps1 sp h =
-      wrong_made line (codes "line too long") reply steps0 steps1 sp (turn-long w (n + 1) s0 line h)
+    pub one-turn : (files : Type 0) (tree : Tree) (folders : List (List ℕ)) (found : Result Line LineFault)
+        (result : Result (Option Mark) Ended) (unread : Option (List ℕ)) → IsLoading tree folders w
+        → IsTold files (asked_by before) → Numbers found old now → Passes found old now left0 left1
+        → MakesOf files tree folders found result now.number now.text s0 s1 unread out err steps0 steps1
+        → OneTurn result out err steps0 steps1
+    one-turn files tree folders (Ok L.Text) result unread is told n p m =
+        let t = edit_turn w now.number s0 (edit_of now.text) in
+        let sp = text-splits p.0 in
+        let e = text-is n.0 p.1 p.2 in
+        text_one result t unread (turn-next now.text sp t e n.0) (m w is (turn-told now.text sp t e files told))
+    one-turn files tree folders (Ok L.End) result unread is told n p m =
+        subst (λ x. OneTurn x out err steps0 steps1) (sym m.0)
+        (turns_none w old.number s0 (lines false left0) (ap (lines false) p.0 ∙ lines_none false), m.1)
+    one-turn files tree folders (Err (F.TooLong k)) result unread is told n p m =
+        let why = codes "line too long" in
+        let sp = subst (λ b. Splits b now.held.ended p.0 left0 left1) parts p.1 in
+        let l = most in
+        let e = turn-long w (old.number + 1) s0 p.0 (omega (arith, p.2)) ∙ ap (λ j. refused s0 [] (session_fault j why)) (sym (n.0 ∙ n.1)) in
+        fault_one result (session_fault k why) (turn-next p.0 sp (refused s0 [] (session_fault k why)) e n.1 m.1) m.0
+    one-turn files tree folders (Err (F.NotText k)) result unread is told n p m =
+        let why = codes "not UTF-8" in
+        let sp = subst (λ b. Splits b now.held.ended p.0 left0 left1) parts p.1 in
+        let l = most in
+        let e = turn-no-text w (old.number + 1) s0 p.0 (omega (arith, p.2)) p.3 ∙ ap (λ j. refused s0 [] (session_fault j why)) (sym (n.0 ∙ n.1)) in
+        fault_one result (session_fault k why) (turn-next p.0 sp (refused s0 [] (session_fault k why)) e n.1 m.1) m.0
+    one-turn files tree folders (Err F.NoMemory) result unread is told n p m =
+        subst (λ x. OneTurn x out err steps0 steps1) (sym m.0) tt
+    one-turn files tree folders (Err F.ReadFault) result unread is told n p m = stop_one result (IsStop Y.ReadFault) m.0.0 m.0.1
+    one-turn files tree folders (Err F.Spent) result unread is told n p m = stop_one result (IsStopOrMemory Y.Spent) m.0.0 m.0.1
 
-  pub makes-no-text :
-      (line : List ℕ) (reply : Reply) (steps0 steps1 : ℕ) → Splits false ended line left0 left1 → length line ≤ 1048576
-      → is_utf8 line ≡ false → IsReply reply (fault_piece (session_fault m (codes "not UTF-8"))) → s1 ≡ s0
-      → steps1 ≡ steps0 → MakesTurn w n s0 s1 ended left0 left1 reply steps0 steps1
-  makes-no-text line reply steps0 steps1 sp h u =
-      wrong_made line (codes "not UTF-8") reply steps0 steps1 sp (turn-no-text w (n + 1) s0 line h u)
-
--- ---- what is written of it
-
-module _ (W : Telling) (w : Loading) (n : ℕ) (s : Session) (left0 : List ℕ) (a b : Texts) where
-  -- a write of the next piece failed
-  pub fronts-turn :
-      (line : List ℕ) (more : List (List ℕ)) (mark : Mark) (out err : List ℕ) → lines false left0 ≡ line ∷ more
-      → IsMade mark out err (turn w (n + 1) s line).piece → (W.out → IsFront a.out b.out out)
-      → (W.err → IsFront a.err b.err err) → Fronts W (pieces_of (to_come w n s left0)) a b
-  fronts-turn line more mark out err ls m o e =
-      let one = turn w (n + 1) s line in
-      let later = pieces_of (turns_from w (n + 1) one.session more) in
-      let next : pieces_of (to_come w n s left0) ≡ one.piece ∷ later =
-      ap pieces_of (turns-next w n (n + 1) s one.session line more (lines false left0) ls refl refl) in
-      subst (λ ps. Fronts W ps a b) (sym next) (record {
-        out = λ t.
-            longer a.out b.out out (outs later) (outs (one.piece ∷ later)) (o t)
-            (outs_cons one.piece later ∙ ap (λ xs. xs ++ outs later) (sym m.writes));
-        err = λ t.
-            longer a.err b.err err (errs later) (errs (one.piece ∷ later)) (e t)
-            (errs_cons one.piece later ∙ ap (λ xs. xs ++ errs later) (sym m.tells));
-      })
-
-  -- nothing was said
-  pub breaks-none :
-      (session_end : SessionEnd) → MakesEnd session_end w n s left0 a.steps b.steps → b.out ≡ a.out → b.err ≡ a.err → b.number ≡ a.number
-      → (W.counts → a.number ≤ 2 ^ 64 - 1) → Breaks session_end W w n s left0 a b
-  breaks-none (H.Run T.NoMemory) h o e k fits = fronts-same W _ a b o e
-  breaks-none (H.Run T.WriteFault) h o e k fits = absurd h
-  breaks-none (H.Run T.ReadFault) h o e k fits = wrote-same W a b o e k h fits
-  breaks-none (H.Run T.Spent) h o e k fits = wrote-same W a b o e k h fits
-  breaks-none (H.Unread path) h o e k fits = (h.0, wrote-same W a b o e k h.1 fits)
-
-pub sinks-none : (session_end : SessionEnd) (o e : ℕ) → IsOfReading session_end → SinksBy session_end o o e e
-sinks-none (H.Run T.NoMemory) o e is = (refl, refl)
-sinks-none (H.Run T.WriteFault) o e is = absurd is
-sinks-none (H.Run T.ReadFault) o e is = (refl, refl)
-sinks-none (H.Run T.Spent) o e is = (refl, refl)
-sinks-none (H.Unread path) o e is = (refl, refl)
+    -- its piece is given
+    pub gives-turn : (result : Result (Option Mark) Ended) (C : List Piece → Type 0)
+        → ((t : Turn) → before ≡ t ∷ after → C (pieces_of after)) → OneTurn result out err steps0 steps1
+        → Gives result (pieces_of before) C out err steps0 steps1
+    gives-turn (Ok (Some mark)) C f o =
+        record { piece = o.0.piece; more = pieces_of after; is = ap pieces_of o.1; made = o.2; steps = o.3; comes = f o.0 o.1 }
+    gives-turn (Ok None) C f o = (ap pieces_of o.0, o.1)
+    gives-turn (Err e) C f o = o

@@ -12,7 +12,6 @@ use Rattle.std.proofs.lemmas.Option.{get_or_from_slice_get, slice_get-get_or, sl
 use Rattle.rosie_io.specs.Counts.{Rose}
 use Rattle.rosie_io.specs.Loading.{NotFewer}
 use Rattle.rosie_io.specs.declared.outside.Source.{Ghosts}
-use Rattle.rosie_io.specs.Reader.{Reader}
 use Rattle.rosie_jobs.specs.Lines.{Job, match_makes}
 use Rattle.rosie_jobs.specs.Makers.{Maker, Matches, makes_of}
 use Rattle.rosie_jobs.proofs.OneLine.{spelled}
@@ -29,16 +28,10 @@ use Rattle.rosie_repl.specs.Session.{Kept, Session, changed, kept_by, onward, un
 use Rattle.rosie_repl.specs.declared.edit.Edit.{Edit as Command}
 use Rattle.rosie_repl.specs.declared.edit.Edit.TheVariants as C
 use Rattle.rosie_run.specs.Made.{IsMade}
-use Rattle.rosie_run.specs.Outputs.{Telling, Texts}
 use Rattle.rosie_run.specs.Report.{Piece, fault_piece}
 use Rattle.rosie_run.specs.Sources.{Moment, NoFewer, RoseIn, Still, moment_of}
 use Rattle.rosie_run.specs.declared.mark.Mark.{Mark}
 use Rattle.rosie_run.specs.declared.mark.Mark.TheVariants.{Hit, Miss, Fault, Stop}
-use Rattle.rosie_run.specs.declared.tally.Tally.{Tally}
-use Rattle.rosie_run.specs.declared.trouble.Trouble.TheVariants as T
-use Rattle.rosie_run.proofs.Passing.{fronts-same}
-use Rattle.rosie_run.specs.inside.Causes.{SourceEnds}
-use Rattle.rosie_run.specs.inside.Passing.{StopsAt}
 use Rattle.rpl_package.specs.Asking.{IsTold}
 use Rattle.rpl_package.specs.Loading.{world}
 use Rattle.rpl_package.specs.Roots.{Packages, load}
@@ -51,8 +44,7 @@ use Rattle.rosie_session.specs.Replay.{edit_turn, or_no, pieces_of, plain, tried
 use Rattle.rosie_session.specs.declared.session_end.SessionEnd.{SessionEnd}
 use Rattle.rosie_session.specs.declared.session_end.SessionEnd.TheVariants as H
 use Rattle.rosie_session.specs.declared.reply.Reply.{Reply}
-use Rattle.rosie_session.specs.inside.Passing.{EndsLines, InputEnds, IsOfReading, RunsLines, SpentBy, StopsBy}
-use Rattle.rosie_session.specs.inside.Turning.{EndFiles, IsInner, IsOwn, IsReply, JudgesEnd, Leaves, Says, StepsBy}
+use Rattle.rosie_session.specs.inside.Turning.{EndFiles, IsOwn, IsReply, JudgesEnd, Leaves, Says, StepsBy}
 
 -- ---- the texts as roots
 
@@ -311,7 +303,7 @@ undo_cost n s (Some before) = refl
 
 pub steps_none : (r : Result Reply SessionEnd) (t : Turn) (before : ℕ) → t.piece.cost ≡ 0 → StepsBy r t before before
 steps_none (Ok reply) t before z = omega arith
-steps_none (Err (H.Run trouble)) t before z = tt
+steps_none (Err H.NoMemory) t before z = tt
 steps_none (Err (H.Unread path)) t before z = refl
 
 -- ---- what is told of a line that was tried
@@ -419,73 +411,17 @@ edit_change w n s (C.Pattern text) t u = refl
 edit_change w n s (C.Try line) t u = absurd (t line refl)
 edit_change w n s C.Undo t u = absurd (u refl)
 
--- ---- what ends a session inside a line
-
-pub inner_input : (session_end : SessionEnd) (before now : ℕ) → IsInner session_end → now ≡ before → InputEnds session_end before now
-inner_input (H.Run trouble) before now is e = subst (λ x. SourceEnds x before now) (sym is) e
-inner_input (H.Unread path) before now is e = e
-
-pub inner_stops :
-    (session_end : SessionEnd) (tells : Type 0) (old now : Reader) (rest0 rest1 : List ℕ) → IsInner session_end
-    → StopsBy session_end tells old now rest0 rest1
-inner_stops (H.Run trouble) tells old now rest0 rest1 is = subst (λ x. StopsAt x tells old now rest0 rest1) (sym is) tt
-inner_stops (H.Unread path) tells old now rest0 rest1 is = tt
-
-pub inner_reading : (session_end : SessionEnd) → IsInner session_end → IsOfReading session_end
-inner_reading (H.Run trouble) is = subst (λ x. IsOfReading (H.Run x)) (sym is) tt
-inner_reading (H.Unread path) is = tt
-
 -- ---- out of memory
 
 pub memory_leaves :
     {F : Type 0} (S : Ghosts F) (r : Result Reply SessionEnd) (old new : F) → NotFewer (S.taken old) (S.taken new)
-    → S.tree new ≡ S.tree old → Still (moment_of S old) (moment_of S new) → IsErrAnd r (λ h. h ≡ H.Run T.NoMemory)
+    → S.tree new ≡ S.tree old → Still (moment_of S old) (moment_of S new) → IsErrAnd r (λ h. h ≡ H.NoMemory)
     → Leaves S r old new
 memory_leaves S (Ok reply) old new taken tree still is = absurd is
 memory_leaves S (Err session_end) old new taken tree still is = record {
-  inner = subst IsInner (sym is) refl;
   cause =
       subst (λ x. EndFiles x (moment_of S old) (moment_of S new)) (sym is)
       (still_fewer (moment_of S old) (moment_of S new) still);
   taken = taken;
   tree = tree;
 }
-
-pub memory_runs :
-    (r : Result Tally SessionEnd) (W : Telling) (w : Loading) (rest0 rest1 : List ℕ) (a b : Texts)
-    → IsErrAnd r (λ h. h ≡ H.Run T.NoMemory) → b.out ≡ a.out → b.err ≡ a.err → RunsLines r W w rest0 rest1 a b
-memory_runs (Ok tally) W w rest0 rest1 a b is o e = absurd is
-memory_runs (Err session_end) W w rest0 rest1 a b is o e =
-    subst (λ x. EndsLines x W w rest0 rest1 a b) (sym is) (fronts-same W (pieces_of (turns w rest0)) a b o e)
-
--- ---- on from earlier lines
-
-pub spent-session_end :
-    (session_end : SessionEnd) (tells : Type 0) (old now : Reader) (rest0 rest1 : List ℕ) (taken0 taken1 : ℕ)
-    → StopsBy session_end tells old now rest0 rest1 → (taken1 < 2 ^ 64 - 1 → now.held.reads + taken0 ≤ taken1)
-    → SpentBy session_end taken0 taken1
-spent-session_end (H.Run T.NoMemory) tells old now rest0 rest1 taken0 taken1 s h = tt
-spent-session_end (H.Run T.WriteFault) tells old now rest0 rest1 taken0 taken1 s h = tt
-spent-session_end (H.Run T.ReadFault) tells old now rest0 rest1 taken0 taken1 s h = tt
-spent-session_end (H.Run T.Spent) tells old now rest0 rest1 taken0 taken1 s h = λ few.
-    let r = s.2 in let t = h few in omega arith
-spent-session_end (H.Unread path) tells old now rest0 rest1 taken0 taken1 s h = tt
-
-still_on : (f0 f1 f2 : Moment) → Still f0 f1 → Still f1 f2 → Still f0 f2
-still_on f0 f1 f2 a b = record { faults = b.faults ∙ a.faults; opens = b.opens ∙ a.opens }
-
-fewer_on : (f0 f1 f2 : Moment) → Still f0 f1 → NoFewer f1 f2 → NoFewer f0 f2
-fewer_on f0 f1 f2 a b =
-    let e = a.faults in let f = a.opens in let x = b.faults in let y = b.opens in
-    record { faults = omega arith; opens = omega arith }
-
-rose_on : (f0 f1 f2 : Moment) → Still f0 f1 → RoseIn f1 f2 → RoseIn f0 f2
-rose_on f0 f1 f2 a (inl r) = inl (subst (λ x. Rose x f2.faults) a.faults r)
-rose_on f0 f1 f2 a (inr r) = inr (subst (λ x. Rose x f2.opens) a.opens r)
-
-pub files-session_end : (session_end : SessionEnd) (f0 f1 f2 : Moment) → Still f0 f1 → EndFiles session_end f1 f2 → EndFiles session_end f0 f2
-files-session_end (H.Run T.NoMemory) f0 f1 f2 a b = fewer_on f0 f1 f2 a b
-files-session_end (H.Run T.WriteFault) f0 f1 f2 a b = still_on f0 f1 f2 a b
-files-session_end (H.Run T.ReadFault) f0 f1 f2 a b = still_on f0 f1 f2 a b
-files-session_end (H.Run T.Spent) f0 f1 f2 a b = still_on f0 f1 f2 a b
-files-session_end (H.Unread path) f0 f1 f2 a b = (fewer_on f0 f1 f2 a b.0, rose_on f0 f1 f2 a b.1)

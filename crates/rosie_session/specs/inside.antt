@@ -1,4 +1,3 @@
 -- Words of private functions alone. No public contract cites them.
 pub mod Turning
 pub mod Passing
-pub mod Kept

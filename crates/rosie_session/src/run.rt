@@ -1,188 +1,287 @@
-// The run of a session, from line to line.
-ghost use Rattle.std.specs.Prelude.{◌≡◌, ◌+◌, ◌-◌, ◌^◌, ◌<◌, ◌≤◌, List, [], true, false, length};
-ghost use Rattle.std.specs.Prelude.{IfErr, IfOk, OnOk};
-ghost use Rattle.rosie_io.specs.Answering.{Keeps};
-ghost use Rattle.rosie_io.specs.Appending.{Appends};
-ghost use Rattle.rosie_io.specs.Counts.{capped};
-ghost use Rattle.rosie_io.specs.Gathering.{Reads};
-ghost use Rattle.rosie_io.specs.Loading.{NotFewer};
+// The lines of a session, as pieces.
+ghost use Rattle.std.specs.Prelude.{◌≡◌, ◌+◌, ◌-◌, ◌^◌, ◌≤◌, [], ℕ, List, Some, false, length, IfErr, IfOk};
+ghost use Rattle.rosie_repl.specs.Edits.{edit_of};
+ghost use Rattle.rosie_repl.specs.Session.{begun};
+ghost use Rattle.rosie_repl.specs.States.{session_of};
 ghost use Rattle.rosie_run.specs.Devices.{InputsCause, OutputsCause, SameInputs, SameOutputs};
 ghost use Rattle.rosie_run.specs.Devices.{course};
+ghost use Rattle.rosie_run.specs.Going.{IsSaidBy, OnPiece};
 ghost use Rattle.rosie_run.specs.Runs.{GoesOn};
-ghost use Rattle.rosie_run.specs.Closing.{OutFirst};
 ghost use Rattle.rosie_run.specs.Sources.{moment_of};
-ghost use Rattle.rosie_run.specs.inside.Causes.{BothCause};
+ghost use Rattle.rosie_run.specs.declared.ended.ReadStop.TheVariants.{ReadFault, Spent};
+ghost use Rattle.rosie_run.specs.declared.tool.Tool.TheVariants.{Rosie};
+ghost use Rattle.rosie_run.specs.inside.Passing.{IsStop, IsStopOrMemory, MakesPiece};
+ghost use Rattle.rosie_run.specs.Report.{fault_piece};
+ghost use Rattle.rosie_session.specs.Replay.{edit_turn, session_fault};
 ghost use Rattle.rosie_session.specs.Runs.{RunsSession};
-ghost use Rattle.rosie_session.specs.inside.Kept.{MakesKept, SameKept};
-ghost use Rattle.rosie_session.specs.inside.Passing.{Counts, InputCause, IsOfReading};
-ghost use Rattle.rosie_session.specs.inside.Passing.{RunsTold, SinksCause, SpentCause, Stops};
-ghost use Rattle.rosie_session.specs.inside.Turning.{FilesBy};
+ghost use Rattle.rosie_session.specs.inside.Passing.{ComesFrom, FilesOf, GoesOnFrom, IsPrepared};
+ghost use Rattle.rosie_session.specs.inside.Passing.{LeavesSession, MakesOf, MakesTurn};
+ghost use Rattle.rosie_session.specs.inside.Passing.{SameSession, TextFiles, name_of};
+ghost use Rattle.rosie_session.specs.inside.Turning.{OfTurn};
 
 use crate::reply::{Reply, wrong};
-use crate::session_end::{SessionEnd, end_of_run};
+use crate::session_end::SessionEnd;
 use crate::turn::{Base, answer};
-use rosie_io::{Files, Line, LineFault, LineReader, Sink, Source, WriteFault};
+use rosie_io::{Files, Line, LineFault, LineReader, Sink, Source};
 use rosie_repl::State;
-use rosie_run::{Ended, Inputs, Outputs, Tally, Trouble, flush_both, write_both};
+use rosie_run::{
+    Ended, Inputs, Mark, NoMemory, Outputs, PieceSource, ReadStop, Tally, Tool, cut, input_fault,
+    run_pieces,
+};
 use rpl_machine::Steps;
 use rpl_package::LibPath;
+use rpl_print::text_of;
+use rpl_text::Chars;
 use std::alloc::Global;
+use std::mem;
 use std::sync::ledger::Ledger;
 
 /// The longest line of a session, in bytes.
 const MAX_COMMAND_BYTES: usize = 1_048_576;
 
-/// What a session keeps from line to line.
+/// What a session keeps from line to line. It isn't a part of what holds the files and the input:
+/// where such a value owns memory, nothing is known of them afterwards.
 #[derive(Drop)]
-struct Kept<'a> {
+struct Kept {
     alloc: Global,
-    state: &'a mut State,
+    state: State,
     /// Gives the lines.
-    reader: &'a mut LineReader,
+    reader: LineReader,
+    /// What was said last.
+    reply: Reply,
+    /// The file that wasn't read, where that ended the session.
+    unread: Option<Chars>,
+    /// That a read of the input failed: made before the first read, so that no want of memory hides
+    /// a failed one.
+    read_failed: String,
 }
 
-/// Goes on to the next line and makes what is said to it. `None` where there is no further line.
-fn next_turn<F: Files, I: Source, L: Ledger>(
-    folders: &LibPath,
-    kept: &mut Kept<'_>,
-    inputs: &mut Inputs<'_, F, I>,
-    steps: &mut Steps<L>,
-) -> Result<Option<Reply>, SessionEnd>
-    requires open { kept.old.reader.now.done ≡ false }
-    requires lines { kept.old.reader.now.whole ≡ false }
-    requires most { kept.old.reader.now.most ≡ 1048576 }
-    ensures same_kept { SameKept kept.old kept.new }
-    ensures same_inputs { SameInputs inputs.old inputs.new }
-    ensures makes { I.tells → MakesKept F.tells (F.tree inputs.old.files.now) folders.now result
-        kept.old kept.new (I.rest inputs.old.input.now) (I.rest inputs.new.input.now)
-        steps.old steps.new }
-    ensures numbers { Counts result kept.old.reader.now kept.new.reader.now }
-    ensures fits { kept.new.reader.now.number ≤ 2 ^ 48 }
-    ensures keeps { Keeps kept.old.reader.now kept.new.reader.now }
-    ensures stops { Stops result I.tells kept.old.reader.now kept.new.reader.now
-        (I.rest inputs.old.input.now) (I.rest inputs.new.input.now) }
-    ensures of_reading { IfErr result IsOfReading }
-    ensures cause { InputCause result (I.faults inputs.old.input.now)
-        (I.faults inputs.new.input.now) }
-    ensures files { FilesBy result (moment_of F.Source inputs.old.files.now)
-        (moment_of F.Source inputs.new.files.now) }
-    ensures reads { Reads I.tells kept.old.reader.now.held kept.new.reader.now.held
-        (I.rest inputs.old.input.now) (I.rest inputs.new.input.now)
-        (I.taken inputs.old.input.now) (I.taken inputs.new.input.now) }
-    ensures at_end { I.tells → kept.old.reader.now.held.ended ≡ false →
-        kept.new.reader.now.held.ended ≡ true → I.rest inputs.new.input.now ≡ [] }
-    ensures ended { kept.old.reader.now.held.ended ≡ true →
-        inputs.new.input.now ≡ inputs.old.input.now }
-    ensures opens { I.failed_opens inputs.new.input.now ≡ I.failed_opens inputs.old.input.now }
-    ensures tree { F.tree inputs.new.files.now ≡ F.tree inputs.old.files.now }
-{
-    match kept.reader.next(inputs.input) {
-        Ok(line) => match line {
-            Line::Text => {
-                let base = Base {
-                    alloc: kept.alloc,
-                    folders,
-                    number: kept.reader.number(),
-                };
-                match answer(&base, kept.state, kept.reader.line(), inputs.files, steps) {
-                    Ok(reply) => Ok(Some(reply)),
-                    Err(session_end) => Err(session_end),
-                }
-            }
-            Line::End => Ok(None),
-        },
-        Err(fault) => match fault {
-            LineFault::TooLong { line } => Ok(Some(wrong(kept.alloc, line, "line too long")?)),
-            LineFault::NotText { line } => Ok(Some(wrong(kept.alloc, line, "not UTF-8")?)),
-            LineFault::NoMemory => Err(SessionEnd::Run(Trouble::NoMemory)),
-            LineFault::ReadFault => Err(SessionEnd::Run(Trouble::ReadFault)),
-            LineFault::Spent => Err(SessionEnd::Run(Trouble::Spent)),
-        },
-    }
+/// The answers to the lines of a session.
+#[derive(Drop)]
+struct SessionLines<'a, F, I> {
+    folders: &'a LibPath,
+    kept: &'a mut Kept,
+    files: &'a mut F,
+    input: &'a mut I,
 }
 
-/// Writes what is said, `out` before `err`.
-fn write_reply<O: Sink, E: Sink>(reply: &Reply, out: &mut O, err: &mut E) -> Result<(), WriteFault>
-    ensures out { O.tells → Appends result (O.written out.old) (O.written out.new)
-        reply.now.out.items }
-    ensures err { E.tells → Appends result (E.written err.old) (E.written err.new)
-        reply.now.err.items }
-    ensures number { O.counts
-        → OnOk result (O.number out.new ≡ capped (O.number out.old + length reply.now.out.items)) }
-    ensures order { O.counts → E.tells → OutFirst (E.written err.old) (E.written err.new)
-        (O.flushed out.new)
-        (O.number out.new) }
-    ensures cause { BothCause result (O.faults out.old) (O.faults out.new) (E.faults err.old)
-        (E.faults err.new) }
-{
-    write_both(out, err, reply.out.as_slice(), reply.err.as_slice())
-}
-
-/// Flushes what was said, unless the next line is held already.
-fn flush_reply<O: Sink, E: Sink>(ready: bool, out: &mut O, err: &mut E) -> Result<(), WriteFault>
-    ensures out { O.tells → O.written out.new ≡ O.written out.old }
-    ensures err { E.tells → E.written err.new ≡ E.written err.old }
-    ensures number { O.counts → O.number out.new ≡ O.number out.old }
-    ensures out_flushed { O.counts → OnOk result (ready ≡ false →
-        O.flushed out.new ≡ O.number out.new) }
-    ensures err_flushed { E.counts → OnOk result (ready ≡ false →
-        E.flushed err.new ≡ E.number err.new) }
-    ensures cause { BothCause result (O.faults out.old) (O.faults out.new) (E.faults err.old)
-        (E.faults err.new) }
-{
-    if ready {
-        return Ok(());
-    }
-    flush_both(out, err)
-}
-
-/// Answers each line of the input in turn.
-fn run_lines<F: Files, I: Source, O: Sink, E: Sink, L: Ledger>(
-    alloc: Global,
-    folders: &LibPath,
-    inputs: &mut Inputs<'_, F, I>,
-    outputs: &mut Outputs<'_, O, E, L>,
-) -> Result<Tally, SessionEnd>
-    ensures same_inputs { SameInputs inputs.old inputs.new }
-    ensures same_outputs { SameOutputs outputs.old outputs.new }
-    ensures runs { RunsTold result folders.now (course F.Source I.Source O.Sink E.Sink
-        inputs.old inputs.new outputs.old outputs.new) }
-    ensures cause { InputCause result (I.faults inputs.old.input.now)
-        (I.faults inputs.new.input.now) }
-    ensures spent { SpentCause result (I.taken inputs.old.input.now)
-        (I.taken inputs.new.input.now) }
-    ensures files { FilesBy result (moment_of F.Source inputs.old.files.now)
-        (moment_of F.Source inputs.new.files.now) }
-    ensures rest { I.tells → IfOk result (λ _. I.rest inputs.new.input.now ≡ []) }
-    ensures sinks { SinksCause result (O.faults outputs.old.out.now) (O.faults outputs.new.out.now)
-        (E.faults outputs.old.err.now) (E.faults outputs.new.err.now) }
-    ensures opens { I.failed_opens inputs.new.input.now ≡ I.failed_opens inputs.old.input.now }
-    ensures tree { F.tree inputs.new.files.now ≡ F.tree inputs.old.files.now }
-{
-    let mut reader = LineReader::new(alloc, false, MAX_COMMAND_BYTES)?;
-    let mut state = State::new(alloc);
-    let mut kept = Kept {
-        alloc,
-        state: &mut state,
-        reader: &mut reader,
-    };
-    let mut tally = Tally::new();
-    'lines: loop {
-        match flush_reply(kept.reader.is_ready(), outputs.out, outputs.err) {
-            Ok(()) => {}
-            Err(_) => return Err(SessionEnd::Run(Trouble::WriteFault)),
-        }
-        match next_turn(folders, &mut kept, inputs, outputs.steps) {
-            Ok(found) => match found {
-                Some(reply) => match write_reply(&reply, outputs.out, outputs.err) {
-                    Ok(()) => tally = tally.with(reply.mark),
-                    Err(_) => return Err(SessionEnd::Run(Trouble::WriteFault)),
-                },
-                None => return Ok(tally),
+impl Kept {
+    /// Nothing was read.
+    fn new(alloc: Global) -> Result<Kept, NoMemory>
+        ensures state { IfOk result (λ kept. session_of kept.state ≡ begun) }
+        ensures reader { IfOk result (λ kept. kept.reader ≡ record {
+          held = record { bytes = []; ended = false; reads = 0 };
+          text = [];
+          whole = false;
+          most = 1048576;
+          number = 0;
+          done = false;
+        }) }
+        ensures prepared { IfOk result IsPrepared }
+    {
+        let read_failed = input_fault(alloc, "-", "read failed")?;
+        let reader = LineReader::new(alloc, false, MAX_COMMAND_BYTES)?;
+        Ok(Kept {
+            alloc,
+            state: State::new(alloc),
+            reader,
+            reply: Reply {
+                out: Vec::new(alloc),
+                err: Vec::new(alloc),
+                mark: Mark::Miss,
             },
-            Err(session_end) => return Err(session_end),
+            unread: None,
+            read_failed,
+        })
+    }
+
+    /// Keeps what is said to a line, and answers how it counts.
+    fn keep(&mut self, reply: Reply) -> Mark
+        ensures kept { self.new ≡ record self.old { reply = reply } }
+        ensures mark { result ≡ reply.mark }
+    {
+        self.reply = reply;
+        self.reply.mark
+    }
+
+    /// Says what is wrong with a line.
+    fn wrong(&mut self, number: u64, text: &str) -> Result<Option<Mark>, Ended>
+        ensures kept { self.new ≡ record self.old { reply = self.new.reply } }
+        ensures says { (name : List ℕ) → IfErr result (IsSaidBy Rosie name) }
+        ensures makes { (n : ℕ) → MakesPiece result
+            (fault_piece (session_fault number text.now)) self.new.reply.out.items
+            self.new.reply.err.items n n }
+    {
+        let reply = wrong(self.alloc, number, text)?;
+        Ok(Some(self.keep(reply)))
+    }
+
+    /// The end of a session of which a read of the input failed.
+    fn end_of_read(&mut self) -> Ended
+        ensures kept { self.new ≡ record self.old { read_failed = self.new.read_failed } }
+        ensures stops { IsStop ReadFault result }
+        ensures says { IsPrepared self.old → IsSaidBy Rosie (name_of self.new.unread) result }
+    {
+        let text = mem::replace(&mut self.read_failed, String::new(self.alloc));
+        Ended::Cut(ReadStop::ReadFault, text)
+    }
+
+    /// The end of a session that made all its reads.
+    fn end_of_reads(&self) -> Ended
+        ensures stops { IsStopOrMemory Spent result }
+        ensures says { IsPrepared self.now → IsSaidBy Rosie (name_of self.now.unread) result }
+    {
+        cut(self.alloc, Tool::Rosie, ReadStop::Spent, "-")
+    }
+
+    /// The end of a session of which a line asks for a file that wasn't read.
+    fn end_at(&mut self, path: Chars) -> Ended
+        ensures kept { self.new ≡ record self.old { unread = Some path } }
+        ensures stops { IsStopOrMemory ReadFault result }
+        ensures says { IsSaidBy Rosie (name_of self.new.unread) result }
+    {
+        let ended = cut(self.alloc, Tool::Rosie, ReadStop::ReadFault, text_of(&path));
+        self.unread = Some(path);
+        ended
+    }
+}
+
+impl<'a, F: Files, I: Source> SessionLines<'a, F, I> {
+    /// The lines of a session, of their parts.
+    fn new(
+        folders: &'a LibPath,
+        kept: &'a mut Kept,
+        files: &'a mut F,
+        input: &'a mut I,
+    ) -> SessionLines<'a, F, I>
+        ensures same_kept { result.kept.ghost_name ≡ kept.entry.ghost_name }
+        ensures same_files { result.files.ghost_name ≡ files.entry.ghost_name }
+        ensures same_input { result.input.ghost_name ≡ input.entry.ghost_name }
+        ensures kept { result.kept.now ≡ kept.old }
+        ensures files { result.files.now ≡ files.old }
+        ensures input { result.input.now ≡ input.old }
+        ensures folders { result.folders.now ≡ folders.entry.now }
+    {
+        SessionLines {
+            folders,
+            kept,
+            files,
+            input,
         }
     }
+
+    /// Makes what is said to the line of text that the reader holds.
+    fn answer_text<L: Ledger>(&mut self, steps: &mut Steps<L>) -> Result<Option<Mark>, Ended>
+        requires { length self.old.kept.now.reader.text ≤ 2 ^ 30 }
+        ensures same { SameSession self.old self.new }
+        ensures reader { self.new.kept.now.reader ≡ self.old.kept.now.reader }
+        ensures input { self.new.input.now ≡ self.old.input.now }
+        ensures prepared { IsPrepared self.old.kept.now →
+            OnPiece result (IsPrepared self.new.kept.now) }
+        ensures says { IfErr result (IsSaidBy Rosie (name_of self.new.kept.now.unread)) }
+        ensures files { TextFiles result (moment_of F.Source self.old.files.now)
+            (moment_of F.Source self.new.files.now) }
+        ensures tree { F.tree self.new.files.now ≡ F.tree self.old.files.now }
+        ensures makes { OfTurn F.tells (F.tree self.old.files.now) self.old.folders.now
+            (λ w. edit_turn w self.old.kept.now.reader.number
+            (session_of self.old.kept.now.state) (edit_of self.old.kept.now.reader.text))
+            (λ t. MakesTurn result t (session_of self.new.kept.now.state)
+            self.new.kept.now.unread self.new.kept.now.reply.out.items
+            self.new.kept.now.reply.err.items steps.old steps.new) }
+    {
+        let base = Base {
+            alloc: self.kept.alloc,
+            folders: self.folders,
+            number: self.kept.reader.number(),
+        };
+        let Kept { state, reader, .. } = &mut *self.kept;
+        match answer(&base, state, reader.line(), self.files, steps) {
+            Ok(reply) => Ok(Some(self.kept.keep(reply))),
+            Err(session_end) => match session_end {
+                SessionEnd::NoMemory => Err(Ended::NoMemory),
+                SessionEnd::Unread(path) => Err(self.kept.end_at(path)),
+            },
+        }
+    }
+
+    /// Makes what is said to what the reader answered. `None` where there is no further line.
+    fn make_of<L: Ledger>(
+        &mut self,
+        found: Result<Line, LineFault>,
+        steps: &mut Steps<L>,
+    ) -> Result<Option<Mark>, Ended>
+        requires fits { length self.old.kept.now.reader.text ≤ 2 ^ 30 }
+        requires prepared { IsPrepared self.old.kept.now }
+        ensures same { SameSession self.old self.new }
+        ensures reader { self.new.kept.now.reader ≡ self.old.kept.now.reader }
+        ensures input { self.new.input.now ≡ self.old.input.now }
+        ensures prepared { OnPiece result (IsPrepared self.new.kept.now) }
+        ensures says { IfErr result (IsSaidBy Rosie (name_of self.new.kept.now.unread)) }
+        ensures files { FilesOf found result self.new.kept.now.unread
+            (moment_of F.Source self.old.files.now) (moment_of F.Source self.new.files.now) }
+        ensures tree { F.tree self.new.files.now ≡ F.tree self.old.files.now }
+        ensures makes { MakesOf F.tells (F.tree self.old.files.now) self.old.folders.now found result
+            self.old.kept.now.reader.number self.old.kept.now.reader.text
+            (session_of self.old.kept.now.state) (session_of self.new.kept.now.state)
+            self.new.kept.now.unread self.new.kept.now.reply.out.items
+            self.new.kept.now.reply.err.items steps.old steps.new }
+    {
+        match found {
+            Ok(line) => match line {
+                Line::Text => self.answer_text(steps),
+                Line::End => Ok(None),
+            },
+            Err(fault) => match fault {
+                LineFault::TooLong { line } => self.kept.wrong(line, "line too long"),
+                LineFault::NotText { line } => self.kept.wrong(line, "not UTF-8"),
+                LineFault::NoMemory => Err(Ended::NoMemory),
+                LineFault::ReadFault => Err(self.kept.end_of_read()),
+                LineFault::Spent => Err(self.kept.end_of_reads()),
+            },
+        }
+    }
+}
+
+impl<'a, F: Files, I: Source> PieceSource for SessionLines<'a, F, I> {
+    ghost use Rattle.std.specs.Prelude.{refl};
+    ghost use Rattle.rosie_session.specs.inside.Passing.{begins_session};
+
+    ghost comes = { λ s ps. ComesFrom F.Source I.Source s ps };
+
+    ghost same = { λ s z. SameSession s z };
+
+    ghost leaves = { λ how s z k. LeavesSession F.Source I.Source how s z k };
+
+    ghost goes_on = { λ s. GoesOnFrom s };
+
+    ghost bound = { λ s. 2 ^ 48 + 1 - s.kept.now.reader.number };
+
+    ghost out_text = { λ s. s.kept.now.reply.out.items };
+
+    ghost err_text = { λ s. s.kept.now.reply.err.items };
+
+    ghost tool = { λ _. Rosie };
+
+    ghost source_name = { λ s. name_of s.kept.now.unread };
+
+    fn is_ready(&self) -> bool {
+        self.kept.reader.is_ready()
+    }
+
+    fn next<L: Ledger>(&mut self, steps: &mut Steps<L>) -> Result<Option<Mark>, Ended> {
+        let found = self.kept.reader.next(self.input);
+        self.make_of(found, steps)
+    }
+
+    fn out(&self) -> &[u8] {
+        self.kept.reply.out.as_slice()
+    }
+
+    fn err(&self) -> &[u8] {
+        self.kept.reply.err.as_slice()
+    }
+
+    ghost begins = { λ s. ((refl, refl, refl, refl), begins_session F.Source I.Source s) };
 }
 
 /// Runs a session: each line of the input is a command, and is answered before the next is waited
@@ -198,15 +297,14 @@ pub fn run_session<F: Files, I: Source, O: Sink, E: Sink, L: Ledger>(
 ) -> Result<Tally, Ended>
     ensures same_inputs { SameInputs inputs.old inputs.new }
     ensures same_outputs { SameOutputs outputs.old outputs.new }
-    ensures runs { RunsSession result folders.now (course F.Source I.Source O.Sink E.Sink
+    ensures runs { RunsSession result folders.now (course Rosie F.Source I.Source O.Sink E.Sink
         inputs.old inputs.new outputs.old outputs.new) }
     ensures rest { I.tells → GoesOn result (I.rest inputs.new.input.now ≡ []) }
     ensures cause { InputsCause F.Source I.Source result inputs.old inputs.new }
     ensures sinks { OutputsCause O.Sink E.Sink result outputs.old outputs.new }
     ensures tree { F.tree inputs.new.files.now ≡ F.tree inputs.old.files.now }
 {
-    match run_lines(alloc, folders, inputs, outputs) {
-        Ok(tally) => Ok(tally),
-        Err(session_end) => Err(end_of_run(alloc, session_end)),
-    }
+    let mut kept = Kept::new(alloc)?;
+    let mut lines = SessionLines::new(folders, &mut kept, inputs.files, inputs.input);
+    run_pieces(&mut lines, outputs)
 }

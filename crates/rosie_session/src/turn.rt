@@ -25,7 +25,7 @@ use rosie_io::Files;
 use rosie_jobs::{InputLine, LineJob, MatchJob};
 use rosie_prepare::Unready;
 use rosie_repl::{Edit, State, read_edit};
-use rosie_run::{Mark, NoMemory, Trouble};
+use rosie_run::{Mark, NoMemory};
 use rpl_machine::Steps;
 use rpl_package::LibPath;
 use std::alloc::Global;
@@ -86,7 +86,7 @@ fn judge<F: Files>(
     match load_change(alloc, folders, state, edit, files) {
         Ok(()) => Ok(accepted(alloc, state)?),
         Err(unready) => match unready {
-            Unready::NoMemory => Err(SessionEnd::Run(Trouble::NoMemory)),
+            Unready::NoMemory => Err(SessionEnd::NoMemory),
             Unready::Refused(line) => {
                 state.undo();
                 Ok(refused(alloc, line))
@@ -203,7 +203,7 @@ fn try_with<F: Files, L: Ledger>(
     match load_goal(base.alloc, base.folders, state, trial.pattern, files) {
         Ok(mut job) => Ok(try_job(base.alloc, &mut job, base.number, trial.line, steps)?),
         Err(unready) => match unready {
-            Unready::NoMemory => Err(SessionEnd::Run(Trouble::NoMemory)),
+            Unready::NoMemory => Err(SessionEnd::NoMemory),
             Unready::Refused(text) => Ok(refused(base.alloc, text)),
             Unready::ReadFault(path) => Err(SessionEnd::Unread(path)),
         },

@@ -1,7 +1,6 @@
 pub mod Verdicts
 pub mod Judged
 pub mod Tried
-pub mod Written
 pub mod Passing
 pub mod Paid
 pub mod Once

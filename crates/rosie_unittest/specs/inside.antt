@@ -2,3 +2,4 @@
 pub mod Ready
 pub mod Steps
 pub mod Entries
+pub mod Running

@@ -1,26 +1,32 @@
-// The run of the tests.
-ghost use Rattle.std.specs.Prelude.{◌≡◌, ◌+◌, IfErr, IfOk, OnOk};
+// The run of the tests, piece by piece.
+ghost use Rattle.std.specs.Prelude.{◌≡◌, ◌+◌, ◌-◌, ◌<◌, [], List, false, length, string_bytes, true};
+ghost use Rattle.std.specs.Prelude.{IfErr, IfOk, OnOk};
+ghost use Rattle.rosie_run.specs.Devices.{OutputsCause, SameOutputs};
+ghost use Rattle.rosie_run.specs.Going.{GivesPiece};
+ghost use Rattle.rosie_run.specs.Made.{IsMade};
 ghost use Rattle.rosie_run.specs.Outputs.{shown, telling};
-ghost use Rattle.rosie_run.specs.Runs.{WritesCause, Runs, IsNoCut};
+ghost use Rattle.rosie_run.specs.Runs.{IsNoCut, Runs};
 ghost use Rattle.rosie_run.specs.Where.{Nowhere};
+ghost use Rattle.rosie_run.specs.declared.tool.Tool.TheVariants.{Rosie};
 ghost use Rattle.rpl_core.specs.Table.{bodies_of};
 ghost use Rattle.rosie_unittest.specs.Trials as T;
 ghost use Rattle.rosie_unittest.specs.inside.Ready.{IsBound, IsReady, IsReadyJob, IsReadyTrial};
 ghost use Rattle.rosie_unittest.specs.inside.Ready.{IsText};
+ghost use Rattle.rosie_unittest.specs.inside.Running.{IsUnderWay, pieces_from};
 
 use crate::subject::{Compiled, Subject, Subjects};
 use crate::suite::Suite;
-use crate::telling::Judged;
+use crate::telling::{counts_mark, err_text, mark_of, out_text};
 use crate::tester::{Tester, judge_none};
 use crate::trial::Trial;
 use crate::verdict::Verdict;
 use rosie_io::Sink;
 use rosie_jobs::budget_or;
-use rosie_run::{Ended, NoMemory, Tally};
+use rosie_run::{Ended, Mark, NoMemory, Outputs, PieceSource, Tally, run_pieces};
 use rpl_machine::{Answer, RunFault, Steps, run};
 use rpl_print::text_of;
 use rpl_text::Text;
-use rpl_unittest::Test;
+use rpl_unittest::{Test, counts_line};
 use std::alloc::{AllocError, Global};
 use std::sync::ledger::Ledger;
 
@@ -30,6 +36,21 @@ struct Kept {
     alloc: Global,
     subjects: Subjects,
     tester: Tester,
+}
+
+/// The run of the tests of a suite, one after the other. At the end it says how many aren't met.
+#[derive(Drop)]
+struct SuiteRun<'a> {
+    suite: &'a Suite,
+    kept: Kept,
+    /// How many tests were tried, and how many of them aren't met.
+    passed: usize,
+    unmet: u64,
+    /// That was said.
+    is_done: bool,
+    /// The texts of the last piece.
+    out: String,
+    err: String,
 }
 
 impl Suite {
@@ -123,43 +144,143 @@ impl Suite {
     pub fn run<O: Sink, E: Sink, L: Ledger>(
         &self,
         alloc: Global,
-        out: &mut O,
-        err: &mut E,
-        steps: &mut Steps<L>,
+        outputs: &mut Outputs<'_, O, E, L>,
     ) -> Result<Tally, Ended>
-        ensures runs { Runs result (telling O.Sink E.Sink)
+        ensures same_outputs { SameOutputs outputs.old outputs.new }
+        ensures runs { Runs result (telling Rosie O.Sink E.Sink)
             (T.suite_pieces (bench_of self.now) (trials_of self.now)) Nowhere
-            (shown O.Sink E.Sink out.old err.old steps.old)
-            (shown O.Sink E.Sink out.new err.new steps.new) }
+            (shown O.Sink E.Sink outputs.old.out.now outputs.old.err.now outputs.old.steps.now)
+            (shown O.Sink E.Sink outputs.new.out.now outputs.new.err.now outputs.new.steps.now) }
         ensures no_cut { IfErr result IsNoCut }
-        ensures sinks { WritesCause result (O.faults out.old) (O.faults out.new) (E.faults err.old)
-            (E.faults err.new) }
+        ensures sinks { OutputsCause O.Sink E.Sink result outputs.old outputs.new }
     {
-        let subjects = Subjects::new(alloc, &self.rules)?;
-        let tester = Tester::new(alloc)?;
-        let mut kept = Kept {
-            alloc,
-            subjects,
-            tester,
-        };
-        let mut tally = Tally::new();
-        let mut unmet = 0;
-        'tests: for trial in &self.trials {
-            let verdict = self.try_test(trial, &mut kept, steps)?;
-            let judged = Judged {
-                test: &trial.test,
-                verdict,
-            };
-            let told = self.tell_test(alloc, judged, out, err)?;
-            tally = tally.and(told);
-            if tally.stop {
-                return Ok(tally);
-            }
-            unmet += one_if_unmet(verdict);
-        }
-        let told = self.tell_counts(alloc, unmet, out, err)?;
-        Ok(tally.and(told))
+        let mut suite_run = SuiteRun::new(alloc, self)?;
+        run_pieces(&mut suite_run, outputs)
     }
+}
+
+impl<'a> SuiteRun<'a> {
+    ghost use Rattle.rosie_unittest.specs.Seen.{bench_of, trials_of};
+
+    /// No test was tried.
+    fn new(alloc: Global, suite: &'a Suite) -> Result<SuiteRun<'a>, NoMemory>
+        ensures suite { IfOk result (λ run. run.suite.now ≡ suite.now) }
+        ensures passed { IfOk result (λ run. run.passed ≡ 0) }
+        ensures opened { IfOk result (λ run. run.is_done ≡ false) }
+        ensures under_way { IfOk result IsUnderWay }
+    {
+        let subjects = Subjects::new(alloc, &suite.rules)?;
+        let tester = Tester::new(alloc)?;
+        Ok(SuiteRun {
+            suite,
+            kept: Kept {
+                alloc,
+                subjects,
+                tester,
+            },
+            passed: 0,
+            unmet: 0,
+            is_done: false,
+            out: String::new(alloc),
+            err: String::new(alloc),
+        })
+    }
+
+    /// Tries the next test, and makes what is reported of it.
+    fn try_next<L: Ledger>(&mut self, steps: &mut Steps<L>) -> Result<Mark, NoMemory>
+        requires more { self.old.passed < length self.old.suite.now.trials.items }
+        requires under_way { IsUnderWay self.old }
+        ensures suite { self.new.suite.now ≡ self.old.suite.now }
+        ensures is_done { self.new.is_done ≡ self.old.is_done }
+        ensures under_way { OnOk result (IsUnderWay self.new) }
+        ensures passed { OnOk result (self.new.passed ≡ self.old.passed + 1) }
+        ensures gives { IfOk result (λ mark.
+            GivesPiece (pieces_from self.old.suite.now self.old.passed)
+            (λ ps. ps ≡ pieces_from self.old.suite.now (self.old.passed + 1)) mark
+            (string_bytes self.new.out) (string_bytes self.new.err) steps.old steps.new) }
+    {
+        let suite = self.suite;
+        let trial = &suite.trials[self.passed];
+        let verdict = suite.try_test(trial, &mut self.kept, steps)?;
+        let file = text_of(&suite.file);
+        let out = out_text(self.kept.alloc, file, &trial.test, verdict)?;
+        let err = err_text(self.kept.alloc, file, &trial.test, verdict)?;
+        self.out = out;
+        self.err = err;
+        self.passed += 1;
+        self.unmet += one_if_unmet(verdict);
+        Ok(mark_of(verdict))
+    }
+
+    /// Says how many tests there are, and how many of them aren't met.
+    fn say_counts(&mut self) -> Result<Mark, NoMemory>
+        ensures suite { self.new.suite.now ≡ self.old.suite.now }
+        ensures passed { self.new.passed ≡ self.old.passed }
+        ensures kept { self.new.kept ≡ self.old.kept }
+        ensures unmet { self.new.unmet ≡ self.old.unmet }
+        ensures is_done { OnOk result (self.new.is_done ≡ true) }
+        ensures made { IfOk result (λ mark. IsMade mark (string_bytes self.new.out)
+            (string_bytes self.new.err)
+            (T.counts_piece (bench_of self.old.suite.now).file
+            (length (trials_of self.old.suite.now)) self.old.unmet)) }
+    {
+        let alloc = self.kept.alloc;
+        let file = text_of(&self.suite.file);
+        let text = counts_line(alloc, file, self.suite.trials.len() as u64, self.unmet)?;
+        self.out = text;
+        self.err = String::new(alloc);
+        self.is_done = true;
+        Ok(counts_mark(self.unmet))
+    }
+}
+
+impl<'a> PieceSource for SuiteRun<'a> {
+    ghost use Rattle.rosie_run.specs.Going.{NeverReads};
+    ghost use Rattle.rosie_unittest.specs.inside.Running.{ComesBy, one_left};
+
+    ghost comes = { λ s ps. ComesBy s.is_done s ps };
+
+    ghost same = { λ _ _. Unit {0} };
+
+    ghost leaves = { λ how _ _ _. NeverReads how };
+
+    ghost goes_on = { λ s. IsUnderWay s };
+
+    ghost bound = { λ s. (length s.suite.now.trials.items - s.passed) + one_left s.is_done };
+
+    ghost out_text = { λ s. string_bytes s.out };
+
+    ghost err_text = { λ s. string_bytes s.err };
+
+    ghost tool = { λ _. Rosie };
+
+    ghost source_name = { λ _. [] };
+
+    fn is_ready(&self) -> bool {
+        true
+    }
+
+    fn next<L: Ledger>(&mut self, steps: &mut Steps<L>) -> Result<Option<Mark>, Ended> {
+        if self.is_done {
+            return Ok(None);
+        }
+        if self.passed < self.suite.trials.len() {
+            let mark = self.try_next(steps)?;
+            return Ok(Some(mark));
+        }
+        let mark = self.say_counts()?;
+        Ok(Some(mark))
+    }
+
+    fn out(&self) -> &[u8] {
+        self.out.as_bytes()
+    }
+
+    fn err(&self) -> &[u8] {
+        self.err.as_bytes()
+    }
+
+    ghost begins = { λ _. (tt, tt) };
 }
 
 /// What a verdict adds to the number of those that aren't met.

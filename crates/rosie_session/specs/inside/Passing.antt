@@ -1,182 +1,164 @@
--- How a session goes past a line.
-use Rattle.std.specs.Prelude.{◌≡◌, ◌+◌, ◌++◌, ◌∷◌, ◌≤◌, ◌^◌, ℕ, Bool, true, false, List, []}
-use Rattle.std.specs.Prelude.{length, Option, Some, None, Result, Ok, Err, codes, encode_utf8_all}
+-- The lines of a session as pieces: which are to come, what is made of a line, and what a run over them leaves.
+use Rattle.std.specs.Prelude.{◌≡◌, ◌+◌, ◌++◌, ◌⊎◌, ℕ, false, List, [], length, Option, Some, None, Result, Ok, Err, codes}
+use Rattle.std.specs.Prelude.{IsSome, encode_utf8_all, slice_get, string_bytes}
 use Rattle.std.specs.List.{Contains}
-use Rattle.rosie_io.specs.Gathering.{IsEndOf, Splits, left}
-use Rattle.rosie_io.specs.Held.{Held}
-use Rattle.rosie_io.specs.Lines.{feeds, lines}
-use Rattle.rosie_io.specs.Reader.{Reader}
+use Rattle.std.proofs.Math.Path.{refl}
+use Rattle.rosie_io.specs.Answering.{Keeps}
+use Rattle.rosie_io.specs.Gathering.{left}
+use Rattle.rosie_io.specs.Lines.{lines}
+use Rattle.rosie_io.specs.declared.outside.Source.{Ghosts}
+use Rattle.rosie_io.specs.declared.reader.Line.{Line}
+use Rattle.rosie_io.specs.declared.reader.Line.TheVariants as L
+use Rattle.rosie_io.specs.declared.reader.LineFault.{LineFault}
+use Rattle.rosie_prepare.specs.Prepared.{Tree}
+use Rattle.rosie_repl.specs.Edits.{edit_of}
 use Rattle.rosie_repl.specs.Session.{Session}
-use Rattle.rosie_run.specs.Course.{Course}
-use Rattle.rosie_run.specs.Outputs.{Fronts, Telling, Texts, Wrote}
-use Rattle.rosie_run.specs.Tallies.{tally_of}
-use Rattle.rosie_run.specs.Runs.{IsCutOf, IsEndedBy}
+use Rattle.rosie_repl.specs.States.{session_of}
+use Rattle.rosie_run.specs.Going.{AtEnd, CutBy, Going, How, WantsMemory}
+use Rattle.rosie_run.specs.Lines.{input_fault}
+use Rattle.rosie_run.specs.Made.{IsMade}
+use Rattle.rosie_run.specs.Report.{Piece}
+use Rattle.rosie_run.specs.Sources.{Moment, NoFewer, RoseIn, Still, moment_of}
 use Rattle.rosie_run.specs.declared.ended.Ended.{Ended}
-use Rattle.rosie_run.specs.declared.ended.ReadStop.TheVariants as Y
-use Rattle.rosie_run.specs.declared.tally.Tally.{Tally}
-use Rattle.rosie_run.specs.declared.trouble.Trouble.TheVariants as T
-use Rattle.rosie_run.specs.inside.Causes.{SinksEnd, SourceEnds, SpentEnds}
-use Rattle.rosie_run.specs.inside.Passing.{ReadsOn, StopsAt}
+use Rattle.rosie_run.specs.declared.ended.Ended.TheVariants as E
+use Rattle.rosie_run.specs.declared.ended.ReadStop.{ReadStop}
+use Rattle.rosie_run.specs.declared.ended.ReadStop.TheVariants.{ReadFault}
+use Rattle.rosie_run.specs.declared.mark.Mark.{Mark}
+use Rattle.rosie_run.specs.declared.tool.Tool.TheVariants.{Rosie}
+use Rattle.rosie_run.specs.inside.FromLines.{LeavesBy, Since, begins_since}
+use Rattle.rosie_run.specs.inside.Passing.{SaysFault}
 use Rattle.rpl_package.specs.Asking.{IsTold}
 use Rattle.rosie_session.specs.Loading.{IsLoading, Loading}
-use Rattle.rosie_session.specs.Replay.{Turn, asked_in, pieces_of, turn, turns, turns_from}
-use Rattle.rosie_session.specs.declared.session_end.SessionEnd.{SessionEnd}
-use Rattle.rosie_session.specs.declared.session_end.SessionEnd.TheVariants as H
-use Rattle.rosie_session.specs.declared.reply.Reply.{Reply}
-use Rattle.rosie_session.specs.inside.Turning.{Says}
+use Rattle.rosie_session.specs.Replay.{Turn, asked_by, edit_turn, pieces_of, turns_from}
+use Rattle.rosie_session.specs.declared.run.Kept.{Kept}
+use Rattle.rosie_session.specs.declared.run.SessionLines.{SessionLines}
+use Rattle.rosie_session.specs.inside.Turning.{OfTurn}
 
--- the end of a run, by what ended the session
-abbrev pub IsEndOfRun : SessionEnd → Ended → Type 0
-IsEndOfRun (H.Run trouble) e = IsEndedBy trouble e (codes "-")
-IsEndOfRun (H.Unread path) e = IsCutOf e Y.ReadFault (encode_utf8_all path)
+-- over the same files and the same input as before, with the same things kept
+abbrev pub SameSession : {F I : Type 0} → SessionLines F I → SessionLines F I → Type 0
+SameSession a b =
+    (b.kept.ghost_name ≡ a.kept.ghost_name) × (b.files.ghost_name ≡ a.files.ghost_name)
+    × (b.input.ghost_name ≡ a.input.ghost_name) × (b.folders.now ≡ a.folders.now)
+
+-- what is read from, by what is kept of a file that wasn't read
+abbrev pub name_of : Option (List ℕ) → List ℕ
+name_of None = codes "-"
+name_of (Some path) = encode_utf8_all path
+
+-- no file failed, and it is made ready to say that a read of the input failed
+pub record IsPrepared (k : Kept) : Type 0 where
+  pub unread : k.unread ≡ None
+  pub read_failed : string_bytes k.read_failed ≡ input_fault (codes "-") (codes "read failed")
+
+-- there may be a line
+pub record GoesOnFrom {F I : Type 0} (s : SessionLines F I) : Type 0 where
+  pub opened : s.kept.now.reader.done ≡ false
+  pub parts : s.kept.now.reader.whole ≡ false
+  pub most : s.kept.now.reader.most ≡ 1048576
+  pub prepared : IsPrepared s.kept.now
+
+-- ---- the pieces to come
 
 -- what is left, as turns
 abbrev pub to_come : Loading → ℕ → Session → List ℕ → List Turn
 to_come w n s left0 = turns_from w n s (lines false left0)
 
--- a path that the next line asks for wasn't read
-pub record IsUnread (w : Loading) (n : ℕ) (s : Session) (left0 path : List ℕ) : Type 0 where
-  pub line : List ℕ
-  pub more : List (List ℕ)
-  pub lines : lines false left0 ≡ line ∷ more
-  pub asks : Contains (turn w (n + 1) s line).asked path
+abbrev pub turns_left : {F I : Type 0} → Ghosts I → Loading → SessionLines F I → List Turn
+turns_left I w s =
+    to_come w s.kept.now.reader.number (session_of s.kept.now.state) (left s.kept.now.reader.held (I.rest s.input.now))
 
--- ---- the next line is read, and what is said to it is made
+-- by the loading over these files, where the input tells, and the files tell or no line to come asks for a path
+pub record IsOver {F I : Type 0} (G : Ghosts F) (H : Ghosts I) (w : Loading) (s : SessionLines F I) : Type 0 where
+  pub input : H.tells
+  pub loads : IsLoading (G.tree s.files.now) s.folders.now w
+  pub told : IsTold G.tells (asked_by (turns_left H w s))
 
-pub record MakesTurn (w : Loading) (n : ℕ) (s0 s1 : Session) (ended : Bool) (left0 left1 : List ℕ) (reply : Reply)
-    (steps0 steps1 : ℕ) : Type 0 where
-  pub line : List ℕ
-  pub splits : Splits false ended line left0 left1
-  pub says : Says reply (turn w (n + 1) s0 line) s1
-  pub steps : steps1 ≡ steps0 + (turn w (n + 1) s0 line).piece.cost
+pub record ComesFrom {F I : Type 0} (G : Ghosts F) (H : Ghosts I) (s : SessionLines F I) (ps : List Piece) : Type 0 where
+  pub loading : Loading
+  pub over : IsOver G H loading s
+  pub is : ps ≡ pieces_of (turns_left H loading s)
 
-abbrev pub MakesEnd : SessionEnd → Loading → ℕ → Session → List ℕ → ℕ → ℕ → Type 0
-MakesEnd (H.Run trouble) w n s left0 steps0 steps1 = ReadsOn trouble steps0 steps1
-MakesEnd (H.Unread path) w n s left0 steps0 steps1 =
-    IsUnread w n s left0 (encode_utf8_all path) × (steps1 ≡ steps0)
+-- ---- what is made of a line
 
-abbrev pub Makes : Result (Option Reply) SessionEnd → Loading → ℕ → Session → Session → Bool → List ℕ → List ℕ → ℕ → ℕ
-    → Type 0
-Makes (Ok (Some reply)) w n s0 s1 ended left0 left1 steps0 steps1 =
-    MakesTurn w n s0 s1 ended left0 left1 reply steps0 steps1
-Makes (Ok None) w n s0 s1 ended left0 left1 steps0 steps1 = (left0 ≡ []) × (left1 ≡ []) × (steps1 ≡ steps0)
-Makes (Err session_end) w n s0 s1 ended left0 left1 steps0 steps1 = MakesEnd session_end w n s0 left0 steps0 steps1
+-- the piece of this turn, and the session after it; or the file that wasn't read is one that it asks for
+abbrev pub MakesTurn : Result (Option Mark) Ended → Turn → Session → Option (List ℕ) → List ℕ → List ℕ → ℕ → ℕ → Type 0
+MakesTurn (Ok (Some mark)) t s1 unread out err steps0 steps1 =
+    IsMade mark out err t.piece × (s1 ≡ t.session) × (steps1 ≡ steps0 + t.piece.cost)
+MakesTurn (Ok None) t s1 unread out err steps0 steps1 = ⊥
+MakesTurn (Err E.NoMemory) t s1 unread out err steps0 steps1 = Unit {0}
+MakesTurn (Err E.WriteFault) t s1 unread out err steps0 steps1 = ⊥
+MakesTurn (Err (E.Cut why text)) t s1 unread out err steps0 steps1 =
+    Contains t.asked (name_of unread) × (steps1 ≡ steps0)
 
--- and so by the reader, and by what is left of the input
-abbrev pub MakesNext :
-    Result (Option Reply) SessionEnd → Loading → Reader → Reader → Session → Session → List ℕ → List ℕ → ℕ → ℕ → Type 0
-MakesNext result w r0 r1 s0 s1 rest0 rest1 steps0 steps1 =
-    Makes result w r0.number s0 s1 r1.held.ended (left r0.held rest0) (left r1.held rest1) steps0 steps1
+-- by the answer of the reader, with the number and the text of its line
+abbrev pub MakesOf : (files : Type 0) → Tree → (folders : List (List ℕ)) → Result Line LineFault
+    → Result (Option Mark) Ended → (n : ℕ) → (line : List ℕ) → Session → Session → Option (List ℕ) → List ℕ → List ℕ
+    → ℕ → ℕ → Type 0
+MakesOf files tree folders (Ok L.Text) result n line s0 s1 unread out err steps0 steps1 =
+    OfTurn files tree folders (λ w. edit_turn w n s0 (edit_of line))
+    (λ t. MakesTurn result t s1 unread out err steps0 steps1)
+MakesOf files tree folders (Ok L.End) result n line s0 s1 unread out err steps0 steps1 =
+    (result ≡ Ok None) × (steps1 ≡ steps0)
+MakesOf files tree folders (Err fault) result n line s0 s1 unread out err steps0 steps1 =
+    SaysFault fault result Rosie (codes "(session)") out err steps0 steps1 × (s1 ≡ s0)
 
--- how many lines were passed, and whether there may be more
-abbrev pub Counts : {A : Type 0} → Result (Option A) SessionEnd → Reader → Reader → Type 0
-Counts (Ok (Some a)) old now = (now.number ≡ old.number + 1) × (now.done ≡ false)
-Counts (Ok None) old now = now.held.ended ≡ true
-Counts (Err session_end) old now = Unit {0}
+-- the counts of the files, which only a line of text reads
+abbrev pub TextFiles : Result (Option Mark) Ended → Moment → Moment → Type 0
+TextFiles (Ok (Some mark)) f0 f1 = Still f0 f1
+TextFiles (Ok None) f0 f1 = ⊥
+TextFiles (Err E.NoMemory) f0 f1 = NoFewer f0 f1
+TextFiles (Err E.WriteFault) f0 f1 = ⊥
+TextFiles (Err (E.Cut why text)) f0 f1 = (why ≡ ReadFault) × NoFewer f0 f1 × RoseIn f0 f1
 
--- where the input ended first: what was read has no line feed
-abbrev pub StopsBy : SessionEnd → Type 0 → Reader → Reader → List ℕ → List ℕ → Type 0
-StopsBy (H.Run trouble) tells old now rest0 rest1 = StopsAt trouble tells old now rest0 rest1
-StopsBy (H.Unread path) tells old now rest0 rest1 = Unit {0}
+abbrev pub FilesOf : Result Line LineFault → Result (Option Mark) Ended → Option (List ℕ) → Moment → Moment → Type 0
+FilesOf (Ok L.Text) result unread f0 f1 = TextFiles result f0 f1
+FilesOf (Ok L.End) result unread f0 f1 = Still f0 f1
+FilesOf (Err fault) result unread f0 f1 = Still f0 f1 × (unread ≡ None)
 
-abbrev pub Stops : {A : Type 0} → Result A SessionEnd → Type 0 → Reader → Reader → List ℕ → List ℕ → Type 0
-Stops (Ok a) tells old now rest0 rest1 = Unit {0}
-Stops (Err session_end) tells old now rest0 rest1 = StopsBy session_end tells old now rest0 rest1
+-- ---- what a run over the lines leaves
 
--- ---- the counts of faults of the input and of the sinks
+-- k turns were passed
+abbrev pub Onward : {F I : Type 0} → Ghosts F → Ghosts I → SessionLines F I → SessionLines F I → ℕ → Type 0
+Onward G H s z k =
+    (w : Loading) → IsOver G H w s → (done : List Turn) × (turns_left H w s ≡ done ++ turns_left H w z) × (length done ≡ k)
 
-abbrev pub InputEnds : SessionEnd → ℕ → ℕ → Type 0
-InputEnds (H.Run trouble) before now = SourceEnds trouble before now
-InputEnds (H.Unread path) before now = now ≡ before
+-- a file wasn't read that the turn after k others asks for
+pub record InLoad {F I : Type 0} (G : Ghosts F) (H : Ghosts I) (s z : SessionLines F I) (k : ℕ) : Type 0 where
+  pub faults : H.faults z.input.now ≡ H.faults s.input.now
+  pub fewer : NoFewer (moment_of G s.files.now) (moment_of G z.files.now)
+  pub rose : RoseIn (moment_of G s.files.now) (moment_of G z.files.now)
+  pub asks : (w : Loading) → IsOver G H w s
+      → (t : Turn) × (slice_get (turns_left H w s) k ≡ Some t) × Contains t.asked (name_of z.kept.now.unread)
 
-abbrev pub InputCause : {A : Type 0} → Result A SessionEnd → ℕ → ℕ → Type 0
-InputCause (Ok a) before now = now ≡ before
-InputCause (Err session_end) before now = InputEnds session_end before now
+abbrev pub LeavesHow : {F I : Type 0} → How → Ghosts F → Ghosts I → SessionLines F I → SessionLines F I → ℕ → Type 0
+LeavesHow Going G H s z k =
+    Since H s.kept.now.reader z.kept.now.reader s.input.now z.input.now k
+    × Still (moment_of G s.files.now) (moment_of G z.files.now) × Onward G H s z k
+LeavesHow AtEnd G H s z k =
+    LeavesBy AtEnd H s.kept.now.reader z.kept.now.reader s.input.now z.input.now k
+    × Still (moment_of G s.files.now) (moment_of G z.files.now)
+LeavesHow WantsMemory G H s z k =
+    (H.faults z.input.now ≡ H.faults s.input.now) × NoFewer (moment_of G s.files.now) (moment_of G z.files.now)
+LeavesHow (CutBy why) G H s z k =
+    (LeavesBy (CutBy why) H s.kept.now.reader z.kept.now.reader s.input.now z.input.now k
+    × Still (moment_of G s.files.now) (moment_of G z.files.now) × (z.kept.now.unread ≡ None))
+    ⊎ ((why ≡ ReadFault) × InLoad G H s z k)
 
-abbrev pub SinksBy : SessionEnd → ℕ → ℕ → ℕ → ℕ → Type 0
-SinksBy (H.Run trouble) out0 out1 err0 err1 = SinksEnd trouble out0 out1 err0 err1
-SinksBy (H.Unread path) out0 out1 err0 err1 = (out1 ≡ out0) × (err1 ≡ err0)
+-- what stays, and what is left by how far it came
+pub record LeavesSession {F I : Type 0} (G : Ghosts F) (H : Ghosts I) (how : How) (s z : SessionLines F I) (k : ℕ)
+    : Type 0 where
+  pub keeps : Keeps s.kept.now.reader z.kept.now.reader
+  pub folders : z.folders.now ≡ s.folders.now
+  pub tree : G.tree z.files.now ≡ G.tree s.files.now
+  pub opens : H.failed_opens z.input.now ≡ H.failed_opens s.input.now
+  pub leaves : LeavesHow how G H s z k
 
-abbrev pub SinksCause : {A : Type 0} → Result A SessionEnd → ℕ → ℕ → ℕ → ℕ → Type 0
-SinksCause (Ok a) out0 out1 err0 err1 = (out1 ≡ out0) × (err1 ≡ err0)
-SinksCause (Err session_end) out0 out1 err0 err1 = SinksBy session_end out0 out1 err0 err1
-
--- nothing was written where it came
-abbrev pub IsOfReading : SessionEnd → Type 0
-IsOfReading (H.Run T.WriteFault) = ⊥
-IsOfReading (H.Run T.NoMemory) = Unit {0}
-IsOfReading (H.Run T.ReadFault) = Unit {0}
-IsOfReading (H.Run T.Spent) = Unit {0}
-IsOfReading (H.Unread path) = Unit {0}
-
--- what is written where going on to the next line ends the session
-abbrev pub Breaks : SessionEnd → Telling → Loading → ℕ → Session → List ℕ → Texts → Texts → Type 0
-Breaks (H.Run T.NoMemory) W w n s left0 a b = Fronts W (pieces_of (to_come w n s left0)) a b
-Breaks (H.Run T.WriteFault) W w n s left0 a b = Fronts W (pieces_of (to_come w n s left0)) a b
-Breaks (H.Run T.ReadFault) W w n s left0 a b = Wrote W [] a b
-Breaks (H.Run T.Spent) W w n s left0 a b = Wrote W [] a b
-Breaks (H.Unread path) W w n s left0 a b = IsUnread w n s left0 (encode_utf8_all path) × Wrote W [] a b
-
--- ---- the lines so far
-
--- n lines were passed, just their pieces are written, and the others are those of the bytes that are left
-pub record Passed (W : Telling) (w : Loading) (input : List ℕ) (n : ℕ) (s : Session) (held : Held) (rest : List ℕ)
-    (tally : Tally) (a b : Texts) : Type 0 where
-  pub done : List Turn
-  pub split : turns w input ≡ done ++ to_come w n s (left held rest)
-  pub count : length done ≡ n
-  pub wrote : Wrote W (pieces_of done) a b
-  pub comes_to : tally ≡ tally_of (pieces_of done)
-  pub feeds : held.ended ≡ false → feeds input ≡ n + feeds (left held rest)
-  pub behind : IsEndOf rest input
-  pub reads : held.reads + length rest ≤ length input
-  pub at_end : held.ended ≡ true → rest ≡ []
-
--- ---- the whole session
-
--- reading ended it: it took these bytes, and just the pieces of the lines in them are written
-pub record Cuts (W : Telling) (w : Loading) (rest0 rest1 : List ℕ) (a b : Texts) : Type 0 where
-  pub got : List ℕ
-  pub took : rest0 ≡ got ++ rest1
-  pub done : List Turn
-  pub todo : List Turn
-  pub split : turns w rest0 ≡ done ++ todo
-  pub count : length done ≡ feeds got
-  pub wrote : Wrote W (pieces_of done) a b
-
--- a file ended it that the line after those asks for
-pub record CutsLoad (W : Telling) (w : Loading) (input path : List ℕ) (a b : Texts) : Type 0 where
-  pub done : List Turn
-  pub next : Turn
-  pub more : List Turn
-  pub split : turns w input ≡ done ++ next ∷ more
-  pub asks : Contains next.asked path
-  pub wrote : Wrote W (pieces_of done) a b
-
-abbrev pub EndsLines : SessionEnd → Telling → Loading → List ℕ → List ℕ → Texts → Texts → Type 0
-EndsLines (H.Run T.NoMemory) W w rest0 rest1 a b = Fronts W (pieces_of (turns w rest0)) a b
-EndsLines (H.Run T.WriteFault) W w rest0 rest1 a b = Fronts W (pieces_of (turns w rest0)) a b
-EndsLines (H.Run T.ReadFault) W w rest0 rest1 a b = Cuts W w rest0 rest1 a b
-EndsLines (H.Run T.Spent) W w rest0 rest1 a b = Cuts W w rest0 rest1 a b × (2 ^ 32 ≤ length rest0)
-EndsLines (H.Unread path) W w rest0 rest1 a b = CutsLoad W w rest0 (encode_utf8_all path) a b
-
-abbrev pub RunsLines : Result Tally SessionEnd → Telling → Loading → List ℕ → List ℕ → Texts → Texts → Type 0
-RunsLines (Ok tally) W w rest0 rest1 a b =
-    Wrote W (pieces_of (turns w rest0)) a b × (tally ≡ tally_of (pieces_of (turns w rest0)))
-RunsLines (Err session_end) W w rest0 rest1 a b = EndsLines session_end W w rest0 rest1 a b
-
--- where the input tells, and the files tell or no line asks for a path
-abbrev pub RunsTold : Result Tally SessionEnd → (folders : List (List ℕ)) → Course → Type 0
-RunsTold result folders c =
-    c.input_tells → (w : Loading) → IsLoading c.tree folders w
-    → IsTold c.files_tell (asked_in w c.input.before.rest)
-    → RunsLines result c.tells w c.input.before.rest c.input.after.rest c.before c.after
-
--- so many bytes were taken where the reads are spent
-abbrev pub SpentBy : SessionEnd → ℕ → ℕ → Type 0
-SpentBy (H.Run trouble) before now = SpentEnds trouble before now
-SpentBy (H.Unread path) before now = Unit {0}
-
-abbrev pub SpentCause : Result Tally SessionEnd → ℕ → ℕ → Type 0
-SpentCause (Ok tally) before now = Unit {0}
-SpentCause (Err session_end) before now = SpentBy session_end before now
+-- nothing is left where it begins
+pub begins_session : {F I : Type 0} (G : Ghosts F) (H : Ghosts I) (s : SessionLines F I) → LeavesSession G H Going s s 0
+begins_session G H s = record {
+  keeps = record { whole = refl; most = refl };
+  folders = refl;
+  tree = refl;
+  opens = refl;
+  leaves = (begins_since H s.kept.now.reader s.input.now, record { faults = refl; opens = refl }, λ w _. ([], refl, refl));
+}

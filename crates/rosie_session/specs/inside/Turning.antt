@@ -1,5 +1,5 @@
 -- What comes of one line of a session.
-use Rattle.std.specs.Prelude.{◌≡◌, ◌+◌, ℕ, List, Some, Result, Ok, Err, IfErr, encode_utf8_all, string_bytes}
+use Rattle.std.specs.Prelude.{◌≡◌, ◌+◌, ℕ, List, Some, Result, Ok, Err, encode_utf8_all, string_bytes}
 use Rattle.std.specs.List.{Contains}
 use Rattle.rosie_io.specs.Loading.{NotFewer}
 use Rattle.rosie_io.specs.declared.outside.Source.{Ghosts}
@@ -16,7 +16,6 @@ use Rattle.rosie_repl.specs.Session.{Session, changed}
 use Rattle.rosie_run.specs.Made.{IsMade}
 use Rattle.rosie_run.specs.Report.{Piece, fault_piece}
 use Rattle.rosie_run.specs.Sources.{Moment, NoFewer, RoseIn, Still, moment_of}
-use Rattle.rosie_run.specs.declared.trouble.Trouble.TheVariants as T
 use Rattle.rpl_package.specs.Asking.{IsTold}
 use Rattle.rosie_session.specs.Loading.{IsLoading, Load, Loading}
 use Rattle.rosie_session.specs.Replay.{Turn, change_turn, loaded, ok_piece, plain}
@@ -69,13 +68,8 @@ Judges (Err u) t before after = JudgesEnd u t before
 
 -- where nothing is said: the path that wasn't read is one that was asked for
 abbrev pub IsEndOf : SessionEnd → Turn → Type 0
-IsEndOf (H.Run trouble) t = trouble ≡ T.NoMemory
+IsEndOf H.NoMemory t = Unit {0}
 IsEndOf (H.Unread path) t = Contains t.asked (encode_utf8_all path)
-
--- nothing but out of memory, or a file that wasn't read
-abbrev pub IsInner : SessionEnd → Type 0
-IsInner (H.Run trouble) = trouble ≡ T.NoMemory
-IsInner (H.Unread path) = Unit {0}
 
 -- what is said, and the session after it
 abbrev pub Says : Reply → Turn → Session → Type 0
@@ -91,7 +85,7 @@ change_of w n s e = change_turn w n s e (changed e s)
 
 -- the steps that were made
 abbrev pub EndSteps : SessionEnd → ℕ → ℕ → Type 0
-EndSteps (H.Run trouble) before now = Unit {0}
+EndSteps H.NoMemory before now = Unit {0}
 EndSteps (H.Unread path) before now = now ≡ before
 
 abbrev pub StepsBy : Result Reply SessionEnd → Turn → ℕ → ℕ → Type 0
@@ -100,20 +94,15 @@ StepsBy (Err session_end) t before now = EndSteps session_end before now
 
 -- the counts of the files: a read failed only where one of them rose
 abbrev pub EndFiles : SessionEnd → Moment → Moment → Type 0
-EndFiles (H.Run T.NoMemory) f0 f1 = NoFewer f0 f1
-EndFiles (H.Run T.WriteFault) f0 f1 = Still f0 f1
-EndFiles (H.Run T.ReadFault) f0 f1 = Still f0 f1
-EndFiles (H.Run T.Spent) f0 f1 = Still f0 f1
+EndFiles H.NoMemory f0 f1 = NoFewer f0 f1
 EndFiles (H.Unread path) f0 f1 = NoFewer f0 f1 × RoseIn f0 f1
 
 abbrev pub FilesBy : {A : Type 0} → Result A SessionEnd → Moment → Moment → Type 0
 FilesBy (Ok a) f0 f1 = Still f0 f1
 FilesBy (Err session_end) f0 f1 = EndFiles session_end f0 f1
 
--- What a turn leaves of the files, which are only read: a read failed only where a count of failures rose. Where
--- nothing is said, memory runs out or a file wasn't read.
+-- What a turn leaves of the files, which are only read: a read failed only where a count of failures rose.
 pub record Leaves {F : Type 0} (S : Ghosts F) (result : Result Reply SessionEnd) (old new : F) : Type 0 where
-  pub inner : IfErr result IsInner
   pub cause : FilesBy result (moment_of S old) (moment_of S new)
   pub taken : NotFewer (S.taken old) (S.taken new)
   pub tree : S.tree new ≡ S.tree old

@@ -30,4 +30,4 @@ returns-in_ok-job-in-Sample c = λ rules named.
     let m = c.in-Sample in
     rw m.is
     (ap (λ x. Samples (record { maker = x; seed = m.seed; lines = m.lines })) (sym c.in_ok-job-in-Sample.ensures.maker)
-    ∙ ap Samples (sym c.new-run.ensures))
+    ∙ ap Samples (sym c.new-run.ensures.sampled))

@@ -1,4 +1,5 @@
 use Rattle.std.proofs.Common.{subst}
+use Rattle.rosie_run.specs.declared.tool.Tool.TheVariants.{Rosie}
 use Rattle.rosie_cli.specs.Plans.{Planned}
 use Rattle.rosie_cli.specs.Report.{KnowsInputs}
 use Rattle.rosie_cli.proofs.Calls.{answers-of}
@@ -10,7 +11,7 @@ pub returns-clause-answers : goal.returns-clause-answers
 returns-clause-answers g c =
     let e = c.run_session-run.ensures in
     let rest = g.I.Source.rest c.args.inputs.now.input.now in
-    answers-of _ c.run_session-run.result _ _ (c.finish.ensures.closes c.run_session-run.new.outputs.steps.now) e.cause e.sinks
+    answers-of _ c.run_session-run.result _ _ (c.finish.ensures.closes Rosie c.run_session-run.new.outputs.steps.now) e.cause e.sinks
     c.finish.ensures.cause
     (λ p t s inputs.
     let tells = subst (λ (q : Planned). KnowsInputs q.plan g.F.Source.tells g.I.Source.tells rest) s.plan inputs in

@@ -1,3 +1,4 @@
+use Rattle.rosie_run.specs.declared.tool.Tool.TheVariants.{Rosie}
 use Rattle.rosie_cli.proofs.Calls.{answers-by, answers-of}
 use Rattle.rosie_cli.proofs.Paying.{pays_planned}
 use Rattle.rosie_cli.proofs.Whole.{session-reads, session-works}
@@ -14,7 +15,7 @@ returns-in-Repl-clause-unread g c = λ p t is n.
 pub returns-in_default-clause-answers : goal.returns-in_default-clause-answers
 returns-in_default-clause-answers g c =
     let e = c.run_planned-run.ensures in
-    answers-of _ c.run_planned-run.result _ _ (c.finish.ensures.closes c.run_planned-run.new.outputs.steps.now) e.cause e.sinks
+    answers-of _ c.run_planned-run.result _ _ (c.finish.ensures.closes Rosie c.run_planned-run.new.outputs.steps.now) e.cause e.sinks
     c.finish.ensures.cause (λ p t is inputs. e.runs p t is inputs) (λ p t is inputs. e.rest p t is inputs)
     (λ p is. pays_planned c.args.command c.args.command.what _ p is)
 

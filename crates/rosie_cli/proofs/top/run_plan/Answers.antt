@@ -1,6 +1,7 @@
 use Rattle.std.proofs.Common.{ap, sym, subst}
 use Rattle.std.specs.Prelude.{encode_utf8_all}
 use Rattle.rosie_run.specs.Inputs.{names_of}
+use Rattle.rosie_run.specs.declared.lines.Reading.{Reading}
 use Rattle.rosie_jobs.specs.Jobs.{matcher_of, tracer_of}
 use Rattle.rosie_cli.specs.Plans.{inputs_of}
 use Rattle.rosie_cli.specs.Report.{KnowsInputs}
@@ -38,22 +39,25 @@ returns-in-Match-clause-runs g c = λ knows.
     let m = c.in-Match in
     let rest = g.I.Source.rest c.args.inputs.now.input.now in
     let tells = subst (λ x. KnowsInputs (plan_of x) g.F.Source.tells g.I.Source.tells rest) m.is knows in
-    match-runs c.run_inputs.result _ (matcher_of m.job) m.whole (names_of encode_utf8_all m.names)
+    rw (ap (λ (r : Reading). r.tool) c.reading-reading.ensures) at
+    (match-runs c.run_inputs.result _ (matcher_of m.job) m.whole (names_of encode_utf8_all m.names)
     (names_of encode_utf8_all c.as_slice-names.result.now) _ (plan_of c.args.plan.now)
     (g.F.Source.tree c.args.inputs.now.files.now) _ _ _ _ (ap plan_of m.is)
     (ap (names_of encode_utf8_all) c.as_slice-names.ensures) c.reading-reading.ensures
-    (c.run_inputs.ensures.runs (told-names _ _ _ _ (ap (names_of encode_utf8_all) c.as_slice-names.ensures) tells))
+    (c.run_inputs.ensures.runs (told-names _ _ _ _ (ap (names_of encode_utf8_all) c.as_slice-names.ensures) tells)))
 
 pub returns-in-Trace-clause-runs : goal.returns-in-Trace-clause-runs
 returns-in-Trace-clause-runs g c = λ knows.
     let m = c.in-Trace in
     let rest = g.I.Source.rest c.args.inputs.now.input.now in
     let tells = subst (λ x. KnowsInputs (plan_of x) g.F.Source.tells g.I.Source.tells rest) m.is knows in
-    match-runs c.run_inputs-in-Trace.result _ (tracer_of m.job) m.whole (names_of encode_utf8_all m.names)
+    rw (ap (λ (r : Reading). r.tool) c.reading-reading-in-Trace.ensures) at
+    (match-runs c.run_inputs-in-Trace.result _ (tracer_of m.job) m.whole (names_of encode_utf8_all m.names)
     (names_of encode_utf8_all c.as_slice-names-in-Trace.result.now) _ (plan_of c.args.plan.now)
     (g.F.Source.tree c.args.inputs.now.files.now) _ _ _ _ (ap plan_of m.is)
     (ap (names_of encode_utf8_all) c.as_slice-names-in-Trace.ensures) c.reading-reading-in-Trace.ensures
-    (c.run_inputs-in-Trace.ensures.runs (told-names _ _ _ _ (ap (names_of encode_utf8_all) c.as_slice-names-in-Trace.ensures) tells))
+    (c.run_inputs-in-Trace.ensures.runs
+    (told-names _ _ _ _ (ap (names_of encode_utf8_all) c.as_slice-names-in-Trace.ensures) tells)))
 
 pub returns-in-Match-clause-unread : goal.returns-in-Match-clause-unread
 returns-in-Match-clause-unread g c = λ n.

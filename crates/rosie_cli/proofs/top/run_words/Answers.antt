@@ -4,6 +4,7 @@ use Rattle.rosie_run.specs.Outputs.{failures, shown}
 use Rattle.rosie_run.specs.declared.ended.Ended.TheVariants as E
 use Rattle.rosie_run.proofs.Pieces.{fronts-none}
 use Rattle.rosie_words.specs.Reading.{words_of}
+use Rattle.rosie_run.specs.declared.tool.Tool.TheVariants.{Rosie}
 use Rattle.rosie_cli.specs.Plans.{refusal}
 use Rattle.rosie_cli.specs.Words.{asked}
 use Rattle.rosie_cli.proofs.Calls.{answers-by, answers-of, untouched-cause}
@@ -17,7 +18,7 @@ returns-in-Refuse-clause-answers g c =
     let a = asked (words_of c.args.words.now) in
     let e = rw c.in-Refuse.is at c.in-Ok.ensures in
     let r = c.refuse-run.result in
-    answers-of _ r _ _ (c.finish.ensures.closes c.args.outputs.now.steps.now) (untouched-cause r c.refuse-run.ensures.no_cut _ _)
+    answers-of _ r _ _ (c.finish.ensures.closes Rosie c.args.outputs.now.steps.now) (untouched-cause r c.refuse-run.ensures.no_cut _ _)
     c.refuse-run.ensures.sinks c.finish.ensures.cause
     (λ p known is inputs. refused-runs r _ p text _ _ _ _ _ (refused-plan a text _ p e is)
     (c.refuse-run.ensures.runs c.args.outputs.now.steps.now))
@@ -27,7 +28,7 @@ returns-in-Refuse-clause-answers g c =
 pub returns-in-Err-clause-answers : goal.returns-in-Err-clause-answers
 returns-in-Err-clause-answers g c =
     answers-of _ (Err E.NoMemory) (shown g.O.Sink g.E.Sink c.args.outputs.now.out.now c.args.outputs.now.err.now c.args.outputs.now.steps.now)
-    (failures g.O.Sink g.E.Sink c.args.outputs.now.out.now c.args.outputs.now.err.now) (c.finish-in-Err.ensures.closes c.args.outputs.now.steps.now)
+    (failures g.O.Sink g.E.Sink c.args.outputs.now.out.now c.args.outputs.now.err.now) (c.finish-in-Err.ensures.closes Rosie c.args.outputs.now.steps.now)
     (untouched-cause (Err E.NoMemory) tt _ _) (refl, refl) c.finish-in-Err.ensures.cause
     (λ p known is inputs. fronts-none _ _ _) (λ p known is inputs. tt)
     (λ p is. promise_holds (asked (words_of c.args.words.now)) _ p is)

@@ -2,19 +2,22 @@ use Rattle.std.proofs.Common.{refl, ap, ◌∙◌, arith}
 use Rattle.std.specs.Prelude.{encode_utf8_all}
 use Rattle.rosie_io.specs.Reader.{Reader}
 use Rattle.rosie_run.proofs.Pieces.{fronts-none}
-use Rattle.rosie_run.specs.Inputs.{is_standard}
-use Rattle.rosie_run.specs.Sources.{moment}
+use Rattle.rosie_run.specs.Inputs.{is_standard, names_of}
+use Rattle.rosie_run.specs.declared.lines.Messages.{Messages}
+use Rattle.rosie_run.specs.Sources.{moment, moment_of}
 use Rattle.rosie_run.proofs.Inward.{names-next, names-none, not-standard, told-one, once-on, untouched-on, reached-start, reached-on, part-goes, reached-stop, reached-break, reached-end}
 use Rattle.rosie_run.proofs.inputs.run_inputs.Goals as goal
 
 pub inputs-init : goal.inputs-init
 inputs-init g c = record {
-  same_lines = (refl, refl);
+  same_lines = (refl, refl, refl, refl);
   same_inputs = (refl, refl);
   same_outputs = (refl, refl, refl);
-  parts = ap (λ (x : Reader). x.whole) c.in-Ok.ensures;
-  most = ap (λ (x : Reader). x.most) c.in-Ok.ensures;
+  parts = ap (λ (x : Reader). x.whole) (c.new-lines.ensures.reader ∙ c.in-Ok.ensures);
+  most = ap (λ (x : Reader). x.most) (c.new-lines.ensures.reader ∙ c.in-Ok.ensures);
   same = refl;
+  tool = ap (λ (x : Messages). x.tool) c.new-lines.ensures.messages ∙ c.new-messages.ensures;
+  idle = λ _. refl;
   reached = λ k. reached-start _ _ _ _ _ _ _ _ _ _ refl refl (g.met.O.Sink.number_fits c.args.outputs.now.out.now) c.new-tally.ensures;
   once = λ k e. absurd (cc);
   untouched = λ _. refl;
@@ -36,19 +39,21 @@ inputs-preserved g c =
     let i = c.inputs.invariant in
     let next = names-next (encode_utf8_all) c.args.wanted.names.now c.inputs.name-index c.name-item.result c.text_of.result.now c.inputs-test.true c.name-item.is c.text_of.ensures in
     record {
-      same_lines = (e.same_lines.0 ∙ i.same_lines.0, e.same_lines.1 ∙ i.same_lines.1);
+      same_lines = (e.same_lines.0 ∙ i.same_lines.0, e.same_lines.1 ∙ i.same_lines.1, e.same_lines.2 ∙ i.same_lines.2, e.same_lines.3 ∙ i.same_lines.3);
       same_inputs = (e.same_inputs.0 ∙ i.same_inputs.0, e.same_inputs.1 ∙ i.same_inputs.1);
       same_outputs = (e.same_outputs.0 ∙ i.same_outputs.0, e.same_outputs.1 ∙ i.same_outputs.1, e.same_outputs.2 ∙ i.same_outputs.2);
       parts = e.keeps.whole ∙ i.parts;
       most = e.keeps.most ∙ i.most;
       same = e.same ∙ i.same;
+      tool = e.same_lines.3 ∙ i.tool;
+      idle = λ x. e.idle x ∙ i.idle x;
       reached = λ k.
           let told = told-one encode_utf8_all c.args.wanted.names.now c.inputs.name-index c.text_of.result.now _ g.F.Source.tells g.I.Source.tells next k in
-          let w = rw (i.same, i.tree, i.parts, i.most) at (e.runs told.0 told.1 (i.once k)) in
+          let w = rw (i.same, i.tree, i.parts, i.most, i.tool) at (e.runs told.0 told.1 (i.once k)) in
           reached-on _ _ _ _ _ _ (g.I.Source.rest c.inputs.inputs.input.now) c.text_of.result.now _ _ c.inputs.read c.inputs.tally _ _ (i.reached k) next _ c.in-Ok-run_one.part c.and-tally.result w c.and-tally.ensures (g.I.Source.rest c.run_one.new.inputs.input.now) c.run_one.new.read c.if-tally.false (e.rest told.1 (i.once k)) e.reads (λ n. (e.stays n).0);
       once = λ k is.
           let told = told-one encode_utf8_all c.args.wanted.names.now c.inputs.name-index c.text_of.result.now _ g.F.Source.tells g.I.Source.tells next k in
-          let w = rw (i.same, i.tree, i.parts, i.most) at (e.runs told.0 told.1 (i.once k)) in
+          let w = rw (i.same, i.tree, i.parts, i.most, i.tool) at (e.runs told.0 told.1 (i.once k)) in
           let off = part-goes _ _ _ _ _ _ (g.I.Source.rest c.inputs.inputs.input.now) c.text_of.result.now _ _ c.inputs.read c.inputs.tally _ _ (i.reached k) next _ c.in-Ok-run_one.part c.and-tally.result w c.and-tally.ensures c.if-tally.false in
           once-on c.text_of.result.now (g.I.Source.rest c.inputs.inputs.input.now) _ c.inputs.read c.run_one.new.read (e.rest told.1 (i.once k) off) (λ n. (e.stays n).0) (i.once k) is;
       untouched = untouched-on (is_standard c.text_of.result.now) c.inputs.read c.run_one.new.read _ _ _ e.reads e.stays i.untouched;
@@ -70,21 +75,21 @@ returns-then-tally-clause-runs g c = λ k.
     let i = c.inputs.invariant in
     let next = names-next (encode_utf8_all) c.args.wanted.names.now c.inputs.name-index c.name-item.result c.text_of.result.now c.inputs-test.true c.name-item.is c.text_of.ensures in
     let told = told-one encode_utf8_all c.args.wanted.names.now c.inputs.name-index c.text_of.result.now _ g.F.Source.tells g.I.Source.tells next k in
-    let w = rw (i.same, i.tree, i.parts, i.most) at (e.runs told.0 told.1 (i.once k)) in
-    reached-stop _ _ _ _ _ _ (g.I.Source.rest c.inputs.inputs.input.now) c.text_of.result.now _ _ c.inputs.read c.inputs.tally _ _ (i.reached k) next _ c.in-Ok-run_one.part c.and-tally.result w c.and-tally.ensures c.if-tally.true
+    let w = rw (i.same, i.tree, i.parts, i.most, i.tool) at (e.runs told.0 told.1 (i.once k)) in
+    rw c.new-lines.ensures.job at (reached-stop _ _ _ _ _ _ (g.I.Source.rest c.inputs.inputs.input.now) c.text_of.result.now _ _ c.inputs.read c.inputs.tally _ _ (i.reached k) next _ c.in-Ok-run_one.part c.and-tally.result w c.and-tally.ensures c.if-tally.true)
 
 pub returns-in-Err-clause-runs : goal.returns-in-Err-clause-runs
 returns-in-Err-clause-runs g c = λ k.
     let i = c.inputs.invariant in
     let next = names-next (encode_utf8_all) c.args.wanted.names.now c.inputs.name-index c.name-item.result c.text_of.result.now c.inputs-test.true c.name-item.is c.text_of.ensures in
     let told = told-one encode_utf8_all c.args.wanted.names.now c.inputs.name-index c.text_of.result.now _ g.F.Source.tells g.I.Source.tells next k in
-    let w = rw (i.same, i.tree, i.parts, i.most) at (c.in-Err.ensures.runs told.0 told.1 (i.once k)) in
-    reached-break _ _ _ _ _ _ (g.I.Source.rest c.inputs.inputs.input.now) c.text_of.result.now _ _ c.inputs.read c.inputs.tally _ _ (i.reached k) next _ _ _ _ (moment g.F.Source.rest g.F.Source.taken g.F.Source.faults g.F.Source.failed_opens c.inputs.inputs.files.now) _
-    (λ n. ap (moment g.I.Source.rest g.I.Source.taken g.I.Source.faults g.I.Source.failed_opens) (i.untouched n)) i.files_faults i.files_opens i.files_taken c.in-Err.ended _ w
+    let w = rw (i.same, i.tree, i.parts, i.most, i.tool) at (c.in-Err.ensures.runs told.0 told.1 (i.once k)) in
+    rw c.new-lines.ensures.job at (reached-break _ (g.J.LineJob.makes c.new-lines.result.job.now) c.args.wanted.reading (g.F.Source.tree c.args.inputs.now.files.now) (g.I.Source.rest c.args.inputs.now.input.now) (names_of encode_utf8_all c.args.wanted.names.now) (g.I.Source.rest c.inputs.inputs.input.now) c.text_of.result.now _ _ c.inputs.read c.inputs.tally _ _ (i.reached k) next (moment_of g.I.Source c.args.inputs.now.input.now) (moment_of g.I.Source c.inputs.inputs.input.now) (moment_of g.I.Source c.run_one.new.inputs.input.now) (moment_of g.F.Source c.args.inputs.now.files.now) (moment_of g.F.Source c.inputs.inputs.files.now) (moment_of g.F.Source c.run_one.new.inputs.files.now)
+    (λ n. ap (moment g.I.Source.rest g.I.Source.taken g.I.Source.faults g.I.Source.failed_opens) (i.untouched n)) i.files_faults i.files_opens i.files_taken c.in-Err.ended _ w)
 
 pub returns-clause-runs : goal.returns-clause-runs
 returns-clause-runs g c = λ k.
-    reached-end _ _ _ _ _ _ _ _ _ _ _ _ (c.inputs.invariant.reached k) (names-none (encode_utf8_all) c.args.wanted.names.now c.inputs.name-index c.inputs-test.false)
+    rw c.new-lines.ensures.job at (reached-end _ _ _ _ _ _ _ _ _ _ _ _ (c.inputs.invariant.reached k) (names-none (encode_utf8_all) c.args.wanted.names.now c.inputs.name-index c.inputs-test.false))
 
 pub returns-in_default-clause-runs : goal.returns-in_default-clause-runs
 returns-in_default-clause-runs g c = λ k. fronts-none _ _ _

@@ -2,7 +2,7 @@ use Rattle.std.proofs.Common.{◌≡◌, ◌-◌, ◌^◌, ◌≤◌, ◌<◌, t
 use Rattle.std.specs.Prelude.{encode_utf8_all}
 use Rattle.rosie_run.specs.Devices.{SameInputs, SameOutputs}
 use Rattle.rosie_run.specs.Inputs.{AreTold, names_of, reads_standard}
-use Rattle.rosie_run.specs.Outputs.{texts}
+use Rattle.rosie_run.specs.Outputs.{telling, texts}
 use Rattle.rosie_run.specs.inside.Reaching.{Reached}
 use Rattle.rosie_run.specs.inside.SameLines.{SameLines}
 use Rattle.rosie_run.proofs.inputs.run_inputs.Given as goal
@@ -15,8 +15,10 @@ invariant-inputs g l = record {
   same_outputs : SameOutputs l.initial.outputs l.outputs;
   parts : l.lines.reader.now.whole ≡ l.fn.wanted.reading.whole;
   most : l.lines.reader.now.most ≡ l.fn.wanted.reading.most;
+  tool : l.lines.messages.now.tool ≡ l.fn.wanted.reading.tool;
+  idle : g.J.LineJob.idle → l.outputs.steps.now ≡ l.initial.outputs.steps.now;
   same : g.J.LineJob.makes l.lines.job.now ≡ g.J.LineJob.makes l.initial.lines.job.now;
-  reached : AreTold (names_of encode_utf8_all l.fn.wanted.names.now) g.F.Source.tells g.I.Source.tells → Reached (record { out = g.O.Sink.tells; err = g.E.Sink.tells; counts = g.O.Sink.counts }) (g.J.LineJob.makes l.initial.lines.job.now) l.fn.wanted.reading (g.F.Source.tree l.initial.inputs.files.now)
+  reached : AreTold (names_of encode_utf8_all l.fn.wanted.names.now) g.F.Source.tells g.I.Source.tells → Reached (telling l.fn.wanted.reading.tool g.O.Sink g.E.Sink) (g.J.LineJob.makes l.initial.lines.job.now) l.fn.wanted.reading (g.F.Source.tree l.initial.inputs.files.now)
       (g.I.Source.rest l.initial.inputs.input.now) (g.I.Source.rest l.inputs.input.now) (names_of encode_utf8_all l.fn.wanted.names.now) (names_of encode_utf8_all (drop l.name-index l.fn.wanted.names.now)) l.read l.tally
       (texts g.O.Sink.written g.O.Sink.number g.E.Sink.written l.initial.outputs.out.now l.initial.outputs.err.now l.initial.outputs.steps.now) (texts g.O.Sink.written g.O.Sink.number g.E.Sink.written l.outputs.out.now l.outputs.err.now l.outputs.steps.now);
   once : AreTold (names_of encode_utf8_all l.fn.wanted.names.now) g.F.Source.tells g.I.Source.tells → l.read ≡ true → g.I.Source.rest l.inputs.input.now ≡ [];

@@ -1,31 +1,55 @@
+use Rattle.std.proofs.Common.{◌≡◌, ◌∙◌, ap, sym, refl}
+use Rattle.std.specs.Prelude.{Ok}
+use Rattle.rosie_io.specs.Reader.{Reader}
+use Rattle.rosie_repl.specs.States.{session_of}
+use Rattle.rosie_run.specs.Going.{StoodAt}
 use Rattle.rosie_run.specs.Sources.{moment_of}
-use Rattle.rosie_session.proofs.Ending.{breaks-session_end, runs-all, sources-session_end, writes-session_end}
+use Rattle.rosie_run.proofs.Breaking.{memory-runs, runs-weaken}
+use Rattle.rosie_run.proofs.FromLines.{some-left}
+use Rattle.rosie_session.specs.Replay.{pieces_of, replay}
+use Rattle.rosie_session.specs.Where.{InSession}
+use Rattle.rosie_session.specs.declared.run.Kept.{Kept}
+use Rattle.rosie_session.specs.inside.Passing.{IsOver, LeavesSession, name_of, turns_left}
+use Rattle.rosie_session.proofs.Passing.{session-cause, session-rest, session-stood, turns-begun}
 use Rattle.rosie_session.proofs.run.run_session.Goals as goal
 
-pub returns-in-Ok-clause-runs : goal.returns-in-Ok-clause-runs
-returns-in-Ok-clause-runs g c = λ it w is t. runs-all _ w _ _ _ _ (c.in-Ok.ensures.runs it w is t)
+pub returns-clause-runs : goal.returns-clause-runs
+returns-clause-runs g c = λ it w is t.
+    let n = c.new-lines.ensures in
+    let k = c.in_ok-kept.ensures in
+    let s = c.new-lines.result in
+    let z = c.run_pieces.new.pieces in
+    let e = ap (λ (x : Kept). x.reader) n.kept ∙ k.reader in
+    let fresh = ap (λ (r : Reader). r.held) e in
+    let parts = ap (λ (r : Reader). r.whole) e in
+    let all = turns-begun g.I.Source w s _ e refl refl (ap (λ (x : Kept). session_of x.state) n.kept ∙ k.state) in
+    let over : IsOver g.F.Source g.I.Source w s =
+    record { input = it; loads = rw (n.files, n.folders) is; told = rw (all, n.input) t } in
+    let ran = runs-weaken _ c.run_pieces.result _
+    (StoodAt (λ how i. LeavesSession g.F.Source g.I.Source how s z i) (name_of z.kept.now.unread))
+    (InSession w (g.I.Source.rest s.input.now) (moment_of g.I.Source s.input.now) (moment_of g.I.Source z.input.now)
+    (moment_of g.F.Source s.files.now) (moment_of g.F.Source z.files.now)) _ _
+    (session-stood g.F.Source g.I.Source s z fresh parts w over all)
+    (c.run_pieces.ensures.runs (replay w (g.I.Source.rest s.input.now))
+    (record { loading = w; over = over; is = ap pieces_of (sym all) })) in
+    rw (n.input, n.files) at ran
 
-pub returns-in-Ok-clause-rest : goal.returns-in-Ok-clause-rest
-returns-in-Ok-clause-rest g c = λ it _. c.in-Ok.ensures.rest it
+pub returns-clause-cause : goal.returns-clause-cause
+returns-clause-cause g c =
+    let n = c.new-lines.ensures in
+    let e = ap (λ (x : Kept). x.reader) n.kept ∙ c.in_ok-kept.ensures.reader in
+    rw (n.input, n.files) at (session-cause g.F.Source g.I.Source c.new-lines.result c.run_pieces.new.pieces
+    (ap (λ (r : Reader). r.held) e) (ap (λ (r : Reader). r.whole) e) c.run_pieces.result c.run_pieces.ensures.left)
 
-pub returns-in-Ok-clause-cause : goal.returns-in-Ok-clause-cause
-returns-in-Ok-clause-cause g c =
-    (record { faults = c.in-Ok.ensures.cause; opens = c.in-Ok.ensures.opens }, c.in-Ok.ensures.files)
+pub returns-clause-rest : goal.returns-clause-rest
+returns-clause-rest g c = λ it.
+    let e = ap (λ (x : Kept). x.reader) c.new-lines.ensures.kept ∙ c.in_ok-kept.ensures.reader in
+    session-rest g.F.Source g.I.Source c.new-lines.result c.run_pieces.new.pieces (ap (λ (r : Reader). r.held) e)
+    (ap (λ (r : Reader). r.whole) e) c.run_pieces.result it c.run_pieces.ensures.left
 
-pub returns-in-Err-clause-runs : goal.returns-in-Err-clause-runs
-returns-in-Err-clause-runs g c = λ it w is t.
-    let i0 = moment_of g.I.Source c.args.inputs.now.input.now in
-    let i1 = moment_of g.I.Source c.run_lines.new.inputs.input.now in
-    breaks-session_end _ w i0 i1 _ _ _ _ c.in-Err.session_end c.end_of_run.result c.end_of_run.ensures c.in-Err.ensures.cause
-    c.in-Err.ensures.spent c.in-Err.ensures.files (c.in-Err.ensures.runs it w is t)
+pub returns-clause-tree : goal.returns-clause-tree
+returns-clause-tree g c =
+    rw c.new-lines.ensures.files at (some-left c.run_pieces.result _ c.run_pieces.ensures.left).2.tree
 
-pub returns-in-Err-clause-cause : goal.returns-in-Err-clause-cause
-returns-in-Err-clause-cause g c =
-    let i0 = moment_of g.I.Source c.args.inputs.now.input.now in
-    let i1 = moment_of g.I.Source c.run_lines.new.inputs.input.now in
-    sources-session_end i0 i1 _ _ c.in-Err.ensures.opens c.in-Err.session_end c.end_of_run.result c.end_of_run.ensures
-    c.in-Err.ensures.cause c.in-Err.ensures.spent c.in-Err.ensures.files
-
-pub returns-in-Err-clause-sinks : goal.returns-in-Err-clause-sinks
-returns-in-Err-clause-sinks g c =
-    writes-session_end c.in-Err.session_end c.end_of_run.result _ _ _ _ c.end_of_run.ensures c.in-Err.ensures.sinks
+pub returns-in_err-kept-clause-runs : goal.returns-in_err-kept-clause-runs
+returns-in_err-kept-clause-runs g c = λ it w is t. memory-runs _ _ _ _ _ c.from_residual.ensures.1

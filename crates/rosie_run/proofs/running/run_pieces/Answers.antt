@@ -1,0 +1,101 @@
+use Rattle.std.proofs.Common.{refl, ap, sym, subst, ◌∙◌, ◌+◌, ◌||◌, false}
+use Rattle.rosie_run.specs.Going.{IsSaidBy}
+use Rattle.rosie_run.specs.Outputs.{texts}
+use Rattle.rosie_run.specs.declared.tally.Tally.{Tally}
+use Rattle.rosie_run.proofs.Going.{broke-leaves, went-broke, went-end, went-fault, went-front, went-on, went-start, went-still, went-stop}
+use Rattle.rosie_run.proofs.Pieces.{has-nil}
+use Rattle.rosie_run.specs.Report.{is_stop}
+use Rattle.rosie_run.proofs.running.run_pieces.Goals as goal
+
+pub run-init : goal.run-init
+run-init g c = record {
+  same_outputs = (refl, refl, refl);
+  same = (g.met.P.PieceSource.begins c.args.pieces.now).0;
+  goes_on = c.requires;
+  tool = refl;
+  idle = λ _. refl;
+  went = (0, (g.met.P.PieceSource.begins c.args.pieces.now).1, λ ps comes. went-start _ ps _ _ _ _ refl (g.met.O.Sink.number_fits c.args.outputs.now.out.now) c.new-tally.ensures comes);
+  no_stop = ap (λ (t : Tally). t.stop) c.new-tally.ensures ∙ has-nil is_stop;
+  out_faults = refl;
+  err_faults = refl;
+}
+
+pub run-preserved : goal.run-preserved
+run-preserved g c =
+    let i = c.run.invariant in
+    let f = c.in-Ok.ensures in
+    let e = c.in-Ok-Some.ensures in
+    let w = c.in-Ok-write_piece.ensures in
+    let left = rw c.in-Ok-Some.field-0-is at (e.left c.args.pieces.now i.went.0 i.went.1) in record {
+      same_outputs = i.same_outputs;
+      same = e.same c.args.pieces.now i.same;
+      goes_on = rw c.in-Ok-Some.field-0-is at e.goes_on;
+      tool = e.tool ∙ i.tool;
+      idle = λ x. e.idle x ∙ i.idle x;
+      went = (
+        i.went.0 + 1,
+        left,
+        λ ps comes.
+            let a = texts g.O.Sink.written g.O.Sink.number g.E.Sink.written c.flush_before_wait.new.out c.flush_before_wait.new.err c.run.outputs.steps.now in
+            let b = texts g.O.Sink.written g.O.Sink.number g.E.Sink.written c.write_piece.new.out c.write_piece.new.err c.next.new.steps in
+            let still = went-still _ ps _ _ _ _ _ (i.went.2 ps comes) a (record { out = f.out; err = f.err; number = f.number; steps = refl }) in
+            went-on _ ps _ _ _ _ _ still _ _ _ _ b (λ todo h. rw c.in-Ok-Some.field-0-is at (e.gives todo h)) _ c.with-tally.ensures w.out w.err w.number c.if-tally.false,
+      );
+      no_stop = c.if-tally.false;
+      out_faults = w.cause.0 ∙ f.cause.0 ∙ i.out_faults;
+      err_faults = w.cause.1 ∙ f.cause.1 ∙ i.err_faults;
+    }
+
+pub returns-in-Err-clause-runs : goal.returns-in-Err-clause-runs
+returns-in-Err-clause-runs g c = λ ps comes.
+    let f = c.in-Err.ensures in
+    went-front _ ps _ _ _ _ _ (went-still _ ps _ _ _ _ _ (c.run.invariant.went.2 ps comes) _ (record { out = f.out; err = f.err; number = f.number; steps = refl }))
+
+pub returns-in-Err-next-clause-runs : goal.returns-in-Err-next-clause-runs
+returns-in-Err-next-clause-runs g c = λ ps comes.
+    let i = c.run.invariant in
+    let f = c.in-Ok.ensures in
+    let e = c.in-Err-next.ensures in
+    let a = texts g.O.Sink.written g.O.Sink.number g.E.Sink.written c.flush_before_wait.new.out c.flush_before_wait.new.err c.run.outputs.steps.now in
+    let b = texts g.O.Sink.written g.O.Sink.number g.E.Sink.written c.flush_before_wait.new.out c.flush_before_wait.new.err c.next.new.steps in
+    let still = went-still _ ps _ _ _ _ _ (i.went.2 ps comes) a (record { out = f.out; err = f.err; number = f.number; steps = refl }) in
+    went-broke _ ps _ _ _ _ _ still b (λ _. refl) (λ _. refl) (λ _. refl) c.in-Err-next.ended _ (λ how k. g.P.PieceSource.leaves how c.args.pieces.now c.next.new.self k)
+    (subst (λ x. IsSaidBy x (g.P.PieceSource.source_name c.next.new.self) c.in-Err-next.ended) i.tool e.says) (λ todo h. e.gives todo h) (e.left c.args.pieces.now i.went.0 i.went.1)
+
+pub returns-in-Err-next-clause-left : goal.returns-in-Err-next-clause-left
+returns-in-Err-next-clause-left g c =
+    let i = c.run.invariant in
+    let e = c.in-Err-next.ensures in
+    broke-leaves c.in-Err-next.ended _ _ _ i.went.0 e.says (e.left c.args.pieces.now i.went.0 i.went.1)
+
+pub returns-in-Ok-None-clause-runs : goal.returns-in-Ok-None-clause-runs
+returns-in-Ok-None-clause-runs g c = λ ps comes.
+    let i = c.run.invariant in
+    let f = c.in-Ok.ensures in
+    let e = c.in-Ok-None.ensures in
+    let a = texts g.O.Sink.written g.O.Sink.number g.E.Sink.written c.flush_before_wait.new.out c.flush_before_wait.new.err c.run.outputs.steps.now in
+    let b = texts g.O.Sink.written g.O.Sink.number g.E.Sink.written c.flush_before_wait.new.out c.flush_before_wait.new.err c.next.new.steps in
+    let still = went-still _ ps _ _ _ _ _ (i.went.2 ps comes) a (record { out = f.out; err = f.err; number = f.number; steps = refl }) in
+    went-end _ ps _ _ _ _ _ still b (λ _. refl) (λ _. refl) (λ _. refl) (λ todo h. rw c.in-Ok-None.field-0-is at (e.gives todo h))
+
+pub returns-in-Err-write_piece-clause-runs : goal.returns-in-Err-write_piece-clause-runs
+returns-in-Err-write_piece-clause-runs g c = λ ps comes.
+    let i = c.run.invariant in
+    let f = c.in-Ok.ensures in
+    let e = c.in-Ok-Some.ensures in
+    let w = c.in-Err-write_piece.ensures in
+    let a = texts g.O.Sink.written g.O.Sink.number g.E.Sink.written c.flush_before_wait.new.out c.flush_before_wait.new.err c.run.outputs.steps.now in
+    let b = texts g.O.Sink.written g.O.Sink.number g.E.Sink.written c.write_piece.new.out c.write_piece.new.err c.next.new.steps in
+    let still = went-still _ ps _ _ _ _ _ (i.went.2 ps comes) a (record { out = f.out; err = f.err; number = f.number; steps = refl }) in
+    went-fault _ ps _ _ _ _ _ still _ _ _ _ b (λ todo h. rw c.in-Ok-Some.field-0-is at (e.gives todo h)) w.out w.err
+
+pub returns-then-tally-clause-runs : goal.returns-then-tally-clause-runs
+returns-then-tally-clause-runs g c = λ ps comes.
+    let i = c.run.invariant in
+    let f = c.in-Ok.ensures in
+    let e = c.in-Ok-Some.ensures in
+    let w = c.in-Ok-write_piece.ensures in
+    let a = texts g.O.Sink.written g.O.Sink.number g.E.Sink.written c.flush_before_wait.new.out c.flush_before_wait.new.err c.run.outputs.steps.now in
+    let b = texts g.O.Sink.written g.O.Sink.number g.E.Sink.written c.write_piece.new.out c.write_piece.new.err c.next.new.steps in
+    let still = went-still _ ps _ _ _ _ _ (i.went.2 ps comes) a (record { out = f.out; err = f.err; number = f.number; steps = refl }) in
+    went-stop _ ps _ _ _ _ _ still _ _ _ _ b (λ todo h. rw c.in-Ok-Some.field-0-is at (e.gives todo h)) _ c.with-tally.ensures w.out w.err w.number c.if-tally.true

@@ -1,0 +1,22 @@
+// Whose run it is.
+ghost use Rattle.std.specs.Prelude.{◌≡◌};
+ghost use Rattle.rosie_run.specs.Tools.{name_of};
+
+/// The program that a run belongs to. Its messages begin with its name.
+#[derive(Clone, Copy, Debug, PartialEq, Eq)]
+pub enum Tool {
+    Rosie,
+    RosieColumns,
+}
+
+impl Tool {
+    /// Its name.
+    pub fn name(self) -> &'static str
+        ensures { result.now ≡ name_of self }
+    {
+        match self {
+            Tool::Rosie => "rosie",
+            Tool::RosieColumns => "rosie-columns",
+        }
+    }
+}

@@ -1,0 +1,14 @@
+use Rattle.std.proofs.Common.{ap, refl}
+use Rattle.rosie_repl.specs.States.{session_of}
+use Rattle.rosie_session.specs.declared.run.Kept.{Kept}
+use Rattle.rosie_session.proofs.run.SessionLines.make_of.Goals as goal
+
+pub returns-in-TooLong-clause-says : goal.returns-in-TooLong-clause-says
+returns-in-TooLong-clause-says g c = c.wrong.ensures.says _
+
+pub returns-in-TooLong-clause-makes : goal.returns-in-TooLong-clause-makes
+returns-in-TooLong-clause-makes g c =
+    rw (c.in-Err.is, c.in-TooLong.is) (c.wrong.ensures.makes _, ap (λ (k : Kept). session_of k.state) c.wrong.ensures.kept)
+
+pub returns-in-NotText-clause-says : goal.returns-in-NotText-clause-says
+returns-in-NotText-clause-says g c = c.wrong-in-NotText.ensures.says _
