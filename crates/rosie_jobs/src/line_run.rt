@@ -8,6 +8,7 @@ ghost use Rattle.rpl_core.specs.Meaning.{Outcome};
 ghost use Rattle.rpl_core.specs.Program.{instructions, labels_of};
 ghost use Rattle.rpl_encode.specs.Answer.{IgnoresTrees};
 ghost use Rattle.rpl_tree.specs.Trees.{BuildsEach};
+ghost use Rattle.rpl_machine.specs.Known.{IsMemoOf};
 ghost use Rattle.rosie_jobs.specs.Lines.{budget_of, budget_or, made, ran};
 ghost use Rattle.rosie_jobs.specs.inside.Printed.{answer_with, piece_of};
 ghost use Rattle.rosie_jobs.specs.inside.Printed.{Catches, HasMade, IsShown, Printed};
@@ -17,7 +18,7 @@ use crate::texts::{RunEnd, Texts};
 use rosie_run::{InputLine, Mark, NoMemory};
 use rpl_core::{Caught, Program};
 use rpl_encode::{Fronts, Style};
-use rpl_machine::{Answer, RunFault, Scratch, Steps, run};
+use rpl_machine::{Answer, Memo, RunFault, Scratch, Steps};
 use rpl_text::Text;
 use rpl_tree::Forest;
 use std::alloc::{AllocError, Global};
@@ -122,12 +123,15 @@ impl LineRun {
     pub(crate) fn answer<L: Ledger>(
         &mut self,
         program: &Program,
+        memo: &mut Memo,
         line: InputLine<'_>,
         steps: &mut Steps<L>,
     ) -> Result<Mark, NoMemory>
+        requires memo { IsMemoOf program.now memo.old }
         requires fits { length line.text.now ≤ 2 ^ 30 }
         requires ascii { IsTrue line.is_ascii → IsAscii line.text.now }
         requires fronts { self.old.fronts ≡ labels_of program.now }
+        ensures memo { IsMemoOf program.now memo.new }
         ensures same { self.new.settings ≡ self.old.settings }
         ensures fronts { self.new.fronts ≡ self.old.fronts }
         ensures text { IsUtf8 line.entry.text.now }
@@ -141,7 +145,7 @@ impl LineRun {
         let settings = self.settings;
         let text = line.text;
         let budget = budget_or(settings.budget, text, line.is_ascii);
-        match run(
+        match memo.run(
             program,
             Text::new(text_of(line)),
             budget,

@@ -4,13 +4,14 @@ ghost use Rattle.std.specs.Prelude.{◌≡◌, string_bytes, IfOk};
 ghost use Rattle.rpl_core.specs.Program.{instructions, labels_of};
 ghost use Rattle.rpl_safe.specs.Safe.{IsSafe};
 ghost use Rattle.rosie_jobs.specs.Meant.{IsKnown};
+ghost use Rattle.rpl_machine.specs.Known.{IsMemoOf};
 
 use crate::job::{Goal, Job};
 use crate::line_run::LineRun;
 use crate::settings::Settings;
 use rosie_run::{InputLine, LineJob, Mark, NoMemory};
 use rpl_core::Program;
-use rpl_machine::Steps;
+use rpl_machine::{Memo, Steps};
 use std::alloc::Global;
 use std::sync::ledger::Ledger;
 
@@ -21,8 +22,11 @@ pub struct MatchJob {
     /// What the code matches, where it has a goal. Contracts alone read it.
     goal: Option<Goal>,
     program: Program,
+    /// What its runs have learnt of the program.
+    memo: Memo,
     line: LineRun,
     ghost known: { ∥ IsKnown goal (instructions program) ∥₁ },
+    ghost learnt: { IsMemoOf program memo },
     ghost fronts: { line.fronts ≡ labels_of program },
 }
 
@@ -37,10 +41,12 @@ impl MatchJob {
         ensures due { IfOk result (λ made. Pays (matcher_of made)) }
     {
         let line = LineRun::new(alloc, settings, &job.program)?;
+        let memo = Memo::new(alloc)?;
         let Job { goal, program } = job;
         Ok(MatchJob {
             goal: Some(goal),
             program,
+            memo,
             line,
         })
     }
@@ -55,9 +61,11 @@ impl MatchJob {
         ensures { IfOk result (λ made. matcher_of made ≡ Runs settings (instructions program)) }
     {
         let line = LineRun::new(alloc, settings, &program)?;
+        let memo = Memo::new(alloc)?;
         Ok(MatchJob {
             goal: None,
             program,
+            memo,
             line,
         })
     }
@@ -79,7 +87,7 @@ impl LineJob for MatchJob {
         line: InputLine<'_>,
         steps: &mut Steps<L>,
     ) -> Result<Mark, NoMemory> {
-        self.line.answer(&self.program, line, steps)
+        self.line.answer(&self.program, &mut self.memo, line, steps)
     }
 
     fn out(&self) -> &[u8] {

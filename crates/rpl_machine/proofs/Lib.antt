@@ -7,3 +7,12 @@ mod Ranges
 mod Pushing
 mod Turning
 mod Spanning
+mod Locality
+mod Turnings
+mod Windows
+mod Misses
+mod Framing
+mod Growing
+mod Lessons
+mod Following
+mod Leaving

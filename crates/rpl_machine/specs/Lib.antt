@@ -1,4 +1,5 @@
 pub mod Shown
 pub mod Kept
 pub mod Answers
+pub mod Known
 pub mod inside

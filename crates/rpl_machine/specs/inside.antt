@@ -3,3 +3,6 @@ pub mod Trees
 pub mod Lists
 pub mod Progress
 pub mod Turns
+pub mod Local
+pub mod Memos
+pub mod Endings

@@ -10,16 +10,22 @@
 mod act;
 mod answer;
 mod failing;
+mod learning;
 mod lists;
 mod looping;
 mod moves;
 mod scratch;
 mod searches;
+mod skimming;
 mod spans;
+mod states;
 mod steps;
+mod table;
 mod turn;
+mod watching;
 
 pub use answer::{Answer, RunFault};
+pub use learning::Memo;
 pub use rpl_core::NoMemory;
 pub use scratch::{Scratch, run};
 pub use steps::Steps;
