@@ -3,7 +3,8 @@ PREFIX ?= /usr/local
 BIN = $(DESTDIR)$(PREFIX)/bin
 SHARE = $(DESTDIR)$(PREFIX)/share
 PROGRAM = crates/rosie/out/rosie
-DOCUMENTS = docs/COMMAND.md docs/LANGUAGE.md docs/TUTORIAL.md docs/RECIPES.md docs/MESSAGES.md CHANGELOG.md SECURITY.md LICENSE docs/COMING-FROM.md
+COLUMNS_PROGRAM = crates/rosie_columns/out/rosie_columns
+DOCUMENTS = docs/COMMAND.md docs/COLUMNS.md docs/LANGUAGE.md docs/TUTORIAL.md docs/RECIPES.md docs/MESSAGES.md CHANGELOG.md SECURITY.md LICENSE docs/COMING-FROM.md
 TOOLS = rosie-at rosie-why
 # What the tools share. They look for it beside themselves, and then in share/rosie/tools.
 MODULES = rosie_why.py
@@ -13,7 +14,7 @@ EMACS = emacs/site-lisp/elpa/rpl-mode-1.0
 
 .PHONY: build lint check try test compare bench install uninstall dist clean
 
-# Proves the crates side by side and builds the program, where a source is newer than it. Stopped, it goes on from there at the next call.
+# Proves the crates side by side and builds the two programs, where a source is newer than one. Stopped, it goes on from there at the next call.
 build:
 	tools/build
 
@@ -48,12 +49,14 @@ test:
 	tests/run_regular
 	tests/run_tools
 	tests/run_completions
+	tests/run_columns
 	tests/run_editors
 	tests/run_python
 	tests/run_install
 	tests/run_dist
 	tests/compare/run --where-installed 1-300
 	tests/compare/planted --where-installed 1-300
+	tests/compare/columns 1-300
 
 # The built program beside LPeg, on made-up patterns: make compare SEEDS=1-100000. It needs lua5.4 and LPeg for it (lua-lpeg).
 # Then beside grep, jq and awk.
@@ -73,8 +76,10 @@ install: build
 		$(SHARE)/bash-completion/completions \
 		$(SHARE)/zsh/site-functions $(SHARE)/fish/vendor_completions.d
 	install -m 755 $(PROGRAM) $(BIN)/rosie
+	install -m 755 $(COLUMNS_PROGRAM) $(BIN)/rosie-columns
 	install -m 755 $(TOOLS:%=tools/%) $(BIN)
 	tools/manual_page > $(SHARE)/man/man1/rosie.1
+	tools/manual_page rosie-columns > $(SHARE)/man/man1/rosie-columns.1
 	tools/manual_page rosie-language > $(SHARE)/man/man7/rosie-language.7
 	install -m 644 $(TOOLS:%=tools/%.1) $(SHARE)/man/man1
 	install -d $(SHARE)/rosie/tools
@@ -90,15 +95,18 @@ install: build
 	for d in $$(cd python && find rosie -type d ! -name __pycache__); do \
 		install -d $(SHARE)/rosie/python/$$d && install -m 644 $$(find python/$$d -maxdepth 1 -type f) $(SHARE)/rosie/python/$$d || exit 1; done
 	install -m 644 python/README.md $(SHARE)/rosie/python
-	install -m 644 completions/rosie.bash $(SHARE)/bash-completion/completions/rosie
-	install -m 644 completions/_rosie $(SHARE)/zsh/site-functions/_rosie
-	install -m 644 completions/rosie.fish $(SHARE)/fish/vendor_completions.d/rosie.fish
+	for p in rosie rosie-columns; do \
+		install -m 644 completions/$$p.bash $(SHARE)/bash-completion/completions/$$p && \
+		install -m 644 completions/_$$p $(SHARE)/zsh/site-functions/_$$p && \
+		install -m 644 completions/$$p.fish $(SHARE)/fish/vendor_completions.d/$$p.fish || exit 1; done
 	@test -n "$(DESTDIR)" || tools/editor_places $(SHARE)
 
 uninstall:
-	rm -f $(BIN)/rosie $(TOOLS:%=$(BIN)/%) $(SHARE)/man/man1/rosie.1 $(TOOLS:%=$(SHARE)/man/man1/%.1)
-	rm -f $(SHARE)/man/man7/rosie-language.7 $(SHARE)/bash-completion/completions/rosie
-	rm -f $(SHARE)/zsh/site-functions/_rosie $(SHARE)/fish/vendor_completions.d/rosie.fish
+	rm -f $(BIN)/rosie $(BIN)/rosie-columns $(TOOLS:%=$(BIN)/%) $(SHARE)/man/man1/rosie.1 $(SHARE)/man/man1/rosie-columns.1 \
+		$(TOOLS:%=$(SHARE)/man/man1/%.1)
+	rm -f $(SHARE)/man/man7/rosie-language.7
+	for p in rosie rosie-columns; do rm -f $(SHARE)/bash-completion/completions/$$p \
+		$(SHARE)/zsh/site-functions/_$$p $(SHARE)/fish/vendor_completions.d/$$p.fish; done
 	rm -f $(VIM:%=$(SHARE)/vim/vimfiles/%) $(VIM:%=$(SHARE)/nvim/site/%)
 	rm -rf $(SHARE)/rosie $(SHARE)/doc/rosie $(SHARE)/$(EMACS)
 

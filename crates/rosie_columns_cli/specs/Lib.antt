@@ -1,0 +1,6 @@
+pub mod Absent
+pub mod Endings
+pub mod Faults
+pub mod Lines
+pub mod Views
+pub mod Words

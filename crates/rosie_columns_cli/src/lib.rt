@@ -1,0 +1,18 @@
+//! The program `rosie-columns` as one call, [`columns`]: it reads the words, writes the header, a
+//! row for each line of the inputs that is a tree, and at the end which columns no tree had. `main`
+//! calls it with the real streams.
+#![tactic(auto)]
+
+mod ending;
+mod fault;
+mod job;
+mod top;
+mod words;
+
+pub use ending::Ending;
+pub use fault::WordFault;
+pub use job::ColumnsJob;
+pub use rosie_run::Status;
+pub use std::alloc::AllocError as NoMemory;
+pub use top::columns;
+pub use words::{Asked, Names, read_words};

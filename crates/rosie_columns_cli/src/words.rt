@@ -1,0 +1,293 @@
+// The words of the command line.
+ghost use Rattle.std.specs.Prelude.{◌≡◌, ◌≢◌, [], Ok, Err, IfOk, IfErr, OnOk};
+ghost use Rattle.rpl_columns.specs.Columns.{column_of};
+ghost use Rattle.rosie_columns_cli.specs.Words.{finished_at, format_named, has_columns, last_of, reading};
+ghost use Rattle.rosie_columns_cli.specs.Words.{role_of, start, taken, taken_as, wholly, with_column};
+ghost use Rattle.rosie_columns_cli.specs.Words.{with_format, words_of};
+ghost use Rattle.rosie_columns_cli.specs.declared.fault.WordFault.TheVariants as E;
+ghost use Rattle.rosie_columns_cli.specs.declared.words.Front.TheVariants as F;
+
+use crate::NoMemory;
+use crate::fault::WordFault;
+use rpl_columns::{Column, Columns, Format, Sheet, spelled};
+use rpl_text::Chars;
+use std::alloc::Global;
+use std::marker::Model;
+
+/// Names of inputs. Contracts see them as a list.
+#[derive(Drop)]
+pub struct Names {
+    held: Vec<Chars>,
+}
+
+impl Model for Names {
+    ghost use Rattle.std.specs.Prelude.{ℕ, List};
+
+    ghost Value = { List (List ℕ) };
+
+    ghost view = { λ n. n.held.items };
+}
+
+impl Names {
+    ghost use Rattle.std.specs.Prelude.{[], ◌∷◌, ◌++◌, chars};
+
+    /// No name.
+    fn new(alloc: Global) -> Names
+        ensures { result ≡ [] }
+    {
+        Names {
+            held: Vec::new(alloc),
+        }
+    }
+
+    /// Adds a name.
+    fn push(&mut self, alloc: Global, name: &str) -> Result<(), NoMemory>
+        ensures { OnOk result (self.new ≡ self.old ++ chars name.now ∷ []) }
+    {
+        let name = Chars::from_str(alloc, name)?;
+        match self.held.push(name) {
+            Ok(()) => Ok(()),
+            Err(_) => Err(NoMemory),
+        }
+    }
+
+    pub fn as_slice(&self) -> &[Chars]
+        ensures { result.now ≡ self.now }
+    {
+        self.held.as_slice()
+    }
+}
+
+/// What the words ask for.
+#[derive(Drop)]
+pub struct Asked {
+    pub sheet: Sheet,
+    /// No row with the names of the columns is written.
+    pub no_header: bool,
+    /// The inputs.
+    pub names: Names,
+}
+
+/// What the words before leave.
+#[derive(Clone, Copy)]
+pub(crate) enum Front {
+    /// An option or a column may stand.
+    Free,
+    /// The name of a format is due.
+    Format,
+    /// The text between texts is due.
+    Joint,
+    /// All words are names of inputs.
+    Names,
+}
+
+/// What a word is, where an option may stand.
+#[derive(Clone, Copy)]
+pub(crate) enum Role {
+    Column,
+    Output,
+    Join,
+    NoHeader,
+    Names,
+    Unknown,
+}
+
+/// What a word is, where an option may stand.
+fn role_of(word: &str) -> Role
+    ensures { result ≡ role_of word.now }
+{
+    match word {
+        "-o" | "--output" => Role::Output,
+        "-j" | "--join" => Role::Join,
+        "-n" | "--no-header" => Role::NoHeader,
+        "--" => Role::Names,
+        _ => {
+            if let [b'-', ..] = word.as_bytes() {
+                Role::Unknown
+            } else {
+                Role::Column
+            }
+        }
+    }
+}
+
+/// The format of this name.
+fn format_named(name: &str) -> Option<Format>
+    ensures { result ≡ format_named name.now }
+{
+    match name {
+        "csv" => Some(Format::Csv),
+        "tsv" => Some(Format::Tsv),
+        "json" => Some(Format::Json),
+        _ => None,
+    }
+}
+
+/// What the words so far say.
+#[derive(Drop)]
+pub(crate) struct Reader {
+    front: Front,
+    asked: Asked,
+}
+
+impl Reader {
+    /// Before the first word.
+    fn new(alloc: Global) -> Reader
+        ensures { result ≡ start }
+    {
+        let sheet = Sheet {
+            format: Format::Csv,
+            columns: Columns::new(alloc),
+            joint: None,
+        };
+        let asked = Asked {
+            sheet,
+            no_header: false,
+            names: Names::new(alloc),
+        };
+        Reader {
+            front: Front::Free,
+            asked,
+        }
+    }
+
+    /// One more column.
+    fn take_column(&mut self, alloc: Global, word: &str) -> Result<(), WordFault>
+        requires { self.old.front ≡ F.Free }
+        ensures ok { OnOk result (with_column self.old.asked word.now (column_of word.now)
+            ≡ Ok self.new) }
+        ensures fault { IfErr result (λ e. e ≢ E.NoMemory →
+            with_column self.old.asked word.now (column_of word.now) ≡ Err e) }
+    {
+        match Column::of_word(alloc, word)? {
+            Some(column) => {
+                self.asked.sheet.columns.push(column)?;
+                Ok(())
+            }
+            None => Err(WordFault::BadColumn(Chars::from_str(alloc, word)?)),
+        }
+    }
+
+    /// The format.
+    fn take_format(&mut self, alloc: Global, word: &str) -> Result<(), WordFault>
+        ensures ok { OnOk result (with_format self.old.asked word.now (format_named word.now)
+            ≡ Ok self.new) }
+        ensures fault { IfErr result (λ e. e ≢ E.NoMemory →
+            with_format self.old.asked word.now (format_named word.now) ≡ Err e) }
+    {
+        match format_named(word) {
+            Some(format) => {
+                self.asked.sheet.format = format;
+                self.front = Front::Free;
+                Ok(())
+            }
+            None => Err(WordFault::BadValue(Chars::from_str(alloc, word)?)),
+        }
+    }
+
+    /// One more word where an option may stand.
+    fn take_free(&mut self, alloc: Global, word: &str) -> Result<(), WordFault>
+        requires { self.old.front ≡ F.Free }
+        ensures ok { OnOk result (taken_as self.old.asked word.now (role_of word.now)
+            ≡ Ok self.new) }
+        ensures fault { IfErr result (λ e. e ≢ E.NoMemory →
+            taken_as self.old.asked word.now (role_of word.now) ≡ Err e) }
+    {
+        match role_of(word) {
+            Role::Column => return self.take_column(alloc, word),
+            Role::Output => self.front = Front::Format,
+            Role::Join => self.front = Front::Joint,
+            Role::NoHeader => self.asked.no_header = true,
+            Role::Names => self.front = Front::Names,
+            Role::Unknown => {
+                return Err(WordFault::UnknownOption(Chars::from_str(alloc, word)?));
+            }
+        }
+        Ok(())
+    }
+
+    /// One more word.
+    fn take(&mut self, alloc: Global, word: &str) -> Result<(), WordFault>
+        ensures ok { OnOk result (taken self.old word.now ≡ Ok self.new) }
+        ensures fault { IfErr result (λ e. e ≢ E.NoMemory → taken self.old word.now ≡ Err e) }
+    {
+        match self.front {
+            Front::Free => self.take_free(alloc, word),
+            Front::Format => self.take_format(alloc, word),
+            Front::Joint => {
+                self.asked.sheet.joint = Some(spelled(alloc, word)?);
+                self.front = Front::Free;
+                Ok(())
+            }
+            Front::Names => {
+                self.asked.names.push(alloc, word)?;
+                Ok(())
+            }
+        }
+    }
+
+    /// No word follows; this was the last.
+    fn finish(self, alloc: Global, last: &str) -> Result<Asked, WordFault>
+        ensures ok { IfOk result (λ a. finished_at self.front last.now self.asked
+            ≡ Ok a) }
+        ensures fault { IfErr result (λ e. e ≢ E.NoMemory →
+            finished_at self.front last.now self.asked ≡ Err e) }
+    {
+        match self.front {
+            Front::Format | Front::Joint => {
+                Err(WordFault::MissingValue(Chars::from_str(alloc, last)?))
+            }
+            Front::Free | Front::Names => whole(alloc, self.asked),
+        }
+    }
+}
+
+/// Whether there is a column, or all fields may be asked for.
+fn has_columns(sheet: &Sheet) -> bool
+    ensures { result ≡ has_columns sheet.now.columns sheet.now.format sheet.now.joint }
+{
+    if sheet.columns.as_slice().len() != 0 {
+        return true;
+    }
+    match (sheet.format, &sheet.joint) {
+        (Format::Json, None) => true,
+        _ => false,
+    }
+}
+
+/// What is asked for, where there is a column. Without a name the standard input is read.
+fn whole(alloc: Global, asked: Asked) -> Result<Asked, WordFault>
+    ensures ok { IfOk result (λ a. wholly asked ≡ Ok a) }
+    ensures fault { IfErr result (λ e. e ≢ E.NoMemory → wholly asked ≡ Err e) }
+{
+    if !has_columns(&asked.sheet) {
+        return Err(WordFault::NoColumn);
+    }
+    let mut asked = asked;
+    if asked.names.as_slice().len() == 0 {
+        asked.names.push(alloc, "-")?;
+    }
+    Ok(asked)
+}
+
+/// The last word, or the empty one.
+fn last_of(words: &[String]) -> &str
+    ensures { result.now ≡ last_of [] (words_of words.now) }
+{
+    match words.last() {
+        Some(word) => word.as_str(),
+        None => "",
+    }
+}
+
+/// What the words ask for, which are those after the program's name, or their first fault.
+pub fn read_words(alloc: Global, words: &[String]) -> Result<Asked, WordFault>
+    ensures ok { IfOk result (λ asked. reading (words_of words.now) ≡ Ok asked) }
+    ensures fault { IfErr result (λ e. e ≢ E.NoMemory → reading (words_of words.now) ≡ Err e) }
+{
+    let mut reader = Reader::new(alloc);
+    for word in words {
+        reader.take(alloc, word.as_str())?;
+    }
+    reader.finish(alloc, last_of(words))
+}

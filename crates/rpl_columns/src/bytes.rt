@@ -1,0 +1,39 @@
+// A text of its own.
+ghost use Rattle.std.specs.Prelude.{◌≡◌, IfOk};
+
+use crate::NoMemory;
+use std::alloc::Global;
+use std::marker::Model;
+
+/// A text of its own. Contracts see it as its bytes.
+#[derive(Drop)]
+pub struct Bytes {
+    held: Vec<u8>,
+}
+
+impl Model for Bytes {
+    ghost use Rattle.std.specs.Prelude.{ℕ, List};
+
+    ghost Value = { List ℕ };
+
+    ghost view = { λ b. b.held.items };
+}
+
+impl Bytes {
+    /// A copy of the text.
+    pub fn from_slice(alloc: Global, text: &[u8]) -> Result<Bytes, NoMemory>
+        ensures { IfOk result (λ b. b ≡ text.now) }
+    {
+        let mut held = Vec::new(alloc);
+        held.extend_from_slice(text)?;
+        Ok(Bytes { held })
+    }
+
+    /// The text as a borrowed one.
+    #[inline(always)]
+    pub fn as_slice(&self) -> &[u8]
+        ensures { result.now ≡ self.now }
+    {
+        self.held.as_slice()
+    }
+}
