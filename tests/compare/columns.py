@@ -196,7 +196,7 @@ class Run:
                 fault = "not UTF-8"
         if fault:
             self.fault = True
-            self.err.append(f"rosie: {name}:{number}: {fault}\n")
+            self.err.append(f"rosie-columns: {name}:{number}: {fault}\n")
         else:
             self.tree(tree)
 
@@ -208,7 +208,7 @@ class Run:
             elif name in files:
                 content = files[name]
             else:
-                self.err.append(f"rosie: {name}: no such file\n")
+                self.err.append(f"rosie-columns: {name}: no such file\n")
                 return 2
             for number, line in enumerate(lines_of(content), 1):
                 self.line(name, number, line)

@@ -3,7 +3,7 @@ ghost use Rattle.std.specs.Prelude.{◌≡◌, ◌++◌, IfOk, OnOk};
 ghost use Rattle.rosie_columns_cli.specs.Absent.{absent_line, absent_text, unfound};
 
 use crate::NoMemory;
-use rosie_run::{InputLine, LineJob, Mark, line_fault};
+use rosie_run::{InputLine, LineJob, Mark, Tool, line_message};
 use rpl_columns::{Column, Node, Room, Sheet, Tree, occurs, put_row, read_tree};
 use rpl_machine::Steps;
 use std::alloc::Global;
@@ -116,7 +116,13 @@ impl LineJob for ColumnsJob<'_> {
             note_found(&mut self.found, self.sheet.columns.as_slice(), tree);
             return Ok(Mark::Hit);
         }
-        self.message = line_fault(self.alloc, line.file, line.number, "no tree")?;
+        self.message = line_message(
+            self.alloc,
+            Tool::RosieColumns,
+            line.file,
+            line.number,
+            "no tree",
+        )?;
         Ok(Mark::Fault)
     }
 

@@ -7,7 +7,9 @@ use crate::fault::{WordFault, refusal};
 use crate::job::ColumnsJob;
 use crate::words::{Asked, read_words};
 use rosie_io::{Files, Sink, Source};
-use rosie_run::{Ended, Inputs, Mark, Outputs, Reading, Tally, Wanted, finish, run_inputs, say};
+use rosie_run::{
+    Ended, Inputs, Mark, Outputs, Reading, Tally, Tool, Wanted, finish, run_inputs, say,
+};
 use rpl_columns::{Sheet, put_header};
 use rpl_machine::Steps;
 use std::alloc::Global;
@@ -27,7 +29,12 @@ fn outputs_of<'a, O: Sink, E: Sink, L: Ledger>(
     ensures err { result.err.now ≡ err.old }
     ensures steps { result.steps.now ≡ steps.old }
 {
-    Outputs { out, err, steps }
+    Outputs {
+        out,
+        err,
+        steps,
+        pending: false,
+    }
 }
 
 /// The bytes that a line may have: as many as an answer of `rosie` may.
@@ -70,6 +77,7 @@ fn run_asked<F: Files, I: Source, O: Sink, E: Sink, L: Ledger>(
     let first = say(outputs.out, outputs.err, &header, &[], Mark::Miss)?;
     let mut job = ColumnsJob::new(alloc, &asked.sheet)?;
     let reading = Reading {
+        tool: Tool::RosieColumns,
         whole: false,
         most: MAX_LINE_BYTES,
     };
