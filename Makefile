@@ -47,6 +47,7 @@ test:
 	tests/run_documents
 	tests/run_messages
 	tests/run_regular
+	tests/run_grok
 	tests/run_tools
 	tests/run_completions
 	tests/run_columns
