@@ -5,7 +5,7 @@ SHARE = $(DESTDIR)$(PREFIX)/share
 PROGRAM = crates/rosie/out/rosie
 COLUMNS_PROGRAM = crates/rosie_columns/out/rosie_columns
 DOCUMENTS = docs/COMMAND.md docs/COLUMNS.md docs/LANGUAGE.md docs/TUTORIAL.md docs/RECIPES.md docs/MESSAGES.md CHANGELOG.md SECURITY.md LICENSE docs/COMING-FROM.md
-TOOLS = rosie-at rosie-why
+TOOLS = rosie-at rosie-why rosie-parallel
 # What the tools share. They look for it beside themselves, and then in share/rosie/tools.
 MODULES = rosie_why.py
 VIM = syntax/rpl.vim ftdetect/rpl.vim ftplugin/rpl.vim compiler/rosie.vim
@@ -51,6 +51,7 @@ test:
 	tests/run_tools
 	tests/run_completions
 	tests/run_columns
+	tests/run_parallel
 	tests/run_editors
 	tests/run_python
 	tests/run_install
