@@ -64,7 +64,10 @@ without_header a =
 
 abbrev pub with_name : Asked → Word → Reader
 with_name a w =
-    record { front = F.Names; asked = record { sheet = a.sheet; no_header = a.no_header; names = a.names ++ chars w ∷ [] } }
+    record {
+      front = F.Names;
+      asked = record { sheet = a.sheet; no_header = a.no_header; names = a.names ++ chars w ∷ [] };
+    }
 
 -- what is asked for, where this comes next
 abbrev pub expecting : Front → Asked → Reader

@@ -1,9 +1,9 @@
 // The words of the command line.
 ghost use Rattle.std.specs.Prelude.{◌≡◌, ◌≢◌, [], Ok, Err, IfOk, IfErr, OnOk};
 ghost use Rattle.rpl_columns.specs.Columns.{column_of};
-ghost use Rattle.rosie_columns_cli.specs.Words.{finished_at, format_named, has_columns, last_of, reading};
-ghost use Rattle.rosie_columns_cli.specs.Words.{role_of, start, taken, taken_as, wholly, with_column};
-ghost use Rattle.rosie_columns_cli.specs.Words.{with_format, words_of};
+ghost use Rattle.rosie_columns_cli.specs.Words.{finished_at, format_named, has_columns, last_of};
+ghost use Rattle.rosie_columns_cli.specs.Words.{reading, role_of, start, taken, taken_as, wholly};
+ghost use Rattle.rosie_columns_cli.specs.Words.{with_column, with_format, words_of};
 ghost use Rattle.rosie_columns_cli.specs.declared.fault.WordFault.TheVariants as E;
 ghost use Rattle.rosie_columns_cli.specs.declared.words.Front.TheVariants as F;
 

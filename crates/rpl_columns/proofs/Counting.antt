@@ -9,15 +9,15 @@ use Rattle.std.proofs.Common.{inl, inr}
 use Rattle.rpl_print.specs.Quoted.{is_plain, is_plain_byte}
 use Rattle.rpl_columns.specs.Spelling.{string_count, digit_count, is_digit, escape_count, by_escape}
 
-digit_more : (b : ℕ) (bs : List ℕ) → is_digit b ≡ true → digit_count (b ∷ bs) ≡ suc (digit_count bs)
+pub digit_more : (b : ℕ) (bs : List ℕ) → is_digit b ≡ true → digit_count (b ∷ bs) ≡ suc (digit_count bs)
 unfolding digit_count
 digit_more b bs h = rw h refl
 
-digit_other : (b : ℕ) (bs : List ℕ) → is_digit b ≡ false → digit_count (b ∷ bs) ≡ 0
+pub digit_other : (b : ℕ) (bs : List ℕ) → is_digit b ≡ false → digit_count (b ∷ bs) ≡ 0
 unfolding digit_count
 digit_other b bs h = rw h refl
 
-digit_nil : digit_count [] ≡ 0
+pub digit_nil : digit_count [] ≡ 0
 unfolding digit_count
 digit_nil = refl
 
@@ -32,20 +32,20 @@ digit_stop line i lt h = ap digit_count (drop-cons line i 0 lt) ∙ digit_other 
 pub digit_end : (line : List ℕ) (i : ℕ) → length line ≤ i → digit_count (drop i line) ≡ 0
 digit_end line i le = ap digit_count (drop_all i line le) ∙ digit_nil
 
-string_nil : (n : ℕ) → string_count n [] ≡ 0
+pub string_nil : (n : ℕ) → string_count n [] ≡ 0
 unfolding string_count
 string_nil zero = refl
 string_nil (suc n) = refl
 
-string_more : (b : ℕ) (bs : List ℕ) → is_plain_byte b ≡ true → string_count 0 (b ∷ bs) ≡ suc (string_count 0 bs)
+pub string_more : (b : ℕ) (bs : List ℕ) → is_plain_byte b ≡ true → string_count 0 (b ∷ bs) ≡ suc (string_count 0 bs)
 unfolding string_count
 string_more b bs h = rw h refl
 
-string_quote : (b : ℕ) (bs : List ℕ) → is_plain_byte b ≡ false → nat_eq b 92 ≡ false → string_count 0 (b ∷ bs) ≡ 0
+pub string_quote : (b : ℕ) (bs : List ℕ) → is_plain_byte b ≡ false → nat_eq b 92 ≡ false → string_count 0 (b ∷ bs) ≡ 0
 unfolding string_count
 string_quote b bs h e = rw (h, e) refl
 
-string_escape : (b : ℕ) (bs : List ℕ) → is_plain_byte b ≡ false → nat_eq b 92 ≡ true → string_count 0 (b ∷ bs) ≡ by_escape (escape_count bs) (string_count (escape_count bs) bs)
+pub string_escape : (b : ℕ) (bs : List ℕ) → is_plain_byte b ≡ false → nat_eq b 92 ≡ true → string_count 0 (b ∷ bs) ≡ by_escape (escape_count bs) (string_count (escape_count bs) bs)
 unfolding string_count
 string_escape b bs h e = rw (h, e) refl
 
@@ -60,12 +60,12 @@ string_stop line i lt h e = ap (string_count 0) (drop-cons line i 0 lt) ∙ stri
 pub string_end : (line : List ℕ) (i : ℕ) → length line ≤ i → string_count 0 (drop i line) ≡ 0
 string_end line i le = ap (string_count 0) (drop_all i line le) ∙ string_nil 0
 
-by_some : (n more : ℕ) → 0 < n → by_escape n more ≡ 1 + more
+pub by_some : (n more : ℕ) → 0 < n → by_escape n more ≡ 1 + more
 by_some zero more h = absurd (omega arith)
 by_some (suc n) more h = omega arith
 
 -- bytes of an escape, as many as are there
-skipped : (n : ℕ) (bs : List ℕ) → n ≤ length bs → string_count n bs ≡ n + string_count 0 (drop n bs)
+pub skipped : (n : ℕ) (bs : List ℕ) → n ≤ length bs → string_count n bs ≡ n + string_count 0 (drop n bs)
 unfolding string_count
 skipped zero bs h = omega arith
 skipped (suc n) [] h = absurd (omega arith)

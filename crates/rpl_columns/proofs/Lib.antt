@@ -4,4 +4,7 @@ pub mod Texts
 pub mod Picking
 pub mod Naming
 pub mod Halves
+pub mod Shapes
 pub mod Unescaping
+pub mod NodeParts
+pub mod WholeTrees

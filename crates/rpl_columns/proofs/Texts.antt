@@ -73,7 +73,7 @@ pub record IsNo (b : ℕ) : Type 0 where
   pub quote : nat_eq b 34 ≡ false
   pub slash : nat_eq b 92 ≡ false
 
-plain_is : (b : ℕ) → is_plain_byte b ≡ true → IsNo b
+pub plain_is : (b : ℕ) → is_plain_byte b ≡ true → IsNo b
 plain_is b h =
     let tests = both (nat_le 0x20 b) _ h in
     let signs = both (not (nat_eq b 34)) _ tests.1 in

@@ -1,5 +1,6 @@
 -- The text of a cell, and how cells stand beside each other.
-use Rattle.std.specs.Prelude.{ℕ, zero, suc, Bool, true, false, if◌then◌else◌, ◌&&◌, ◌||◌, not, nat_eq, List, [], ◌∷◌, ◌++◌}
+use Rattle.std.specs.Prelude.{ℕ, zero, suc, Bool, true, false, if◌then◌else◌, ◌&&◌, ◌||◌, not, nat_eq}
+use Rattle.std.specs.Prelude.{List, [], ◌∷◌, ◌++◌}
 use Rattle.std.specs.Prelude.{length, drop, flat_map, Option, None, Some, option_map}
 use Rattle.rpl_columns.specs.Spelling.{control_in}
 

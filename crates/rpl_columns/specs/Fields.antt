@@ -1,5 +1,6 @@
 -- All fields of a tree, as an object of JSON: the nodes below the root that no node is in.
-use Rattle.std.specs.Prelude.{ℕ, Bool, false, if◌then◌else◌, ◌&&◌, ◌||◌, not, nat_eq, List, [], ◌∷◌, ◌++◌, drop, length, map, codes}
+use Rattle.std.specs.Prelude.{ℕ, Bool, false, if◌then◌else◌, ◌&&◌, ◌||◌, not, nat_eq, List, [], ◌∷◌, ◌++◌, drop}
+use Rattle.std.specs.Prelude.{length, map, codes}
 use Rattle.std.specs.Str.{bytes_eq}
 use Rattle.rpl_columns.specs.Cells.{between}
 use Rattle.rpl_columns.specs.Nodes.{Seen, part_of}

@@ -1,10 +1,11 @@
 -- The smallest parts of a tree's line, from its front on.
-use Rattle.std.specs.Prelude.{ℕ, zero, suc, ◌+◌, ◌*◌, ◌-◌, Bool, false, if◌then◌else◌, ◌&&◌, ◌||◌, not, nat_eq, nat_le, nat_lt}
+use Rattle.std.specs.Prelude.{ℕ, zero, suc, ◌+◌, ◌*◌, ◌-◌, Bool, false, if◌then◌else◌, ◌&&◌, ◌||◌, not}
+use Rattle.std.specs.Prelude.{nat_eq, nat_le, nat_lt}
 use Rattle.std.specs.Prelude.{List, [], ◌∷◌, length, take, drop, Option, None, Some}
 use Rattle.std.specs.Str.{bytes_eq}
 use Rattle.rpl_print.specs.Quoted.{is_plain_byte}
 
--- what stands behind a word, where it stands at the front
+-- what is left after a word, where the word stands at the front
 abbrev pub after : List ℕ → List ℕ → Option (List ℕ)
 after word rest = if bytes_eq (take (length word) rest) word then Some (drop (length word) rest) else None
 
@@ -16,7 +17,9 @@ hex_value digit =
 
 -- the byte has no short escape
 abbrev pub is_long : ℕ → Bool
-is_long byte = not (nat_eq byte 8) && (not (nat_eq byte 9) && (not (nat_eq byte 10) && (not (nat_eq byte 12) && not (nat_eq byte 13))))
+is_long byte =
+    not (nat_eq byte 8) && (not (nat_eq byte 9) && (not (nat_eq byte 10)
+    && (not (nat_eq byte 12) && not (nat_eq byte 13))))
 
 -- the control that the last two of four digits stand for, the first two being 0
 abbrev pub control_by : ℕ → ℕ → Option ℕ
@@ -34,7 +37,7 @@ is_short_escape letter =
     nat_eq letter 34 || (nat_eq letter 92 || (nat_eq letter 98 || (nat_eq letter 102
     || (nat_eq letter 110 || (nat_eq letter 114 || nat_eq letter 116)))))
 
--- how many bytes an escape at the front has behind its backslash, or none where no escape stands there
+-- how many bytes an escape at the front has after its backslash, or none where no escape stands there
 abbrev pub escape_count : List ℕ → ℕ
 escape_count [] = 0
 escape_count (letter ∷ rest) =

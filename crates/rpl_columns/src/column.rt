@@ -140,8 +140,7 @@ fn part_named(word: Option<&str>) -> Option<Part>
     }
 }
 
-/// The halves of a word before and after the first `=`, `@` or `/`. Where there is none the first is
-/// the word.
+/// The halves of a word before and after the first `=`. Where there is none the first is the word.
 fn name_and_type(word: &str) -> (&str, Option<&str>)
     ensures before { result.0.now ≡ C.before 61 word.now }
     ensures after { option_map (λ w. w.now) result.1 ≡ C.rest_after 61 word.now }
@@ -152,6 +151,7 @@ fn name_and_type(word: &str) -> (&str, Option<&str>)
     }
 }
 
+/// The same at the first `@`.
 fn path_and_part(word: &str) -> (&str, Option<&str>)
     ensures before { result.0.now ≡ C.before 64 word.now }
     ensures after { option_map (λ w. w.now) result.1 ≡ C.rest_after 64 word.now }
@@ -162,6 +162,7 @@ fn path_and_part(word: &str) -> (&str, Option<&str>)
     }
 }
 
+/// The same at the first `/`.
 fn outer_and_inner(word: &str) -> (&str, Option<&str>)
     ensures before { result.0.now ≡ C.before 47 word.now }
     ensures after { option_map (λ w. w.now) result.1 ≡ C.rest_after 47 word.now }
@@ -275,8 +276,8 @@ impl Column {
         }
     }
 
-    /// Whether the column takes a node of this type and depth. `enclosing` is the depth of the outer
-    /// node that is open before it.
+    /// Whether the column takes a node of this type and depth. `enclosing` is the depth of the
+    /// outer node that is open before it.
     #[inline(always)]
     pub(crate) fn takes(&self, enclosing: Option<usize>, label: &[u8], depth: usize) -> bool
         ensures { result ≡ C.takes self.now enclosing label.now depth }

@@ -1,5 +1,5 @@
 // The rows of a table.
-ghost use Rattle.std.specs.Prelude.{◌≡◌, ◌++◌, ◌≤◌, ◌≢◌, [], None, Some, IfOk, OnOk, length, take, drop, map};
+ghost use Rattle.std.specs.Prelude.{◌≡◌, ◌++◌, ◌≤◌, None, Some, IfOk, OnOk, take, drop, map};
 ghost use Rattle.std.specs.Prelude.{option_map, vec_len};
 ghost use Rattle.rpl_columns.specs.Cells.{before, between};
 ghost use Rattle.rpl_columns.specs.Columns.{picked};
@@ -94,7 +94,8 @@ fn all_texts(
     tree: Tree<'_>,
 ) -> Result<bool, NoMemory>
     ensures { IfOk result (λ found. R.joined (Some joint.now) (picked column.now None
-        (map (seen tree.entry.line.now) tree.entry.nodes.now)) ≡ R.found_text found cell.new.items) }
+        (map (seen tree.entry.line.now) tree.entry.nodes.now))
+        ≡ R.found_text found cell.new.items) }
 {
     cell.clear();
     let line = tree.line;

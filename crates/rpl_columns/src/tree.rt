@@ -1,5 +1,6 @@
 // The nodes of a line that is a tree.
-ghost use Rattle.std.specs.Prelude.{◌≡◌, ◌+◌, ◌≤◌, ◌<◌, length, drop, map, option_map, IfSome, IfOk};
+ghost use Rattle.std.specs.Prelude.{◌≡◌, ◌+◌, ◌≤◌, ◌<◌, length, drop, map, option_map};
+ghost use Rattle.std.specs.Prelude.{IfSome, IfOk};
 ghost use Rattle.rpl_columns.specs.Nodes.{closed, if_found, next_in, node_in, parts_seen};
 ghost use Rattle.rpl_columns.specs.Nodes.{reached_seen, seen, step_in, step_seen, tree_in};
 
