@@ -5,6 +5,7 @@ Lines, patterns and file names are bytes all through: what a user typed comes ou
 """
 import os
 import re
+import shutil
 import subprocess
 import tempfile
 
@@ -30,6 +31,9 @@ HIGHEST = 0x10FFFF
 LONG_TRIES = 8
 # Lines whose traces are asked for together. Their findings are printed before the next ones are looked for.
 TOGETHER = 4096
+# The characters after the place that an excerpt shows, where the line has them.
+AFTER = 20
+NARROWEST = 40
 
 
 def character(number):
@@ -89,53 +93,105 @@ def set_in_words(members):
     return in_words(parts)
 
 
-def wanted(step):
-    """What an evaluation asks of its place."""
-    if step[1] == b"set":
-        return set_in_words(b" ".join(step[2:-2]))
-    return [{b"end": "the end of the line", b"start": "the start of the line",
-             b"behind": "something else before this place"}.get(step[1], "a boundary between words")]
+class Step:
+    """One evaluation of a trace: its depth, what it is, where it begins, and where it ends or None where it failed."""
+
+    def __init__(self, words):
+        self.depth, self.kind, self.start = int(words[0]), words[1], int(words[-2])
+        self.end = int(words[-1]) if words[-1].isdigit() else None
+        self.failed, self.what, self.repetition = words[-1] == b"fail", b" ".join(words[2:-2]), None
+
+    def is_boundary(self):
+        return self.kind == b"call" and self.what.endswith(b"~")
+
+    def wanted(self):
+        """What it asks of its place, in words."""
+        if self.kind == b"set":
+            return set_in_words(self.what)
+        return [{b"end": "the end of the line", b"start": "the start of the line",
+                 b"behind": "something else before this place"}.get(self.kind, "a boundary between words")]
+
+
+class Repetition:
+    """A repetition that took something: from where to where, and the evaluation of its first turn."""
+
+    def __init__(self, step, before):
+        self.step, self.start, self.end, self.before, self.body = step, step.start, step.end, before, None
+
+    def set_body(self, step):
+        self.body = step
+        # `a+` is `a`, and then the repetition.
+        before = self.before
+        if before and before.end == self.start and (before.kind, before.what) == (step.kind, step.what):
+            self.start = before.start
 
 
 class Reading:
-    """What the trace of one line comes to: the furthest place where something was wanted, and what each rule wanted there."""
+    """What the trace of one line comes to: the furthest place where something was wanted, and what each rule wanted there.
+
+    `missed` are the evaluations that failed there, `taken` the repetitions that had ended there, and `choices` the places of all
+    choices that took something.
+    """
 
     def __init__(self):
-        self.furthest, self.groups, self.rules = 0, {}, {}
-        self.hidden = None
+        self.furthest, self.groups, self.missed, self.taken, self.choices = 0, {}, [], [], []
+        self.hidden, self.stack, self.repetitions = None, [], []
 
-    def take(self, step):
-        """Reads one evaluation: its depth, what it is, where it begins, and where it ends."""
-        depth, kind, failed = int(step[0]), step[1], step[-1] == b"fail"
+    def take(self, words):
+        """Reads one evaluation."""
+        step = Step(words)
         # Below a predicate `!`, a look-behind and a boundary nothing is wanted of its own.
-        if self.hidden is not None and depth > self.hidden:
+        if self.hidden is not None and step.depth > self.hidden:
             return
-        self.hidden = None
-        self.rules[depth] = step[2] if kind == b"call" else b""
-        if depth == 0 and kind == b"capture" and step[2] != b"*":
-            self.rules[depth] = step[2]
-        if kind in (b"not", b"behind") or kind == b"call" and step[2].endswith(b"~"):
-            self.hidden = depth
-        if failed and (depth == self.hidden or kind in (b"set", b"start", b"end")):
-            self.note(step, depth)
+        self.hidden = step.depth if step.kind in (b"not", b"behind") or step.is_boundary() else None
+        self.keep(step)
+        if step.failed and (step.depth == self.hidden or step.kind in (b"set", b"start", b"end")):
+            self.note(step)
 
-    def note(self, step, depth):
-        place = int(step[-2])
-        if place < self.furthest:
+    def keep(self, step):
+        """Keeps the evaluations that this one is part of, and what was taken."""
+        before = self.stack[step.depth] if step.depth < len(self.stack) else None
+        del self.stack[step.depth:]
+        self.stack.append(step)
+        if step.end is not None and step.end > step.start:
+            if step.kind == b"many":
+                step.repetition = Repetition(step, before)
+                self.repetitions.append(step.repetition)
+            elif step.kind == b"choice":
+                self.choices.append((step.start, step.end))
+        around = self.stack[step.depth - 2] if step.depth >= 2 else None
+        if around and around.repetition and not around.repetition.body:
+            around.repetition.set_body(step)
+
+    def rules(self, depth):
+        """The names of the rules that are being tried, from the outermost."""
+        names = [step.what.decode() for step in self.stack[:depth] if step.kind == b"call" or
+                 step.depth == 0 and step.kind == b"capture" and step.what != b"*"]
+        return " > ".join(names) or "the pattern"
+
+    def note(self, step):
+        if step.start < self.furthest:
             return
-        if place > self.furthest:
-            self.furthest, self.groups = place, {}
-        names = [self.rules[i].decode() for i in range(depth) if self.rules.get(i)]
-        key = (" > ".join(names) or "the pattern", step[1] == b"not")
-        group = self.groups.setdefault(key, [])
-        if not key[1]:
-            group += [what for what in wanted(step) if what not in group]
+        if step.start > self.furthest:
+            self.furthest, self.groups, self.missed, self.taken = step.start, {}, [], []
+            self.repetitions = [one for one in self.repetitions if one.end >= step.start]
+        self.missed.append(step)
+        # A repetition that the evaluation is part of goes on yet.
+        self.taken += [one for one in self.repetitions
+                       if one.end == step.start and one not in self.taken and one.step not in self.stack]
+        group = self.groups.setdefault((self.rules(step.depth), step.kind == b"not"), [])
+        if step.kind != b"not":
+            group += [what for what in step.wanted() if what not in group]
+
+    def places(self):
+        """For each rule its names, and what it wanted at the furthest place."""
+        for (names, is_not), words in self.groups.items():
+            yield names, "where stands what `!` refuses" if is_not else f"where {joined(words, 'or')} was wanted"
 
     def sentences(self, length):
-        """A line for each rule that wanted something there."""
+        """A line for each rule that wanted something at the furthest place of a line of this length."""
         place = "the end of the line" if self.furthest > length else f"byte {self.furthest}"
-        for (names, is_not), words in self.groups.items():
-            what = "where stands what `!` refuses" if is_not else f"where {joined(words, 'or')} was wanted"
+        for names, what in self.places():
             yield f"furthest: {place}, in {names}, {what}"
 
 
@@ -144,18 +200,29 @@ def is_inside(byte):
     return 0x80 <= byte <= 0xBF
 
 
-def excerpt(text, at):
-    """A stretch of the line round the place, from 1, and a caret under it. It begins and ends at whole characters."""
-    first, last = max(at - 61, 0), min(at + 20, len(text))
-    while first > 0 and is_inside(text[first]):
+def terminal_width():
+    return max(shutil.get_terminal_size().columns, NARROWEST)
+
+
+def excerpt(text, at, width=None):
+    """The line around the place, from 1, as wide as the terminal, and a caret under the place.
+
+    It begins and ends at whole characters, and always has the place and what follows.
+    """
+    width = (width or terminal_width()) - 2
+    line_start = text.rfind(b"\n", 0, at - 1) + 1
+    line_end = text.find(b"\n", at - 1)
+    line_end = len(text) if line_end < 0 else line_end
+    first, last = line_start, line_end
+    if last - first > width:
+        last = min(max(at - 1 + AFTER, first + width), line_end)
+        first = max(last - width, line_start)
+    while first > line_start and is_inside(text[first]):
         first -= 1
-    while last < len(text) and is_inside(text[last]):
+    while last < line_end and is_inside(text[last]):
         last += 1
-    first = max(first, text.rfind(b"\n", 0, at - 1) + 1)
-    feed = text.find(b"\n", at - 1, last)
-    shown = text[first: last if feed < 0 else feed]
-    blanks = re.sub(rb"[^\t]", b" ", bytes(b for b in text[first: at - 1] if not is_inside(b)))
-    yield b"  " + re.sub(rb"[\x01-\x08\x0b-\x1f\x7f]", b"?", shown)
+    blanks = re.sub(rb"[^\t]", b" ", bytes(byte for byte in text[first: at - 1] if not is_inside(byte)))
+    yield b"  " + re.sub(rb"[\x00-\x08\x0b-\x1f\x7f]", b"?", text[first:last])
     yield b"  " + blanks + b"^"
 
 
@@ -175,6 +242,11 @@ class Asked:
         self.whole = any(option in ("-w", "--wholefile") for option in self.options)
         self.program = program or os.environ.get("ROSIE") or "rosie"
 
+    def but_whole(self):
+        """The same of single lines."""
+        options = [option for option in self.options if option not in ("-w", "--wholefile")]
+        return Asked(self.pattern, options, self.limit, self.program)
+
     def words(self, command, *options):
         return [self.program, command, *options, *self.options, "--", self.pattern, "-"]
 
@@ -187,6 +259,20 @@ class Asked:
                 read(child.stdout)
             told.seek(0)
             return told.read(), child.returncode
+
+    def core(self):
+        """What the pattern and its rules stand for, as `expand` prints it; nothing where that is too long."""
+        options = [option for option in self.options if option not in ("-w", "--wholefile")]
+        output = []
+        self.run([self.program, "expand", *options, "--", self.pattern], b"", lambda out: output.append(out.read()))
+        return output[0].decode("utf-8", "replace") if len(output[0]) < 1 << 20 else ""
+
+    def place_of_hit(self, text):
+        """The byte where `grep` finds the pattern first in a line, from 1, or None."""
+        output = []
+        self.run(self.but_whole().words("grep", "-o", "json"), text + b"\n", lambda out: output.append(out.read()))
+        found = re.search(rb'"type":"find\.\*","s":(\d+)', output[0])
+        return int(found[1]) if found else None
 
 
 def lines_of(data, whole):
@@ -202,17 +288,17 @@ class Answers:
 
     def __init__(self, asked, data):
         answers = []
-        told, self.status = asked.run(asked.words("match", "-o", "bool", "--steps"), data, lambda out: answers.extend(out))
+        told, status = asked.run(asked.words("match", "-o", "bool", "--steps"), data, answers.extend)
         steps = [int(line[6:]) for line in told.splitlines() if line.startswith(b"steps ")]
         self.told = [line for line in told.splitlines() if not line.startswith(b"steps ")]
-        if self.status not in (0, 1, 3):
-            raise Failed(b"".join(line + b"\n" for line in self.told), self.status)
-        faults = {int(found[1]): found[2] for found in map(re.compile(rb"rosie: -:(\d+): (.*)").fullmatch, self.told) if found}
-        self.faults, self.failed = faults, []
-        number = 0
+        if status not in (0, 1, 3):
+            raise Failed(b"".join(line + b"\n" for line in self.told), status)
+        faults = map(re.compile(rb"rosie: -:(\d+): (.*)").fullmatch, self.told)
+        self.faults = {int(found[1]): found[2] for found in faults if found}
+        self.failed, self.count, number = [], len(answers) + len(self.faults), 0
         for answer, count in zip(answers, steps):
             number += 1
-            while number in faults:
+            while number in self.faults:
                 number += 1
             if answer == b"false\n":
                 self.failed.append((number, count))
@@ -259,8 +345,8 @@ class Why:
     def read_traces(out, left, found):
         reading = None
         for line in out:
-            step = line.split()
-            if step[0] == b"line":
-                reading = found[left[int(step[1]) - 1][0]] = Reading()
+            words = line.split()
+            if words[0] == b"line":
+                reading = found[left[int(words[1]) - 1][0]] = Reading()
             else:
-                reading.take(step)
+                reading.take(words)
