@@ -86,6 +86,7 @@ install: build
 	install -m 644 $(TOOLS:%=tools/%.1) $(SHARE)/man/man1
 	install -d $(SHARE)/rosie/tools
 	install -m 644 $(MODULES:%=tools/%) $(SHARE)/rosie/tools
+	install -m 644 tools/rosie.sh tools/rosie.fish $(SHARE)/rosie
 	install -m 644 $(DOCUMENTS) $(SHARE)/doc/rosie
 	install -m 644 examples/README.md examples/*.rpl examples/*.log $(SHARE)/rosie/examples
 	install -m 644 examples/fixtures/* $(SHARE)/rosie/examples/fixtures

@@ -1,0 +1,48 @@
+# For fish: `source PREFIX/share/rosie/rosie.fish` in ~/.config/fish/config.fish. Then `rosie` and `rosie-why` find the packages that were
+# installed with them: where the words have no --libpath, it is the folder where you are and then share/rosie/examples. All else goes
+# to the program unchanged. For bash and zsh there is rosie.sh.
+set -g __rosie_examples (cd (dirname (status filename)); and pwd)/examples
+
+function __rosie_wants_examples --description 'Whether these words are for a command that looks for packages, and name no folders'
+    set -l name ''
+    set -l skip no
+    set -l ended no
+    for word in $argv
+        if test $skip = yes
+            set skip no
+            continue
+        end
+        if test $ended = yes
+            test -n "$name"; or set name $word
+            continue
+        end
+        switch $word
+            case --
+                set ended yes
+            case --libpath '--libpath=*' --code-file '--code-file=*'
+                return 1
+            case -f --file --rpl -o --output --budget --limit
+                set skip yes
+            case '-?*'
+            case '*'
+                test -n "$name"; or set name $word
+        end
+    end
+    contains -- "$name" match grep test list expand trace repl compile; and test -d $__rosie_examples
+end
+
+function rosie --description 'Match lines by patterns, with the packages that were installed'
+    if __rosie_wants_examples $argv
+        command rosie --libpath ".:$__rosie_examples" $argv
+    else
+        command rosie $argv
+    end
+end
+
+function rosie-why --description 'Say why a pattern does not match, with the packages that were installed'
+    if __rosie_wants_examples trace $argv
+        command rosie-why --libpath ".:$__rosie_examples" $argv
+    else
+        command rosie-why $argv
+    end
+end
