@@ -6,12 +6,14 @@
 mod ending;
 mod fault;
 mod job;
+mod laws;
 mod top;
 mod words;
 
 pub use ending::Ending;
 pub use fault::WordFault;
 pub use job::ColumnsJob;
+pub use laws::piped;
 pub use rosie_run::Status;
 pub use std::alloc::AllocError as NoMemory;
 pub use top::columns;

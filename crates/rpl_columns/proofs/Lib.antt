@@ -8,3 +8,4 @@ pub mod Shapes
 pub mod Unescaping
 pub mod NodeParts
 pub mod WholeTrees
+pub mod Taking

@@ -2,8 +2,11 @@
 use Rattle.std.proofs.Common.{◌≡◌, ℕ, zero, suc, Bool, true, false, ◌<◌, ◌≤◌, List, [], ◌∷◌, ◌++◌, length, take, drop, Option, None, Some, refl, sym, ap, subst, ◌∙◌, arith}
 use Rattle.std.specs.Prelude.{◌||◌, if◌then◌else◌, codes, nat_eq, option_and_then, option_map}
 use Rattle.std.specs.Str.{bytes_eq}
+use Rattle.std.proofs.Common.{◌+◌, ◌^◌, get_or, decimal}
+use Rattle.std.proofs.lemmas.Fmt.{decimal_is_IsNumeral, decimal_nonempty, first_decimal}
+use Rattle.std.proofs.lemmas.Str.Parse.{digit_at}
 use Rattle.std.proofs.Math.Seq.{take-append_seam, drop-append_seam}
-use Rattle.std.proofs.lemmas.Bool.{false≢true}
+use Rattle.std.proofs.lemmas.Bool.{false≢true, le-leb}
 use Rattle.std.proofs.lemmas.List.{length-take-le, take-append-drop}
 use Rattle.std.proofs.lemmas.Slice.Eq.{bytes_eq-Decides}
 use Rattle.json.specs.Print.{escape}
@@ -79,7 +82,7 @@ pub record Digits (ds : List ℕ) : Type 0 where
   pub some : 0 < length ds
   pub first : begins_with_0 ds ≡ false
 
-place_digits : (ds : List ℕ) → IsPlace ds → Digits ds
+pub place_digits : (ds : List ℕ) → IsPlace ds → Digits ds
 place_digits ds h = by (nat_eq (digit_count ds) 0 || begins_with_0 ds) refl h
   where
     by : (t : Bool) → (nat_eq (digit_count ds) 0 || begins_with_0 ds) ≡ t → (if t then None else Some (digit_count ds)) ≡ Some (length ds) → Digits ds
@@ -96,7 +99,7 @@ place_digits ds h = by (nat_eq (digit_count ds) 0 || begins_with_0 ds) refl h
         some_of zero e = absurd (false≢true (sym e))
         some_of (suc n) e = omega arith
 
-digits_place : (ds : List ℕ) → Digits ds → IsPlace ds
+pub digits_place : (ds : List ℕ) → Digits ds → IsPlace ds
 digits_place ds d =
     let some = d.some in
     let all = d.all in
@@ -247,3 +250,25 @@ node_apart s n rest e =
           ∙ ap (λ x. x ++ (codes "\"" ++ f.found.1)) text.is
           ∙ ap (λ x. escape text.text ++ (codes "\"" ++ x)) left))));
     }
+
+-- what is printed of a number that isn't 0 is a place
+digit_is : (d : ℕ) → 48 ≤ d → d ≤ 57 → is_digit d ≡ true
+digit_is d low high = rw (le-leb 48 d low, le-leb d 57 high) refl
+
+digits_all : (ds : List ℕ) → ((i : ℕ) → i < length ds → (48 ≤ get_or ds i 0) × (get_or ds i 0 ≤ 57)) → digit_count ds ≡ length ds
+digits_all [] h = digit_nil
+digits_all (d ∷ ds) h =
+    let first = h 0 (omega arith) in
+    digit_more d ds (digit_is d first.0 first.1) ∙ ap suc (digits_all ds (λ i lt. h (suc i) (omega arith)))
+
+first_above : (ds : List ℕ) → 48 < get_or ds 0 0 → begins_with_0 ds ≡ false
+first_above [] h = refl
+first_above (d ∷ ds) h = not_same d 48 (λ e. omega arith)
+
+pub decimal_place : (n : ℕ) → n + 1 < 2 ^ 64 → IsPlace (decimal (n + 1))
+decimal_place n h =
+    digits_place (decimal (n + 1)) (record {
+      all = digits_all (decimal (n + 1)) (λ i lt. digit_at (decimal (n + 1)) i (decimal_is_IsNumeral (n + 1) h).0.1 lt);
+      some = decimal_nonempty (n + 1) h;
+      first = first_above (decimal (n + 1)) (first_decimal (n + 1) (omega arith) h);
+    })

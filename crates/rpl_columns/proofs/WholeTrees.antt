@@ -9,22 +9,22 @@ use Rattle.rpl_columns.proofs.Shapes.{none_some, some_same}
 
 -- ---- what the definitions are at each case
 
-objects_nil : objects no_tree ≡ []
+pub objects_nil : objects no_tree ≡ []
 unfolding objects
 objects_nil = refl
 
-objects_cons : (l s e t : List ℕ) (b a : Trees) → objects (tree l s e t b a) ≡ object l s e t (objects b) ∷ objects a
+pub objects_cons : (l s e t : List ℕ) (b a : Trees) → objects (tree l s e t b a) ≡ object l s e t (objects b) ∷ objects a
 unfolding objects
 objects_cons l s e t b a = refl
 
-abbrev node_of : ℕ → (l s e t : List ℕ) → Trees → Seen
+abbrev pub node_of : ℕ → (l s e t : List ℕ) → Trees → Seen
 node_of depth l s e t b = record { spelled = parts l s e t; depth = depth; leaf = is_empty b }
 
-order_nil : (depth : ℕ) → in_order depth no_tree ≡ []
+pub order_nil : (depth : ℕ) → in_order depth no_tree ≡ []
 unfolding in_order
 order_nil depth = refl
 
-order_cons : (depth : ℕ) (l s e t : List ℕ) (b a : Trees) → in_order depth (tree l s e t b a) ≡ node_of depth l s e t b ∷ (in_order (suc depth) b ++ in_order depth a)
+pub order_cons : (depth : ℕ) (l s e t : List ℕ) (b a : Trees) → in_order depth (tree l s e t b a) ≡ node_of depth l s e t b ∷ (in_order (suc depth) b ++ in_order depth a)
 unfolding in_order
 order_cons depth l s e t b a = refl
 
@@ -35,11 +35,11 @@ order_one depth l s e t b =
     ∙ ap (λ ns. node_of depth l s e t b ∷ (in_order (suc depth) b ++ ns)) (order_nil depth)
     ∙ ap (λ ns. node_of depth l s e t b ∷ ns) (append-nil (in_order (suc depth) b))
 
-places_put : (l s e t : List ℕ) (b a : Trees) → IsPlace s → IsPlace e → HavePlaces b → HavePlaces a → HavePlaces (tree l s e t b a)
+pub places_put : (l s e t : List ℕ) (b a : Trees) → IsPlace s → IsPlace e → HavePlaces b → HavePlaces a → HavePlaces (tree l s e t b a)
 unfolding HavePlaces
 places_put l s e t b a ps pe pb pa = (ps, pe, pb, pa)
 
-places_none : HavePlaces no_tree
+pub places_none : HavePlaces no_tree
 unfolding HavePlaces
 places_none = tt
 
@@ -236,7 +236,7 @@ more_long (tree l s e t b a) =
     ap (λ os. length (more_text os)) (objects_cons l s e t b a) ∙ ap suc (length-append (object l s e t (objects b)) (more_text (objects a))) in
     omega (arith, long, inner, list, below, others)
 
-tree_put : (line : List ℕ) (nodes : List Seen) → IsOneTree line nodes → tree_in line ≡ Some nodes
+pub tree_put : (line : List ℕ) (nodes : List Seen) → IsOneTree line nodes → tree_in line ≡ Some nodes
 tree_put line nodes h = by h.trees h.places h.one h.nodes_are
   where
     alone : (a : Trees) → objects a ≡ [] → a ≡ no_tree

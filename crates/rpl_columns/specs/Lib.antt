@@ -3,6 +3,7 @@ pub mod Nodes
 pub mod Trees
 pub mod Cells
 pub mod Columns
+pub mod Taken
 pub mod Fields
 pub mod Rows
 pub mod Laws

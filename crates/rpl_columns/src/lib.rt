@@ -20,7 +20,7 @@ mod tree;
 pub use bytes::Bytes;
 pub use column::{Column, Columns, Part, spelled};
 pub use format::Format;
-pub use laws::{texts_are_read_back, trees_are_read};
+pub use laws::{nodes_are_taken, texts_are_read_back, trees_are_read};
 pub use node::{Node, Parts, Span};
 pub use row::{Room, Sheet, Tree, occurs, put_header, put_row};
 pub use std::alloc::AllocError as NoMemory;
