@@ -72,6 +72,7 @@ compare: build
 # Measures the built program beside LPeg, grep, rg and jq, where they are installed, and ends with a table for docs/SPEED.md.
 bench: build
 	bench/run
+	bench/columns
 
 # The program, the tools beside it, the man pages, the documents for users, the examples, what editors colour RPL by, and completions for three shells.
 install: build
