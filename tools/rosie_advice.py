@@ -400,7 +400,9 @@ def bare_text(case, groups):
 @detector
 def file_name(case, groups):
     text = readable(case.text)
-    is_file = os.path.isfile(text) or DATA_FILE.fullmatch(text)
+    package = re.match(r"\w*", text)[0] + ".rpl"
+    is_package = any(os.path.isfile(os.path.join(folder, package)) for folder in case.program.library())
+    is_file = os.path.isfile(text) or DATA_FILE.fullmatch(text) and not is_package
     return [text] if case.is_pattern() and is_file and not text.endswith(".rpl") else None
 
 
