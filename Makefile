@@ -98,6 +98,8 @@ install: build
 	install -d $(SHARE)/$(EMACS) $(SHARE)/rosie/editors
 	install -m 644 editors/emacs/*.el $(SHARE)/$(EMACS)
 	install -m 644 editors/rpl.tmLanguage.json $(SHARE)/rosie/editors
+	install -d $(SHARE)/rosie/editors/vscode
+	install -m 644 editors/vscode/* $(SHARE)/rosie/editors/vscode
 	for d in $$(cd python && find rosie -type d ! -name __pycache__); do \
 		install -d $(SHARE)/rosie/python/$$d && install -m 644 $$(find python/$$d -maxdepth 1 -type f) $(SHARE)/rosie/python/$$d || exit 1; done
 	install -m 644 python/README.md $(SHARE)/rosie/python
@@ -105,9 +107,11 @@ install: build
 		install -m 644 completions/$$p.bash $(SHARE)/bash-completion/completions/$$p && \
 		install -m 644 completions/_$$p $(SHARE)/zsh/site-functions/_$$p && \
 		install -m 644 completions/$$p.fish $(SHARE)/fish/vendor_completions.d/$$p.fish || exit 1; done
+	install -m 755 python/bin/rosie-play python/bin/rosie-lsp $(BIN)
 	@test -n "$(DESTDIR)" || tools/editor_places $(SHARE)
 
 uninstall:
+	rm -f $(BIN)/rosie-play $(BIN)/rosie-lsp
 	rm -f $(BIN)/rosie $(BIN)/rosie-columns $(TOOLS:%=$(BIN)/%) $(SHARE)/man/man1/rosie.1 $(SHARE)/man/man1/rosie-columns.1 \
 		$(TOOLS:%=$(SHARE)/man/man1/%.1)
 	rm -f $(SHARE)/man/man7/rosie-language.7

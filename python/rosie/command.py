@@ -95,6 +95,15 @@ class Command:
     def __init__(self, path: Optional[Path] = None, libpath: Union[None, str, Sequence[Path]] = None) -> None:
         self.path = find_command(path)
         self.libpath = self._folders(libpath)
+        # What starts the command.
+        self.words = [self.path]
+        self.timeout: Optional[float] = None
+
+    def limit(self, seconds: int, mebibytes: int) -> None:
+        """Bounds each run from here on: the seconds of a processor, and the memory."""
+        limits = f'ulimit -t {int(seconds)}; ulimit -v {int(mebibytes) * 1024}; exec "$0" "$@"'
+        self.words = ["/bin/sh", "-c", limits, self.path]
+        self.timeout = 10 * seconds
 
     def _folders(self, libpath: Union[None, str, Sequence[Path]]) -> "list[str]":
         if libpath is None:
@@ -108,8 +117,11 @@ class Command:
 
     def run(self, words: Iterable[str], text: bytes = b"", folder: Optional[str] = None) -> Done:
         """Runs the command with these words and this standard input, in `folder`."""
-        made = [self.path, *checked_words(words)]
-        done = subprocess.run(made, input=text, capture_output=True, cwd=folder, check=False)
+        made = [*self.words, *checked_words(words)]
+        try:
+            done = subprocess.run(made, input=text, capture_output=True, cwd=folder, timeout=self.timeout, check=False)
+        except subprocess.TimeoutExpired:
+            raise RosieError(f"the command took more than {self.timeout} seconds") from None
         return Done(done.returncode, done.stdout, done.stderr)
 
     @functools.cached_property

@@ -42,8 +42,9 @@ class CommandEnded(RosieError):
 
 
 def file_of(text: bytes) -> IO[bytes]:
-    """A file without a name that holds these bytes, to be read from its start."""
-    file = tempfile.TemporaryFile(prefix="rosie-")
+    """A file without a name that holds these bytes, to be read from its start; in memory, where that can be."""
+    memory = getattr(os, "memfd_create", None)
+    file = os.fdopen(memory("rosie"), "w+b") if memory else tempfile.TemporaryFile(prefix="rosie-")
     file.write(text)
     file.seek(0)
     return file

@@ -83,7 +83,7 @@ class Pattern:
         files: paths of files of rules.
         libpath: folders in which packages are looked for; by default `.`, and then those that come with the command.
         budget: the steps that a line may take.
-        command: the path of the command `rosie`.
+        command: the path of the command `rosie`, or a Command, whose library path then counts.
 
     Raises PatternError where the command refuses the pattern, and RosieError where it can't be run. A pattern may be
     used by many threads, and sent to other processes. `close` ends the processes that wait for texts; a pattern that
@@ -92,11 +92,11 @@ class Pattern:
 
     def __init__(self, pattern: str, *, rpl: Union[str, Sequence[str]] = (), files: Union[Path, Sequence[Path]] = (),
                  libpath: Union[None, str, Sequence[Path]] = None, fixed: bool = False, budget: Optional[int] = None,
-                 command: Optional[Path] = None) -> None:
+                 command: Union[None, Path, Command] = None) -> None:
         self.pattern = pattern
         self._rpl = [rpl] if isinstance(rpl, str) else list(rpl)
         self._files = [os.fspath(path) for path in ([files] if isinstance(files, (str, os.PathLike)) else files)]
-        self._command = Command(command, libpath)
+        self._command = command if isinstance(command, Command) else Command(command, libpath)
         self._words = [*root_words(self._rpl, self._files), *self._command.libpath_words, *(["-F"] if fixed else [])]
         self._budget = [] if budget is None else ["--budget", str(int(budget))]
         self._code = self._checked(["compile", *self._words, "--", pattern])
@@ -172,7 +172,11 @@ class Pattern:
         mode is read as it comes, so each of its lines is answered at once; others may be answered when a later line is
         there.
         """
-        return Stream(self._over(batches_of(lines)))
+        return Stream(self._over("match", batches_of(lines)))
+
+    def search_over(self, lines: Lines) -> "Stream[Answered]":
+        """The same of a search: a Match is that of the line up to its last hit, and its parts are the hits."""
+        return Stream(self._over("grep", batches_of(lines)))
 
     def records(self, lines: Lines, on_fault: "Optional[Callable[[LineFault], Any]]" = None) -> "Stream[Record]":
         """A flat dict for each line that matches: the leaves of its tree, by the last part of their types.
@@ -191,8 +195,8 @@ class Pattern:
                         raise answer
                     on_fault(answer)
 
-    def _over(self, batches: Iterator[Batch]) -> Iterator[Answered]:
-        process = self._process("match")
+    def _over(self, word: str, batches: Iterator[Batch]) -> Iterator[Answered]:
+        process = self._process(word)
         waiting = Waiting()
         try:
             for lines, whole, at_once in batches:
@@ -200,7 +204,7 @@ class Pattern:
                     yield from waiting.rest(process)
                 waiting.lines.extend(lines)
                 sent = b"" if whole else b"\n".join([*lines, b""])
-                answers = [self._ask_whole("match", lines[0])] if whole else process.exchange(sent)
+                answers = [self._ask_whole(word, lines[0])] if whole else process.exchange(sent)
                 yield from waiting.answered(answers)
                 if at_once:
                     yield from waiting.rest(process)
@@ -211,7 +215,7 @@ class Pattern:
     # Processes
 
     def _process(self, word: str, more: Sequence[str] = (), text: Optional[bytes] = None) -> LineProcess:
-        words = [self._command.path, word, "--steps", *self._budget, *more]
+        words = [*self._command.words, word, "--steps", *self._budget, *more]
         if word == "match":
             return LineProcess(words, self._code, text)
         return LineProcess([*words, "-o", "json", *self._words, "--", self.pattern], None, text)

@@ -320,3 +320,46 @@ def comment_over(text: str, at: int) -> str:
             break
         found.insert(0, line.lstrip("-").strip())
     return "\n".join(found).strip()
+
+
+TEST = re.compile(r"^[ \t]*--[ \t]*test[ \t]+(?:local[ \t]+)?([A-Za-z][0-9A-Za-z_]*)[ \t]+"
+                  r"(?:(accepts|rejects)|(includes|excludes)[ \t]+([^ \t\n\"]+))[ \t]*(\"[^\n]*)$", re.MULTILINE)
+
+
+class Test(NamedTuple):
+    """A test comment: its line from 1, the rule, what is asked of it, and its texts as they stand.
+
+    `part` is the type that `includes` and `excludes` ask for.
+    """
+
+    line: int
+    name: str
+    verb: str
+    part: str
+    texts: "Tuple[str, ...]"
+
+
+def tests_of(text: str) -> "Iterator[Test]":
+    """The test comments of a text."""
+    for found in TEST.finditer(text):
+        name, verb, other, part, rest = found.groups()
+        texts = tuple(piece.group() for piece in TEXT.finditer(rest))
+        yield Test(text.count("\n", 0, found.start()) + 1, name, verb or other, part or "", texts)
+
+
+def quoted(text: str) -> str:
+    """A text of RPL that stands for these characters."""
+    escapes = {"\\": "\\\\", '"': '\\"', "\n": "\\n", "\r": "\\r", "\t": "\\t"}
+    made = (escapes.get(c) or (f"\\x{ord(c):02x}" if ord(c) < 32 or ord(c) == 127 else c) for c in text)
+    return '"' + "".join(made) + '"'
+
+
+def unquoted(text: str) -> str:
+    """The characters that a text of RPL stands for."""
+    plain = {"n": "\n", "r": "\r", "t": "\t"}
+
+    def one(found: "re.Match[str]") -> str:
+        """The character of an escape."""
+        number = next(filter(None, found.groups()), None)
+        return chr(int(number, 16)) if number else plain.get(found.group()[1], found.group()[1])
+    return ESCAPE.sub(one, text[1:-1])

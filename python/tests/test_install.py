@@ -37,6 +37,8 @@ class Install(unittest.TestCase):
         self.assertEqual(done.returncode, 0, done.stderr)
         self.assertIn("site-packages", done.stdout)
         self.assertTrue(done.stdout.endswith(" a\n"))
+        for name in ("rosie-play", "rosie-lsp"):
+            self.assertEqual(self.run_in(name, "--help", env=environment).returncode, 0)
         self.assertEqual(self.run_in("pip", "uninstall", "-y", "rosie-pattern-language").returncode, 0)
 
     def test_archives(self):

@@ -1,0 +1,1 @@
+"""A language server for RPL, over standard input and output."""
