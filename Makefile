@@ -108,10 +108,11 @@ install: build
 		install -m 644 completions/_$$p $(SHARE)/zsh/site-functions/_$$p && \
 		install -m 644 completions/$$p.fish $(SHARE)/fish/vendor_completions.d/$$p.fish || exit 1; done
 	install -m 755 python/bin/rosie-play python/bin/rosie-lsp $(BIN)
+	install -m 644 python/man/rosie-play.1 python/man/rosie-lsp.1 $(SHARE)/man/man1
 	@test -n "$(DESTDIR)" || tools/editor_places $(SHARE)
 
 uninstall:
-	rm -f $(BIN)/rosie-play $(BIN)/rosie-lsp
+	rm -f $(BIN)/rosie-play $(BIN)/rosie-lsp $(SHARE)/man/man1/rosie-play.1 $(SHARE)/man/man1/rosie-lsp.1
 	rm -f $(BIN)/rosie $(BIN)/rosie-columns $(TOOLS:%=$(BIN)/%) $(SHARE)/man/man1/rosie.1 $(SHARE)/man/man1/rosie-columns.1 \
 		$(TOOLS:%=$(SHARE)/man/man1/%.1)
 	rm -f $(SHARE)/man/man7/rosie-language.7

@@ -529,6 +529,39 @@ class Together(unittest.TestCase):
         process.join()
 
 
+class Costs(unittest.TestCase):
+    """What matching takes of a processor, the package and the command together."""
+
+    def setUp(self):
+        self.pattern = rosie.Pattern("entry", rpl=RULES)
+        self.addCleanup(self.pattern.close)
+
+    def least(self, work):
+        """The fewest seconds of a processor that the work takes in three runs, with the processes that it ends."""
+        seconds = []
+        for _ in range(3):
+            before = [resource.getrusage(who) for who in (resource.RUSAGE_SELF, resource.RUSAGE_CHILDREN)]
+            work()
+            after = [resource.getrusage(who) for who in (resource.RUSAGE_SELF, resource.RUSAGE_CHILDREN)]
+            seconds.append(sum(b.ru_utime + b.ru_stime - a.ru_utime - a.ru_stime for a, b in zip(before, after)))
+        return min(seconds)
+
+    def test_60000_records_in_a_second(self):
+        text = (LINE + "\n").encode() * 60000
+
+        def work():
+            self.assertEqual(sum(1 for _ in self.pattern.records(io.BytesIO(text))), 60000)
+        self.assertLess(self.least(work), 1.0)
+
+    def test_a_match_in_200_microseconds(self):
+        def work():
+            for _ in range(2000):
+                self.pattern.match(LINE)
+            # The process that answered counts when it has ended.
+            self.pattern.close()
+        self.assertLess(self.least(work) / 2000, 0.0002)
+
+
 class Sources(unittest.TestCase):
     """The package itself."""
 
