@@ -6,8 +6,8 @@
 //
 // A line is answered once its line feed, or the end, was read, and before more is read. A text for
 // `out` is written before one for `err`, and flushed before it. Where a read of an input may wait,
-// what was written since the last one is flushed first, on both; a session does so each time. At
-// the end both are flushed. What a file says is known before anything is written.
+// what was written since the last one is flushed first, on both, in a session too. At the end both
+// are flushed. What a file says is known before anything is written.
 use crate::command::{Device, Run};
 use crate::files::CODE;
 use rosie_cli::Status;
@@ -318,13 +318,11 @@ const REPL: Case = Case {
     writes: Writes {
         out: "\
         !
-        !
         ok 0¶!
         …!
         …!…
         …!…",
         err: "\
-        !
         …!
         …!…
         …!…",
