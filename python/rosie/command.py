@@ -39,16 +39,13 @@ def find_command(given: Optional[Path] = None) -> str:
     Raises CommandMissing where there is none.
     """
     source, prefix = folders_above()
-    choices = [given or os.environ.get("ROSIE")]
-    if not choices[0]:
-        built = os.path.join(source, "crates", "rosie", "out", "rosie")
-        choices = [os.path.join(prefix, "bin", "rosie"), built, "rosie"]
-    for choice in choices:
-        found = shutil.which(os.fspath(choice))
+    built = os.path.join(source, "crates", "rosie", "out", "rosie")
+    named = os.fspath(given or os.environ.get("ROSIE") or "")
+    for choice in [named] if named else [os.path.join(prefix, "bin", "rosie"), built, "rosie"]:
+        found = shutil.which(choice)
         if found:
             return os.path.abspath(found)
-    name = os.fspath(choices[-1])
-    raise CommandMissing(f"there is no command {name}; install rosie, or name it by the variable ROSIE")
+    raise CommandMissing(f"there is no command {named or 'rosie'}; install rosie, or name it by the variable ROSIE")
 
 
 def find_tool(name: str, command: str) -> Optional[str]:

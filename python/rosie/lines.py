@@ -20,7 +20,7 @@ import re
 import select
 import subprocess
 import tempfile
-from typing import IO, List, Optional, Sequence, Tuple, Union
+from typing import IO, List, NoReturn, Optional, Sequence, Tuple, Union, cast
 
 from .faults import RosieError
 
@@ -67,14 +67,17 @@ class LineProcess:
             if code is not None:
                 kept = (files.enter_context(file_of(code)).fileno(),)
                 made += ["--code-file", f"/dev/fd/{kept[0]}"]
-            given = subprocess.PIPE if text is None else files.enter_context(file_of(text))
+            given: Union[int, IO[bytes]] = subprocess.PIPE
+            if text is not None:
+                given = files.enter_context(file_of(text))
             self._process = subprocess.Popen(made, bufsize=0, stdin=given, stdout=subprocess.PIPE,
                                              stderr=subprocess.STDOUT, pass_fds=kept)
-        self._out = self._process.stdout.fileno()
+        self._stdout = cast(IO[bytes], self._process.stdout)
+        self._out = self._stdout.fileno()
         self._poll = select.poll()
         self._poll.register(self._out, select.POLLIN)
         if text is None:
-            self._in = self._process.stdin.fileno()
+            self._in = cast(IO[bytes], self._process.stdin).fileno()
             os.set_blocking(self._in, False)
 
     def whole_answer(self) -> Answer:
@@ -151,7 +154,7 @@ class LineProcess:
             self._raise_end()
         return found.group(1).decode()
 
-    def _raise_end(self) -> None:
+    def _raise_end(self) -> NoReturn:
         written = b"".join(self._begun).decode("utf-8", "replace").strip()
         if self.owner == os.getpid():
             with contextlib.suppress(subprocess.TimeoutExpired):
@@ -163,7 +166,7 @@ class LineProcess:
         """Ends the process. In a process that was forked, this lets go of the pipes alone."""
         if self._process.stdin is not None:
             self._process.stdin.close()
-        self._process.stdout.close()
+        self._stdout.close()
         if self.owner == os.getpid():
             self._process.kill()
             self._process.wait()

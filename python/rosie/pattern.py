@@ -5,7 +5,7 @@ import os
 import re
 import weakref
 from collections import deque
-from typing import Any, Callable, Deque, Dict, Generic, Iterator, List, Optional, Sequence, TypeVar, Union
+from typing import Any, Callable, Deque, Dict, Generator, Generic, Iterator, List, Optional, Sequence, TypeVar, Union
 
 from .batches import Batch, Lines, Text, as_line, batches_of, to_bytes
 from .command import Command, Path, find_tool, root_words
@@ -35,7 +35,7 @@ def close_all(idle: Idle) -> None:
 class Stream(Generic[Made]):
     """An iterator over answers. `close`, or the end of a `with` block, ends its process."""
 
-    def __init__(self, answers: Iterator[Made]) -> None:
+    def __init__(self, answers: "Generator[Made, None, None]") -> None:
         self._answers = answers
 
     def __iter__(self) -> Iterator[Made]:
@@ -185,7 +185,8 @@ class Pattern:
         """
         return Stream(self._records(lines, on_fault))
 
-    def _records(self, lines: Lines, on_fault: "Optional[Callable[[LineFault], Any]]") -> Iterator[Record]:
+    def _records(self, lines: Lines,
+                 on_fault: "Optional[Callable[[LineFault], Any]]") -> "Generator[Record, None, None]":
         with self.over(lines) as answers:
             for answer in answers:
                 if isinstance(answer, Match):
@@ -195,7 +196,7 @@ class Pattern:
                         raise answer
                     on_fault(answer)
 
-    def _over(self, word: str, batches: Iterator[Batch]) -> Iterator[Answered]:
+    def _over(self, word: str, batches: Iterator[Batch]) -> "Generator[Answered, None, None]":
         process = self._process(word)
         waiting = Waiting()
         try:

@@ -39,6 +39,13 @@ class Token(NamedTuple):
     fault: str = ""
     at: int = -1
 
+    def __bool__(self) -> bool:
+        return bool(self.kind)
+
+
+# The name of a statement that binds none.
+NOTHING = Token("", -1, -1, "")
+
 
 class Statement(NamedTuple):
     """A statement, up to the next one.
@@ -52,7 +59,7 @@ class Statement(NamedTuple):
     start: int
     end: int
     tokens: "Tuple[Token, ...]"
-    name: Optional[Token] = None
+    name: Token = NOTHING
     alias: bool = False
     local: bool = False
     hidden: bool = False
@@ -132,10 +139,9 @@ def bounds_token(text: str, at: int) -> Token:
     return Token("bounds", at, found.end(), found.group())
 
 
-def name_token(text: str, at: int) -> Token:
-    """The name, the keyword or the qualified name that begins here."""
-    end = NAME.match(text, at).end()
-    word = text[at:end]
+def name_token(text: str, first: "re.Match[str]") -> Token:
+    """The name, the keyword or the qualified name that begins with this name."""
+    at, end, word = first.start(), first.end(), first.group()
     if word in KEYWORDS:
         return Token("keyword", at, end, word)
     second = NAME.match(text, end + 1) if text.startswith(".", end) else None
@@ -149,8 +155,9 @@ def token_at(text: str, at: int) -> Token:
     char = text[at]
     if char in '"[':
         return quoted_token(text, at)
-    if NAME.match(text, at):
-        return name_token(text, at)
+    name = NAME.match(text, at)
+    if name:
+        return name_token(text, name)
     number = NUMBER.match(text, at)
     if number:
         wide = int(number.group()) > GREATEST_NUMBER

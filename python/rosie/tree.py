@@ -59,12 +59,13 @@ def record_of(text: bytes) -> "Record":
             continue
         if "\\" in data:
             data = json.loads(f'"{data}"')
-        if name not in made:
+        before = made.get(name)
+        if before is None:
             made[name] = data
-        elif isinstance(made[name], list):
-            made[name].append(data)
+        elif isinstance(before, list):
+            before.append(data)
         else:
-            made[name] = [made[name], data]
+            made[name] = [before, data]
     return made
 
 

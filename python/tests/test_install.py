@@ -1,13 +1,16 @@
 """The package is installed by pip without a network, with nothing but what Python brings."""
+import http.client
+import json
 import os
 import shutil
 import subprocess
 import sys
 import tempfile
 import unittest
+import urllib.parse
 import zipfile
 
-from helper import PYTHON
+from helper import PROGRAM, PYTHON, TOP
 
 
 class Install(unittest.TestCase):
@@ -40,6 +43,25 @@ class Install(unittest.TestCase):
         for name in ("rosie-play", "rosie-lsp"):
             self.assertEqual(self.run_in(name, "--help", env=environment).returncode, 0)
         self.assertEqual(self.run_in("pip", "uninstall", "-y", "rosie-pattern-language").returncode, 0)
+
+    def test_make_install(self):
+        folder = os.path.join(self.folder, "installed")
+        words = ["make", "-o", "build", "install", f"PROGRAM={PROGRAM}", f"DESTDIR={folder}", "PREFIX=/usr"]
+        subprocess.run(words, cwd=TOP, capture_output=True, check=True)
+        environment = {name: value for name, value in os.environ.items() if name not in ("ROSIE", "PYTHONPATH")}
+        process = subprocess.Popen([os.path.join(folder, "usr", "bin", "rosie-play"), "--no-browser"], cwd=self.folder,
+                                   env=environment, stdout=subprocess.PIPE, text=True)
+        self.addCleanup(process.stdout.close)
+        self.addCleanup(process.wait)
+        self.addCleanup(process.kill)
+        address = urllib.parse.urlsplit(process.stdout.readline().split()[-1])
+        connection = http.client.HTTPConnection(address.netloc, timeout=60)
+        self.addCleanup(connection.close)
+        asked = json.dumps({"pattern": "net.ip", "lines": "10.0.0.1 x"})
+        connection.request("POST", address.path + "answers", asked,
+                           {"Content-Type": "application/json", "Origin": f"http://{address.netloc}"})
+        answer, = json.loads(connection.getresponse().read())["answers"]
+        self.assertEqual((answer["kind"], answer["tree"]["e"]), ("match", 8))
 
     def test_archives(self):
         program = "import rosie_build as b; print(b.build_wheel('.'), b.build_sdist('.'))"

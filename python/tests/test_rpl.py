@@ -69,7 +69,7 @@ class Statements(unittest.TestCase):
     def test_kinds(self):
         text = ('rpl 1.4 package p import a, b/c as d, e as . x = "a" local alias y = x ~ = "," '
                 'grammar z = y in v = z end')
-        self.assertEqual([(each.kind, each.name and each.name.text, each.hidden) for each in cut(text)], [
+        self.assertEqual([(each.kind, each.name.text or None, each.hidden) for each in cut(text)], [
             ("rpl", None, False), ("package", None, False), ("import", None, False), ("binding", "x", False),
             ("binding", "y", True), ("boundary", None, False), ("grammar", None, False), ("binding", "z", True),
             ("in", None, False), ("binding", "v", False), ("end", None, False)])

@@ -49,6 +49,14 @@ class Style(unittest.TestCase):
         done = subprocess.run([program, "check", "--no-cache", PYTHON], capture_output=True, text=True, check=False)
         self.assertEqual(done.returncode, 0, done.stdout)
 
+    def test_types(self):
+        program = tool("mypy")
+        if program is None:
+            self.skipTest("there is no mypy")
+        words = [program, "--python-version", "3.9", "--cache-dir", os.devnull, os.path.join(PYTHON, "rosie")]
+        done = subprocess.run(words, capture_output=True, text=True, check=False)
+        self.assertEqual(done.returncode, 0, done.stdout)
+
     def test_functions(self):
         faults = []
         for path in sources():

@@ -101,7 +101,8 @@ def failed_test(document: Document, line: int, told: str) -> Diagnostic:
     """A test that failed, at its text in the comment."""
     start, end = document.line_range(line)
     text = re.search(r'"(?:[^"\\]|\\.)*"$', told)
-    at = document.text.find(text.group(), start, end) if text else -1
+    word = text.group() if text else told
+    at = document.text.find(word, start, end)
     if at >= 0:
-        start, end = at, at + len(text.group())
+        start, end = at, at + len(word)
     return fault(document, start, end, "failed: " + told, "test")

@@ -162,10 +162,10 @@ class Documents:
                 yield each
         for folder in self.folders(document)[: 1 + len(self.roots)]:
             for path in sorted(files_in(folder)):
-                each = self.of_path(path)
-                if each is not None and each.uri not in seen and uri_of(path) not in seen:
-                    seen.add(each.uri)
-                    yield each
+                found = self.of_path(path)
+                if found is not None and found.uri not in seen and uri_of(path) not in seen:
+                    seen.add(found.uri)
+                    yield found
 
     def packages(self, document: Document) -> Dict[str, str]:
         """The packages that this document can import by a plain name, each with its file."""

@@ -100,9 +100,11 @@ class Features:
         for each in rpl.imports_of(document.statements):
             if each.start <= at <= each.end:
                 found = self.documents.imported(document, each.path)
-                return found and location(found, 0, 0)
+                return location(found, 0, 0) if found else None
         binding = self.binding_at(document, at)
-        return binding and location(binding.document, binding.statement.name.start, binding.statement.name.end)
+        if binding is None:
+            return None
+        return location(binding.document, binding.statement.name.start, binding.statement.name.end)
 
     # Where it is used
 
@@ -287,8 +289,8 @@ def own_uses(document: Document, name: str) -> "Iterator[Tuple[int, int]]":
 def names_of_test(token: "rpl.Token") -> "Iterator[Tuple[str, int, int]]":
     """The names in a test comment, with their places: the rule, and the part that is asked for."""
     found = rpl.TEST.match(token.text)
-    for group in (1, 4) if found else ():
-        if found.group(group):
+    for group in (1, 4):
+        if found and found.group(group):
             yield found.group(group), token.start + found.start(group), token.start + found.end(group)
 
 

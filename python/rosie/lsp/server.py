@@ -183,7 +183,7 @@ class Server:
 
     def _check(self, document: Document) -> Checked:
         checked = check(self.command, self.documents, document)
-        told = {"uri": document.uri, "diagnostics": checked.faults}
+        told: Params = {"uri": document.uri, "diagnostics": checked.faults}
         if document.version is not None:
             told["version"] = document.version
         self._tell("textDocument/publishDiagnostics", told)

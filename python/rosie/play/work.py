@@ -166,7 +166,8 @@ class Work:
         failed = []
         for line in written[:-1]:
             found = re.fullmatch(re.escape(path) + r":(\d+): (.*)", line)
-            failed.append({"line": int(found.group(1)), "text": found.group(2)})
+            if found:
+                failed.append({"line": int(found.group(1)), "text": found.group(2)})
         made: Dict[str, Any] = {"count": int(count.group(1)) if count else 0, "failed": failed}
         faults = done.err.decode("utf-8", "replace").replace(path, "definitions").strip()
         if faults:
