@@ -185,7 +185,7 @@ class Security(unittest.TestCase):
         if method == "POST":
             made["Origin"] = self.server.origin
         made.update({name.replace("_", "-"): value for name, value in headers.items()})
-        connection = http.client.HTTPConnection("127.0.0.1", self.server.server_port, timeout=20)
+        connection = http.client.HTTPConnection("127.0.0.1", self.server.server_port, timeout=120)
         try:
             connection.putrequest(method, path, skip_host=True, skip_accept_encoding=True)
             for name, value in made.items():
@@ -268,10 +268,12 @@ class Program(unittest.TestCase):
             process = subprocess.Popen([sys.executable, program, "--no-browser", "--libpath", EXAMPLES], cwd=folder,
                                        text=True,
                                        stdout=subprocess.PIPE, env=dict(environment, HOME=folder))
+            self.addCleanup(process.wait)
+            self.addCleanup(process.kill)
             address = process.stdout.readline().split()[-1]
             self.assertRegex(address, r"^http://127\.0\.0\.1:\d+/[\w-]{32}/$")
             port = int(address.split("/")[2].partition(":")[2])
-            connection = http.client.HTTPConnection("127.0.0.1", port, timeout=20)
+            connection = http.client.HTTPConnection("127.0.0.1", port, timeout=120)
             for name in ("answers", "test", "why", "export", "names", "add_test"):
                 asked = json.dumps({"pattern": '"a"', "lines": "b\na", "line": "a", "failed": [0]})
                 connection.request("POST", address[address.index("/", 8):] + name, asked,
