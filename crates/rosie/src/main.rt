@@ -1,8 +1,8 @@
-//! The program: the real streams and files, and one call of `rosie_cli::rosie`. It is the trusted
-//! edge: no contract says what a stream holds.
+//! The program: the real streams and files, and one call of `rosie_cli::rosie`. This is the
+//! trusted edge: no contract says what a stream holds.
 //!
-//! Where a word isn't UTF-8 it writes nothing and ends with status 2, and where there is no memory
-//! for the words or the streams with status 6.
+//! If a word isn't UTF-8, the program writes nothing and ends with status 2. If there is not
+//! enough memory for the words or the streams, it ends with status 6.
 #![tactic(auto)]
 
 ghost use Rattle.std.specs.Prelude.{◌≡◌, ◌<◌};
@@ -16,7 +16,7 @@ use std::marker::Brand;
 use std::process::ExitCode;
 use std::sync::ledger::{Blank, Ledger};
 
-/// How much output is kept before it is written, in bytes.
+/// The most bytes of output that are kept before they are written.
 const OUTPUT_BUFFER: usize = 65_536;
 
 fn words(rt: &HostRuntime) -> io::Result<Vec<String>> {
@@ -28,7 +28,7 @@ fn words(rt: &HostRuntime) -> io::Result<Vec<String>> {
     Ok(words)
 }
 
-/// The status where the words could not be had.
+/// Returns the status if the words could not be read.
 fn status_without_words(error: io::Error) -> Status {
     if error.kind() == ErrorKind::OutOfMemory {
         Status::NoMemory
@@ -37,8 +37,8 @@ fn status_without_words(error: io::Error) -> Status {
     }
 }
 
-/// Runs the command over the real streams and files. `blank` is the ledger on which its steps are
-/// counted: it takes no memory, and nobody reads it.
+/// Runs the command over the real streams and files. `blank` is the ledger on which its steps
+/// are counted: it takes no memory, and nobody reads it.
 fn run<L: Ledger>(rt: &HostRuntime, words: &[String], blank: Blank) -> Status
     requires name { blank.name ≡ L.name }
     requires parts { blank.parts ≡ L.parts }

@@ -1,4 +1,4 @@
-//! What the words ask for.
+//! A parsed command line.
 
 ghost use Rattle.std.specs.Prelude.{◌≡◌, ◌≢◌, ◌++◌, string_bytes, IfOk};
 ghost use Rattle.rosie_words.specs.declared.fault.UsageFault.TheVariants as E;
@@ -10,15 +10,15 @@ use rosie_run::NoMemory;
 use rosie_words::{Command, UsageFault, fault_line, read_words, usage};
 use std::alloc::{AllocError, Global};
 
-/// What the words ask for.
+/// A parsed command line.
 #[derive(Drop)]
 pub(crate) enum Asked {
-    /// Nothing that is done: they are refused, with this text.
+    /// The words are refused, with this text.
     Refuse(String),
     Do(Command),
 }
 
-/// The text for words that are no command: the line of the fault, and the usage text.
+/// Returns the text for words that are no command: the line of the fault, and the usage text.
 fn usage_text(alloc: Global, fault: &UsageFault) -> Result<String, NoMemory>
     ensures { IfOk result (λ text. (fault.now ≢ E.NoMemory) ×
         (string_bytes text ≡ fault_line fault.now ++ usage)) }
@@ -31,7 +31,7 @@ fn usage_text(alloc: Global, fault: &UsageFault) -> Result<String, NoMemory>
     Ok(text)
 }
 
-/// What the words ask for.
+/// Parses the words of the command line.
 pub(crate) fn ask(alloc: Global, words: &[String]) -> Result<Asked, NoMemory>
     ensures { IfOk result (λ asked. asked_of asked ≡ W.asks words.now) }
 {

@@ -1,4 +1,4 @@
-//! The plan of the class with a name.
+//! The plan of `class`.
 
 ghost use Rattle.std.specs.Prelude.{IfErr};
 ghost use Rattle.rosie_prepare.specs.inside.Steps.{IsOwn};
@@ -14,7 +14,7 @@ use rpl_print::text_of;
 use rpl_text::Chars;
 use std::alloc::Global;
 
-/// The ranges of the set with a name, a line for each; a name that stands for nothing is refused.
+/// Plans `class`: the ranges of the named set, one per line. A name that no set has is refused.
 pub(crate) fn plan_class(alloc: Global, name: &Chars) -> Result<Plan, Unready>
     ensures makes { IsMade result (class_plan name.now (set_named name.now)) }
     ensures own { IfErr result IsOwn }

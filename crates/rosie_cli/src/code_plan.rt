@@ -17,7 +17,7 @@ use rpl_print::text_of;
 use rpl_text::Chars;
 use std::alloc::Global;
 
-/// The plan of the code file at the path, which runs on each line of the inputs.
+/// Plans the run of the code file at a path on each line of the inputs.
 pub(crate) fn plan_code<F: Files>(
     alloc: Global,
     path: Chars,

@@ -15,7 +15,7 @@ use rpl_codefile::write_code;
 use rpl_codegen::compile;
 use std::alloc::Global;
 
-/// The plan of a pattern that is ready: the code file of its program.
+/// Plans the code file of a pattern that is prepared.
 fn plan_file(alloc: Global, ready: &Prepared) -> Result<Plan, Unready>
     requires { IsReady ready.now }
     ensures makes { Makes result (Compiles (Ok (ready_seen ready.now))) }
@@ -28,7 +28,7 @@ fn plan_file(alloc: Global, ready: &Prepared) -> Result<Plan, Unready>
     }
 }
 
-/// The plan of `compile`: the code file of a pattern.
+/// Plans `compile`: the code file of a pattern.
 pub(crate) fn plan_compiled<F: Files>(
     alloc: Global,
     request: &PatternRequest<'_>,

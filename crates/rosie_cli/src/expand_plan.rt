@@ -15,7 +15,8 @@ use rosie_prepare::{PatternRequest, Prepared, Unready, prepare};
 use rpl_codegen::compile;
 use std::alloc::Global;
 
-/// The plan of a pattern that is ready: what it stands for, and its program, if that is wanted.
+/// Plans the output for a pattern that is prepared: its core, and its program if that is
+/// wanted.
 fn plan_text(alloc: Global, ready: &Prepared, wants_code: bool) -> Result<Plan, Unready>
     requires { IsReady ready.now }
     ensures makes { Makes result (Expands wants_code (Ok (ready_seen ready.now))) }
@@ -35,7 +36,7 @@ fn plan_text(alloc: Global, ready: &Prepared, wants_code: bool) -> Result<Plan, 
     }
 }
 
-/// The plan of `expand`: what a pattern stands for.
+/// Plans `expand`: the expansion of a pattern.
 pub(crate) fn plan_expansion<F: Files>(
     alloc: Global,
     request: &PatternRequest<'_>,

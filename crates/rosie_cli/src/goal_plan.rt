@@ -26,19 +26,20 @@ use rpl_codegen::CompileFault;
 use rpl_text::Chars;
 use std::alloc::Global;
 
-/// What a pattern is run for.
+/// The purpose for which a pattern is run.
 #[derive(Drop)]
 pub(crate) enum Purpose {
-    /// It is matched on each line of the inputs.
+    /// The pattern is matched on each line of the inputs.
     Match(Settings, Paths),
-    /// It is traced on each line of the inputs, with at most so much work a line. An input may be
-    /// one line.
+    /// The pattern is traced on each line of the inputs: the limit of the work on a line,
+    /// whether a whole input is one line, and the inputs.
     Trace(u32, bool, Paths),
-    /// It is matched on the lines of the sample of a seed: the seed, and how many.
+    /// The pattern is matched on the lines of a sample: the settings, the seed, and the number
+    /// of lines.
     Sample(Settings, u32, u32),
 }
 
-/// The names of the inputs: without any it is the standard input.
+/// Returns the names of the inputs. If none are given, the standard input is the only one.
 pub(crate) fn input_names(alloc: Global, mut inputs: Paths) -> Result<Paths, NoMemory>
     ensures { IfOk result (λ names. names_of encode_utf8_all names ≡ input_names inputs) }
 {
@@ -49,7 +50,7 @@ pub(crate) fn input_names(alloc: Global, mut inputs: Paths) -> Result<Paths, NoM
     Ok(inputs)
 }
 
-/// The plan of a goal that has its code.
+/// Plans the run of a compiled goal.
 fn plan_job(alloc: Global, job: Job, purpose: Purpose) -> Result<Plan, NoMemory>
     ensures { IfOk result (λ plan. (rules : List Row) → full_names rules ≡ rule_names job
         → run_of purpose rules (job_of job) ≡ plan_of plan) }
@@ -74,8 +75,8 @@ fn plan_job(alloc: Global, job: Job, purpose: Purpose) -> Result<Plan, NoMemory>
     }
 }
 
-/// The job of a goal that is prepared, for which alone its rules are kept. Its code may be too
-/// long.
+/// Compiles a prepared goal. Its rules are used for this goal alone. Returns an error if its
+/// code is too long.
 fn compile_goal(alloc: Global, ready: Prepared) -> Result<Job, CompileFault>
     requires { IsReady ready }
     ensures job { IfOk result (λ job. IsJobOf (bodies_of ready.rules) (core_of (peg_of ready.goal))
@@ -87,7 +88,7 @@ fn compile_goal(alloc: Global, ready: Prepared) -> Result<Job, CompileFault>
     Job::new(alloc, ready.rules, ready.goal)
 }
 
-/// The plan of a goal that is prepared. Its code may be too long.
+/// Plans the run of a prepared goal. Returns an error if its code is too long.
 fn plan_ready(alloc: Global, ready: Prepared, purpose: Purpose) -> Result<Plan, Unready>
     requires { IsReady ready }
     ensures makes { Makes result (IsRun (run_of purpose) (Ok (ready_seen ready))) }
@@ -99,7 +100,7 @@ fn plan_ready(alloc: Global, ready: Prepared, purpose: Purpose) -> Result<Plan, 
     }
 }
 
-/// The plan of a pattern that is run for some purpose.
+/// Plans the run of a pattern for some purpose.
 pub(crate) fn plan_goal<F: Files>(
     alloc: Global,
     request: &PatternRequest<'_>,

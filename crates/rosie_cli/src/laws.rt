@@ -1,24 +1,24 @@
-//! What holds of the commands together, by the definitions alone.
+//! The laws of all commands, which follow from the definitions alone.
 
 ghost use Rattle.rosie_cli.specs.Laws.{HaveOneReport, OnePlan, PromiseLaw, RunsWhatIsCompiled};
 ghost use Rattle.rosie_cli.specs.Laws.{SafeLaw, SomePlan, WordsHavePlans};
 
-/// Over each tree of files all words come to one plan, and to that alone. So does each command, if
-/// the pattern of `compile` is of characters, as that of words is.
+/// Proves that over each tree of files any words have exactly one plan. So has each command, if
+/// the pattern of `compile` consists of characters, as a pattern from the command line does.
 pub fn one_plan()
     ensures only { OnePlan }
     ensures some { SomePlan }
     ensures words { WordsHavePlans }
 {}
 
-/// Whatever the words are, no line and no test is said to pass its budget that the budget pays for,
-/// and a code that is written as a file is safe.
+/// Proves for any words that no line and no test is reported to exceed a budget that pays for it,
+/// and that a code written as a file is safe.
 pub fn promise_law()
     ensures { PromiseLaw }
 {}
 
-/// What `compile` writes for a pattern is the spelling of a safe code. It is run by `match` as the
-/// very code of that pattern, so that the report is the same with the file as with the pattern.
+/// Proves that `compile` writes, for a pattern, the spelling of a safe code. `match` runs it as
+/// the code of that pattern, so the report is the same with the file as with the pattern.
 pub fn compiled_is_run()
     ensures safe { SafeLaw }
     ensures code { RunsWhatIsCompiled }

@@ -1,13 +1,14 @@
-//! What the whole command does, as one call: [`rosie`] reads the words, makes a plan of what they
-//! ask for, and runs it. `main` calls it with the real streams and files, and tests with those in
+//! The whole command as one call: [`rosie`] parses the words, makes a plan for the command, and
+//! runs it. `main` calls it with the real streams and files, and tests call it with those in
 //! memory.
 //!
-//! `specs/Rosie.antt` says what a call leaves, sentence by sentence: what each answer tells of what
-//! the words come to over the tree of files (`specs/Planned.antt`), and of what that writes
-//! (`specs/Plans.antt`). Each command is a case of `IsPlanned` and an arm of `plan_command`, which
-//! calls a module of the command's own; those that run a pattern on lines share `goal_plan`. Only
-//! files are read for a plan, and nothing is written before it stands. A session, [`session`], has
-//! no plan, since it reads its files as its lines come.
+//! `specs/Rosie.antt` states the result of a call, sentence by sentence: what each answer says
+//! of the plan of the words over the tree of files (`specs/Planned.antt`), and of the report of
+//! that plan (`specs/Plans.antt`). Each command is a case of `IsPlanned` and an arm of
+//! `plan_command`, which calls a module of the command's own; the commands that run a pattern
+//! on lines share `goal_plan`. Planning only reads files, and nothing is written before the
+//! plan is made. A session, [`session`], has no plan, since it reads its files as its lines
+//! arrive.
 #![tactic(auto)]
 
 mod asked;

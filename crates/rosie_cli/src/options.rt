@@ -1,4 +1,4 @@
-//! What the options say of lines.
+//! The settings for lines, from the options.
 
 ghost use Rattle.std.specs.Prelude.{◌≡◌};
 ghost use Rattle.rosie_cli.specs.Options.{settings_of};
@@ -6,7 +6,7 @@ ghost use Rattle.rosie_cli.specs.Options.{settings_of};
 use rosie_jobs::Settings;
 use rosie_words::Command;
 
-/// What a command says of the lines.
+/// Returns the settings of a command for lines.
 pub(crate) fn settings_of(command: &Command) -> Settings
     ensures { result ≡ settings_of command.now }
 {

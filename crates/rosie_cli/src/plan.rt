@@ -1,4 +1,4 @@
-//! What a command comes to before anything is written.
+//! The plan of a command, made before anything is written.
 
 ghost use Rattle.rosie_prepare.specs.inside.Steps.{Tells};
 ghost use Rattle.rosie_cli.specs.inside.Planning.{due_of};
@@ -12,32 +12,32 @@ use rosie_words::Paths;
 use rpl_codegen::CompileFault;
 use std::alloc::Global;
 
-/// What a command comes to that isn't refused. Only files were read for it, and nothing is written.
+/// The plan of an accepted command. Only files were read to make it, and nothing was written.
 #[derive(Drop)]
 pub(crate) enum Plan {
     /// A text that is the whole answer.
     Answer(String),
     /// The bytes of a code file, which are the whole answer.
     Write(Bytes),
-    /// The tests of a file are tried.
+    /// The tests of a file, which are to be tried.
     Test(Suite),
-    /// A goal, or the code of a file, runs on each line of the inputs with these names.
+    /// A goal, or the code of a file, that runs on each line of the named inputs.
     Match {
         job: MatchJob,
         whole: bool,
         names: Paths,
     },
-    /// A goal is traced on each line of the inputs with these names.
+    /// A goal that is traced on each line of the named inputs.
     Trace {
         job: TraceJob,
         whole: bool,
         names: Paths,
     },
-    /// The lines of a sample are matched, and what they come to is reported.
+    /// The run that matches the lines of a sample and reports the result.
     Sample(SampleRun),
 }
 
-/// The refusal of a pattern that has no program: its code is too long.
+/// Returns the refusal of a pattern whose code is too long.
 pub(crate) fn uncompiled(alloc: Global, fault: CompileFault) -> Unready
     ensures { Tells (due_of fault) result }
 {

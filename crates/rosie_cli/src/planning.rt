@@ -1,4 +1,4 @@
-//! From a command to its plan.
+//! The planning of a command.
 
 ghost use Rattle.std.specs.Prelude.{◌≡◌, ◌≢◌, true};
 ghost use Rattle.rosie_prepare.specs.Views.{request_seen};
@@ -28,7 +28,7 @@ use rpl_print::text_of;
 use rpl_text::Chars;
 use std::alloc::Global;
 
-/// What a pattern is read over, as the options say.
+/// The context in which a pattern is read, from the options.
 #[derive(Clone, Copy)]
 struct Base<'a> {
     alloc: Global,
@@ -38,8 +38,8 @@ struct Base<'a> {
 }
 
 impl<'a> Base<'a> {
-    /// What a command wants of its pattern, which is matched from the start of a line or looked
-    /// for.
+    /// Returns the request for a pattern, which is matched from the start of a line or, with
+    /// `find`, searched for.
     fn request(&self, pattern: &'a Chars, find: bool) -> PatternRequest<'a>
         ensures { request_seen result ≡ wanted self.now.roots.now self.now.folders.now
             self.now.fixed find pattern.now }
@@ -53,7 +53,7 @@ impl<'a> Base<'a> {
         }
     }
 
-    /// The plan of a pattern that is run for some purpose.
+    /// Plans the run of a pattern for some purpose.
     fn plan<F: Files>(
         &self,
         pattern: &Chars,
@@ -70,7 +70,7 @@ impl<'a> Base<'a> {
     }
 }
 
-/// A base with these options.
+/// Returns the context with these options.
 fn base_of<'a>(alloc: Global, roots: &'a Roots, folders: &'a LibPath, fixed: bool) -> Base<'a>
     ensures { (result.roots.now ≡ roots.now) × (result.folders.now ≡ folders.now)
         × (result.fixed ≡ fixed) }
@@ -83,7 +83,7 @@ fn base_of<'a>(alloc: Global, roots: &'a Roots, folders: &'a LibPath, fixed: boo
     }
 }
 
-/// The plan of a command. A session has none: it reads its files as its lines come.
+/// Plans a command. A session has no plan: it reads its files as its lines arrive.
 pub(crate) fn plan_command<F: Files>(
     alloc: Global,
     command: Command,

@@ -1,4 +1,4 @@
-//! The plan of `sample`, which matches its own lines by its own rules.
+//! The plan of `sample`, which matches its own lines with its own rules.
 
 ghost use Rattle.std.specs.Prelude.{◌≡◌, ◌∷◌, [], IfOk, chars};
 ghost use Rattle.rosie_sample.specs.Counting.{sample_rules};
@@ -18,7 +18,7 @@ use rpl_package::{LibPath, Root, Roots};
 use rpl_text::Chars;
 use std::alloc::Global;
 
-/// The roots of a sample: the text of its rules.
+/// Returns the roots of a sample: the text of its rules.
 fn sample_roots(alloc: Global) -> Result<Roots, NoMemory>
     ensures { IfOk result (λ roots. roots ≡ Given (chars sample_rules) ∷ []) }
 {
@@ -27,7 +27,7 @@ fn sample_roots(alloc: Global) -> Result<Roots, NoMemory>
     Ok(roots)
 }
 
-/// The plan of a sample, whose pattern is run for this purpose.
+/// Plans a sample, whose pattern is run for this purpose.
 pub(crate) fn plan_sample<F: Files>(
     alloc: Global,
     folders: &LibPath,

@@ -13,8 +13,8 @@ use rpl_package::LibPath;
 use rpl_text::Chars;
 use std::alloc::Global;
 
-/// The plan of `test`: the tests of a file, over these folders, each in at most so many steps,
-/// where that is given.
+/// Plans `test`: the tests of a file, with imports from these folders. `budget` bounds the
+/// steps of each test, if it is given.
 pub(crate) fn plan_tests<F: Files>(
     alloc: Global,
     file: Chars,

@@ -1,5 +1,5 @@
-//! The top call: the words are read, their command is planned, the plan runs, and the run is ended.
-//! A session runs without a plan.
+//! The top call: it parses the words, plans their command, runs the plan, and ends the run. A
+//! session runs without a plan.
 
 ghost use Rattle.std.specs.Prelude.{◌≡◌, ◌≢◌, ◌∷◌, [], ℕ, true, string_bytes, IfErr};
 ghost use Rattle.rosie_jobs.specs.Lines.{reading};
@@ -40,7 +40,7 @@ use rpl_print::text_of;
 use std::alloc::Global;
 use std::sync::ledger::Ledger;
 
-/// How the lines of an input are read.
+/// Returns the way in which the lines of an input are read.
 fn reading(whole: bool) -> Reading
     ensures { result ≡ reading whole }
 {
@@ -51,8 +51,8 @@ fn reading(whole: bool) -> Reading
     }
 }
 
-/// What a run writes on, of its parts. It is made by a call: of three references in one value that
-/// is made in place, the checker proves nothing.
+/// Puts the outputs of a run together from their parts. This is a call because the checker can
+/// prove nothing of three references in one value that is made in place.
 fn outputs_of<'a, O: Sink, E: Sink, L: Ledger>(
     out: &'a mut O,
     err: &'a mut E,
@@ -180,8 +180,8 @@ fn replay<F: Files, I: Source, O: Sink, E: Sink, L: Ledger>(
     finish(outputs.out, outputs.err, run)
 }
 
-/// Runs a session: each line of the input is a command, and is answered before the next is waited
-/// for. Imports are looked for in the folders, and `steps` counts the machine's steps.
+/// Runs a session: each line of the input is a command, and is answered before the run waits
+/// for the next. Imports are searched for in `folders`, and `steps` counts the machine's steps.
 pub fn session<F: Files, I: Source, O: Sink, E: Sink, L: Ledger>(
     alloc: Global,
     files: &mut F,
@@ -203,7 +203,7 @@ pub fn session<F: Files, I: Source, O: Sink, E: Sink, L: Ledger>(
     replay(alloc, folders, &mut inputs, &mut outputs)
 }
 
-/// Does what a command says. A session has no plan: it reads its files as its lines come.
+/// Carries out a command. A session has no plan: it reads its files as its lines arrive.
 fn run_command<F: Files, I: Source, O: Sink, E: Sink, L: Ledger>(
     alloc: Global,
     command: Command,
@@ -233,7 +233,7 @@ fn run_command<F: Files, I: Source, O: Sink, E: Sink, L: Ledger>(
     }
 }
 
-/// Does what the words say, over inputs and outputs as one value each.
+/// Carries out the words, with the inputs and the outputs as one value each.
 fn run_words<F: Files, I: Source, O: Sink, E: Sink, L: Ledger>(
     alloc: Global,
     words: &[String],
@@ -270,8 +270,8 @@ fn run_words<F: Files, I: Source, O: Sink, E: Sink, L: Ledger>(
     }
 }
 
-/// Does what the words say: `words` are those after the program's name, `input` is the standard
-/// input, and `steps` counts the machine's steps.
+/// Carries out the command that the words name. `words` are those after the program's name,
+/// `input` is the standard input, and `steps` counts the machine's steps.
 ///
 /// # Examples
 ///
@@ -294,30 +294,30 @@ pub fn rosie<F: Files, I: Source, O: Sink, E: Sink, L: Ledger>(
     err: &mut E,
     steps: &mut Steps<L>,
 ) -> Status
-    // What is written, answered and read, by the report of what the words come to:
+    // What is written, answered and read follows from the report of the words: see
     // `specs/Rosie.antt`.
     ensures answers { Answers (call (IsPlanned (asks words.now) (F.tree files.old))
         F.Source I.Source O.Sink E.Sink
         files.old files.new input.old input.new out.old out.new err.old err.new steps.old steps.new
         result) }
 
-    // Where the standard input isn't among the inputs, nothing of it is read. Words that are
-    // refused open nothing.
+    // If the standard input isn't among the inputs, nothing of it is read. Words that are
+    // refused open no file.
     ensures unread { (p : Planned) → IsTold F.tells p.asked
         → IsPlanned (asks words.now) (F.tree files.old) p → LeavesInput p.plan →
         input.new ≡ input.old }
     ensures untouched { IsRefused (asks words.now) → (files.new ≡ files.old) ×
         (input.new ≡ input.old) }
 
-    // Words that ask for no line, no test and no sample make no step of the machine, whatever the
-    // files hold. Nor do others where a load is refused, as far as the files tell it or no path is
-    // asked for.
+    // Words that run no line, no test and no sample make no step of the machine, whatever the
+    // files hold. The same is true of other words if loading is refused, as far as the contents
+    // of the files are visible or no path is asked for.
     ensures idle { IsIdle (asks words.now) → steps.new ≡ steps.old }
     ensures unrun { (p : Planned) → IsTold F.tells p.asked
         → IsPlanned (asks words.now) (F.tree files.old) p → IsIdlePlan p.plan →
         steps.new ≡ steps.old }
 
-    // All is flushed, unless a write failed or memory ran out.
+    // Everything is flushed, unless a write failed or memory ran out.
     ensures out_flushed { Flushes O.Sink result out.new }
     ensures err_flushed { Flushes E.Sink result err.new }
 {

@@ -1,8 +1,9 @@
 //! The program `rosie-columns`: the real streams and files, and one call of
-//! `rosie_columns_cli::columns`. It is the trusted edge: no contract says what a stream holds.
+//! `rosie_columns_cli::columns`. This is the trusted edge: no contract says what a stream
+//! holds.
 //!
-//! Where a word isn't UTF-8 it writes nothing and ends with status 2, and where there is no memory
-//! for the words or the streams with status 6.
+//! If a word isn't UTF-8, the program writes nothing and ends with status 2. If there is not
+//! enough memory for the words or the streams, it ends with status 6.
 #![tactic(auto)]
 
 ghost use Rattle.std.specs.Prelude.{◌≡◌, ◌<◌};
@@ -16,7 +17,7 @@ use std::marker::Brand;
 use std::process::ExitCode;
 use std::sync::ledger::{Blank, Ledger};
 
-/// How much output is kept before it is written, in bytes.
+/// The most bytes of output that are kept before they are written.
 const OUTPUT_BUFFER: usize = 65_536;
 
 fn words(rt: &HostRuntime) -> io::Result<Vec<String>> {
@@ -28,7 +29,7 @@ fn words(rt: &HostRuntime) -> io::Result<Vec<String>> {
     Ok(words)
 }
 
-/// The ending where there are no words.
+/// Returns the ending if the words could not be read.
 fn ending_without_words(error: io::Error) -> Ending {
     if error.kind() == ErrorKind::OutOfMemory {
         Ending::Ran(Status::NoMemory)
@@ -37,8 +38,8 @@ fn ending_without_words(error: io::Error) -> Ending {
     }
 }
 
-/// Runs the command over the real streams and files. `blank` is the ledger on which its steps are
-/// counted: it takes no memory, and nobody reads it.
+/// Runs the command over the real streams and files. `blank` is the ledger on which its steps
+/// are counted: it takes no memory, and nobody reads it.
 fn run<L: Ledger>(rt: &HostRuntime, words: &[String], blank: Blank) -> Ending
     requires name { blank.name ≡ L.name }
     requires parts { blank.parts ≡ L.parts }

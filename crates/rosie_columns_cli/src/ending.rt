@@ -1,20 +1,20 @@
-// How the program ends.
+// The ways in which the program ends.
 ghost use Rattle.std.specs.Prelude.{◌≡◌};
 ghost use Rattle.rosie_columns_cli.specs.Endings.{ending_of, number_of};
 
 use rosie_run::Status;
 
-/// How the program ends.
+/// The way in which the program ends.
 #[derive(Clone, Copy)]
 pub enum Ending {
-    /// As the run did.
+    /// It ends as the run did.
     Ran(Status),
-    /// Each line was a tree, and no tree had a node of some column.
+    /// Every line was a tree, and for some column no tree had a node.
     Absent,
 }
 
 impl Ending {
-    /// The ending of a run, and whether a column was never found.
+    /// Returns the ending of a run, given whether some column was never found.
     pub(crate) fn of(status: Status, is_absent: bool) -> Ending
         ensures { result ≡ ending_of status is_absent }
     {
@@ -24,7 +24,7 @@ impl Ending {
         }
     }
 
-    /// The exit status of the process.
+    /// Returns the exit status of the process.
     pub fn code(self) -> u8
         ensures { result ≡ number_of self }
     {

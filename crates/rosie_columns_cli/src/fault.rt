@@ -1,4 +1,4 @@
-// Why words ask for nothing.
+// Faults of the command line.
 ghost use Rattle.std.specs.Prelude.{◌≡◌, ◌++◌, IfOk, OnOk, encode_utf8_all, string_bytes};
 ghost use Rattle.rosie_columns_cli.specs.Faults.{message, refusal};
 
@@ -6,20 +6,20 @@ use crate::NoMemory;
 use rpl_text::Chars;
 use std::alloc::{AllocError, Global};
 
-/// The first fault of the words.
+/// The first fault of the command line.
 #[derive(Drop)]
 pub enum WordFault {
-    /// There is no memory for the reading.
+    /// Memory ran out while reading the words.
     NoMemory,
-    /// No option is called so.
+    /// No option has this name.
     UnknownOption(Chars),
-    /// The option of this word, which is the last, takes the next word as its value.
+    /// The option given by this word, which is the last one, needs a value.
     MissingValue(Chars),
-    /// No format is called so.
+    /// No format has this name.
     BadValue(Chars),
-    /// This word is no column.
+    /// This word is not a column.
     BadColumn(Chars),
-    /// There is no column.
+    /// No column is given.
     NoColumn,
 }
 
@@ -36,14 +36,14 @@ impl From<AllocError> for WordFault {
 const USAGE: &str =
     "usage: rosie-columns [-o csv|tsv|json] [-j TEXT] [-n] [[NAME=]TYPE ...] [-- FILE ...]\n";
 
-/// The text of a word.
+/// Returns the text of a word.
 fn text(word: &Chars) -> &str
     ensures { result.now ≡ encode_utf8_all word.now }
 {
     word.as_str()
 }
 
-/// Adds what is wrong, and the word that is.
+/// Appends what is wrong, and the word concerned.
 fn push_said(line: &mut String, what: &str, word: &Chars) -> Result<(), NoMemory>
     ensures { OnOk result (string_bytes line.new
         ≡ string_bytes line.old ++ (what.now ++ encode_utf8_all word.now)) }
@@ -52,7 +52,7 @@ fn push_said(line: &mut String, what: &str, word: &Chars) -> Result<(), NoMemory
     line.push_str(text(word))
 }
 
-/// Adds a fault in words.
+/// Appends a message about the fault.
 fn push_message(line: &mut String, fault: &WordFault) -> Result<(), NoMemory>
     ensures { OnOk result (string_bytes line.new ≡ string_bytes line.old ++ message fault.now) }
 {
@@ -66,7 +66,7 @@ fn push_message(line: &mut String, fault: &WordFault) -> Result<(), NoMemory>
     }
 }
 
-/// What is printed of a fault: its line, and the usage text.
+/// Returns the output for a fault: its line, and the usage text.
 pub(crate) fn refusal(alloc: Global, fault: &WordFault) -> Result<String, NoMemory>
     ensures { IfOk result (λ text. string_bytes text ≡ refusal fault.now) }
 {

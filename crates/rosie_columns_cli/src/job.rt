@@ -1,4 +1,4 @@
-// What is made of a line: a row, or a message.
+// The output for a line: a row, or a message.
 ghost use Rattle.std.specs.Prelude.{◌≡◌, ◌++◌, IfOk, OnOk};
 ghost use Rattle.rosie_columns_cli.specs.Absent.{absent_line, absent_text, unfound};
 
@@ -9,7 +9,7 @@ use rpl_machine::Steps;
 use std::alloc::Global;
 use std::sync::ledger::Ledger;
 
-/// Makes a row of each line that is a tree. Its memory is kept from line to line.
+/// A job that makes a row of each line that is a tree. Its memory is reused from line to line.
 #[derive(Drop)]
 pub struct ColumnsJob<'a> {
     alloc: Global,
@@ -18,11 +18,11 @@ pub struct ColumnsJob<'a> {
     room: Room,
     row: Vec<u8>,
     message: String,
-    /// For each column whether some tree so far has a node of it.
+    /// For each column, whether any tree so far had a node of it.
     found: Vec<bool>,
 }
 
-/// Notes which columns take a node of the tree.
+/// Records which columns take a node of the tree.
 fn note_found(found: &mut [bool], columns: &[Column], tree: Tree<'_>) {
     let count = found.len().min(columns.len());
     for index in 0..count {
@@ -32,14 +32,14 @@ fn note_found(found: &mut [bool], columns: &[Column], tree: Tree<'_>) {
     }
 }
 
-/// Adds bytes.
+/// Appends bytes.
 fn put(text: &mut Vec<u8>, bytes: &[u8]) -> Result<(), NoMemory>
     ensures { OnOk result (text.new.items ≡ text.old.items ++ bytes.now) }
 {
     text.extend_from_slice(bytes)
 }
 
-/// Adds the line that says that no tree has a node of a column.
+/// Appends the line reporting that no tree has a node of a column.
 fn push_absent(text: &mut Vec<u8>, column: &Column) -> Result<(), NoMemory>
     ensures { OnOk result (text.new.items ≡ text.old.items ++ absent_line column.now) }
 {
@@ -48,7 +48,7 @@ fn push_absent(text: &mut Vec<u8>, column: &Column) -> Result<(), NoMemory>
     put(text, b"\n")
 }
 
-/// A line for each column that wasn't found.
+/// Returns a line for each column that wasn't found.
 fn absent_lines(alloc: Global, columns: &[Column], found: &[bool]) -> Result<Vec<u8>, NoMemory>
     ensures { IfOk result (λ t. t.items ≡ absent_text (unfound columns.now found.now)) }
 {
@@ -80,7 +80,7 @@ impl<'a> ColumnsJob<'a> {
         })
     }
 
-    /// A line for each column of which no tree had a node.
+    /// Returns a line for each column for which no tree had a node.
     pub fn absent(&self) -> Result<Vec<u8>, NoMemory>
         ensures { IfOk result (λ t. t.items
             ≡ absent_text (unfound (sheet_of self.now).columns (found_of self.now))) }

@@ -1,7 +1,7 @@
-// What holds of the definitions.
+// Laws that hold for the definitions.
 ghost use Rattle.rosie_columns_cli.specs.Piped.{Piped};
 
-/// What `rosie match` prints of a line that matches is read as the tree of that match.
+/// The output of `rosie match` for a line that matches is read as the tree of that match.
 pub fn piped()
     ensures { Piped }
 {}

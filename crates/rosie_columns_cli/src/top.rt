@@ -15,8 +15,8 @@ use rpl_machine::Steps;
 use std::alloc::Global;
 use std::sync::ledger::Ledger;
 
-/// What a run writes on, of its parts. It is made by a call: of three references in one value that
-/// is made in place, the checker proves nothing.
+/// Returns the outputs of a run, made of these parts. This needs a call: the checker proves nothing
+/// about three references in one value that is built in place.
 fn outputs_of<'a, O: Sink, E: Sink, L: Ledger>(
     out: &'a mut O,
     err: &'a mut E,
@@ -37,18 +37,18 @@ fn outputs_of<'a, O: Sink, E: Sink, L: Ledger>(
     }
 }
 
-/// The bytes that a line may have: as many as an answer of `rosie` may.
+/// The greatest number of bytes in a line: that of an answer of `rosie`.
 const MAX_LINE_BYTES: usize = 67_108_864;
 
-/// What a run over the inputs comes to.
+/// The result of a run over the inputs.
 #[derive(Drop)]
 struct Ran {
     tally: Tally,
-    /// No tree had a node of some column.
+    /// Whether, for some column, no tree had a node.
     is_absent: bool,
 }
 
-/// The header, or nothing where none is wanted.
+/// Returns the header, or nothing if none is wanted.
 fn header_of(alloc: Global, sheet: &Sheet, no_header: bool) -> Result<Vec<u8>, NoMemory> {
     let mut header = Vec::new(alloc);
     if !no_header {
@@ -57,7 +57,7 @@ fn header_of(alloc: Global, sheet: &Sheet, no_header: bool) -> Result<Vec<u8>, N
     Ok(header)
 }
 
-/// What is said at the end: which columns no tree had, where there was a tree.
+/// Returns the text for the end of a run: the columns that no tree had, if there was a tree.
 fn last_text(alloc: Global, job: &ColumnsJob<'_>, is_hit: bool) -> Result<Vec<u8>, NoMemory> {
     if is_hit {
         job.absent()
@@ -66,7 +66,7 @@ fn last_text(alloc: Global, job: &ColumnsJob<'_>, is_hit: bool) -> Result<Vec<u8
     }
 }
 
-/// Writes the header, a row for each tree of the inputs, and which columns no tree had.
+/// Writes the header, a row for each tree of the inputs, and the columns that no tree had.
 fn run_asked<F: Files, I: Source, O: Sink, E: Sink, L: Ledger>(
     alloc: Global,
     asked: &Asked,
@@ -95,7 +95,7 @@ fn run_asked<F: Files, I: Source, O: Sink, E: Sink, L: Ledger>(
     Ok(Ran { tally, is_absent })
 }
 
-/// Refuses the words.
+/// Refuses the command line.
 fn refuse<O: Sink, E: Sink>(
     alloc: Global,
     fault: WordFault,
@@ -136,8 +136,8 @@ fn run_words<F: Files, I: Source, O: Sink, E: Sink, L: Ledger>(
     }
 }
 
-/// Does what the words say: `words` are those after the program's name, and `input` is the standard
-/// input. No step of the machine is made.
+/// Runs the program. `words` are those after the program's name, and `input` is standard input.
+/// Takes no step of the machine.
 pub fn columns<F: Files, I: Source, O: Sink, E: Sink, L: Ledger>(
     alloc: Global,
     words: &[String],

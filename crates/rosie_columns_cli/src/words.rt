@@ -31,7 +31,7 @@ impl Model for Names {
 impl Names {
     ghost use Rattle.std.specs.Prelude.{[], ◌∷◌, ◌++◌, chars};
 
-    /// No name.
+    /// Returns an empty list of names.
     fn new(alloc: Global) -> Names
         ensures { result ≡ [] }
     {
@@ -58,30 +58,30 @@ impl Names {
     }
 }
 
-/// What the words ask for.
+/// A parsed command line.
 #[derive(Drop)]
 pub struct Asked {
     pub sheet: Sheet,
-    /// No row with the names of the columns is written.
+    /// Whether to omit the row of column names.
     pub no_header: bool,
     /// The inputs.
     pub names: Names,
 }
 
-/// What the words before leave.
+/// The state after the words read so far.
 #[derive(Clone, Copy)]
 pub(crate) enum Front {
-    /// An option or a column may stand.
+    /// An option or a column may follow.
     Free,
-    /// The name of a format is due.
+    /// The name of a format must follow.
     Format,
-    /// The text between texts is due.
+    /// The text to join texts with must follow.
     Joint,
-    /// All words are names of inputs.
+    /// All further words are names of inputs.
     Names,
 }
 
-/// What a word is, where an option may stand.
+/// The role of a word where an option may occur.
 #[derive(Clone, Copy)]
 pub(crate) enum Role {
     Column,
@@ -92,7 +92,7 @@ pub(crate) enum Role {
     Unknown,
 }
 
-/// What a word is, where an option may stand.
+/// Returns the role of a word where an option may occur.
 fn role_of(word: &str) -> Role
     ensures { result ≡ role_of word.now }
 {
@@ -111,7 +111,7 @@ fn role_of(word: &str) -> Role
     }
 }
 
-/// The format of this name.
+/// Returns the format with this name.
 fn format_named(name: &str) -> Option<Format>
     ensures { result ≡ format_named name.now }
 {
@@ -123,7 +123,7 @@ fn format_named(name: &str) -> Option<Format>
     }
 }
 
-/// What the words so far say.
+/// The words read so far, parsed.
 #[derive(Drop)]
 pub(crate) struct Reader {
     front: Front,
@@ -131,7 +131,7 @@ pub(crate) struct Reader {
 }
 
 impl Reader {
-    /// Before the first word.
+    /// Returns the state before the first word.
     fn new(alloc: Global) -> Reader
         ensures { result ≡ start }
     {
@@ -151,7 +151,7 @@ impl Reader {
         }
     }
 
-    /// One more column.
+    /// Takes a column.
     fn take_column(&mut self, alloc: Global, word: &str) -> Result<(), WordFault>
         requires { self.old.front ≡ F.Free }
         ensures ok { OnOk result (with_column self.old.asked word.now (column_of word.now)
@@ -168,7 +168,7 @@ impl Reader {
         }
     }
 
-    /// The format.
+    /// Takes the name of a format.
     fn take_format(&mut self, alloc: Global, word: &str) -> Result<(), WordFault>
         ensures ok { OnOk result (with_format self.old.asked word.now (format_named word.now)
             ≡ Ok self.new) }
@@ -185,7 +185,7 @@ impl Reader {
         }
     }
 
-    /// One more word where an option may stand.
+    /// Takes a word where an option may occur.
     fn take_free(&mut self, alloc: Global, word: &str) -> Result<(), WordFault>
         requires { self.old.front ≡ F.Free }
         ensures ok { OnOk result (taken_as self.old.asked word.now (role_of word.now)
@@ -206,7 +206,7 @@ impl Reader {
         Ok(())
     }
 
-    /// One more word.
+    /// Takes one more word.
     fn take(&mut self, alloc: Global, word: &str) -> Result<(), WordFault>
         ensures ok { OnOk result (taken self.old word.now ≡ Ok self.new) }
         ensures fault { IfErr result (λ e. e ≢ E.NoMemory → taken self.old word.now ≡ Err e) }
@@ -226,7 +226,7 @@ impl Reader {
         }
     }
 
-    /// No word follows; this was the last.
+    /// Finishes after the last word, `last`.
     fn finish(self, alloc: Global, last: &str) -> Result<Asked, WordFault>
         ensures ok { IfOk result (λ a. finished_at self.front last.now self.asked
             ≡ Ok a) }
@@ -242,7 +242,7 @@ impl Reader {
     }
 }
 
-/// Whether there is a column, or all fields may be asked for.
+/// Returns whether there is a column, or the format allows all fields instead.
 fn has_columns(sheet: &Sheet) -> bool
     ensures { result ≡ has_columns sheet.now.columns sheet.now.format sheet.now.joint }
 {
@@ -255,7 +255,7 @@ fn has_columns(sheet: &Sheet) -> bool
     }
 }
 
-/// What is asked for, where there is a column. Without a name the standard input is read.
+/// Returns the parsed command line if it has a column. Without names, standard input is read.
 fn whole(alloc: Global, asked: Asked) -> Result<Asked, WordFault>
     ensures ok { IfOk result (λ a. wholly asked ≡ Ok a) }
     ensures fault { IfErr result (λ e. e ≢ E.NoMemory → wholly asked ≡ Err e) }
@@ -270,7 +270,7 @@ fn whole(alloc: Global, asked: Asked) -> Result<Asked, WordFault>
     Ok(asked)
 }
 
-/// The last word, or the empty one.
+/// Returns the last word, or the empty word if there is none.
 fn last_of(words: &[String]) -> &str
     ensures { result.now ≡ last_of [] (words_of words.now) }
 {
@@ -280,7 +280,7 @@ fn last_of(words: &[String]) -> &str
     }
 }
 
-/// What the words ask for, which are those after the program's name, or their first fault.
+/// Parses the words after the program's name. Returns the first fault if there is one.
 pub fn read_words(alloc: Global, words: &[String]) -> Result<Asked, WordFault>
     ensures ok { IfOk result (λ asked. reading (words_of words.now) ≡ Ok asked) }
     ensures fault { IfErr result (λ e. e ≢ E.NoMemory → reading (words_of words.now) ≡ Err e) }

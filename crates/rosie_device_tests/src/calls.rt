@@ -34,7 +34,7 @@ fn words_are_a_command(rt: HostRuntime) -> Result<(), Fail> {
     Ok(())
 }
 
-/// The set of one text, in which a day has two digits.
+/// Returns the set of one text, in which a day has two digits.
 fn days<F: Files>(alloc: Global, files: &mut F) -> Result<PackageSet, Fail> {
     let mut roots = Roots::new(alloc);
     roots.push(Root::Given(Chars::from_str(alloc, "day = [0-9]{2}")?))?;
@@ -43,7 +43,7 @@ fn days<F: Files>(alloc: Global, files: &mut F) -> Result<PackageSet, Fail> {
     Ok(set)
 }
 
-/// The program of `{day "."}`.
+/// Returns the program of `{day "."}`.
 fn program(alloc: Global) -> Result<Program, Fail> {
     let mut files = SureFiles::new(Tree::new(alloc));
     let mut set = days(alloc, &mut files)?;
@@ -65,7 +65,7 @@ fn program(alloc: Global) -> Result<Program, Fail> {
     Ok(program)
 }
 
-/// What the program makes of the line, and the scratch that holds the captures.
+/// Returns the program's answer on the line, and the scratch that holds the captures.
 fn answer_on<L: Ledger>(
     alloc: Global,
     program: &Program,

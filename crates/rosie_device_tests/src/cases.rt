@@ -1,22 +1,23 @@
-// A run of each command, and what comes of it where one call fails.
+// A run of each command, and its results when one call fails.
 //
-// A row tells what is written on `out`, and after the `!` on `err`. A `¶` stands for a line feed,
-// and `…` for all that is written there where no call fails. The first row of a device is for its
-// first call, and so on to its last.
+// A row shows what is written on `out`, and after the `!` what is written on `err`. A `¶` is a
+// line feed, and `…` is all that is written there if no call fails. The first row of a device
+// is for its first call, the last row for its last call.
 //
-// A line is answered once its line feed, or the end, was read, and before more is read. A text for
-// `out` is written before one for `err`, and flushed before it. Where a read of an input may wait,
-// what was written since the last one is flushed first, on both, in a session too. At the end both
-// are flushed. What a file says is known before anything is written.
+// A line is answered once its line feed, or the end, has been read, and before more is read. A
+// text for `out` is written before one for `err`, and flushed before it. If a read of an input
+// may wait, what was written since the last read is flushed first, on both outputs, in a
+// session too. At the end both are flushed. The contents of a file are known before anything is
+// written.
 use crate::command::{Device, Run};
 use crate::files::CODE;
 use rosie_cli::Status;
 
-/// A run, and what comes of it.
+/// A run, and its results.
 #[derive(Clone, Copy)]
 pub(crate) struct Case {
     pub(crate) run: Run<'static>,
-    /// How it ends, and what is written, where no call fails.
+    /// The status, and the output, if no call fails.
     pub(crate) status: Status,
     pub(crate) out: &'static [u8],
     pub(crate) err: &'static [u8],
@@ -25,7 +26,7 @@ pub(crate) struct Case {
     writes: Writes,
 }
 
-/// What is written where a write or a flush of an output fails: a row for each.
+/// The output if a write or a flush of an output fails: one row for each.
 #[derive(Clone, Copy)]
 struct Writes {
     out: &'static str,
@@ -33,7 +34,7 @@ struct Writes {
 }
 
 impl Case {
-    /// What is written where a call of this device fails: a row for each call.
+    /// Returns the output if a call of this device fails: one row for each call.
     pub(crate) fn rows(&self, device: Device) -> &'static str {
         match device {
             Device::Files => self.files,
@@ -48,7 +49,7 @@ pub(crate) const CASES: [Case; 12] = [
     MATCH, GREP, TEST, LIST, EXPAND, TRACE, SAMPLE, REPL, COMPILE, CODE_FILE, CLASS, MISSING,
 ];
 
-/// One text on `out`, in one write; then both are flushed.
+/// One text on `out`, in one write; then both outputs are flushed.
 const ONE_TEXT: Writes = Writes {
     out: "\
         !
@@ -56,7 +57,8 @@ const ONE_TEXT: Writes = Writes {
     err: "…!",
 };
 
-/// A text on `out`, for a line of a file, and a fault on `err`, for one of the standard input.
+/// A text on `out`, for a line of a file, and a fault on `err`, for a line of the standard
+/// input.
 const TEXT_AND_FAULT: Writes = Writes {
     out: "\
         !
@@ -76,14 +78,14 @@ const BAD_LINE: &str = "\
         …!rosie: -: read failed¶
         …!rosie: -:1: not UTF-8¶rosie: -: read failed¶";
 
-/// Rules take three calls: the file is opened, and has a read and the end.
+/// Loading rules takes three calls: the open of the file, a read, and the end.
 const X_RULES: &str = "\
         !rosie: x.rpl: read failed¶
         !rosie: x.rpl: read failed¶
         !rosie: x.rpl: read failed¶";
 
-/// A pattern of an imported package, on two files, and on the standard input between them. Calls
-/// move a few bytes.
+/// A pattern of an imported package, on two files, and on the standard input between them. Each
+/// call moves a few bytes.
 const MATCH: Case = Case {
     run: Run {
         words: "match --steps -o line --libpath lib p.ab f - g",
@@ -94,8 +96,8 @@ const MATCH: Case = Case {
     out: b"ab1\nab2\nab3\nab4\n",
     err: b"steps 7\nsteps 4\nsteps 7\nrosie: -:2: not UTF-8\n\
         steps 7\nrosie: g:1: not UTF-8\nsteps 7\n",
-    // The package is opened, and has three reads and the end; `f` is opened, and has a read and the
-    // end, and so has `g`.
+    // The calls are the open of the package, three reads and the end, and for `f` and then `g`
+    // the open, a read and the end.
     files: "\
         !rosie: lib/p.rpl: read failed¶
         !rosie: lib/p.rpl: read failed¶
@@ -117,9 +119,9 @@ const MATCH: Case = Case {
         ab1¶ab2¶!steps 7¶steps 4¶steps 7¶rosie: -:2: not UTF-8¶rosie: -: read failed¶
         ab1¶ab2¶ab3¶!steps 7¶steps 4¶steps 7¶rosie: -:2: not UTF-8¶steps 7¶rosie: -: read failed¶",
     writes: Writes {
-        // Each answer takes two writes, and a flush, since its steps are reported. A line without
-        // an answer takes a flush for that alone. One more comes where no whole line is left that
-        // was read, and at the end.
+        // Each answer takes two writes, and a flush, since its steps are reported. A line
+        // without an answer takes a flush for that alone. One more flush follows when no whole
+        // line that was read is left, and one at the end.
         out: "\
         !
         ab1!
@@ -141,8 +143,8 @@ const MATCH: Case = Case {
         ab1¶ab2¶ab3¶ab4!steps 7¶steps 4¶steps 7¶rosie: -:2: not UTF-8¶steps 7¶rosie: g:1: not UTF-8¶
         …!steps 7¶steps 4¶steps 7¶rosie: -:2: not UTF-8¶steps 7¶rosie: g:1: not UTF-8¶
         …!…",
-        // The steps of a line take one write and each fault takes two; a flush comes where no
-        // whole line is left that was read, and at the end.
+        // The steps of a line take one write, and each fault takes two. A flush follows when no
+        // whole line that was read is left, and one at the end.
         err: "\
         ab1¶!
         ab1¶!steps 7¶
@@ -161,7 +163,7 @@ const MATCH: Case = Case {
     },
 };
 
-/// The rules and the file take three calls each: it is opened, and has a read and the end.
+/// The rules and the file take three calls each: the open, a read, and the end.
 const GREP: Case = Case {
     run: Run {
         words: "grep -a -f r.rpl n f -",
@@ -200,7 +202,7 @@ const GREP: Case = Case {
     },
 };
 
-/// The file is read twice, for its rules and for its tests. One test isn't met, and one is over its
+/// The file is read twice, for its rules and for its tests. One test fails, and one exceeds its
 /// budget.
 const TEST: Case = Case {
     run: Run {
@@ -263,7 +265,7 @@ const EXPAND: Case = Case {
     writes: ONE_TEXT,
 };
 
-/// Only the file has a line that is traced.
+/// Only the file has a line to trace.
 const TRACE: Case = Case {
     run: Run {
         words: "trace {\"a\"!\"b\"} h -",
@@ -343,7 +345,7 @@ const COMPILE: Case = Case {
     writes: ONE_TEXT,
 };
 
-/// The code has its three calls, and then the input `h`.
+/// The code takes three calls. Then the input `h` is read.
 const CODE_FILE: Case = Case {
     run: Run {
         words: "match --code-file x.code -o line h -",
@@ -378,7 +380,7 @@ const CLASS: Case = Case {
     writes: ONE_TEXT,
 };
 
-/// What is refused says so on `err` alone.
+/// A refusal is reported on `err` alone.
 const MISSING: Case = Case {
     run: Run {
         words: "match -f none.rpl x",

@@ -1,4 +1,4 @@
-// One run of the command over files and streams in memory, of which one call fails.
+// One run of the command over files and streams in memory, in which one call fails.
 ghost use Rattle.std.specs.Prelude.{◌≡◌, ◌<◌, ◌≤◌};
 
 use crate::files::tree;
@@ -9,10 +9,10 @@ use std::alloc::Global;
 use std::marker::Brand;
 use std::sync::ledger::{Blank, Ledger};
 
-/// How much each sink has room for, in bytes.
+/// The room of each sink, in bytes.
 const ROOM: usize = 10_000;
 
-/// What the command calls.
+/// The devices that the command calls.
 #[derive(Clone, Copy, PartialEq)]
 pub(crate) enum Device {
     Files,
@@ -21,7 +21,7 @@ pub(crate) enum Device {
     Err,
 }
 
-/// The call of a device that fails, counted from 1. With 0 none does.
+/// The call of a device that fails, counted from 1. With 0 no call fails.
 #[derive(Clone, Copy)]
 pub(crate) struct Fault {
     pub(crate) device: Device,
@@ -34,19 +34,19 @@ pub(crate) const NO_FAULT: Fault = Fault {
     call: 0,
 };
 
-/// What the command is run on, beside the files.
+/// The inputs of the command, apart from the files.
 #[derive(Clone, Copy)]
 pub(crate) struct Run<'a> {
-    /// The words, with a space between two.
+    /// The words, separated by spaces.
     pub(crate) words: &'a str,
-    /// What the standard input has.
+    /// The contents of the standard input.
     pub(crate) input: &'a [u8],
-    /// Whether a call moves only a few bytes: 8 of a file, 3 of the input and of `out`, and 20 of
-    /// `err`.
+    /// Whether a call moves only a few bytes: 8 of a file, 3 of the input and of `out`, and 20
+    /// of `err`.
     pub(crate) in_pieces: bool,
 }
 
-/// What the command calls in one run.
+/// The devices of one run.
 #[derive(Drop)]
 struct Devices {
     files: MemoryFiles,
@@ -55,7 +55,7 @@ struct Devices {
     err: MemorySink,
 }
 
-/// How the run ended, and what it wrote.
+/// The status of the run, and what it wrote.
 #[derive(Drop)]
 pub(crate) struct Outcome {
     pub(crate) status: Status,
@@ -71,7 +71,7 @@ pub(crate) fn words_of(alloc: Global, text: &str) -> Result<Vec<String>, NoMemor
     Ok(words)
 }
 
-/// How many bytes a call of this device moves at the most.
+/// Returns the most bytes that a call of this device moves.
 fn most_of(run: &Run<'_>, device: Device) -> usize
     ensures { 1 ≤ result }
 {
@@ -85,7 +85,7 @@ fn most_of(run: &Run<'_>, device: Device) -> usize
     }
 }
 
-/// The calls of this device that fail.
+/// Returns the calls of this device that fail.
 fn failing(alloc: Global, fault: Fault, device: Device) -> Result<Calls, NoMemory> {
     let call = if fault.device == device {
         fault.call
@@ -129,7 +129,7 @@ impl Devices {
         })
     }
 
-    /// What was written, by a run that ended so.
+    /// Returns the outcome of a run that ended with this status.
     fn outcome(&self, alloc: Global, status: Status) -> Result<Outcome, NoMemory> {
         let out = self.out.written().to_vec(alloc)?;
         let err = self.err.written().to_vec(alloc)?;
@@ -137,7 +137,7 @@ impl Devices {
     }
 }
 
-/// Runs the command where this call fails.
+/// Runs the command. The call `fault` fails.
 pub(crate) fn run_on(alloc: Global, run: &Run<'_>, fault: Fault) -> Result<Outcome, NoMemory> {
     let words = words_of(alloc, run.words)?;
     let mut devices = Devices::new(alloc, run, fault)?;

@@ -2,13 +2,13 @@
 use rosie_io::{Bytes, NoMemory, Tree, TreeFile};
 use std::alloc::Global;
 
-/// The code file of the pattern `"a"`: one set of one range, one text, and the code `open 0`, `set
-/// 0`, `close`, `finish`.
+/// The code file of the pattern `"a"`: one set of one range, one text, and the code `open 0`,
+/// `set 0`, `close`, `finish`.
 pub(crate) const CODE: &[u8] = b"\
 RPLCODE1\0\0\0\x01\0\0\0\x01\0\0\0a\0\0\0a\0\0\0\x01\0\0\0\0\0\0\0\x01*\
 \0\0\0\x04\x0d\0\0\0\0\x01\0\0\0\0\x0e\x10";
 
-/// Three tests: one is met, one isn't, and one needs a step for each of its 40 characters.
+/// Three tests: one passes, one fails, and one needs a step for each of its 40 characters.
 const TESTS: &[u8] = b"\
 q = \"a\"
 p = {{q \"x\"} / \"ab\"}
@@ -18,7 +18,7 @@ r = \"a\"*
 -- test r accepts \"aaaaaaaaaaaaaaaaaaaaaaaaaaaaaaaaaaaaaaaa\"
 ";
 
-/// Each file with its path.
+/// The files, each with its path.
 const FILES: [(&[u8], &[u8]); 9] = [
     (b"f", b"ab1\nx\n"),
     (b"g", b"\xff\nab4"),
@@ -37,7 +37,7 @@ fn put(alloc: Global, tree: &mut Tree, path: &[u8], bytes: &[u8]) -> Result<(), 
     tree.push(TreeFile { path, bytes })
 }
 
-/// All of the files.
+/// Returns all of the files.
 pub(crate) fn tree(alloc: Global) -> Result<Tree, NoMemory> {
     let mut tree = Tree::new(alloc);
     for (path, bytes) in FILES {

@@ -1,8 +1,14 @@
-//! Tests of what a process doesn't show. A run of each command over files and streams in memory, in
-//! which each call of each device fails in turn: what is written, byte for byte, and the status,
-//! worked by hand. Trees in JSON, as `serde_json` reads them again. Calls of the system that a
-//! signal interrupts. The calls of a list. The public calls from words and a pattern to an answer,
-//! whose comments have their examples from there. Nothing stands on this crate.
+//! Tests of what a process doesn't show:
+//!
+//! - a run of each command over files and streams in memory, in which each call of each device
+//!   fails in turn, with the status and every byte of the output worked out by hand;
+//! - trees in JSON, read again by `serde_json`;
+//! - calls of the system that a signal interrupts;
+//! - the calls of a list;
+//! - the public calls, from words and a pattern to an answer. The examples in the comments of
+//!   these calls are taken from here.
+//!
+//! No other crate depends on this one.
 #![tactic(auto)]
 
 #[cfg(test)]

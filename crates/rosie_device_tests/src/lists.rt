@@ -1,4 +1,4 @@
-// The calls of a list, each once.
+// Each call of a list, once.
 use rpl_list::List;
 use std::test::Fail;
 

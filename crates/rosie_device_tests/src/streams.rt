@@ -1,9 +1,11 @@
-// What no contract says of the streams of std: a call that a signal interrupts is made again.
+// A promise that no contract makes for the streams of std: a call that a signal interrupts is
+// made again.
 use rosie_io::{ReadAnswer, Source, StdSink, StdSource, write_all};
 use std::io;
 use std::io::{Read, Write};
 
-/// It is interrupted so often; then it is at its end, and takes all that is written.
+/// A stream that is interrupted this many times; then it is at its end, and takes all that is
+/// written.
 #[derive(Drop)]
 struct Interrupted(u8);
 

@@ -5,7 +5,8 @@ use rosie_io::NoMemory;
 use std::alloc::Global;
 use std::test::Fail;
 
-/// What was written on an output, as the rows have it. `all` is what it has where no call fails.
+/// Returns what was written on an output, as the rows show it. `all` is what is written there
+/// if no call fails.
 fn shown(alloc: Global, written: &[u8], all: &[u8]) -> Result<String, NoMemory> {
     if !all.is_empty() && written == all {
         return String::from_str(alloc, "…");
@@ -14,14 +15,14 @@ fn shown(alloc: Global, written: &[u8], all: &[u8]) -> Result<String, NoMemory> 
     text.as_str().replace(alloc, '\n', "¶")
 }
 
-/// What was written, as a row.
+/// Returns what was written, as a row.
 fn row_of(alloc: Global, case: &Case, got: &Outcome) -> Result<String, NoMemory> {
     let out = shown(alloc, got.out.as_slice(), case.out)?;
     let err = shown(alloc, got.err.as_slice(), case.err)?;
     format!(in alloc; "{out}!{err}")
 }
 
-/// How a run ends of which a call of this device fails.
+/// Returns the status of a run in which a call of this device fails.
 fn status_of(device: Device) -> Status {
     match device {
         Device::Files | Device::Input => Status::ReadFault,
@@ -29,13 +30,13 @@ fn status_of(device: Device) -> Status {
     }
 }
 
-/// Was all written that is written where no call fails?
+/// Returns whether the status and the outputs are those of a run in which no call fails.
 fn is_whole(case: &Case, got: &Outcome) -> bool {
     got.status == case.status && got.out.as_slice() == case.out && got.err.as_slice() == case.err
 }
 
-/// The first row of a device that isn't what comes of its call, or nothing. After its last call no
-/// call fails.
+/// Returns the first row of a device that differs from the result of its call, or an empty
+/// text. After the last call of the device no call fails.
 fn first_other(alloc: Global, case: &Case, device: Device) -> Result<&'static str, NoMemory> {
     let mut call = 1u64;
     for row in case.rows(device).lines() {
@@ -65,7 +66,7 @@ fn each_call_of_each_device_fails_in_turn(rt: HostRuntime) -> Result<(), Fail> {
     Ok(())
 }
 
-/// Was all of both outputs written, or a front of each where memory ran out?
+/// Returns whether both outputs are whole, or a prefix of each was written and memory ran out.
 fn is_front(case: &Case, got: &Outcome) -> bool {
     if got.status == Status::NoMemory {
         case.out.starts_with(got.out.as_slice()) && case.err.starts_with(got.err.as_slice())
@@ -74,7 +75,7 @@ fn is_front(case: &Case, got: &Outcome) -> bool {
     }
 }
 
-/// Where an allocation fails (`rt try --test --fail-alloc N`), what was written is a front.
+/// If an allocation fails (`rt try --test --fail-alloc N`), what was written is a prefix.
 #[test]
 fn out_of_memory_leaves_a_front(rt: HostRuntime) {
     for case in CASES {

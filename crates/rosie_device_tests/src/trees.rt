@@ -5,14 +5,15 @@ use serde_json::Value;
 use std::alloc::Global;
 use std::test::Fail;
 
-/// So many pairs of parentheses, one in the other.
+/// Returns this many pairs of parentheses, nested.
 fn nest(alloc: Global, pairs: usize) -> Result<String, NoMemory> {
     let mut line = "(".repeat(alloc, pairs)?;
     line.push_str(")".repeat(alloc, pairs)?.as_str())?;
     Ok(line)
 }
 
-/// What the command answers to such a line: a node for each pair, under that of the pair around it.
+/// Returns the answer of the command to such a line: a node for each pair, below that of the
+/// pair around it.
 fn answer(alloc: Global, line: &str) -> Result<Vec<u8>, NoMemory> {
     let run = Run {
         words: "match -f nest.rpl p",
@@ -30,7 +31,7 @@ fn number_of(node: &Value, name: &str) -> Option<u64> {
     node.get(name).and_then(Value::as_u64)
 }
 
-/// The one node below.
+/// Returns the only node below.
 fn below(node: &Value) -> Option<&Value> {
     match node.get("subs").and_then(Value::as_array)?.as_slice() {
         [only] => Some(only),
@@ -38,7 +39,8 @@ fn below(node: &Value) -> Option<&Value> {
     }
 }
 
-/// Is this the node of the pair with so many around it, but for what is below?
+/// Returns whether this is the node of the pair that is inside `around` others, apart from the
+/// nodes below it.
 fn is_pair(node: &Value, line: &str, around: usize) -> bool {
     let end = line.len().saturating_sub(around);
     text_of(node, "type") == Some("p")
@@ -47,7 +49,7 @@ fn is_pair(node: &Value, line: &str, around: usize) -> bool {
         && text_of(node, "data") == line.get(around..end)
 }
 
-/// How many members the node has.
+/// Returns the number of members of the node.
 fn members(node: &Value) -> usize {
     match node.as_object() {
         Some(members) => members.len(),
@@ -55,7 +57,7 @@ fn members(node: &Value) -> usize {
     }
 }
 
-/// Is this the tree of such a line, without any other member?
+/// Returns whether this is the tree of such a line, without any other member.
 fn is_tree(tree: &Value, line: &str) -> bool {
     let pairs = line.len() / 2;
     let mut node = tree;
@@ -72,8 +74,8 @@ fn is_tree(tree: &Value, line: &str) -> bool {
     false
 }
 
-/// `serde_json` reads objects and lists up to 127 deep. A tree that is 64 deep has so many, and one
-/// that is 65 deep two more.
+/// `serde_json` reads objects and lists up to 127 deep. A tree that is 64 nodes deep needs just
+/// that depth, and one that is 65 deep needs two more.
 #[test]
 fn trees_are_read_again(rt: HostRuntime) -> Result<(), Fail> {
     let alloc = rt.alloc();

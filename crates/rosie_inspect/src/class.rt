@@ -7,7 +7,7 @@ use rpl_classes::Set;
 use rpl_core::NoMemory;
 use rpl_print::push_hexadecimal;
 
-/// Adds a range by its first and its last character, or by its only one.
+/// Appends a range: its first and its last character, or its only one.
 fn push_range(out: &mut String, range: (u32, u32)) -> Result<(), NoMemory>
     ensures { OnOk result (string_bytes out.new ≡ string_bytes out.old ++ range_text range) }
 {
@@ -20,7 +20,7 @@ fn push_range(out: &mut String, range: (u32, u32)) -> Result<(), NoMemory>
     push_hexadecimal(out, last)
 }
 
-/// Adds ranges, a line for each.
+/// Appends ranges, one per line.
 fn push_ranges(out: &mut String, ranges: &[(u32, u32)]) -> Result<(), NoMemory>
     ensures { OnOk result (string_bytes out.new ≡ string_bytes out.old
         ++ flat_map line_of ranges.now) }
@@ -32,8 +32,8 @@ fn push_ranges(out: &mut String, ranges: &[(u32, u32)]) -> Result<(), NoMemory>
     Ok(())
 }
 
-/// Adds the text of a set: a line for each of its ranges, in hexadecimal, or `none` where it has no
-/// character.
+/// Appends the text of a set: its ranges in hexadecimal, one per line, or `none` if the set has
+/// no character.
 pub fn push_class(out: &mut String, set: &Set) -> Result<(), NoMemory>
     ensures { OnOk result (string_bytes out.new ≡ string_bytes out.old ++ class_text set.now) }
 {

@@ -18,7 +18,7 @@ use rpl_print::push_text;
 use rpl_syntax::{Expr, print_expr};
 use std::alloc::Global;
 
-/// Adds the line of a rule.
+/// Appends the line of a rule.
 fn push_rule(out: &mut String, rules: &Rules, rule: &Rule) -> Result<(), NoMemory>
     ensures { OnOk result (string_bytes out.new
         ≡ string_bytes out.old ++ rule_line (names_of (rules_of rules.now)) (row_at rule.now)) }
@@ -29,7 +29,7 @@ fn push_rule(out: &mut String, rules: &Rules, rule: &Rule) -> Result<(), NoMemor
     out.push_str("\n")
 }
 
-/// Adds the line of the rule with this number, if it is marked.
+/// Appends the line of the rule with this number, if it is marked.
 fn push_marked(out: &mut String, rules: &Rules, marks: &[bool], number: u32) -> Result<(), NoMemory>
     requires { number < length marks.now }
     ensures { let rule = slice_get (rows_of (rules_of rules.now)) number in
@@ -45,7 +45,7 @@ fn push_marked(out: &mut String, rules: &Rules, marks: &[bool], number: u32) -> 
     }
 }
 
-/// Adds the lines of the marked rules in the order of the table.
+/// Appends the lines of the marked rules, in the order of the table.
 fn push_rules(out: &mut String, rules: &Rules, marks: &[bool]) -> Result<(), NoMemory>
     requires { length marks.now ≡ length (rules_of rules.now) }
     ensures { let rows = rows_of (rules_of rules.now) in
@@ -58,7 +58,7 @@ fn push_rules(out: &mut String, rules: &Rules, marks: &[bool]) -> Result<(), NoM
     Ok(())
 }
 
-/// Adds the pattern as it is written, and its core.
+/// Appends the pattern as it is written, and its core.
 fn push_pattern(
     alloc: Global,
     out: &mut String,
@@ -77,9 +77,9 @@ fn push_pattern(
     out.push_str("\n")
 }
 
-/// The text of a pattern that is the expression `expr` and has the core `goal` over these rules:
-/// the pattern as it is written, its core, and in the order of the table the core of each rule that
-/// it reaches.
+/// Returns the text of a pattern that is the expression `expr` and has the core `goal` over
+/// these rules: the pattern as it is written, its core, and the core of each rule that it
+/// reaches, in the order of the table.
 pub fn expansion_text(
     alloc: Global,
     expr: &Expr,

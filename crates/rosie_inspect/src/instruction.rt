@@ -11,7 +11,7 @@ ghost use Rattle.rosie_inspect.specs.Listing.{instr_text};
 use rpl_core::{Instr, NoMemory, Program};
 use rpl_print::{push_decimal, push_quoted, push_set};
 
-/// Adds an instruction of a program.
+/// Appends an instruction of a program.
 pub(crate) fn push_instr(out: &mut String, program: &Program, instr: Instr) -> Result<(), NoMemory>
     ensures { let written = instr_text (instr_of (sets_of program.now) (labels_of program.now)
         instr) in
@@ -50,7 +50,7 @@ pub(crate) fn push_instr(out: &mut String, program: &Program, instr: Instr) -> R
     }
 }
 
-/// Adds a word and a number.
+/// Appends a word and a number.
 fn push_numbered(out: &mut String, word: &str, number: u32) -> Result<(), NoMemory>
     ensures { OnOk result (string_bytes out.new ≡ string_bytes out.old
         ++ (word.now ++ decimal number)) }
@@ -59,7 +59,7 @@ fn push_numbered(out: &mut String, word: &str, number: u32) -> Result<(), NoMemo
     push_decimal(out, number as u64)
 }
 
-/// Adds a word and the set with this number.
+/// Appends a word and the set with this number.
 fn push_with_set(
     out: &mut String,
     word: &str,
@@ -76,7 +76,7 @@ fn push_with_set(
     }
 }
 
-/// The text with this number.
+/// Returns the text with this number.
 fn label_of(program: &Program, number: u32) -> &str
     ensures { result.now ≡ encode_utf8_all (slice_index_or (labels_of program.now) number []) }
 {

@@ -1,18 +1,18 @@
-// What holds of all that is shown.
+// The laws of the printed texts.
 ghost use Rattle.rosie_inspect.specs.Laws.{LinesFollowNames, OneExpansion, OneNamesText};
 
-/// Some names have one text.
+/// Proves that a list of names has at most one text.
 pub fn one_names_text()
     ensures { OneNamesText }
 {}
 
-/// The lines of names that have no space, and no byte that comes before it, stand in the order of
-/// the names.
+/// Proves that the lines of names are in the order of the names, if no name has a space or a
+/// byte that comes before it.
 pub fn lines_follow_names()
     ensures { LinesFollowNames }
 {}
 
-/// A pattern over some rules has one text.
+/// Proves that a pattern over some rules has at most one text.
 pub fn one_expansion()
     ensures { OneExpansion }
 {}

@@ -1,12 +1,12 @@
-//! What is printed for people who want to see names, patterns, programs and classes: by `list`,
-//! `expand` and `class`.
+//! The texts that `list`, `expand` and `class` print, for people who want to see names,
+//! patterns, programs and classes.
 //!
-//! [`names_text`] is the text of the names that a pattern may use. [`expansion_text`] is that of a
-//! pattern: how it is written, its core, and the core of each rule that it reaches.
-//! [`push_program`] and [`print_program`] give that of a program: a line for each instruction, its
-//! address, a space, and the instruction, with its set or text where the program keeps a number of
-//! one. [`push_class`] adds a line for each range of a set. Each text is exactly the defined one,
-//! and besides, only memory can run out.
+//! [`names_text`] returns the text of the names that a pattern may use. [`expansion_text`]
+//! returns that of a pattern: the pattern as it is written, its core, and the core of each rule
+//! that it reaches. [`push_program`] and [`print_program`] give that of a program, one line per
+//! instruction: the address, a space, and the instruction, with its set or text in place of the
+//! number that the program holds. [`push_class`] appends a line for each range of a set. Each
+//! text is exactly as defined, and nothing can fail for another reason than a lack of memory.
 #![tactic(auto)]
 
 mod class;

@@ -11,7 +11,7 @@ use rpl_print::push_text;
 use rpl_text::Chars;
 use std::alloc::Global;
 
-/// Adds the type of a name's nodes.
+/// Appends the type of a name's nodes.
 fn push_label(line: &mut String, label: &Option<Chars>) -> Result<(), NoMemory>
     ensures { OnOk result (string_bytes line.new ≡ string_bytes line.old ++ label_text label.now) }
 {
@@ -24,7 +24,7 @@ fn push_label(line: &mut String, label: &Option<Chars>) -> Result<(), NoMemory>
     }
 }
 
-/// The line of a name.
+/// Returns the line of a name.
 fn make_line(alloc: Global, listed: &Listed) -> Result<String, NoMemory>
     ensures { IfOk result (λ line. string_bytes line ≡ name_line listed.now) }
 {
@@ -35,7 +35,7 @@ fn make_line(alloc: Global, listed: &Listed) -> Result<String, NoMemory>
     Ok(line)
 }
 
-/// The lines of names, which are let go of: both may take much memory.
+/// Returns the lines of names, and drops the names: both may take much memory.
 fn make_lines(alloc: Global, names: Names) -> Result<Vec<String>, NoMemory>
     ensures { IfOk result (λ lines. map (λ l. string_bytes l) lines.items
         ≡ map name_line names) }
@@ -47,7 +47,7 @@ fn make_lines(alloc: Global, names: Names) -> Result<Vec<String>, NoMemory>
     Ok(lines)
 }
 
-/// Lines one after the other.
+/// Joins lines, one after the other.
 fn join(alloc: Global, lines: &[String]) -> Result<String, NoMemory>
     ensures { IfOk result (λ text. string_bytes text
         ≡ concat (map (λ l. string_bytes l) lines.now)) }
@@ -59,16 +59,16 @@ fn join(alloc: Global, lines: &[String]) -> Result<String, NoMemory>
     Ok(text)
 }
 
-/// A line for each name that a pattern may use, in the order of the lines' bytes: the name, then `
-/// capture ` and the type of its nodes, or ` alias -` where it makes none.
+/// Returns a line for each name that a pattern may use, in the order of the lines' bytes: the
+/// name, then ` capture ` and the type of its nodes, or ` alias -` if it makes none.
 pub fn names_text(alloc: Global, set: &PackageSet) -> Result<String, NoMemory>
     ensures { IfOk result (λ text. IsNamesText (all_listed (set_seen set.now))
         (string_bytes text)) }
 {
     let names = set.names(alloc)?;
     let mut lines = make_lines(alloc, names)?;
-    // They are in this order already, since no name of a set has a character before the space. What
-    // is proved here asks for no such thing.
+    // The lines are in this order already, since no name of a set has a character before the
+    // space. The proof doesn't rely on that.
     lines.sort()?;
     join(alloc, &lines)
 }

@@ -9,7 +9,7 @@ use rpl_print::push_decimal;
 use rpl_text::Chars;
 use std::alloc::Global;
 
-/// Adds the text of a program.
+/// Appends the text of a program.
 pub fn push_program(out: &mut String, program: &Program) -> Result<(), NoMemory>
     ensures { OnOk result (string_bytes out.new ≡ string_bytes out.old
         ++ lines 0 (instructions program.now)) }
@@ -23,7 +23,7 @@ pub fn push_program(out: &mut String, program: &Program) -> Result<(), NoMemory>
     Ok(())
 }
 
-/// The text of a program, a line for each instruction. Addresses count from 0.
+/// Returns the text of a program, one line per instruction. Addresses count from 0.
 pub fn print_program(alloc: Global, program: &Program) -> Result<Chars, NoMemory>
     ensures { IfOk result (λ text. text ≡ chars (lines 0 (instructions program.now))) }
 {

@@ -1,4 +1,4 @@
-// The first line feed of some bytes.
+// The search for the first line feed.
 ghost use Rattle.std.specs.Prelude.{◌≡◌, ◌+◌, ◌≤◌, length};
 ghost use Rattle.std.specs.Int.{trailing_zeros, w64};
 ghost use Rattle.memchr.specs.Find.{IsFirst, IsFirstByte, Nowhere, Passes, is_byte};
@@ -7,10 +7,10 @@ use std::simd::prelude::*;
 
 pub(crate) const LINE_FEED: u8 = b'\n';
 
-/// How many bytes are looked at together.
+/// The number of bytes that are compared together.
 const LANES: usize = 32;
 
-/// The number of the lowest bit that is set, or 64 where none is.
+/// Returns the number of the lowest set bit, or 64 if no bit is set.
 #[inline(always)]
 fn lowest(bits: u64) -> usize
     ensures { result ≡ trailing_zeros w64 bits }
@@ -18,7 +18,7 @@ fn lowest(bits: u64) -> usize
     bits.trailing_zeros() as usize
 }
 
-/// The place of the first line feed among the 32 bytes from a place on.
+/// Returns the offset of the first line feed among the 32 bytes that begin at `from`.
 #[inline(always)]
 fn near_feed(bytes: &[u8], from: usize) -> Option<usize>
     requires { from + 32 ≤ length bytes.now }
@@ -33,7 +33,8 @@ fn near_feed(bytes: &[u8], from: usize) -> Option<usize>
     }
 }
 
-/// The place of the first line feed from a place on, before which there is none.
+/// Returns the offset of the first line feed at `from` or after it. There is none before
+/// `from`.
 fn far_feed(bytes: &[u8], from: usize) -> Option<usize>
     requires { Nowhere (Passes (is_byte 10) bytes.now) 0 from }
     ensures { IsFirstByte (is_byte 10) bytes.now result }
@@ -46,8 +47,8 @@ fn far_feed(bytes: &[u8], from: usize) -> Option<usize>
     None
 }
 
-/// The place of the first line feed. A search for any byte begins with more bytes at once than most
-/// lines have, so it takes longer.
+/// Returns the offset of the first line feed. The search of std for any byte begins with more
+/// bytes at once than most lines have, so it takes longer.
 pub(crate) fn first_feed(bytes: &[u8]) -> Option<usize>
     ensures { IsFirstByte (is_byte 10) bytes.now result }
 {

@@ -1,4 +1,4 @@
-// How far a source in memory has come.
+// The progress of reading from a source in memory.
 ghost use Rattle.std.specs.Prelude.{◌≡◌, ◌+◌, ◌^◌, ◌<◌, ◌≤◌, drop, length};
 ghost use Rattle.rosie_io.specs.Reading.{IsWithin, Reads, taken_after};
 ghost use Rattle.rosie_io.specs.Memory.{gives};
@@ -6,24 +6,24 @@ ghost use Rattle.rosie_io.specs.inside.Giving.{given};
 
 use crate::ReadAnswer;
 
-/// How many bytes were given.
+/// The number of bytes that were given.
 #[derive(Drop)]
 pub struct Progress {
-    /// Of those that it gives from now.
+    /// The number of bytes given of the present contents.
     pub at: usize,
-    /// In all, up to the greatest u64.
+    /// The number of bytes given in all, up to the greatest u64.
     pub taken: u64,
 }
 
 impl Progress {
-    /// Nothing was given.
+    /// Returns a progress of no bytes.
     pub fn new() -> Progress
         ensures { result ≡ record { at = 0; taken = 0 } }
     {
         Progress { at: 0, taken: 0 }
     }
 
-    /// Puts the first of the bytes that are left into the buffer, `most` at most.
+    /// Puts the first of the bytes in `left` into the buffer, at most `most` of them.
     pub fn give(&mut self, left: &[u8], most: usize, buf: &mut [u8]) -> ReadAnswer
         requires some { 0 < length buf.old }
         requires most { 1 ≤ most }

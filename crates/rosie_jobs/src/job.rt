@@ -14,14 +14,14 @@ use rpl_codegen::{CompileFault, compile};
 use rpl_core::Program;
 use std::alloc::Global;
 
-/// A goal that was checked, and the rules that it may call.
+/// A checked goal, and the rules that it may call.
 #[derive(Drop)]
 pub(crate) struct Goal {
     pub(crate) rules: Checked,
     pub(crate) peg: CheckedPeg,
 }
 
-/// A goal and its code, which does what the goal means. The goal means something on every text.
+/// A goal and its code, which does what the goal means. The goal has a meaning on every text.
 #[derive(Drop)]
 pub struct Job {
     pub(crate) goal: Goal,
@@ -34,7 +34,8 @@ impl Job {
     ghost use Rattle.rosie_jobs.specs.Jobs.{job_of, rule_names, IsJobOf};
     ghost use Rattle.rpl_core.specs.Table.{names_of};
 
-    /// Compiles a goal that was checked over these rules. Its code may be too long.
+    /// Compiles a goal that was checked over these rules. Returns an error if its code is too
+    /// long, or if there is not enough memory.
     pub fn new(alloc: Global, rules: Checked, goal: CheckedPeg) -> Result<Job, CompileFault>
         requires { IsWhole (bodies_of rules) (core_of (peg_of goal)) }
         ensures job { IfOk result (λ job. IsJobOf (bodies_of rules) (core_of (peg_of goal))

@@ -1,23 +1,24 @@
-//! What holds of all jobs.
+//! The laws of all jobs.
 
 ghost use Rattle.rosie_jobs.specs.Laws.{RunsAsItsGoal, TracesAgree, OneLoading, WrittenLaw};
 
-/// A trace and a match agree on each line that the limits of both allow.
+/// Proves that a trace and a match agree on each line that the limits of both allow.
 pub fn trace_agrees()
     ensures { TracesAgree }
 {}
 
-/// The code of a goal alone, as a file holds it, makes of each line what the goal makes of it.
+/// Proves that the code of a goal, alone as in a code file, makes the same of each line as the
+/// goal.
 pub fn code_runs_as_its_goal()
     ensures { RunsAsItsGoal }
 {}
 
-/// A file comes to one code, or to one line.
+/// Proves that a file has at most one result: a code, or the line that refuses it.
 pub fn one_loading()
     ensures { OneLoading }
 {}
 
-/// The capture list of some trees writes out just these.
+/// Proves that the capture list of some trees writes out exactly these trees.
 pub fn written_law()
     ensures { WrittenLaw }
 {}

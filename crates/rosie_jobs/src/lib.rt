@@ -1,16 +1,17 @@
-//! What a command makes of each line of its inputs, and where the code of a code file comes from.
+//! The work of a command on each line of its inputs, and the loading of code files.
 //!
-//! A [`Job`] is a goal that was checked, the rules that it may call, and their code. A [`MatchJob`]
-//! runs the code on each line and prints what it matched, as [`Settings`] say; it does so too with
-//! a code that has no goal, if that is safe. A [`TraceJob`] prints the evaluations of the goal.
-//! Each is a [`LineJob`], which makes texts and sees no output; for `rosie_cli`, which plans a
-//! command and runs its job. `specs/Lines.antt` and `specs/Traces.antt` say what is made of a line,
-//! and `specs/Limits.antt` which lines every limit allows; `specs/Laws.antt` says that a trace and
-//! a match agree there, and that a goal's code alone makes of a line what the goal makes of it.
+//! The crate serves `rosie_cli`, which plans a command and runs its job. A [`Job`] is a checked
+//! goal, the rules that it may call, and their code. A [`MatchJob`] runs the code on each line
+//! and prints what it matched, as [`Settings`] say; it also runs safe code that has no goal. A
+//! [`TraceJob`] prints the evaluations of the goal. Both are a [`LineJob`], which makes texts
+//! and sees no output. `specs/Lines.antt` and `specs/Traces.antt` define the result for a line,
+//! and `specs/Limits.antt` the lines that every limit allows. `specs/Laws.antt` states that a
+//! trace and a match agree on these, and that the code of a goal alone makes the same of a line
+//! as the goal.
 //!
-//! [`load_code`] reads a code file, which may be a stranger's, and lets nothing pass but the one
-//! spelling of a safe code. `specs/Loaded.antt` says what comes of each file; a read fault comes
-//! only where a read or an open failed, and the file is closed on every way out.
+//! [`load_code`] reads a code file, which may come from a stranger, and accepts only the one
+//! spelling of a safe code. `specs/Loaded.antt` defines the result for each file. A read fault
+//! is reported only if a read or an open failed, and the file is closed on every path out.
 #![tactic(auto)]
 
 mod job;

@@ -1,4 +1,4 @@
-//! The run of a program on a line, and what is printed of it.
+//! The run of a program on a line, and the printing of its answer.
 
 ghost use Rattle.std.specs.Prelude.{◌≡◌, ◌⊎◌, ◌≤◌, ◌^◌, ◌+◌, Some, length, chars, string_bytes};
 ghost use Rattle.std.specs.Prelude.{IfOk, OnOk, IsTrue};
@@ -24,11 +24,11 @@ use rpl_tree::Forest;
 use std::alloc::{AllocError, Global};
 use std::sync::ledger::Ledger;
 
-/// How many entries the machine's lists have room for from the start.
+/// The number of entries for which the machine's lists have room at the start.
 const ENTRIES: u64 = 65_536;
 
-/// Runs a program on one line after the other, and prints what it matched. All of its memory is
-/// kept from line to line.
+/// The run of a program on one line after the other, with the printing of its matches. All
+/// memory is kept from line to line.
 #[derive(Drop)]
 pub(crate) struct LineRun {
     pub(crate) settings: Settings,
@@ -38,7 +38,7 @@ pub(crate) struct LineRun {
     pub(crate) texts: Texts,
 }
 
-/// The text of a line. A call's answer is known to be text, which isn't known of a field.
+/// Returns the text of a line. The answer of a call is known to be text; that of a field isn't.
 #[inline(always)]
 fn text_of(line: InputLine<'_>) -> &str
     ensures { result.now ≡ line.entry.text.now }
@@ -46,7 +46,8 @@ fn text_of(line: InputLine<'_>) -> &str
     line.text
 }
 
-/// How many characters a line has. Where it is known that all of its bytes are ASCII, each is one.
+/// Returns the number of characters of a line. If all of its bytes are known to be ASCII, each
+/// is one.
 fn characters(line: &str, is_ascii: bool) -> u64
     requires fits { length line.now ≤ 2 ^ 30 }
     requires ascii { IsTrue is_ascii → IsAscii line.now }
@@ -59,8 +60,9 @@ fn characters(line: &str, is_ascii: bool) -> u64
     line.chars().count() as u64
 }
 
-/// The steps that a line may take: those that are given, else a million, and a thousand for each of
-/// its characters. It may be known that all bytes of the line are ASCII.
+/// Returns the number of steps that a line may take: the given one, or by default a million,
+/// and a thousand for each character of the line. With `is_ascii`, all bytes of the line are
+/// ASCII.
 pub fn budget_or(given: Option<u64>, line: &str, is_ascii: bool) -> u64
     requires fits { length line.now ≤ 2 ^ 30 }
     requires ascii { IsTrue is_ascii → IsAscii line.now }
@@ -72,8 +74,8 @@ pub fn budget_or(given: Option<u64>, line: &str, is_ascii: bool) -> u64
     }
 }
 
-/// Makes the trees of these captures, unless a style prints the same of all trees: then those of an
-/// earlier line stay.
+/// Makes the trees of the captures, unless the style prints the same for all trees: then those
+/// of an earlier line stay.
 fn make_trees(forest: &mut Forest, captures: &[Caught], style: Style) -> Result<(), NoMemory>
     ensures { OnOk result (IgnoresTrees style ⊎ BuildsEach captures.now forest.new) }
 {
@@ -84,7 +86,7 @@ fn make_trees(forest: &mut Forest, captures: &[Caught], style: Style) -> Result<
 }
 
 impl LineRun {
-    /// Runs of this program.
+    /// Returns the memory for runs of this program.
     pub(crate) fn new(
         alloc: Global,
         settings: Settings,
@@ -104,7 +106,8 @@ impl LineRun {
         })
     }
 
-    /// Prints the answer of the run before, which matched. Whether it isn't too long.
+    /// Prints the answer of the last run, which matched. Returns whether the answer is short
+    /// enough.
     fn print_match(&mut self, line: &str) -> Result<bool, NoMemory>
         ensures settings { self.new.settings ≡ self.old.settings }
         ensures fronts { self.new.fronts ≡ self.old.fronts }
@@ -118,7 +121,7 @@ impl LineRun {
             .print(style, line, Some(&self.forest), &self.fronts)
     }
 
-    /// Makes the piece of a line, whatever outcome the run shows.
+    /// Makes the piece of a line, for every outcome that the run shows.
     #[inline(always)]
     pub(crate) fn answer<L: Ledger>(
         &mut self,

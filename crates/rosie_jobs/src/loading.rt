@@ -1,4 +1,4 @@
-// From a code file to its program.
+// The loading of a program from a code file.
 ghost use Rattle.std.specs.Prelude.{◌≡◌, ◌≢◌, ◌<◌, ◌≤◌, ◌-◌, ◌^◌, ℕ, Some, false, codes, length};
 ghost use Rattle.std.specs.Prelude.{IfOk};
 ghost use Rattle.rosie_jobs.specs.Loaded.{IsRead};
@@ -19,7 +19,8 @@ use std::alloc::Global;
 /// The longest code file that is read, in bytes.
 const MAX_CODE_BYTES: usize = 67_108_864;
 
-/// The refusal of the file with these words, if there is memory for its line.
+/// Returns the refusal of the file with this message, or `NoMemory` if there is no room for its
+/// line.
 fn refused(alloc: Global, path: &str, text: &str) -> Unloaded
     ensures { Refuses path.now text.now result }
 {
@@ -29,7 +30,7 @@ fn refused(alloc: Global, path: &str, text: &str) -> Unloaded
     }
 }
 
-/// What a fault of a file that needn't be text comes to.
+/// Returns the refusal for the fault of a file that needn't be text.
 fn of_file(alloc: Global, path: &str, fault: FileFault) -> Unloaded
     requires { fault ≢ FileFault.NotText }
     ensures { IsToldOfFile path.now fault result }
@@ -43,7 +44,7 @@ fn of_file(alloc: Global, path: &str, fault: FileFault) -> Unloaded
     }
 }
 
-/// The program of these bytes.
+/// Reads the program that these bytes spell.
 fn program_of(alloc: Global, path: &str, bytes: &[u8]) -> Result<Program, Unloaded>
     ensures { Reads path.now bytes.now result }
 {
@@ -57,7 +58,8 @@ fn program_of(alloc: Global, path: &str, bytes: &[u8]) -> Result<Program, Unload
     }
 }
 
-/// The program of the code file at that path, or why there is none. Its code is safe.
+/// Loads the program of the code file at `path`. Its code is safe. Returns the reason if the
+/// file gives no program.
 pub fn load_code<F: Files>(alloc: Global, files: &mut F, path: &str) -> Result<Program, Unloaded>
     ensures loads { F.tells → Loads path.now (file_of path.now (F.tree files.old)) result }
     ensures safe { IfOk result (λ program. IsSafe (instructions program)) }

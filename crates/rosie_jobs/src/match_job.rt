@@ -1,4 +1,4 @@
-//! What a match makes of a line.
+//! The matching of lines.
 
 ghost use Rattle.std.specs.Prelude.{◌≡◌, string_bytes, IfOk};
 ghost use Rattle.rpl_core.specs.Program.{instructions, labels_of};
@@ -15,14 +15,14 @@ use rpl_machine::{Memo, Steps};
 use std::alloc::Global;
 use std::sync::ledger::Ledger;
 
-/// Runs a code on each line, and prints what it matched. All of its memory is kept from line to
-/// line.
+/// A job that runs a code on each line, and prints what it matched. All memory is kept from
+/// line to line.
 #[derive(Drop)]
 pub struct MatchJob {
-    /// What the code matches, where it has a goal. Contracts alone read it.
+    /// The goal that the code matches, if there is one. Only contracts read it.
     goal: Option<Goal>,
     program: Program,
-    /// What its runs have learnt of the program.
+    /// What earlier runs have learnt about the program.
     memo: Memo,
     line: LineRun,
     ghost known: { ∥ IsKnown goal (instructions program) ∥₁ },
@@ -35,7 +35,7 @@ impl MatchJob {
     ghost use Rattle.rosie_jobs.specs.Budgets.{Pays};
     ghost use Rattle.rosie_jobs.specs.Makers.{Matches, Runs};
 
-    /// The job of these settings that matches a goal.
+    /// Returns the job that matches a goal with these settings.
     pub fn new(alloc: Global, settings: Settings, job: Job) -> Result<MatchJob, NoMemory>
         ensures maker { IfOk result (λ made. matcher_of made ≡ Matches settings (job_of job)) }
         ensures due { IfOk result (λ made. Pays (matcher_of made)) }
@@ -51,7 +51,7 @@ impl MatchJob {
         })
     }
 
-    /// The job of these settings that runs a code which has no goal. The code is safe.
+    /// Returns the job that runs safe code without a goal, with these settings.
     pub fn of_code(
         alloc: Global,
         settings: Settings,

@@ -1,21 +1,21 @@
-//! How lines are read and reported.
+//! The settings for reading and reporting lines.
 
 use rpl_encode::Style;
 
-/// The longest line that is read, in bytes; of an input that is one line, the longest input.
+/// The most bytes of a line. If the whole input is one line, the most bytes of the input.
 pub const MAX_LINE_BYTES: usize = 16_777_216;
 
-/// What is said of the lines, beside what they are matched with.
+/// The settings for all lines, apart from the pattern.
 #[derive(Clone, Copy, Debug)]
 pub struct Settings {
-    /// How an answer is printed.
+    /// The form in which an answer is printed.
     pub style: Style,
-    /// Whether an input is one line.
+    /// Whether the whole input is one line.
     pub whole: bool,
     /// Whether a line that doesn't match is reported on `err`.
     pub all: bool,
     /// Whether the steps of a line are reported on `err`.
     pub steps: bool,
-    /// The machine's steps that a line may take, where they are given.
+    /// The number of the machine's steps that a line may take, if it is given.
     pub budget: Option<u64>,
 }

@@ -17,7 +17,7 @@ use rpl_encode::{AnswerText, EncodeFault, Fronts, Style};
 use rpl_tree::Forest;
 use std::alloc::{AllocError, Global};
 
-/// What was made of a line, in memory that is kept from line to line.
+/// The texts of the last line, in memory that is kept from line to line.
 #[derive(Drop)]
 pub(crate) struct Texts {
     alloc: Global,
@@ -27,16 +27,16 @@ pub(crate) struct Texts {
     pub(crate) told: String,
 }
 
-/// How the machine's run over a line ended.
+/// The end of the machine's run over a line.
 #[derive(Clone, Copy)]
 pub(crate) struct RunEnd {
     /// Whether the line matched.
     pub(crate) hit: bool,
-    /// How many steps the run made.
+    /// The number of steps that the run made.
     pub(crate) steps: u64,
 }
 
-/// How a line with an answer, and how one that matched counts.
+/// Returns the mark of a line that has an answer.
 fn mark_of(hit: bool) -> Mark
     ensures { result ≡ (if hit then Mark.Hit else Mark.Miss) }
 {
@@ -44,7 +44,7 @@ fn mark_of(hit: bool) -> Mark
 }
 
 impl Texts {
-    /// No texts.
+    /// Returns empty texts.
     pub(crate) fn new(alloc: Global) -> Texts {
         Texts {
             alloc,
@@ -53,7 +53,7 @@ impl Texts {
         }
     }
 
-    /// Prints the answer of a line. Whether it isn't too long.
+    /// Prints the answer of a line. Returns whether the answer is short enough.
     pub(crate) fn print(
         &mut self,
         style: Style,
@@ -74,7 +74,7 @@ impl Texts {
         }
     }
 
-    /// Says that a line has no answer, and why.
+    /// Reports that a line has no answer, and why.
     #[inline(never)]
     pub(crate) fn fault(&mut self, line: InputLine<'_>, text: &str) -> Result<Mark, NoMemory>
         ensures { (cost : ℕ) →
@@ -86,7 +86,7 @@ impl Texts {
         Ok(Mark::Fault)
     }
 
-    /// Adds the line to what is reported, where that is wanted.
+    /// Adds the line to the report, if that is wanted.
     #[inline(always)]
     fn tell_line(&mut self, line: &str, tells: bool) -> Result<(), NoMemory>
         ensures told { OnOk result (string_bytes self.new.told ≡ string_bytes self.old.told
@@ -100,7 +100,7 @@ impl Texts {
         self.told.push_str("\n")
     }
 
-    /// Adds the number of steps to what is reported, where that is wanted.
+    /// Adds the number of steps to the report, if that is wanted.
     #[inline(always)]
     fn tell_steps(&mut self, steps: u64, tells: bool) -> Result<(), NoMemory>
         ensures told { OnOk result (string_bytes self.new.told ≡ string_bytes self.old.told
@@ -114,7 +114,7 @@ impl Texts {
         self.told.push_str(text.as_str())
     }
 
-    /// Says of a line what is reported beside its answer.
+    /// Makes the report on a line that goes beside its answer.
     #[inline(always)]
     fn tell(
         &mut self,
@@ -131,7 +131,7 @@ impl Texts {
         self.tell_steps(steps, settings.steps)
     }
 
-    /// The texts of a line whose answer was printed.
+    /// Completes the texts of a line whose answer was printed.
     #[inline(always)]
     pub(crate) fn say(
         &mut self,

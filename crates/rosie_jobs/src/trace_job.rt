@@ -1,4 +1,4 @@
-//! What `trace` makes of a line.
+//! The tracing of lines.
 
 ghost use Rattle.std.specs.Prelude.{⊤, ◌≡◌, ◌++◌, ◌≤◌, ◌^◌, codes, length, string_bytes, IfOk};
 ghost use Rattle.std.specs.Prelude.{if◌then◌else◌, is_some};
@@ -14,18 +14,18 @@ use rpl_trace::{TraceFault, trace};
 use std::alloc::{AllocError, Global};
 use std::sync::ledger::Ledger;
 
-/// Traces a goal on each line.
+/// A job that traces a goal on each line.
 #[derive(Drop)]
 pub struct TraceJob {
     alloc: Global,
     limit: u32,
     job: Job,
-    /// What was made of the last line.
+    /// The output for the last line.
     out: String,
     err: String,
 }
 
-/// The text of a trace, under the number of its line.
+/// Returns the text of a trace, after the number of its line.
 fn numbered(alloc: Global, number: u64, printed: &Chars) -> Result<String, NoMemory>
     ensures { IfOk result (λ text. string_bytes text
         ≡ codes "line " ++ (decimal number ++ (codes "\n" ++ encode_utf8_all printed.now))) }
@@ -37,7 +37,7 @@ fn numbered(alloc: Global, number: u64, printed: &Chars) -> Result<String, NoMem
     Ok(text)
 }
 
-/// How a line counts whose match ends there, if it matched.
+/// Returns the mark of a line whose match ends at `end`, if it matched.
 fn mark_of(end: Option<usize>) -> Mark
     ensures { result ≡ (if is_some end then Mark.Hit else Mark.Miss) }
 {
@@ -51,7 +51,7 @@ impl TraceJob {
     ghost use Rattle.rosie_jobs.specs.Jobs.{job_of, rule_names, tracer_of};
     ghost use Rattle.rosie_jobs.specs.Makers.{Traces};
 
-    /// The job of this limit: the most work of a line.
+    /// Returns the job that traces a goal. `limit` bounds the work on a line.
     pub fn new(alloc: Global, job: Job, limit: u32) -> TraceJob
         ensures maker { tracer_of result ≡ Traces limit (rule_names job) (job_of job) }
     {

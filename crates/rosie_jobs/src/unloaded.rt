@@ -1,14 +1,14 @@
-// Why there is no program.
+// The reasons why a code file gives no program.
 use rosie_run::NoMemory;
 
-/// Why a code file gives no program.
+/// The reason why a code file gives no program.
 #[derive(Debug, Drop)]
 pub enum Unloaded {
-    /// Memory ran out.
+    /// There is not enough memory.
     NoMemory,
-    /// The file is refused, with this line, which ends with a line feed.
+    /// The file is refused. The text is the line that says so, with its line feed.
     Refused(String),
-    /// The file couldn't be opened or read.
+    /// The file could not be opened or read.
     ReadFault,
 }
 

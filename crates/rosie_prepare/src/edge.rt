@@ -1,4 +1,4 @@
-// From roots and a pattern to what can be run.
+// The preparation of a command, from its roots and its pattern.
 ghost use Rattle.std.specs.Prelude.{◌≡◌, ℕ, List, IfErr, IfOk, encode_utf8_all, false, length, map};
 ghost use Rattle.rosie_io.specs.Loading.{NotFewer};
 ghost use Rattle.rosie_prepare.specs.Answers.{CauseIn, IsAsked, Prepares};
@@ -31,7 +31,7 @@ use rpl_package::{Goal, LibPath, PackageSet, Roots, load, load_pattern};
 use rpl_syntax::Expr;
 use std::alloc::Global;
 
-/// The packages of the roots and of all that they import.
+/// Loads the packages of the roots, and all that they import.
 fn load_roots<F: Files>(
     alloc: Global,
     files: &mut F,
@@ -52,8 +52,8 @@ fn load_roots<F: Files>(
     }
 }
 
-/// The pattern over the packages of its roots, which may grow by its imports; or the line of the
-/// first fault.
+/// Loads the pattern over the packages of its roots, to which its imports are added. Returns
+/// the line of the first fault, if there is one.
 fn load_goal<F: Files>(
     alloc: Global,
     files: &mut F,
@@ -80,7 +80,8 @@ fn load_goal<F: Files>(
     }
 }
 
-/// The rule table of the roots and of all that they import, or the line of the first fault.
+/// Returns the rule table of the roots and of all that they import, or the line of the first
+/// fault.
 pub fn prepare_rules<F: Files>(
     alloc: Global,
     files: &mut F,
@@ -103,11 +104,11 @@ pub fn prepare_rules<F: Files>(
     pass_rules(alloc, set)
 }
 
-/// What a command with a pattern runs, or the line of the first fault.
+/// Prepares a command with a pattern, or returns the line of the first fault.
 ///
-/// All of loading comes first, then what is too large, then what the check finds; in each pass the
-/// rules come before the pattern. What is ready can be compiled as it is, and each name of the
-/// pattern stands for a rule of its packages.
+/// Faults of loading come first, then rules or patterns that are too large, then the faults
+/// that the check finds. Within each pass the rules come before the pattern. The result can be
+/// compiled as it is, and each name in the pattern is a rule of its packages.
 pub fn prepare<F: Files>(
     alloc: Global,
     files: &mut F,

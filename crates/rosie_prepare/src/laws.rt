@@ -1,20 +1,21 @@
-// What holds of all that is wanted.
+// The laws of preparation.
 ghost use Rattle.rosie_prepare.specs.Laws.{OnePreparation, OneReading, OneTable};
 ghost use Rattle.rosie_prepare.specs.Laws.{SomePreparation, SomeReading, SomeTable};
 
-/// Over each tree of files, what is wanted comes to one thing, and to one alone.
+/// Proves that over each tree of files a request has exactly one result.
 pub fn one_preparation()
     ensures some { SomePreparation }
     ensures only { OnePreparation }
 {}
 
-/// The text of a pattern is read as one thing, an expression or its first fault, and as one alone.
+/// Proves that the text of a pattern is read in exactly one way: as an expression, or as its
+/// first fault.
 pub fn one_reading()
     ensures some { SomeReading }
     ensures only { OneReading }
 {}
 
-/// Over each tree of files, roots alone come to one thing, and to one alone.
+/// Proves that over each tree of files roots without a pattern have exactly one result.
 pub fn one_table()
     ensures some { SomeTable }
     ensures only { OneTable }

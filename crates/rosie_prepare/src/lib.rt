@@ -1,18 +1,18 @@
-//! From the roots and the pattern of a command to what can be run, or to the line of the first
-//! fault.
+//! The preparation of a command, from its roots and its pattern to code that can be compiled,
+//! or to the line of the first fault.
 //!
-//! For the command alone. [`prepare`] goes through three passes: it loads the roots, the pattern
-//! and all that they import, expands them to a rule table and the pattern's core, and checks both.
-//! What comes of it is said by one relation, `specs/Prepared.antt`, over the tree of files; a read
-//! fault comes only where a read or an open failed, and every file is closed on the way out.
-//! [`prepare_rules`] is the same for commands without a pattern. That the table is in order, and
-//! that the pattern's core calls its rules and makes one tree, is known of every set that is loaded
-//! (`rpl_load_laws`).
+//! The crate serves the command alone. [`prepare`] makes three passes: it loads the roots, the
+//! pattern and all that they import, expands them to a rule table and the pattern's core, and
+//! checks both. One relation over the tree of files, in `specs/Prepared.antt`, defines the
+//! result. A read fault is reported only if a read or an open failed, and every file is closed
+//! on the way out. [`prepare_rules`] does the same for commands without a pattern. For every
+//! set that is loaded it is proved (`rpl_load_laws`) that the table is in order, and that the
+//! pattern's core calls only rules of the table and makes one tree.
 //!
-//! [`load_line`], [`expand_line`], [`check_line`] and [`compile_line`] are the line by which each
-//! fault is reported, with the file and the byte place where it stands: exactly that of
-//! `specs/Lines.antt`; docs/COMMAND.md has the texts for the user. Out of memory has no line, and
-//! is answered as out of memory.
+//! [`load_line`], [`expand_line`], [`check_line`] and [`compile_line`] return the line that
+//! reports a fault, with its file and byte offset, exactly as `specs/Lines.antt` defines it;
+//! docs/COMMAND.md lists the texts for users. Running out of memory has no line: it is returned
+//! as `NoMemory`.
 #![tactic(auto)]
 
 mod edge;

@@ -1,17 +1,17 @@
-// What is asked for.
+// The request of a command with a pattern.
 use rpl_package::{LibPath, Roots};
 
-/// What a command with a pattern asks for.
+/// The request of a command with a pattern.
 #[derive(Clone, Copy)]
 pub struct PatternRequest<'a> {
     /// The RPL files and texts, in order.
     pub roots: &'a Roots,
-    /// The folders in which imports are looked for, in order.
+    /// The folders that are searched for imports, in order.
     pub folders: &'a LibPath,
-    /// The pattern.
+    /// The text of the pattern.
     pub text: &'a str,
-    /// The pattern is a literal, and not RPL.
+    /// Whether the pattern is a literal, and not RPL.
     pub fixed: bool,
-    /// The pattern is looked for wherever it stands.
+    /// Whether the pattern is searched for at every position of the line.
     pub find: bool,
 }

@@ -1,4 +1,4 @@
-// What is ready to run.
+// The results of preparation.
 use rpl_check::{Checked, CheckedPeg};
 use rpl_package::PackageSet;
 use rpl_syntax::Expr;
@@ -6,7 +6,7 @@ use rpl_syntax::Expr;
 /// A pattern that is ready to be compiled.
 #[derive(Drop)]
 pub struct Prepared {
-    /// The packages: those of the roots, and all that they and the pattern import.
+    /// The packages: those of the roots, and all that the roots and the pattern import.
     pub set: PackageSet,
     /// The pattern's expression.
     pub expr: Expr,
@@ -16,7 +16,7 @@ pub struct Prepared {
     pub goal: CheckedPeg,
 }
 
-/// Rules that are ready, where there is no pattern.
+/// Rules that are ready, for a command without a pattern.
 #[derive(Drop)]
 pub struct PreparedRules {
     /// The packages: those of the roots, and all that they import.

@@ -1,4 +1,4 @@
-// The lines of faults of rules, and of the pattern.
+// The lines that report faults of rules and of the pattern.
 ghost use Rattle.std.specs.Prelude.{◌≡◌, ◌++◌, ◌∷◌, IfOk, OnOk, Some, chars, encode_utf8_all};
 ghost use Rattle.std.specs.Prelude.{flat_map, string_bytes};
 ghost use Rattle.std.specs.Option.{option_map};
@@ -15,14 +15,14 @@ use rpl_expand::ExpandFault;
 use rpl_package::PackageSet;
 use std::alloc::Global;
 
-/// A text as it is: its bytes are those of its characters.
+/// Returns the text itself, whose bytes are then known to be those of its characters.
 fn as_it_is(text: &str) -> &str
     ensures { result.now ≡ encode_utf8_all (chars text.now) }
 {
     text
 }
 
-/// The full name of a rule, or `*` for the pattern.
+/// Returns the full name of a rule, or `*` for the pattern.
 fn rule_name(set: &PackageSet, rule: Option<u32>) -> &str
     ensures { result.now ≡ L.rule_name (set_seen set.now) rule }
 {
@@ -35,21 +35,22 @@ fn rule_name(set: &PackageSet, rule: Option<u32>) -> &str
     }
 }
 
-/// The line of a fault at the pattern.
+/// Returns the line of a fault in the pattern.
 fn pattern_line(alloc: Global, text: &str) -> Result<String, NoMemory>
     ensures { IfOk result (λ line. string_bytes line ≡ L.pattern_line text.now) }
 {
     line_fault(alloc, "(pattern)", 0, text)
 }
 
-/// Where a fault stands: at a rule of a set, or at the pattern.
+/// The place of a fault: a rule of a set, or the pattern.
 #[derive(Clone, Copy)]
 struct Place<'a> {
     set: &'a PackageSet,
     rule: Option<u32>,
 }
 
-/// The line of a fault at the first token of a rule's statement, or at the pattern.
+/// Returns the line of a fault, placed at the first token of the rule's statement or at the
+/// pattern.
 fn rule_line(alloc: Global, place: &Place<'_>, text: &str) -> Result<String, NoMemory>
     ensures { IfOk result (λ line. string_bytes line
         ≡ L.rule_line (set_seen place.now.set.now) place.now.rule text.now) }
@@ -63,7 +64,7 @@ fn rule_line(alloc: Global, place: &Place<'_>, text: &str) -> Result<String, NoM
     }
 }
 
-/// Adds the names of rules, with a space before each.
+/// Adds the names of rules, each after a space.
 fn push_names(set: &PackageSet, rules: &[u32], out: &mut String) -> Result<(), NoMemory>
     ensures { OnOk result (string_bytes out.new
         ≡ string_bytes out.old ++ flat_map (λ s. 32 ∷ L.rule_name (set_seen set.now) (Some s))
@@ -76,7 +77,7 @@ fn push_names(set: &PackageSet, rules: &[u32], out: &mut String) -> Result<(), N
     Ok(())
 }
 
-/// The names of rules, one space apart.
+/// Returns the names of rules, separated by spaces.
 fn rule_names(alloc: Global, set: &PackageSet, rules: &[u32]) -> Result<String, NoMemory>
     ensures { IfOk result (λ names. string_bytes names
         ≡ L.rule_names (set_seen set.now) rules.now) }
@@ -89,7 +90,7 @@ fn rule_names(alloc: Global, set: &PackageSet, rules: &[u32]) -> Result<String, 
     Ok(out)
 }
 
-/// The line of a fault of a rule, or of the pattern, with this text before its name.
+/// Returns the line of a fault in a rule or in the pattern: this text, followed by the name.
 fn named_line(alloc: Global, place: &Place<'_>, text: &str) -> Result<String, NoMemory>
     ensures { IfOk result (λ line. string_bytes line
         ≡ L.rule_line (set_seen place.now.set.now) place.now.rule
@@ -100,7 +101,7 @@ fn named_line(alloc: Global, place: &Place<'_>, text: &str) -> Result<String, No
     rule_line(alloc, place, &text)
 }
 
-/// The line of a rule, or of the pattern, with a bad look-behind.
+/// Returns the line of a rule, or of the pattern, with an invalid look-behind.
 fn behind_line(alloc: Global, place: &Place<'_>, cause: &str) -> Result<String, NoMemory>
     ensures { IfOk result (λ line. string_bytes line
         ≡ L.behind_line (set_seen place.now.set.now) place.now.rule cause.now) }
@@ -110,7 +111,7 @@ fn behind_line(alloc: Global, place: &Place<'_>, cause: &str) -> Result<String, 
     rule_line(alloc, place, &text)
 }
 
-/// The line of rules that call themselves before a character is taken.
+/// Returns the line of rules that call themselves before they consume a character.
 fn recursion_line(alloc: Global, set: &PackageSet, rules: &[u32]) -> Result<String, NoMemory>
     ensures { IfOk result (λ line. string_bytes line
         ≡ L.recursion_line (set_seen set.now) rules.now) }
@@ -121,7 +122,8 @@ fn recursion_line(alloc: Global, set: &PackageSet, rules: &[u32]) -> Result<Stri
     rule_line(alloc, &Place { set, rule }, &text)
 }
 
-/// The line of a fault of expansion, which the rule table of this set, or a pattern over it, has.
+/// Returns the line that reports a fault of expansion, in the rule table of this set or in a
+/// pattern over it.
 pub fn expand_line(alloc: Global, set: &PackageSet, fault: &ExpandFault) -> Result<String, NoMemory>
     ensures { IfOk result (λ line. option_map (L.expand_line (set_seen set.now))
         (E.fault_named fault.now)
@@ -135,7 +137,8 @@ pub fn expand_line(alloc: Global, set: &PackageSet, fault: &ExpandFault) -> Resu
     }
 }
 
-/// The line of a fault of the check, which the rule table of this set, or a pattern over it, has.
+/// Returns the line that reports a fault found by the check, in the rule table of this set or
+/// in a pattern over it.
 pub fn check_line(alloc: Global, set: &PackageSet, fault: &CheckFault) -> Result<String, NoMemory>
     ensures { IfOk result (λ line. option_map (L.check_line (set_seen set.now))
         (C.fault_named fault.now)
@@ -160,7 +163,7 @@ pub fn check_line(alloc: Global, set: &PackageSet, fault: &CheckFault) -> Result
     }
 }
 
-/// The line of a pattern whose code is too long.
+/// Returns the line for a pattern whose code is too long.
 pub fn compile_line(alloc: Global) -> Result<String, NoMemory>
     ensures { IfOk result (λ line. string_bytes line ≡ L.compile_line) }
 {

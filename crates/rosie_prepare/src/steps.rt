@@ -35,7 +35,7 @@ use rpl_package::PackageSet;
 use rpl_syntax::Expr;
 use std::alloc::Global;
 
-/// The rule table of a set, which is in order, unless a rule is too large.
+/// Returns the rule table of a set, which is in order, unless a rule is too large.
 fn expand_rules(alloc: Global, set: &PackageSet) -> Result<Rules, Unready>
     ensures exactly { Finds (option_map (L.expand_line (set_seen set.now))
         (table_too_large (set_seen set.now))) result }
@@ -48,8 +48,8 @@ fn expand_rules(alloc: Global, set: &PackageSet) -> Result<Rules, Unready>
     }
 }
 
-/// The core of a pattern over the rule table of its set, unless it is too large: it calls rules of
-/// the table alone, and makes one tree of a whole match.
+/// Returns the core of a pattern over the rule table of its set, unless the pattern is too
+/// large. The core calls only rules of the table, and makes one tree of a whole match.
 fn expand_goal(alloc: Global, set: &PackageSet, rules: &Rules, expr: &Expr) -> Result<Peg, Unready>
     requires { rows_of (rules_of rules.now) ≡ table_of (set_seen set.now) }
     ensures exactly { Finds (option_map (L.expand_line (set_seen set.now))
@@ -67,7 +67,7 @@ fn expand_goal(alloc: Global, set: &PackageSet, rules: &Rules, expr: &Expr) -> R
     }
 }
 
-/// The rule table of a set, unless the check finds a fault.
+/// Returns the rule table of a set, unless the check finds a fault.
 fn check_rules(alloc: Global, set: &PackageSet, rules: Rules) -> Result<Checked, Unready>
     requires { IsInOrder (bodies_in rules) (blocks_in rules) }
     ensures exactly { (d : Facts (bodies_in rules))
@@ -81,7 +81,7 @@ fn check_rules(alloc: Global, set: &PackageSet, rules: Rules) -> Result<Checked,
     }
 }
 
-/// The core of a pattern, unless the check finds a fault.
+/// Returns the core of a pattern, unless the check finds a fault.
 fn checked_core(
     alloc: Global,
     set: &PackageSet,
@@ -102,7 +102,7 @@ fn checked_core(
     }
 }
 
-/// The rules of a set, unless one is too large or the check finds a fault.
+/// Returns the rules of a set, unless one is too large or the check finds a fault.
 pub(crate) fn pass_rules(alloc: Global, set: PackageSet) -> Result<PreparedRules, Unready>
     ensures prepares { (r : OrLine Packages)
         → TableComes (Ok (set_seen set)) r
@@ -116,8 +116,8 @@ pub(crate) fn pass_rules(alloc: Global, set: PackageSet) -> Result<PreparedRules
     Ok(PreparedRules { set, rules })
 }
 
-/// The rule table of a set and the core of a pattern over it, unless something is too large or the
-/// check finds a fault.
+/// Returns the rule table of a set and the core of a pattern over it, unless something is too
+/// large or the check finds a fault.
 fn pass_both(alloc: Global, set: &PackageSet, expr: &Expr) -> Result<(Checked, CheckedPeg), Unready>
     ensures prepares { (r : OrLine Ready)
         → Comes (Ok (expr_of expr.now, set_seen set.now)) r
@@ -134,7 +134,8 @@ fn pass_both(alloc: Global, set: &PackageSet, expr: &Expr) -> Result<(Checked, C
     Ok((rules, goal))
 }
 
-/// A pattern over a set, unless something is too large or the check finds a fault.
+/// Returns a pattern over a set, ready to be compiled, unless something is too large or the
+/// check finds a fault.
 pub(crate) fn pass_goal(alloc: Global, set: PackageSet, expr: Expr) -> Result<Prepared, Unready>
     ensures prepares { (r : OrLine Ready)
         → Comes (Ok (expr_of expr, set_seen set)) r

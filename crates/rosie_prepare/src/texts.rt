@@ -1,4 +1,4 @@
-// What is wrong, in words.
+// The messages.
 ghost use Rattle.std.specs.Prelude.{◌≡◌};
 ghost use Rattle.rosie_prepare.specs.Texts as T;
 ghost use Rattle.rpl_check.specs.Answers.{cause_named};
@@ -9,7 +9,7 @@ use rpl_lexer::LexKind;
 use rpl_package::MacroFault;
 use rpl_parser::ParseKind;
 
-/// Why a text has no tokens.
+/// Returns the message for a text that can't be split into tokens.
 pub(crate) fn lex_text(kind: LexKind) -> &'static str
     ensures { result.now ≡ T.lex_text kind }
 {
@@ -23,7 +23,7 @@ pub(crate) fn lex_text(kind: LexKind) -> &'static str
     }
 }
 
-/// Why a bracket has no set.
+/// Returns the message for brackets that are not a set.
 fn set_text(fault: SetFault) -> &'static str
     ensures { result.now ≡ T.set_text fault }
 {
@@ -35,7 +35,7 @@ fn set_text(fault: SetFault) -> &'static str
     }
 }
 
-/// Why tokens have no reading.
+/// Returns the message for tokens that can't be parsed.
 pub(crate) fn parse_text(kind: ParseKind) -> &'static str
     ensures { result.now ≡ T.parse_text kind }
 {
@@ -49,7 +49,7 @@ pub(crate) fn parse_text(kind: ParseKind) -> &'static str
     }
 }
 
-/// What is wrong with the use of a macro; its name follows.
+/// Returns the message for a wrong use of a macro, whose name follows it.
 pub(crate) fn macro_text(fault: MacroFault) -> &'static str
     ensures { result.now ≡ T.macro_text fault }
 {
@@ -59,7 +59,7 @@ pub(crate) fn macro_text(fault: MacroFault) -> &'static str
     }
 }
 
-/// Why a look-behind can't look back.
+/// Returns the message that says why a look-behind can't look back.
 pub(crate) fn cause_text(cause: BehindCause) -> &'static str
     ensures { result.now ≡ T.cause_text (cause_named cause) }
 {

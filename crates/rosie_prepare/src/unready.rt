@@ -1,4 +1,4 @@
-// Why there is nothing to run.
+// The reasons why there is nothing to run.
 ghost use Rattle.std.specs.Prelude.{Some};
 ghost use Rattle.rosie_prepare.specs.Lines.{load_line};
 ghost use Rattle.rosie_prepare.specs.inside.Steps.{Tells, TellsLoad};
@@ -8,14 +8,15 @@ use rpl_package::{LoadFault, LoadKind};
 use rpl_text::Chars;
 use std::alloc::Global;
 
-/// Why there is nothing to run.
+/// The reason why there is nothing to run.
 #[derive(Debug, Drop)]
 pub enum Unready {
-    /// Memory ran out.
+    /// There is not enough memory.
     NoMemory,
-    /// The roots or the pattern are refused, with this line, which ends with a line feed.
+    /// The roots or the pattern are refused. The text is the line that says so, with its line
+    /// feed.
     Refused(String),
-    /// The file of this path couldn't be opened or read.
+    /// The file at this path could not be opened or read.
     ReadFault(Chars),
 }
 
@@ -30,7 +31,7 @@ impl From<NoMemory> for Unready {
     }
 }
 
-/// The refusal of a fault of loading, if there is memory for its line.
+/// Returns the refusal for a fault of loading, or `NoMemory` if there is no room for its line.
 fn refused(alloc: Global, fault: &LoadFault) -> Unready
     ensures { Tells (Some (load_line fault.now)) result }
 {
@@ -40,7 +41,7 @@ fn refused(alloc: Global, fault: &LoadFault) -> Unready
     }
 }
 
-/// What a fault of loading comes to.
+/// Returns the reason for a fault of loading.
 pub(crate) fn of_load(alloc: Global, fault: LoadFault) -> Unready
     ensures { TellsLoad fault result }
 {

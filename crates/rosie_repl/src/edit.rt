@@ -5,24 +5,24 @@ ghost use Rattle.rosie_repl.specs.Seen.{edit_seen, some_seen};
 
 use rpl_text::read_number;
 
-/// A command of a session. A text has a number from 1.
+/// A command of a session. Texts are numbered from 1.
 #[derive(Clone, Copy, Debug)]
 pub enum Edit<'a> {
-    /// `+ TEXT`: the text becomes the last one.
+    /// `+ TEXT`: adds the text after the last one.
     Add(&'a str),
-    /// `= K TEXT`: the text takes the place of the one with the number K.
+    /// `= K TEXT`: replaces the text with the number K.
     Replace(u64, &'a str),
-    /// `- K`: the text with the number K is taken away.
+    /// `- K`: removes the text with the number K.
     Remove(u64),
-    /// `? PATTERN`: the pattern is kept.
+    /// `? PATTERN`: keeps the pattern.
     Pattern(&'a str),
-    /// `> LINE`: the line is matched with the kept pattern.
+    /// `> LINE`: matches the line with the kept pattern.
     Try(&'a str),
-    /// `u`: the last accepted change is taken back.
+    /// `u`: takes back the last accepted change.
     Undo,
 }
 
-/// The replacement of a text: a number, a space and the new text.
+/// Parses the replacement of a text: a number, a space and the new text.
 fn replaces(rest: &str) -> Option<Edit<'_>>
     ensures { some_seen result ≡ S.replaces rest.now }
 {
@@ -35,7 +35,7 @@ fn replaces(rest: &str) -> Option<Edit<'_>>
     }
 }
 
-/// The command of a sign.
+/// Parses the rest of a command after its sign.
 fn by_sign<'a>(sign: &str, rest: &'a str) -> Option<Edit<'a>>
     ensures { some_seen result ≡ S.by_sign sign.now rest.now }
 {
@@ -49,9 +49,9 @@ fn by_sign<'a>(sign: &str, rest: &'a str) -> Option<Edit<'a>>
     }
 }
 
-/// The command of a line, with any number below 2^64 for a text's; None exactly where the line has
-/// none of the six forms. A text, a pattern or a line may be empty, and is all that stands after
-/// the space.
+/// Parses the command of a line. Returns `None` exactly if the line has none of the six forms.
+/// The number of a text may be any below 2^64. A text, a pattern or a line may be empty, and is
+/// all that follows the space.
 pub fn read_edit(line: &str) -> Option<Edit<'_>>
     ensures { some_seen result ≡ S.edit_of line.now }
 {

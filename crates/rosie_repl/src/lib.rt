@@ -1,11 +1,12 @@
-//! The commands of a session, and what a session keeps: texts, a pattern, and the way back to what
-//! it kept before.
+//! The commands of a session, and the state that a session keeps: texts, a pattern, and the way
+//! back to earlier states.
 //!
-//! For the command `repl`, whose lines are commands: `read_edit` reads one, and a `State` makes
-//! each change and takes it back. What a line says, what a change makes of what is kept and what
-//! `undo` brings back are exactly the defined (`specs/Edits.antt`, `specs/Session.antt`); whether a
-//! change is accepted, the caller decides by loading what is kept. A state holds of each earlier
-//! change only what undoes it, so a change costs its own size, and `undo` takes no memory.
+//! The crate serves the command `repl`, whose lines are commands: `read_edit` parses one, and a
+//! `State` makes each change and takes it back. The command of a line, the state after a
+//! change, and the state after `undo` are exactly as defined (`specs/Edits.antt`,
+//! `specs/Session.antt`). The caller decides whether a change is accepted, by loading the
+//! state. A state holds of each earlier change only what is needed to undo it, so a change
+//! costs its own size, and `undo` allocates nothing.
 #![tactic(auto)]
 
 mod edit;

@@ -1,4 +1,4 @@
-// What a session keeps.
+// The state of a session.
 ghost use Rattle.std.specs.Prelude.{◌≡◌, ◌+◌, ◌≤◌, length, count_by, vec_capacity};
 ghost use Rattle.rosie_repl.specs.inside.Kept.{is_removal};
 
@@ -9,7 +9,7 @@ use rpl_text::Chars;
 use std::alloc::Global;
 use std::mem;
 
-/// The kept texts, the kept pattern, and what undoes each change, the last change last.
+/// The kept texts, the kept pattern, and how to undo each change, the last change last.
 ///
 /// There is always room for the texts that undoing brings back.
 #[derive(Drop)]
@@ -32,7 +32,7 @@ impl State {
     ghost use Rattle.rosie_repl.specs.Session as S;
     ghost use Rattle.rosie_repl.specs.States.{session_of};
 
-    /// Nothing is kept. It takes no memory.
+    /// Returns a state that keeps nothing, without allocating.
     pub fn new(alloc: Global) -> State
         ensures { session_of result ≡ S.begun }
     {
@@ -45,14 +45,14 @@ impl State {
         }
     }
 
-    /// The number of kept texts.
+    /// Returns the number of kept texts.
     pub fn len(&self) -> usize
         ensures { result ≡ length (session_of self.now).now.texts }
     {
         self.texts.len()
     }
 
-    /// The text with this index, from 0; None exactly where there is none.
+    /// Returns the text at this index, from 0, or `None` exactly if there is none.
     pub fn text(&self, index: usize) -> Option<&str>
         ensures { option_map chars (option_copied result)
             ≡ slice_get (session_of self.now).now.texts index }
@@ -63,7 +63,7 @@ impl State {
         }
     }
 
-    /// The kept pattern; None exactly where none is kept.
+    /// Returns the kept pattern, or `None` exactly if none is kept.
     pub fn pattern(&self) -> Option<&str>
         ensures { option_map chars (option_copied result) ≡ (session_of self.now).now.pattern }
     {
@@ -86,7 +86,7 @@ impl State {
         Ok(true)
     }
 
-    /// Puts a text in the place of another.
+    /// Replaces a text by another.
     fn replace(&mut self, number: u64, text: &str) -> Result<bool, NoMemory>
         ensures { Changes (session_of self.old) (session_of self.new)
             (S.changed (Replace number (chars text.now)) (session_of self.old)) result }
@@ -102,7 +102,7 @@ impl State {
         Ok(true)
     }
 
-    /// Takes a text away.
+    /// Removes a text.
     fn remove(&mut self, number: u64) -> Result<bool, NoMemory>
         ensures { Changes (session_of self.old) (session_of self.new)
             (S.changed (Remove number) (session_of self.old)) result }
@@ -130,9 +130,9 @@ impl State {
         Ok(true)
     }
 
-    /// Makes a change, and tells whether it is one: `false`, with nothing changed, exactly where
-    /// the number is no text's, or the command is `Try` or `Undo`. After it ran out of memory
-    /// nothing is changed either.
+    /// Makes a change, and returns whether it was made. Returns `false`, and changes nothing,
+    /// exactly if there is no text with this number, or the command is `Try` or `Undo`. If
+    /// memory runs out, nothing is changed either.
     pub fn change(&mut self, edit: &Edit<'_>) -> Result<bool, NoMemory>
         ensures { Changes (session_of self.old) (session_of self.new)
             (S.changed (in_chars (edit_seen edit.now)) (session_of self.old)) result }
@@ -147,8 +147,8 @@ impl State {
         }
     }
 
-    /// Goes back to what was kept before the last change; `false`, with nothing changed, exactly
-    /// where there was none. It takes no memory.
+    /// Goes back to the state before the last change. Returns `false`, and changes nothing,
+    /// exactly if there was no change. It allocates nothing.
     pub fn undo(&mut self) -> bool
         ensures { GoesOn (session_of self.old) (session_of self.new)
             (S.undone (session_of self.old)) result }

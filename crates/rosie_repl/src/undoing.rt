@@ -1,15 +1,15 @@
-// What undoes a change.
+// How to undo a change.
 use rpl_text::Chars;
 
-/// What undoes a change of what is kept.
+/// How to undo a change of the state.
 #[derive(Drop)]
 pub(crate) enum Undoing {
     /// A text was added at the end.
     Added,
-    /// The text at this index was another.
+    /// The text at this index was another one: this one.
     Replaced(usize, Chars),
-    /// A text stood before this index.
+    /// This text stood before this index.
     Removed(usize, Chars),
-    /// The pattern was another, or there was none.
+    /// The pattern was this one, or there was none.
     Patterned(Option<Chars>),
 }

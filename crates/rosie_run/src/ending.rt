@@ -1,4 +1,4 @@
-// How a run ends.
+// The end of a run.
 ghost use Rattle.std.specs.Prelude.{ℕ, ◌≡◌};
 ghost use Rattle.rosie_run.specs.Causes.{Flushes};
 ghost use Rattle.rosie_run.specs.Outputs.{shown, telling};
@@ -9,7 +9,8 @@ use crate::write::{close_with, flush_both};
 use crate::{Ended, ReadStop, Status, Tally};
 use rosie_io::Sink;
 
-/// Ends a run: says why reading ended it, where it did, and flushes all that was written.
+/// Ends a run and returns its status. Flushes the outputs, and if reading ended the run, writes
+/// the line that says so last.
 pub fn finish<O: Sink, E: Sink>(out: &mut O, err: &mut E, run: Result<Tally, Ended>) -> Status
     ensures closes { (tool : Tool) (n : ℕ) → Closes run result (telling tool O.Sink E.Sink)
         (shown O.Sink E.Sink out.old err.old n)

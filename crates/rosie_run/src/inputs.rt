@@ -1,4 +1,4 @@
-// The run over the inputs in turn.
+// The run over the inputs, one after the other.
 ghost use Rattle.std.specs.Prelude.{◌≡◌, ◌+◌, ◌-◌, ◌^◌, ◌<◌, ◌≤◌, ℕ, List, [], Err, true, false};
 ghost use Rattle.std.specs.Prelude.{length, codes};
 ghost use Rattle.std.specs.Prelude.{encode_utf8_all, IfOk};
@@ -25,7 +25,7 @@ use rpl_text::Chars;
 use std::alloc::Global;
 use std::sync::ledger::Ledger;
 
-/// What a run reads from.
+/// The sources that a run reads from.
 #[derive(Drop)]
 pub struct Inputs<'a, F, I> {
     /// The files.
@@ -34,15 +34,15 @@ pub struct Inputs<'a, F, I> {
     pub input: &'a mut I,
 }
 
-/// Which inputs a run is over, and how their lines are read.
+/// The inputs of a run, and the way in which their lines are read.
 #[derive(Clone, Copy, Debug)]
 pub struct Wanted<'a> {
-    /// Their names, in turn.
+    /// The names of the inputs, in the order in which they are read.
     pub names: &'a [Chars],
     pub reading: Reading,
 }
 
-/// Runs on each line of a source that is open.
+/// Runs on each line of an open source.
 fn run_source<J: LineJob, S: Source, O: Sink, E: Sink, L: Ledger>(
     lines: &mut Lines<'_, J>,
     file: &str,
@@ -72,7 +72,7 @@ fn run_source<J: LineJob, S: Source, O: Sink, E: Sink, L: Ledger>(
     run_pieces(&mut source_lines, outputs)
 }
 
-/// Runs on each line of a file; where there is none, it is said, and the run ends.
+/// Runs on each line of a file. If there is no such file, the run says so and ends.
 fn run_file<J: LineJob, F: Files, O: Sink, E: Sink, L: Ledger>(
     lines: &mut Lines<'_, J>,
     path: &str,
@@ -114,7 +114,8 @@ fn run_file<J: LineJob, F: Files, O: Sink, E: Sink, L: Ledger>(
     }
 }
 
-/// Runs on each line of one input. The standard input is read once; `read` tells whether it was.
+/// Runs on each line of one input. The standard input is read once; `read` says whether it has
+/// been.
 fn run_one<J: LineJob, F: Files, I: Source, O: Sink, E: Sink, L: Ledger>(
     lines: &mut Lines<'_, J>,
     name: &str,
@@ -157,14 +158,15 @@ fn run_one<J: LineJob, F: Files, I: Source, O: Sink, E: Sink, L: Ledger>(
     run_file(lines, name, inputs.files, outputs)
 }
 
-/// The bytes of a name.
+/// Returns the text of a name.
 fn text_of(name: &Chars) -> &str
     ensures { result.now ≡ encode_utf8_all name.now }
 {
     name.as_str()
 }
 
-/// Runs on each line of the inputs with these names in turn, up to the line that ends the run.
+/// Runs on each line of the named inputs, one input after the other, up to the line that ends
+/// the run.
 pub fn run_inputs<J: LineJob, F: Files, I: Source, O: Sink, E: Sink, L: Ledger>(
     alloc: Global,
     job: &mut J,

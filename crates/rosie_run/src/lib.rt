@@ -1,11 +1,12 @@
-//! The run of any command: its pieces are written in turn, and it ends with the status that they
-//! come to, or breaks off.
+//! The run of any command: it writes the pieces of the command's report one after the other,
+//! and ends with their status or stops early.
 //!
-//! A command is a text ([`say`]), a job for each line of its inputs ([`LineJob`], [`run_inputs`]),
-//! or any other source of pieces ([`PieceSource`]). It makes texts and never sees an output:
-//! [`run_pieces`] is the one loop that writes them, flushes before it waits, and says with each
-//! answer which pieces are written and where reading stood. [`finish`] is the end of every run. `specs/Headline.antt` says what an
-//! answer tells of the report, whatever the command.
+//! A command is a text ([`say`]), a job for each line of its inputs ([`LineJob`],
+//! [`run_inputs`]), or any other source of pieces ([`PieceSource`]). It makes texts and never
+//! sees an output: [`run_pieces`] is the one loop that writes them, and that flushes before it
+//! waits. The contract says for each answer which pieces are written and how far reading came.
+//! [`finish`] ends every run. `specs/Headline.antt` defines what an answer says of the report,
+//! for any command.
 #![tactic(auto)]
 
 mod ended;

@@ -1,4 +1,4 @@
-// What a command does on each line.
+// The work of a command on each line.
 ghost use Rattle.std.specs.Prelude.{◌≡◌, ◌≤◌, ◌^◌, ◌+◌, ℕ, List, length, IfOk, OnOk, IsTrue};
 ghost use Rattle.std.specs.Str.{IsAscii};
 ghost use Rattle.rosie_run.specs.Made.{IsMade};
@@ -8,30 +8,30 @@ use crate::{Mark, NoMemory};
 use rpl_machine::Steps;
 use std::sync::ledger::Ledger;
 
-/// A line of an input, as a job is given it.
+/// A line of an input, as a job receives it.
 #[derive(Clone, Copy, Debug)]
 pub struct InputLine<'a> {
-    /// What faults call the input.
+    /// The name of the input in messages.
     pub file: &'a str,
     /// The number of the line in that input, from 1.
     pub number: u64,
-    /// The line itself, without its line feed: 2^30 bytes at most.
+    /// The line, without its line feed: at most 2^30 bytes.
     pub text: &'a str,
-    /// Whether all bytes of the text are known to be ASCII: then none is looked at for that. Where
-    /// it is false they may be ASCII too.
+    /// Whether all bytes of the text are known to be ASCII, so that none needs to be looked at.
+    /// If it is false, they may still be ASCII.
     pub is_ascii: bool,
 }
 
-/// What a command does on each line. It makes the texts of the line's piece and writes nothing: the
-/// run does.
+/// The work of a command on each line. A job makes the texts of the line's piece and writes
+/// nothing: the run writes them.
 pub trait LineJob {
-    /// What it makes of a line of text: of the input's name, the line's number and its text.
+    /// The piece of a line, given the input's name, the line's number and its text.
     ghost makes: { Self → List ℕ → ℕ → List ℕ → Piece };
 
-    /// It makes no step of the machine.
+    /// The job makes no step of the machine.
     ghost idle: { Type 0 } = { ⊥ };
 
-    /// The texts that it made last.
+    /// The texts of the last piece.
     ghost out_text: { Self → List ℕ };
 
     ghost err_text: { Self → List ℕ };
@@ -51,11 +51,11 @@ pub trait LineJob {
             + (makes self.old line.entry.file.now line.entry.number line.entry.text.now).cost) }
         ensures idle { idle → steps.new ≡ steps.old };
 
-    /// The text for `out` that it made last.
+    /// Returns the text of the last piece for `out`.
     fn out(&self) -> &[u8]
         ensures { result.now ≡ out_text self.now };
 
-    /// The text for `err` that it made last.
+    /// Returns the text of the last piece for `err`.
     fn err(&self) -> &[u8]
         ensures { result.now ≡ err_text self.now };
 }

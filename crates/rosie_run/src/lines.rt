@@ -20,56 +20,57 @@ use std::alloc::Global;
 use std::mem;
 use std::sync::ledger::Ledger;
 
-/// How the lines of an input are read.
+/// The way in which the lines of an input are read.
 #[derive(Clone, Copy, Debug)]
 pub struct Reading {
-    /// Whose run it is.
+    /// The program that runs.
     pub tool: Tool,
-    /// An input is one line.
+    /// Whether the whole input is one line.
     pub whole: bool,
-    /// The bytes that a line may have.
+    /// The most bytes that a line may have.
     pub most: usize,
 }
 
-/// What the run itself says of an input. It isn't a part of what holds the job and the source:
-/// where such a value owns memory, nothing is known of them afterwards.
+/// The run's own messages on an input. They are kept apart from the value that holds the job
+/// and the source: if such a value owned memory, nothing would be known of the job and the
+/// source afterwards.
 #[derive(Drop)]
 pub(crate) struct Messages {
     alloc: Global,
-    /// Whose run it is.
+    /// The program that runs.
     tool: Tool,
-    /// What is wrong with the line, where the job has no answer to it.
+    /// The message on the line, if the job has no answer to it.
     fault: Option<String>,
-    /// That a read failed. It is made before the input is opened, so that no want of memory hides a
-    /// failed read.
+    /// The message that a read failed. It is made before the input is opened, so that a lack of
+    /// memory can't hide a failed read.
     read_failed: String,
 }
 
-/// A job over the lines of inputs.
+/// A job, and the reader of the lines that it works on.
 #[derive(Drop)]
 pub(crate) struct Lines<'a, J> {
-    /// Makes the piece of a line.
+    /// The maker of each line's piece.
     pub(crate) job: &'a mut J,
-    /// Gives the lines.
+    /// The reader of the lines.
     pub(crate) reader: &'a mut LineReader,
     pub(crate) messages: &'a mut Messages,
 }
 
-/// The pieces of the lines of a source that is open.
+/// The pieces of the lines of an open source.
 #[derive(Drop)]
 pub(crate) struct SourceLines<'a, J, S> {
-    /// What messages call the source.
+    /// The name of the source in messages.
     file: &'a str,
-    /// Makes the piece of a line.
+    /// The maker of each line's piece.
     job: &'a mut J,
-    /// Gives the lines.
+    /// The reader of the lines.
     reader: &'a mut LineReader,
     messages: &'a mut Messages,
     source: &'a mut S,
 }
 
 impl Messages {
-    /// Nothing is said.
+    /// Returns messages that say nothing yet.
     pub(crate) fn new(alloc: Global, tool: Tool) -> Messages
         ensures { result.tool ≡ tool }
     {
@@ -81,7 +82,7 @@ impl Messages {
         }
     }
 
-    /// Makes ready to say that a read of an input failed.
+    /// Prepares the message that a read of an input failed.
     pub(crate) fn prepare(&mut self, file: &str) -> Result<(), NoMemory>
         ensures tool { self.new.tool ≡ self.old.tool }
         ensures prepared { OnOk result (IsPrepared self.new file.now) }
@@ -90,7 +91,7 @@ impl Messages {
         Ok(())
     }
 
-    /// The end of a run of which a read failed.
+    /// Returns the end of a run in which a read failed.
     pub(crate) fn end_of_read(&mut self) -> Ended
         ensures stops { IsStop ReadFault result }
         ensures cut { (file : List ℕ) → IsPrepared self.old file →
@@ -103,14 +104,14 @@ impl Messages {
         Ended::Cut(ReadStop::ReadFault, text)
     }
 
-    /// The end of a run over an input of which all reads are made.
+    /// Returns the end of a run over an input that has used up its reads.
     fn end_of_reads(&self, file: &str) -> Ended
         ensures { IsCutOf result self.now.tool Spent file.now }
     {
         cut(self.alloc, self.tool, ReadStop::Spent, file)
     }
 
-    /// Says that there is no such input.
+    /// Returns the message that there is no such input.
     pub(crate) fn missing(&self, file: &str) -> Result<String, NoMemory>
         ensures { IfOk result (λ text. string_bytes text
             ≡ input_message self.now.tool file.now (codes "no such file")) }
@@ -118,7 +119,7 @@ impl Messages {
         input_message(self.alloc, self.tool, file, "no such file")
     }
 
-    /// Says what is wrong with a line.
+    /// Keeps the message on a line, as a piece of the run.
     fn say(&mut self, file: &str, number: u64, why: &str) -> Result<Option<Mark>, Ended>
         ensures tool { self.new.tool ≡ self.old.tool }
         ensures stays { self.new.read_failed ≡ self.old.read_failed }
@@ -134,7 +135,7 @@ impl Messages {
 }
 
 impl<'a, J: LineJob> Lines<'a, J> {
-    /// The lines of a job, of their parts.
+    /// Puts the lines of a job together from their parts.
     pub(crate) fn new(
         job: &'a mut J,
         reader: &'a mut LineReader,
@@ -156,7 +157,7 @@ impl<'a, J: LineJob> Lines<'a, J> {
 }
 
 impl<'a, J: LineJob, S: Source> SourceLines<'a, J, S> {
-    /// The lines that the reader has of a source.
+    /// Returns the lines of a source that the reader still has to read.
     pub(crate) fn new(
         file: &'a str,
         job: &'a mut J,
@@ -183,7 +184,7 @@ impl<'a, J: LineJob, S: Source> SourceLines<'a, J, S> {
         }
     }
 
-    /// Makes the piece of what the reader answered. `None` where there is no further line.
+    /// Makes the piece for the reader's answer. Returns `None` if there is no further line.
     #[inline(always)]
     fn make_of<L: Ledger>(
         &mut self,

@@ -1,16 +1,16 @@
-// What a run writes on.
+// The outputs of a run.
 use rpl_machine::Steps;
 use std::sync::ledger::Ledger;
 
-/// What a run writes on, and the count of what it runs.
+/// The outputs of a run, and the count of its steps.
 #[derive(Drop)]
 pub struct Outputs<'a, O, E, L: Ledger> {
-    /// The answers.
+    /// The output for answers.
     pub out: &'a mut O,
-    /// The faults, and the other texts that are no answers.
+    /// The output for faults, and for other texts that aren't answers.
     pub err: &'a mut E,
-    /// The steps of the machine.
+    /// The count of the machine's steps.
     pub steps: &'a mut Steps<L>,
-    /// Something that was written isn't flushed.
+    /// Whether something was written that isn't flushed yet.
     pub pending: bool,
 }

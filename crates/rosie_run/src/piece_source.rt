@@ -1,4 +1,4 @@
-// What a command comes to, piece by piece.
+// The pieces of a command's report.
 ghost use Rattle.std.specs.Prelude.{◌≡◌, ◌<◌, ℕ, IfErr, List};
 ghost use Rattle.rosie_run.specs.Going.{Gives, Going, How, IsNoStop, IsSaidBy, OnPiece, count_of};
 ghost use Rattle.rosie_run.specs.Going.{how_of};
@@ -9,47 +9,48 @@ use crate::{Ended, Mark};
 use rpl_machine::Steps;
 use std::sync::ledger::Ledger;
 
-/// The pieces of a run, one after the other. It makes their texts, in memory of its own, and writes
-/// nothing: the run does.
+/// A source of the pieces of a run, one after the other. It makes their texts, in memory of its
+/// own, and writes nothing: the run writes them.
 pub trait PieceSource {
-    /// It is known that these are the pieces to come.
+    /// These are known to be the pieces that are still to come.
     ghost comes: { Self → List Piece → Type 0 };
 
-    /// It works on what the first value works on: the same job, the same input, and so on.
+    /// Both values work on the same things: the same job, the same input, and so on.
     ghost same: { Self → Self → Type 0 };
 
-    /// What a run leaves that began with the first value and stands at the second, after so many
-    /// pieces.
+    /// The state that a run leaves if it began with the first value and is at the second after
+    /// this many pieces.
     ghost leaves: { How → Self → Self → ℕ → Type 0 };
 
-    /// It may be asked for a piece.
+    /// The source may be asked for a piece.
     ghost goes_on: { Self → Type 0 } = { λ _. Unit {0} };
 
-    /// No more pieces than this are to come.
+    /// An upper bound on the number of pieces to come.
     ghost bound: { Self → ℕ };
 
-    /// The texts that it made last.
+    /// The texts of the last piece.
     ghost out_text: { Self → List ℕ };
 
     ghost err_text: { Self → List ℕ };
 
-    /// Whose run it is.
+    /// The program that runs.
     ghost tool: { Self → Tool };
 
-    /// What it reads from, as it is called where reading ends the run.
+    /// The name of what it reads, used in the line that says that reading ended the run.
     ghost source_name: { Self → List ℕ };
 
-    /// It makes no step of the machine.
+    /// The source makes no step of the machine.
     ghost idle: { Type 0 } = { ⊥ };
 
-    /// None of its pieces ends the run.
+    /// No piece of the source ends the run.
     ghost never_stops: { Type 0 } = { ⊥ };
 
-    /// Whether the next piece needs no input that may have to be waited for.
+    /// Returns whether the next piece can be made without waiting for input.
     fn is_ready(&self) -> bool;
 
-    /// Makes the next piece, and answers how it counts. `None` where there is no further piece; an
-    /// error where there is no memory, or where reading ends the run, with the line that says so.
+    /// Makes the next piece, and returns its kind, or `None` if there is no further piece.
+    /// Returns an error if there is not enough memory, or if reading ends the run; that error
+    /// holds the line that says so.
     fn next<L: Ledger>(&mut self, steps: &mut Steps<L>) -> Result<Option<Mark>, Ended>
         requires { goes_on self.old }
         ensures gives { (ps : List Piece) → comes self.old ps → Gives result ps (comes self.new)
@@ -65,14 +66,14 @@ pub trait PieceSource {
         ensures never_stops { never_stops → IsNoStop result }
         ensures fewer { OnPiece result (bound self.new < bound self.old) };
 
-    /// The text for `out` that it made last.
+    /// Returns the text of the last piece for `out`.
     fn out(&self) -> &[u8]
         ensures { result.now ≡ out_text self.now };
 
-    /// The text for `err` that it made last.
+    /// Returns the text of the last piece for `err`.
     fn err(&self) -> &[u8]
         ensures { result.now ≡ err_text self.now };
 
-    /// A run that begins has left nothing.
+    /// The proof that a run that begins has left nothing.
     ghost begins: { (s : Self) → same s s × leaves Going s s 0 };
 }

@@ -1,4 +1,4 @@
-// The run: pieces are written in turn. Nothing else writes.
+// The loop that writes the pieces of a run, one after the other. Nothing else writes.
 ghost use Rattle.std.specs.Prelude.{◌≡◌, ◌+◌, [], IfOk, List, OnOk, false, length, ℕ};
 ghost use Rattle.rosie_io.specs.Appending.{Appends};
 ghost use Rattle.rosie_io.specs.Counts.{capped};
@@ -15,8 +15,8 @@ use crate::{Ended, Outputs, PieceSource, Tally};
 use rosie_io::{Sink, WriteFault};
 use std::sync::ledger::Ledger;
 
-/// Writes the texts of the piece that was made last. Where there is some of it, that is pending
-/// until both outputs are flushed.
+/// Writes the texts of the last piece. If they aren't empty, output is pending until both
+/// outputs are flushed.
 #[inline(always)]
 fn write_piece<P: PieceSource, O: Sink, E: Sink>(
     pieces: &P,
@@ -42,8 +42,8 @@ fn write_piece<P: PieceSource, O: Sink, E: Sink>(
     write_both(out, err, pieces.out(), pieces.err())
 }
 
-/// Writes pieces in turn, up to one that ends the run. What was written is flushed before more is
-/// waited for.
+/// Writes the pieces one after the other, up to one that ends the run. Flushes what was written
+/// before it waits for more input.
 pub fn run_pieces<P: PieceSource, O: Sink, E: Sink, L: Ledger>(
     pieces: &mut P,
     outputs: &mut Outputs<'_, O, E, L>,

@@ -1,4 +1,4 @@
-// A piece that no input is read for.
+// A piece that is made without reading any input.
 ghost use Rattle.std.specs.Prelude.{ℕ, ◌≡◌, [], ◌∷◌, string_bytes, IfErr, IfOk};
 ghost use Rattle.rosie_run.specs.Runs.{WritesCause, Runs, IsCutOf, IsNoCut};
 ghost use Rattle.rosie_run.specs.Outputs.{shown, telling};
@@ -34,7 +34,7 @@ pub fn say<O: Sink, E: Sink>(
     }
 }
 
-/// The end of a run that reading ended. `file` is what was read.
+/// Returns the end of a run that reading ended. `file` is the name of the input that was read.
 pub fn cut(alloc: Global, tool: Tool, why: ReadStop, file: &str) -> Ended
     ensures { IsCutOf result tool why file.now }
 {

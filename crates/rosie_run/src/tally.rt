@@ -1,23 +1,23 @@
-// What the pieces of a run come to.
+// The tally of the pieces of a run.
 ghost use Rattle.std.specs.Prelude.{◌≡◌, []};
 ghost use Rattle.rosie_run.specs.Tallies.{tally_of, counted, added};
 ghost use Rattle.rosie_run.specs.Report.{flags_status};
 
 use crate::{Mark, Status};
 
-/// What the pieces so far come to.
+/// The tally of the pieces so far.
 #[derive(Clone, Copy, Debug, PartialEq, Eq)]
 pub struct Tally {
-    /// The run was ended.
+    /// Whether a piece ended the run.
     pub stop: bool,
-    /// Some piece has no answer.
+    /// Whether some piece has no answer.
     pub fault: bool,
-    /// Some piece is a hit.
+    /// Whether some piece is a hit.
     pub hit: bool,
 }
 
 impl Tally {
-    /// No piece yet.
+    /// Returns the tally of no pieces.
     #[tactic(auto, unfolding(crate::specs::Report::has))]
     pub fn new() -> Tally
         ensures { result ≡ tally_of [] }
@@ -29,7 +29,7 @@ impl Tally {
         }
     }
 
-    /// The tally with one piece more.
+    /// Returns the tally with one more piece.
     pub fn with(self, mark: Mark) -> Tally
         ensures { result ≡ counted self mark }
     {
@@ -44,7 +44,7 @@ impl Tally {
         }
     }
 
-    /// The tally of these pieces and of others.
+    /// Returns the tally of these pieces and of others together.
     pub fn and(self, other: Tally) -> Tally
         ensures { result ≡ added self other }
     {
@@ -55,7 +55,7 @@ impl Tally {
         }
     }
 
-    /// The status of a run that came to its end.
+    /// Returns the status of a run that reached its end.
     pub fn status(self) -> Status
         ensures { result ≡ flags_status self.stop self.fault self.hit }
     {

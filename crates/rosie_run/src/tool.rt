@@ -1,8 +1,8 @@
-// Whose run it is.
+// The program that a run belongs to.
 ghost use Rattle.std.specs.Prelude.{◌≡◌};
 ghost use Rattle.rosie_run.specs.Tools.{name_of};
 
-/// The program that a run belongs to. Its messages begin with its name.
+/// The program that a run belongs to. Messages begin with its name.
 #[derive(Clone, Copy, Debug, PartialEq, Eq)]
 pub enum Tool {
     Rosie,
@@ -10,7 +10,7 @@ pub enum Tool {
 }
 
 impl Tool {
-    /// Its name.
+    /// Returns the name of the program.
     pub fn name(self) -> &'static str
         ensures { result.now ≡ name_of self }
     {

@@ -1,4 +1,4 @@
-// Whole texts to the sinks.
+// Writing whole texts to the outputs.
 ghost use Rattle.std.specs.Prelude.{◌≡◌, ◌+◌, IfOk, OnOk, false, length, string_bytes, true};
 ghost use Rattle.rosie_io.specs.Counts.{capped};
 ghost use Rattle.rosie_io.specs.Appending.{Appends, HasCause};
@@ -10,7 +10,7 @@ use crate::{NoMemory, Tool};
 use rosie_io::{FlushAnswer, Sink, WriteFault, write_all};
 use std::alloc::Global;
 
-/// Flushes what was written on one output.
+/// Flushes one output.
 fn flush<S: Sink>(sink: &mut S) -> Result<(), WriteFault>
     ensures bytes { S.tells → S.written sink.new ≡ S.written sink.old }
     ensures number { S.counts → S.number sink.new ≡ S.number sink.old }
@@ -23,8 +23,8 @@ fn flush<S: Sink>(sink: &mut S) -> Result<(), WriteFault>
     }
 }
 
-/// Writes the two texts of a piece. `out` is flushed before anything is written on `err`, so that
-/// whoever sees both on one screen, or in one pipe, has them in this order.
+/// Writes the two texts of a piece. `out` is flushed before anything is written on `err`, so
+/// that both appear in this order on a screen or in a pipe that they share.
 #[inline(always)]
 pub(crate) fn write_both<O: Sink, E: Sink>(
     out: &mut O,
@@ -46,8 +46,7 @@ pub(crate) fn write_both<O: Sink, E: Sink>(
     write_behind(out, err, err_text)
 }
 
-/// Writes a text on `err`, after what stands on `out`: that is flushed before, where there is a
-/// text.
+/// Writes a text on `err`, after the text on `out`: if there is a text, `out` is flushed first.
 #[inline(always)]
 fn write_behind<O: Sink, E: Sink>(out: &mut O, err: &mut E, text: &[u8]) -> Result<(), WriteFault>
     ensures out { O.tells → O.written out.new ≡ O.written out.old }
@@ -66,7 +65,7 @@ fn write_behind<O: Sink, E: Sink>(out: &mut O, err: &mut E, text: &[u8]) -> Resu
     write_all(err, text)
 }
 
-/// Flushes what was written on both.
+/// Flushes both outputs.
 pub(crate) fn flush_both<O: Sink, E: Sink>(out: &mut O, err: &mut E) -> Result<(), WriteFault>
     ensures out { O.tells → O.written out.new ≡ O.written out.old }
     ensures err { E.tells → E.written err.new ≡ E.written err.old }
@@ -111,7 +110,7 @@ pub(crate) fn close_with<O: Sink, E: Sink>(
     write_last(err, text.as_bytes())
 }
 
-/// Flushes both outputs where something is pending on one and the reader may wait for input.
+/// Flushes both outputs if output is pending and the next piece may wait for input.
 pub(crate) fn flush_before_wait<O: Sink, E: Sink>(
     pending: &mut bool,
     ready: bool,
@@ -136,7 +135,7 @@ pub(crate) fn flush_before_wait<O: Sink, E: Sink>(
     flush_both(out, err)
 }
 
-/// The text that says what is wrong with a line of an input.
+/// Returns the message on a line of an input: what is wrong with it.
 #[tactic(auto, unfolding(crate::specs::Lines::line_message))]
 pub fn line_message(
     alloc: Global,
@@ -151,7 +150,7 @@ pub fn line_message(
     format!(in alloc; "{tool}: {file}:{number}: {text}\n")
 }
 
-/// The text that says what is wrong with an input.
+/// Returns the message on an input: what is wrong with it.
 #[tactic(auto, unfolding(crate::specs::Lines::input_message))]
 pub fn input_message(alloc: Global, tool: Tool, file: &str, text: &str) -> Result<String, NoMemory>
     ensures { IfOk result (λ line. string_bytes line ≡ input_message tool file.now text.now) }
@@ -160,14 +159,14 @@ pub fn input_message(alloc: Global, tool: Tool, file: &str, text: &str) -> Resul
     format!(in alloc; "{tool}: {file}: {text}\n")
 }
 
-/// What `rosie` says is wrong with a line of an input.
+/// Returns the message of `rosie` on a line of an input.
 pub fn line_fault(alloc: Global, file: &str, number: u64, text: &str) -> Result<String, NoMemory>
     ensures { IfOk result (λ line. string_bytes line ≡ line_fault file.now number text.now) }
 {
     line_message(alloc, Tool::Rosie, file, number, text)
 }
 
-/// What `rosie` says is wrong with an input.
+/// Returns the message of `rosie` on an input.
 pub fn input_fault(alloc: Global, file: &str, text: &str) -> Result<String, NoMemory>
     ensures { IfOk result (λ line. string_bytes line ≡ input_fault file.now text.now) }
 {

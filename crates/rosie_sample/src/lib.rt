@@ -1,10 +1,10 @@
-//! The command `sample`: lines like those of a log, the same at each run for each seed, which a job
-//! matches.
+//! The command `sample`: it makes lines like those of a log, the same in each run with the same
+//! seed, and matches them.
 //!
-//! [`Sample`] has the lines in turn, in memory that is kept from line to line. Every line is
-//! exactly the one of `specs/Lines.antt`. Nothing is random: who has the seed has the lines. A
-//! [`SampleRun`] matches them and says what they come to, exactly as in `specs/Counting.antt`; only
-//! memory can run out, and a write can fail.
+//! [`Sample`] returns the lines one after the other, in memory that is kept from line to line.
+//! Every line is exactly that of `specs/Lines.antt`. Nothing is random: the seed decides all
+//! lines. A [`SampleRun`] matches the lines and reports the counts, exactly as in
+//! `specs/Counting.antt`. It can fail only if memory runs out or a write fails.
 #![tactic(auto)]
 
 mod line;

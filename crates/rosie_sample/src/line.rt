@@ -7,14 +7,14 @@ ghost use Rattle.rosie_sample.specs.Lines.{two_digits, level, date, dated, undat
 use crate::NoMemory;
 use rpl_print::push_decimal;
 
-/// What stands before a number, so that it has two digits.
+/// Returns the zero before a number of one digit, so that it has two digits.
 fn zero_before(number: u32) -> &'static str
     ensures { result.now ≡ (if nat_lt number 10 then codes "0" else []) }
 {
     if number < 10 { "0" } else { "" }
 }
 
-/// Adds a number in two digits.
+/// Appends a number in two digits.
 fn push_two_digits(out: &mut String, number: u32) -> Result<(), NoMemory>
     ensures { OnOk result (string_bytes out.new ≡ string_bytes out.old ++ two_digits number) }
 {
@@ -22,7 +22,7 @@ fn push_two_digits(out: &mut String, number: u32) -> Result<(), NoMemory>
     push_decimal(out, number as u64)
 }
 
-/// The name of a level.
+/// Returns the name of a level.
 fn level(number: u32) -> &'static str
     ensures { result.now ≡ level number }
 {
@@ -33,7 +33,7 @@ fn level(number: u32) -> &'static str
     }
 }
 
-/// Adds a date, by the number of its line.
+/// Appends a date, made from the number of its line.
 fn push_date(out: &mut String, number: u32) -> Result<(), NoMemory>
     ensures { OnOk result (string_bytes out.new ≡ string_bytes out.old ++ date number) }
 {
@@ -43,7 +43,7 @@ fn push_date(out: &mut String, number: u32) -> Result<(), NoMemory>
     push_two_digits(out, 1 + number % 28)
 }
 
-/// Adds a line with a date and a level.
+/// Appends a line with a date and a level.
 fn push_dated(out: &mut String, number: u32) -> Result<(), NoMemory>
     ensures { OnOk result (string_bytes out.new ≡ string_bytes out.old ++ dated number) }
 {
@@ -54,7 +54,7 @@ fn push_dated(out: &mut String, number: u32) -> Result<(), NoMemory>
     push_decimal(out, number as u64)
 }
 
-/// Adds a line without them.
+/// Appends a line without date and level.
 fn push_undated(out: &mut String, number: u32) -> Result<(), NoMemory>
     ensures { OnOk result (string_bytes out.new ≡ string_bytes out.old ++ undated number) }
 {
@@ -62,7 +62,7 @@ fn push_undated(out: &mut String, number: u32) -> Result<(), NoMemory>
     push_decimal(out, number as u64)
 }
 
-/// Adds the line of a number.
+/// Appends the line of a number.
 #[tactic(auto, unfolding(crate::specs::Lines::line_of))]
 pub(crate) fn push_line(out: &mut String, number: u32) -> Result<(), NoMemory>
     ensures { OnOk result (string_bytes out.new ≡ string_bytes out.old ++ line_of number) }

@@ -1,5 +1,4 @@
-// The run of a sample, piece by piece: its lines are matched, and at the end it says what they come
-// to.
+// The run of a sample, piece by piece: it matches the lines, and reports the counts at the end.
 ghost use Rattle.std.specs.Prelude.{◌≡◌, ◌+◌, ◌-◌, ◌<◌, [], None, IfErr, IfOk, OnOk, cond, List, string_bytes};
 ghost use Rattle.rosie_jobs.specs.Jobs.{matcher_of};
 ghost use Rattle.rosie_run.specs.Devices.{OutputsCause, SameOutputs};
@@ -20,22 +19,23 @@ use rpl_machine::Steps;
 use std::alloc::Global;
 use std::sync::ledger::Ledger;
 
-/// A job, and so many lines of a sample that it runs on, one after the other.
+/// A job, and the lines of a sample that it runs on, one after the other.
 #[derive(Drop)]
 pub struct SampleRun {
     alloc: Global,
     job: MatchJob,
     sample: Sample,
     lines: u32,
-    /// How many of the lines were matched, how many of these match, and the bytes of their answers.
+    /// The number of lines that the job has run on, the number of them that match, and the
+    /// bytes of their answers.
     passed: u32,
     matched: u64,
     bytes: u64,
-    /// What they come to, once that is said.
+    /// The text of the counts, once it is reported.
     text: Option<String>,
 }
 
-/// What a mark adds to the number of lines that match.
+/// Returns 1 for a line that matches, and 0 for any other.
 fn one_if_hit(mark: Mark) -> u64
     ensures { result ≡ cond (is_hit mark) 1 0 }
 {
@@ -48,7 +48,7 @@ fn one_if_hit(mark: Mark) -> u64
 impl SampleRun {
     ghost use Rattle.rosie_sample.specs.Views.{report_of, sampled_of};
 
-    /// The run of a job on so many lines of the sample of a seed.
+    /// Returns the run of a job on the first `lines` lines of the sample of a seed.
     pub fn new(alloc: Global, job: MatchJob, seed: u32, lines: u32) -> SampleRun
         ensures sampled { sampled_of result ≡ record
             { maker = matcher_of job; seed = seed; lines = lines } }
@@ -65,7 +65,7 @@ impl SampleRun {
         }
     }
 
-    /// Matches the next line, of which nothing is written on `out`.
+    /// Matches the next line. Nothing is written on `out` for it.
     fn next_line<L: Ledger>(&mut self, steps: &mut Steps<L>) -> Result<Mark, NoMemory>
         requires more { self.old.passed < self.old.lines }
         requires fits { CountsFit self.old }
@@ -90,7 +90,7 @@ impl SampleRun {
         Ok(mark)
     }
 
-    /// Matches so many lines from where the sample stands, and says what they come to.
+    /// Matches the lines of the run, from where the sample is, and reports the counts.
     pub fn run<O: Sink, E: Sink, L: Ledger>(
         &mut self,
         outputs: &mut Outputs<'_, O, E, L>,

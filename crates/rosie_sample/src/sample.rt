@@ -1,4 +1,4 @@
-// The lines of a sample in turn.
+// The lines of a sample, one after the other.
 ghost use Rattle.std.specs.Prelude.{◌≡◌, ◌≤◌, ◌<◌, ◌^◌, [], OnOk, length};
 ghost use Rattle.rosie_sample.specs.Lines.{next, drawn, line_of};
 
@@ -7,7 +7,7 @@ use crate::line::push_line;
 use std::alloc::Global;
 use std::marker::Model;
 
-/// The lines of a sample in turn. It stands before the first of them when it is made.
+/// The lines of a sample, one after the other. A new sample is before the first of them.
 #[derive(Debug, Drop)]
 pub struct Sample {
     number: u32,
@@ -23,7 +23,7 @@ impl Model for Sample {
     ghost view = { λ s. record { number = s.number; line = string_bytes s.line } };
 }
 
-/// The number after one.
+/// Returns the number after this one.
 fn next(number: u32) -> u32
     ensures { result ≡ next number }
 {
@@ -31,7 +31,7 @@ fn next(number: u32) -> u32
 }
 
 impl Sample {
-    /// The sample of a seed, before its first line.
+    /// Returns the sample of a seed, before its first line.
     pub fn new(alloc: Global, seed: u32) -> Sample
         ensures { result ≡ record { number = seed; line = [] } }
     {
@@ -41,7 +41,7 @@ impl Sample {
         }
     }
 
-    /// Goes on to the next line. There is always one.
+    /// Advances to the next line. There is always one.
     pub fn advance(&mut self) -> Result<(), NoMemory>
         ensures number { self.new.number ≡ next self.old.number }
         ensures line { OnOk result (self.new.line ≡ line_of (drawn (next self.old.number))) }
@@ -52,7 +52,7 @@ impl Sample {
         push_line(&mut self.line, self.number / 65_536)
     }
 
-    /// The line where it stands, without a line feed.
+    /// Returns the present line, without a line feed.
     pub fn line(&self) -> &str
         ensures { result.now ≡ self.now.line }
     {

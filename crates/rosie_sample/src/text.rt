@@ -1,26 +1,26 @@
-// The texts of a sample: its rules, its pattern, and what is said of it at the end.
+// The texts of a sample: its rules, its pattern, and the counts.
 ghost use Rattle.std.specs.Prelude.{◌≡◌, string_bytes, IfOk};
 ghost use Rattle.rosie_sample.specs.Counting.{counts_text, sample_pattern, sample_rules};
 
 use crate::NoMemory;
 use std::alloc::Global;
 
-/// The rules that its lines are matched by, as RPL text.
+/// Returns the rules that the lines are matched with, as RPL text.
 pub fn rules() -> &'static str
     ensures { result.now ≡ sample_rules }
 {
     "alias d = [:digit:]\ndate = {d{4} \"-\" d{2} \"-\" d{2}}\nlevel = [:upper:]+\n"
 }
 
-/// The pattern.
+/// Returns the pattern that the lines are matched with.
 pub fn pattern() -> &'static str
     ensures { result.now ≡ sample_pattern }
 {
     "date level"
 }
 
-/// What is said at the end: the number of lines, of those that match, and of the bytes that are
-/// written of them.
+/// Returns the text of the counts: the number of lines, of lines that match, and of bytes in
+/// their answers.
 pub(crate) fn counts_text(
     alloc: Global,
     lines: u32,

@@ -1,10 +1,10 @@
-//! A session: its lines are commands that change texts and a pattern, or try a line, and each is
-//! answered by what the texts come to then.
+//! A session: each of its lines is a command that changes the texts or the pattern, or tries a
+//! line, and is answered from the texts as they are then.
 //!
-//! For the command `repl`. [`run_session`] reads the lines, keeps what `rosie_repl` keeps, and
-//! loads it afresh for each change and each line that is tried. `specs/Replay.antt` says what is
-//! answered, given what texts come to, and `specs/Loading.antt` what they come to over the tree of
-//! files; nothing that was refused leaves a trace.
+//! The crate serves the command `repl`. [`run_session`] reads the lines, keeps the state of
+//! `rosie_repl`, and loads it anew for each change and each tried line. `specs/Replay.antt`
+//! defines the answers, given the result of loading the texts, and `specs/Loading.antt` defines
+//! that result over the tree of files. A refused command leaves no trace.
 #![tactic(auto)]
 
 mod laws;

@@ -1,4 +1,4 @@
-// What the kept texts come to: alone, and with a pattern.
+// The loading of the kept texts, alone and with a pattern.
 ghost use Rattle.std.specs.Prelude.{◌≡◌, IfErr, IfOk, Ok, chars};
 ghost use Rattle.rosie_io.specs.Loading.{NotFewer};
 ghost use Rattle.rosie_jobs.specs.Jobs.{IsJobOf, job_of};
@@ -28,7 +28,7 @@ use rpl_package::{LibPath, Root, Roots};
 use rpl_text::Chars;
 use std::alloc::Global;
 
-/// How a line that is tried is reported: its match as JSON, within the budget of a line.
+/// The settings for a tried line: its match is printed as JSON, within the budget of a line.
 const PLAIN: Settings = Settings {
     style: Style::Json,
     whole: false,
@@ -37,7 +37,7 @@ const PLAIN: Settings = Settings {
     budget: None,
 };
 
-/// The kept texts, each as a root.
+/// Returns the kept texts, each as a root.
 fn roots_of(alloc: Global, state: &State) -> Result<Roots, NoMemory>
     ensures { IfOk result (λ roots. roots ≡ given (session_of state.now).now.texts) }
 {
@@ -50,7 +50,7 @@ fn roots_of(alloc: Global, state: &State) -> Result<Roots, NoMemory>
     Ok(roots)
 }
 
-/// Loads the kept texts alone: they have no fault, or a line says the first.
+/// Loads the kept texts alone. Returns the line of the first fault, if there is one.
 pub(crate) fn load_texts<F: Files>(
     alloc: Global,
     folders: &LibPath,
@@ -69,7 +69,8 @@ pub(crate) fn load_texts<F: Files>(
     Ok(())
 }
 
-/// Compiles a goal that is ready, for which alone its rules are kept. Its code may be too long.
+/// Compiles a goal that is ready. Its rules are used for this goal alone. Returns an error if
+/// its code is too long.
 fn compile_ready(alloc: Global, ready: Prepared) -> Result<Job, CompileFault>
     requires { IsWhole (bodies_of ready.rules) (core_of (peg_of ready.goal)) }
     ensures job { IfOk result (λ job. IsJobOf (bodies_of ready.rules) (core_of (peg_of ready.goal))
@@ -80,7 +81,7 @@ fn compile_ready(alloc: Global, ready: Prepared) -> Result<Job, CompileFault>
     Job::new(alloc, ready.rules, ready.goal)
 }
 
-/// The job of a goal that is ready, unless its code is too long.
+/// Returns the job of a goal that is ready, unless its code is too long.
 fn make_job(alloc: Global, ready: Prepared) -> Result<MatchJob, Unready>
     requires { IsWhole (bodies_of ready.rules) (core_of (peg_of ready.goal)) }
     ensures gives { (answer : OrLine Ran) → Compiles (Ok (ready_seen ready)) answer →
@@ -102,7 +103,7 @@ fn make_job(alloc: Global, ready: Prepared) -> Result<MatchJob, Unready>
     }
 }
 
-/// The job of a pattern over the kept texts, or the line of the first fault.
+/// Returns the job of a pattern over the kept texts, or the line of the first fault.
 pub(crate) fn load_goal<F: Files>(
     alloc: Global,
     folders: &LibPath,

@@ -1,4 +1,4 @@
-// What is said to a command.
+// The reply to a command.
 ghost use Rattle.std.specs.Prelude.{◌≡◌, IfOk, string_bytes};
 ghost use Rattle.rosie_repl.specs.States.{session_of};
 ghost use Rattle.rosie_run.specs.Report.{fault_piece};
@@ -12,7 +12,7 @@ use std::alloc::Global;
 /// The name of a session in its error lines.
 pub(crate) const NAME: &str = "(session)";
 
-/// What is said to a command: the texts for `out` and `err`, and how they count.
+/// The reply to a command: the texts for `out` and `err`, and their mark.
 #[derive(Drop)]
 pub(crate) struct Reply {
     pub(crate) out: Vec<u8>,
@@ -20,7 +20,7 @@ pub(crate) struct Reply {
     pub(crate) mark: Mark,
 }
 
-/// The command is accepted: so many texts are kept now.
+/// Replies that the command is accepted, with the number of texts that are kept now.
 pub(crate) fn accepted(alloc: Global, state: &State) -> Result<Reply, NoMemory>
     ensures { IfOk result (λ reply. IsReply reply (ok_piece (session_of state.now))) }
 {
@@ -33,7 +33,7 @@ pub(crate) fn accepted(alloc: Global, state: &State) -> Result<Reply, NoMemory>
     })
 }
 
-/// It isn't accepted, which this line says.
+/// Replies that the command is refused. `line` says why.
 pub(crate) fn refused(alloc: Global, line: String) -> Reply
     ensures { IsReply result (fault_piece (string_bytes line)) }
 {
@@ -44,7 +44,7 @@ pub(crate) fn refused(alloc: Global, line: String) -> Reply
     }
 }
 
-/// It isn't accepted: this is wrong with the line of this number.
+/// Replies that the command is refused. `text` says what is wrong with the line of this number.
 pub(crate) fn wrong(alloc: Global, number: u64, text: &str) -> Result<Reply, NoMemory>
     ensures { IfOk result (λ reply. IsReply reply (fault_piece (session_fault number text.now))) }
 {

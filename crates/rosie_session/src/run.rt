@@ -36,27 +36,28 @@ use std::alloc::Global;
 use std::mem;
 use std::sync::ledger::Ledger;
 
-/// The longest line of a session, in bytes.
+/// The most bytes of a line of a session.
 const MAX_COMMAND_BYTES: usize = 1_048_576;
 
-/// What a session keeps from line to line. It isn't a part of what holds the files and the input:
-/// where such a value owns memory, nothing is known of them afterwards.
+/// The state that a session keeps from line to line. It is kept apart from the value that holds
+/// the files and the input: if such a value owned memory, nothing would be known of the files
+/// and the input afterwards.
 #[derive(Drop)]
 struct Kept {
     alloc: Global,
     state: State,
-    /// Gives the lines.
+    /// The reader of the lines.
     reader: LineReader,
-    /// What was said last.
+    /// The last reply.
     reply: Reply,
-    /// The file that wasn't read, where that ended the session.
+    /// The file that couldn't be read, if that ended the session.
     unread: Option<Chars>,
-    /// That a read of the input failed: made before the first read, so that no want of memory hides
-    /// a failed one.
+    /// The message that a read of the input failed. It is made before the first read, so that a
+    /// lack of memory can't hide a failed read.
     read_failed: String,
 }
 
-/// The answers to the lines of a session.
+/// The replies to the lines of a session.
 #[derive(Drop)]
 struct SessionLines<'a, F, I> {
     folders: &'a LibPath,
@@ -66,7 +67,7 @@ struct SessionLines<'a, F, I> {
 }
 
 impl Kept {
-    /// Nothing was read.
+    /// Returns the state of a session that has read nothing.
     fn new(alloc: Global) -> Result<Kept, NoMemory>
         ensures state { IfOk result (λ kept. session_of kept.state ≡ begun) }
         ensures reader { IfOk result (λ kept. kept.reader ≡ record {
@@ -95,7 +96,7 @@ impl Kept {
         })
     }
 
-    /// Keeps what is said to a line, and answers how it counts.
+    /// Keeps the reply to a line, and returns its mark.
     fn keep(&mut self, reply: Reply) -> Mark
         ensures kept { self.new ≡ record self.old { reply = reply } }
         ensures mark { result ≡ reply.mark }
@@ -104,7 +105,7 @@ impl Kept {
         self.reply.mark
     }
 
-    /// Says what is wrong with a line.
+    /// Replies that something is wrong with a line.
     fn wrong(&mut self, number: u64, text: &str) -> Result<Option<Mark>, Ended>
         ensures kept { self.new ≡ record self.old { reply = self.new.reply } }
         ensures says { (name : List ℕ) → IfErr result (IsSaidBy Rosie name) }
@@ -116,7 +117,7 @@ impl Kept {
         Ok(Some(self.keep(reply)))
     }
 
-    /// The end of a session of which a read of the input failed.
+    /// Returns the end of a session in which a read of the input failed.
     fn end_of_read(&mut self) -> Ended
         ensures kept { self.new ≡ record self.old { read_failed = self.new.read_failed } }
         ensures stops { IsStop ReadFault result }
@@ -126,7 +127,7 @@ impl Kept {
         Ended::Cut(ReadStop::ReadFault, text)
     }
 
-    /// The end of a session that made all its reads.
+    /// Returns the end of a session that has used up its reads.
     fn end_of_reads(&self) -> Ended
         ensures stops { IsStopOrMemory Spent result }
         ensures says { IsPrepared self.now → IsSaidBy Rosie (name_of self.now.unread) result }
@@ -134,7 +135,7 @@ impl Kept {
         cut(self.alloc, Tool::Rosie, ReadStop::Spent, "-")
     }
 
-    /// The end of a session of which a line asks for a file that wasn't read.
+    /// Returns the end of a session in which a line needs a file that couldn't be read.
     fn end_at(&mut self, path: Chars) -> Ended
         ensures kept { self.new ≡ record self.old { unread = Some path } }
         ensures stops { IsStopOrMemory ReadFault result }
@@ -147,7 +148,7 @@ impl Kept {
 }
 
 impl<'a, F: Files, I: Source> SessionLines<'a, F, I> {
-    /// The lines of a session, of their parts.
+    /// Puts the lines of a session together from their parts.
     fn new(
         folders: &'a LibPath,
         kept: &'a mut Kept,
@@ -170,7 +171,7 @@ impl<'a, F: Files, I: Source> SessionLines<'a, F, I> {
         }
     }
 
-    /// Makes what is said to the line of text that the reader holds.
+    /// Makes the reply to the line of text that the reader holds.
     fn answer_text<L: Ledger>(&mut self, steps: &mut Steps<L>) -> Result<Option<Mark>, Ended>
         requires { length self.old.kept.now.reader.text ≤ 2 ^ 30 }
         ensures same { SameSession self.old self.new }
@@ -204,7 +205,7 @@ impl<'a, F: Files, I: Source> SessionLines<'a, F, I> {
         }
     }
 
-    /// Makes what is said to what the reader answered. `None` where there is no further line.
+    /// Makes the reply to the reader's answer. Returns `None` if there is no further line.
     fn make_of<L: Ledger>(
         &mut self,
         found: Result<Line, LineFault>,
@@ -284,11 +285,11 @@ impl<'a, F: Files, I: Source> PieceSource for SessionLines<'a, F, I> {
     ghost begins = { λ s. ((refl, refl, refl, refl), begins_session F.Source I.Source s) };
 }
 
-/// Runs a session: each line of the input is a command, and is answered before the next is waited
-/// for. Imports are looked for in the folders.
+/// Runs a session: each line of the input is a command, and is answered before the run waits
+/// for the next. Imports are searched for in `folders`.
 ///
-/// What is written is what `specs/Replay.antt` says, over the loading of the files; where reading
-/// or writing ends the session, or memory runs out, it is a front of that.
+/// The output is what `specs/Replay.antt` defines, over the loading of the files. If reading or
+/// writing ends the session, or memory runs out, the output is a prefix of that.
 pub fn run_session<F: Files, I: Source, O: Sink, E: Sink, L: Ledger>(
     alloc: Global,
     folders: &LibPath,

@@ -1,14 +1,14 @@
-// Why a line of a session has no answer.
+// The reason why a line of a session has no answer.
 ghost use Rattle.std.specs.Prelude.{◌≡◌};
 
 use rpl_text::Chars;
 use std::alloc::AllocError;
 
-/// Why a line of a session has no answer.
+/// The reason why a line of a session has no answer.
 #[derive(Drop)]
 pub(crate) enum SessionEnd {
     NoMemory,
-    /// The file of this path couldn't be opened or read.
+    /// The file at this path could not be opened or read.
     Unread(Chars),
 }
 

@@ -1,4 +1,4 @@
-// What is said to a line of text.
+// The reply to a line of text.
 ghost use Rattle.std.specs.Prelude.{◌≡◌, ◌+◌, ◌≤◌, ◌^◌, ℕ, List, Some, IfErr, IfOk, OnOk, chars};
 ghost use Rattle.std.specs.Prelude.{length};
 ghost use Rattle.rosie_io.specs.Loading.{NotFewer};
@@ -31,8 +31,8 @@ use rpl_package::LibPath;
 use std::alloc::Global;
 use std::sync::ledger::Ledger;
 
-/// What a line of a session is answered over: the folders in which imports are looked for, and its
-/// number.
+/// The context of a line of a session: the folders that are searched for imports, and the
+/// number of the line.
 #[derive(Clone, Copy)]
 pub(crate) struct Base<'a> {
     pub(crate) alloc: Global,
@@ -40,14 +40,14 @@ pub(crate) struct Base<'a> {
     pub(crate) number: u64,
 }
 
-/// A line that is tried, and the pattern with which it is matched.
+/// A tried line, and the pattern that it is matched with.
 #[derive(Clone, Copy)]
 struct Trial<'a> {
     pattern: &'a str,
     line: &'a str,
 }
 
-/// Loads what is kept after a change: a new pattern with the texts, else the texts alone.
+/// Loads the state after a change: a new pattern with the texts, or else the texts alone.
 fn load_change<F: Files>(
     alloc: Global,
     folders: &LibPath,
@@ -71,7 +71,7 @@ fn load_change<F: Files>(
     }
 }
 
-/// Judges a change that was made: it stands where loading has no fault, and else is taken back.
+/// Keeps a change if loading finds no fault, and takes it back if it does.
 fn judge<F: Files>(
     alloc: Global,
     folders: &LibPath,
@@ -96,7 +96,7 @@ fn judge<F: Files>(
     }
 }
 
-/// Makes a change, which stands where loading has no fault.
+/// Makes a change, and keeps it if loading finds no fault.
 fn change<F: Files>(
     base: &Base<'_>,
     state: &mut State,
@@ -114,7 +114,7 @@ fn change<F: Files>(
     Ok(wrong(base.alloc, base.number, "bad command")?)
 }
 
-/// Goes back to what was kept before the last change.
+/// Goes back to the state before the last change.
 fn undo(alloc: Global, state: &mut State, number: u64) -> Result<Reply, NoMemory>
     ensures { IfOk result (λ reply. Says reply (undo_turn number (session_of state.old)
         (S.undone (session_of state.old))) (session_of state.new)) }
@@ -125,7 +125,7 @@ fn undo(alloc: Global, state: &mut State, number: u64) -> Result<Reply, NoMemory
     wrong(alloc, number, "nothing to undo")
 }
 
-/// A copy of the bytes.
+/// Returns a copy of the bytes.
 fn copy_of(alloc: Global, bytes: &[u8]) -> Result<Vec<u8>, NoMemory>
     ensures { IfOk result (λ copy. copy.items ≡ bytes.now) }
 {
@@ -134,7 +134,7 @@ fn copy_of(alloc: Global, bytes: &[u8]) -> Result<Vec<u8>, NoMemory>
     Ok(copy)
 }
 
-/// The text for `out` of a line that was tried: that it doesn't match is reported.
+/// Returns the text for `out` of a tried line. A line that doesn't match is reported too.
 fn told(alloc: Global, mark: Mark, text: &[u8]) -> Result<Vec<u8>, NoMemory>
     ensures { IfOk result (λ told. (p : Piece) → p.out ≡ text.now →
         told.items ≡ (or_no mark p).out) }
@@ -151,7 +151,7 @@ fn told(alloc: Global, mark: Mark, text: &[u8]) -> Result<Vec<u8>, NoMemory>
     }
 }
 
-/// What a job makes of a line; that it doesn't match is reported.
+/// Makes the reply of a job to a line. A line that doesn't match is reported too.
 fn try_job<L: Ledger>(
     alloc: Global,
     job: &mut MatchJob,
@@ -210,7 +210,7 @@ fn try_with<F: Files, L: Ledger>(
     }
 }
 
-/// Does what a command says.
+/// Carries out a command.
 fn obey<F: Files, L: Ledger>(
     base: &Base<'_>,
     state: &mut State,
@@ -237,7 +237,7 @@ fn obey<F: Files, L: Ledger>(
     }
 }
 
-/// What is said to a line of text.
+/// Makes the reply to a line of text.
 pub(crate) fn answer<F: Files, L: Ledger>(
     base: &Base<'_>,
     state: &mut State,

@@ -1,4 +1,4 @@
-// The goal that a rule is tried by.
+// The goal for testing a rule.
 ghost use Rattle.std.specs.Prelude.{◌≡◌, ℕ, List, IfOk};
 ghost use Rattle.rpl_check.specs.Checked.{IsWhole};
 ghost use Rattle.rpl_check.specs.Goal.{peg_of};
@@ -15,7 +15,7 @@ use rpl_package::Target;
 use rpl_text::Chars;
 use std::alloc::Global;
 
-/// The call of a rule, under the root `*` where the rule makes no node.
+/// Returns the call of a rule, under the root `*` if the rule makes no node.
 fn goal_of(alloc: Global, target: Target) -> Result<Peg, NoMemory>
     ensures { IfOk result (λ goal. core_of goal ≡ goal_of target) }
 {
@@ -27,8 +27,8 @@ fn goal_of(alloc: Global, target: Target) -> Result<Peg, NoMemory>
     Ok(Peg::Capture(root, Box::new(alloc, call)?))
 }
 
-/// The goal that a rule of the table is tried by, which can be compiled as it is: a match of it is
-/// one tree, and the check finds nothing wrong with a call.
+/// Returns the goal for testing a rule of the table. It can be compiled as it is: a match of it
+/// is one tree, and the check finds nothing wrong with a call.
 pub(crate) fn checked_goal(
     alloc: Global,
     rules: &Checked,

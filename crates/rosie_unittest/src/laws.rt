@@ -1,12 +1,12 @@
-// What holds of all files.
+// The laws of all test files.
 ghost use Rattle.rosie_unittest.specs.Laws.{OneSuite, TextsLaw};
 
-/// Over each tree of files, a file comes to one thing alone.
+/// Proves that over each tree of files a file has at most one result.
 pub fn one_suite()
     ensures { OneSuite }
 {}
 
-/// The text of each test that a file has is of characters.
+/// Proves that the text of each test in a file consists of characters.
 pub fn texts_law()
     ensures { TextsLaw }
 {}

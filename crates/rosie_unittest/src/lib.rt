@@ -1,11 +1,12 @@
-//! The unit tests of a file: what each of them is tried with, and the run that tells which aren't
-//! met.
+//! The unit tests of a file: the rule that each of them tests, and the run that reports the
+//! tests that fail.
 //!
-//! For the command `test`. [`load_suite`] loads the file as the one root, reads its test comments,
-//! and finds for each test the rule of that name in the file's own module, with the code of its
-//! goal. [`Suite::run`] tries the tests in turn, writes the line of each that isn't met, and ends
-//! with the counts. `specs/Suites.antt` says what comes of a file, `specs/Trials.antt` what is
-//! written, and `specs/Limits.antt` when a test may pass its budget.
+//! The crate serves the command `test`. [`load_suite`] loads the file as the only root, reads
+//! its test comments, and finds for each test the rule of that name in the file's own module,
+//! with the code of its goal. [`Suite::run`] tries the tests one after the other, writes a line
+//! for each that fails, and ends with the counts. `specs/Suites.antt` defines the result of
+//! loading a file, `specs/Trials.antt` the output, and `specs/Limits.antt` when a test may
+//! exceed its budget.
 #![tactic(auto)]
 
 mod goal;

@@ -1,4 +1,4 @@
-// From a file to its tests, each with what it is tried with.
+// The loading of a file's tests, each with the rule that it tests.
 ghost use Rattle.std.specs.Prelude.{◌≡◌, ◌<◌, ◌≤◌, ◌∷◌, [], ℕ, List, Ok, IfErr, IfOk};
 ghost use Rattle.std.specs.Prelude.{encode_utf8_all};
 ghost use Rattle.std.specs.Prelude.{false, length};
@@ -28,7 +28,7 @@ use rpl_text::Chars;
 use rpl_unittest::{TestFault, Tests, read_tests};
 use std::alloc::Global;
 
-/// The file as the one root.
+/// Returns the file as the only root.
 fn one_root(alloc: Global, file: &Chars) -> Result<Roots, NoMemory>
     ensures { IfOk result (λ roots. roots ≡ File file.now ∷ []) }
 {
@@ -37,7 +37,8 @@ fn one_root(alloc: Global, file: &Chars) -> Result<Roots, NoMemory>
     Ok(roots)
 }
 
-/// The tests that the comments of the file's text say, or the line of the first bad one.
+/// Returns the tests in the comments of the file's text, or the line of the first malformed
+/// one.
 fn tests_in(alloc: Global, file: &Chars, text: &str) -> Result<Tests, Unready>
     ensures tests { IfOk result (HasTests text.now) }
     ensures short { IfOk result (λ tests. All (λ t. length (encode_utf8_all t.text)
@@ -56,7 +57,8 @@ fn tests_in(alloc: Global, file: &Chars, text: &str) -> Result<Tests, Unready>
     }
 }
 
-/// The tests of the file's text, over its packages; or the line of its first bad test comment.
+/// Returns the tests of the file's text over its packages, or the line of its first malformed
+/// test comment.
 fn suite_over(
     alloc: Global,
     ready: PreparedRules,
@@ -91,12 +93,13 @@ fn suite_over(
     })
 }
 
-/// The tests of a file, each with what it is tried with; or the line of the first fault.
+/// Loads the tests of a file, each with the rule that it tests. Returns the line of the first
+/// fault, if there is one.
 ///
-/// The file is loaded as the one root, over these folders, and read once more for its test
-/// comments. Each test is tried with the rule of its name in the file's own module. `budget` is how
-/// many steps of the machine a test may take; where it isn't given, it is a million, and a thousand
-/// for each character of the text.
+/// The file is loaded as the only root, with imports from these folders, and is read once more
+/// for its test comments. Each test is tried with the rule of its name in the file's own
+/// module. `budget` is the number of the machine's steps that a test may take: by default a
+/// million, and a thousand for each character of the text.
 pub fn load_suite<F: Files>(
     alloc: Global,
     files: &mut F,

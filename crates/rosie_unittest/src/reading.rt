@@ -18,7 +18,7 @@ use std::alloc::Global;
 /// The most bytes of an RPL file.
 const MAX_FILE_BYTES: usize = 1_048_576;
 
-/// The refusal of the file as a whole, if there is memory for its line.
+/// Returns the refusal of the whole file, or `NoMemory` if there is no room for its line.
 fn refused(alloc: Global, file: &Chars, kind: LoadKind) -> Unready
     ensures { IsRefusal result (load_line (fault_at file.now 0 kind)) }
 {
@@ -32,7 +32,7 @@ fn refused(alloc: Global, file: &Chars, kind: LoadKind) -> Unready
     }
 }
 
-/// The text of a file that was loaded, read once more. A refusal is that of the loading.
+/// Reads the text of a loaded file once more. A refusal has the same line as in loading.
 pub(crate) fn read_again<F: Files>(
     alloc: Global,
     files: &mut F,

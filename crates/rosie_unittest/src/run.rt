@@ -30,7 +30,8 @@ use rpl_unittest::{Test, counts_line};
 use std::alloc::{AllocError, Global};
 use std::sync::ledger::Ledger;
 
-/// What is kept from test to test: what others were tried with, and the memory of a run.
+/// The state kept from test to test: the compiled rules of earlier tests, and the memory of a
+/// run.
 #[derive(Drop)]
 struct Kept {
     alloc: Global,
@@ -38,15 +39,15 @@ struct Kept {
     tester: Tester,
 }
 
-/// The run of the tests of a suite, one after the other. At the end it says how many aren't met.
+/// The run of the tests of a suite, one after the other. At the end it reports how many failed.
 #[derive(Drop)]
 struct SuiteRun<'a> {
     suite: &'a Suite,
     kept: Kept,
-    /// How many tests were tried, and how many of them aren't met.
+    /// The number of tests that were tried, and of those that failed.
     passed: usize,
     unmet: u64,
-    /// That was said.
+    /// Whether the counts have been reported.
     is_done: bool,
     /// The texts of the last piece.
     out: String,
@@ -58,7 +59,7 @@ impl Suite {
     ghost use Rattle.rosie_unittest.specs.Tried.{subject_for, trial_of};
     ghost use Rattle.rosie_unittest.specs.inside.Entries.{AreSound, job_of, subject_of};
 
-    /// How a test comes out whose goal has its code.
+    /// Returns the verdict on a test whose goal has its code.
     fn try_goal<L: Ledger>(
         &self,
         test: &Test,
@@ -90,7 +91,7 @@ impl Suite {
         }
     }
 
-    /// How a test comes out that is tried with this.
+    /// Returns the verdict on a test that is tried with this subject.
     fn try_subject<L: Ledger>(
         &self,
         test: &Test,
@@ -113,7 +114,7 @@ impl Suite {
         }
     }
 
-    /// How a test comes out, beside what others were tried with.
+    /// Returns the verdict on a test, whose rule may have been compiled for an earlier one.
     fn try_test<L: Ledger>(
         &self,
         trial: &Trial,
@@ -138,9 +139,10 @@ impl Suite {
         self.try_subject(&trial.test, subject, &mut kept.tester, steps)
     }
 
-    /// Tries the tests in turn, and writes the line of each that isn't met, and the counts at the
-    /// end. A code that is too long ends the run. Each rule is compiled when the first of its tests
-    /// is tried, and what was compiled is let go of where it is longer in all than one code may be.
+    /// Tries the tests one after the other, writes a line for each that fails, and the counts
+    /// at the end. A code that is too long ends the run. Each rule is compiled when its first
+    /// test is tried. The compiled code is dropped once it is longer, in all, than one code may
+    /// be.
     pub fn run<O: Sink, E: Sink, L: Ledger>(
         &self,
         alloc: Global,
@@ -162,7 +164,7 @@ impl Suite {
 impl<'a> SuiteRun<'a> {
     ghost use Rattle.rosie_unittest.specs.Seen.{bench_of, trials_of};
 
-    /// No test was tried.
+    /// Returns a run in which no test was tried.
     fn new(alloc: Global, suite: &'a Suite) -> Result<SuiteRun<'a>, NoMemory>
         ensures suite { IfOk result (λ run. run.suite.now ≡ suite.now) }
         ensures passed { IfOk result (λ run. run.passed ≡ 0) }
@@ -186,7 +188,7 @@ impl<'a> SuiteRun<'a> {
         })
     }
 
-    /// Tries the next test, and makes what is reported of it.
+    /// Tries the next test, and makes its report.
     fn try_next<L: Ledger>(&mut self, steps: &mut Steps<L>) -> Result<Mark, NoMemory>
         requires more { self.old.passed < length self.old.suite.now.trials.items }
         requires under_way { IsUnderWay self.old }
@@ -212,7 +214,7 @@ impl<'a> SuiteRun<'a> {
         Ok(mark_of(verdict))
     }
 
-    /// Says how many tests there are, and how many of them aren't met.
+    /// Reports how many tests there are, and how many failed.
     fn say_counts(&mut self) -> Result<Mark, NoMemory>
         ensures suite { self.new.suite.now ≡ self.old.suite.now }
         ensures passed { self.new.passed ≡ self.old.passed }
@@ -283,7 +285,7 @@ impl<'a> PieceSource for SuiteRun<'a> {
     ghost begins = { λ _. (tt, tt) };
 }
 
-/// What a verdict adds to the number of those that aren't met.
+/// Returns 1 for a test that failed, and 0 for any other.
 fn one_if_unmet(verdict: Verdict) -> u64
     ensures { result ≡ T.one_if_unmet verdict }
 {

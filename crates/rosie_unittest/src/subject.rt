@@ -1,4 +1,4 @@
-// What tests are tried with, compiled when it is first asked for.
+// The subjects of tests, compiled when they are first needed.
 ghost use Rattle.std.specs.Prelude.{◌≡◌, [], List, IfOk, IfSome, OnOk};
 ghost use Rattle.rpl_core.specs.Core.{Core};
 ghost use Rattle.rpl_core.specs.Table.{bodies_of};
@@ -14,7 +14,7 @@ use rpl_core::Program;
 use rpl_package::Target;
 use std::alloc::{AllocError, Global};
 
-/// How many instructions are kept in all before they are let go of: those of the longest code.
+/// The most instructions that are kept before all are dropped: as many as the longest code has.
 const MAX_KEPT: usize = 1_048_576;
 
 /// A goal with its code.
@@ -24,10 +24,11 @@ pub(crate) struct Compiled {
     pub(crate) program: Program,
 }
 
-/// What a test is tried with.
+/// The subject of a test.
 #[derive(Drop)]
 pub(crate) enum Subject {
-    /// Nothing: no statement of the file binds its name, or the name is that of a hidden rule.
+    /// No rule: no statement of the file binds the test's name, or the name is that of a hidden
+    /// rule.
     Unbound,
     /// A goal whose code is too long.
     TooLong,
@@ -35,14 +36,14 @@ pub(crate) enum Subject {
     Runs(Compiled),
 }
 
-/// What the tests of a target are tried with.
+/// The subject of the tests of a target.
 #[derive(Drop)]
 pub(crate) struct Entry {
     pub(crate) target: Option<Target>,
     pub(crate) subject: Subject,
 }
 
-/// What the tests of a target are tried with.
+/// Returns the subject of the tests of a target.
 fn subject_of(alloc: Global, rules: &Checked, target: Option<Target>) -> Result<Subject, NoMemory>
     requires { IsBound (bodies_of rules.now) target }
     ensures subject { IfOk result (λ s. subject_of (bodies_of rules.now) s
@@ -62,7 +63,7 @@ fn subject_of(alloc: Global, rules: &Checked, target: Option<Target>) -> Result<
     }
 }
 
-/// The number of instructions of a subject.
+/// Returns the number of instructions of a subject.
 fn length_of(subject: &Subject) -> usize {
     match subject {
         Subject::Unbound | Subject::TooLong => 0,
@@ -70,7 +71,7 @@ fn length_of(subject: &Subject) -> usize {
     }
 }
 
-/// Where the place of a target is noted: that of a rule after the one for no target.
+/// Returns the index of a target's note: 0 for no target, and then one for each rule.
 fn note_of(target: Option<Target>) -> usize {
     match target {
         None => 0,
@@ -78,14 +79,14 @@ fn note_of(target: Option<Target>) -> usize {
     }
 }
 
-/// What tests were tried with that may be asked for again. A rule's code may be far longer than its
-/// tests, so it is kept for the tests to come; and all are let go of where they are longer than the
-/// longest code may be, since a file has many rules.
+/// The subjects of earlier tests, which may be needed again. The code of a rule may be far
+/// longer than its tests, so it is kept for the tests to come. Since a file may have many
+/// rules, all codes are dropped once they are longer, in all, than the longest code may be.
 #[derive(Drop)]
 pub(crate) struct Subjects {
     pub(crate) entries: Vec<Entry>,
-    /// Where to look for the entry of a target, by its rule. Only the entry itself says whether it
-    /// is that.
+    /// For each target, the index at which its entry may be found. Only the entry itself says
+    /// whether it is that of the target.
     notes: Vec<usize>,
     /// The number of instructions of all entries.
     length: usize,
@@ -102,7 +103,7 @@ impl Subjects {
         })
     }
 
-    /// The place of the entry of a target, where it has one.
+    /// Returns the index of the entry of a target, if it has one.
     fn place(&self, target: Option<Target>) -> Option<usize>
         ensures { IfSome result (λ i. StandsAt self.now.entries.items target i) }
     {
@@ -115,7 +116,7 @@ impl Subjects {
         }
     }
 
-    /// Lets go of all entries, where they are too long.
+    /// Drops all entries, if they are too long.
     fn make_room(&mut self)
         ensures { (R : List Core) → AreSound R self.old.entries.items →
             AreSound R self.new.entries.items }
@@ -126,7 +127,7 @@ impl Subjects {
         }
     }
 
-    /// The place of the entry of a target, which is made where there is none.
+    /// Returns the index of the entry of a target, which is made if there is none.
     pub(crate) fn place_for(
         &mut self,
         alloc: Global,

@@ -1,4 +1,4 @@
-// The tests of a file, each with what it is tried with.
+// The tests of a file, each with the rule that it tests.
 ghost use Rattle.std.specs.Prelude.{map};
 ghost use Rattle.rpl_core.specs.Table.{bodies_of};
 ghost use Rattle.rosie_unittest.specs.Tried.{trial_of};
@@ -8,18 +8,18 @@ use crate::trial::Trial;
 use rpl_check::Checked;
 use rpl_text::Chars;
 
-/// The tests of a file, each with what it is tried with.
+/// The tests of a file, each with the rule that it tests.
 #[derive(Drop)]
 pub struct Suite {
-    /// The file's name, as it is given.
+    /// The file's name, as it was given.
     pub(crate) file: Chars,
-    /// The name of its package, empty where it has none.
+    /// The name of the file's package, empty if it has none.
     pub(crate) prefix: Chars,
-    /// The machine's steps that a test may take, where they are given.
+    /// The number of the machine's steps that a test may take, if it is given.
     pub(crate) budget: Option<u64>,
-    /// The rules of all that is loaded.
+    /// The rules of all loaded packages.
     pub(crate) rules: Checked,
-    /// The tests in their order. Their goals are compiled when they are tried.
+    /// The tests, in the order of the file. Their goals are compiled when they are tried.
     pub(crate) trials: Vec<Trial>,
     ghost ready: { ∥ AreReady (map (trial_of (bodies_of rules)) trials.items) ∥₁ },
     ghost bound: { ∥ AreBound (bodies_of rules) trials.items ∥₁ },

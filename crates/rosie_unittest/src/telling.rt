@@ -1,4 +1,4 @@
-// What is written of a test.
+// The output for a test.
 ghost use Rattle.std.specs.Prelude.{◌≡◌, IfOk, string_bytes};
 ghost use Rattle.rosie_unittest.specs.Trials as T;
 
@@ -7,7 +7,7 @@ use rosie_run::{Mark, NoMemory, line_fault};
 use rpl_unittest::{Test, failed_line};
 use std::alloc::Global;
 
-/// The text for `out`.
+/// Returns the text for `out`.
 pub(crate) fn out_text(
     alloc: Global,
     file: &str,
@@ -22,7 +22,7 @@ pub(crate) fn out_text(
     }
 }
 
-/// The text for `err`.
+/// Returns the text for `err`.
 pub(crate) fn err_text(
     alloc: Global,
     file: &str,
@@ -39,7 +39,7 @@ pub(crate) fn err_text(
     }
 }
 
-/// How it counts.
+/// Returns the mark of a test.
 pub(crate) fn mark_of(verdict: Verdict) -> Mark
     ensures { result ≡ T.mark_of verdict }
 {
@@ -50,7 +50,7 @@ pub(crate) fn mark_of(verdict: Verdict) -> Mark
     }
 }
 
-/// How the counts count: they are a hit where no test failed.
+/// Returns the mark of the counts, which is a hit if no test failed.
 pub(crate) fn counts_mark(unmet: u64) -> Mark
     ensures { result ≡ T.hit_if_none unmet }
 {

@@ -1,4 +1,4 @@
-// The verdict over what was found on a text.
+// The verdict on a text, from what was matched.
 ghost use Rattle.std.specs.Prelude.{◌≡◌, Some, None, nat_lt, not, length, IfOk, if◌then◌else◌};
 ghost use Rattle.rpl_core.specs.Captures.{all_named};
 ghost use Rattle.rpl_core.specs.Forest as F;
@@ -19,10 +19,10 @@ use rpl_tree::Forest;
 use rpl_unittest::{Test, built_as_one_tree, judge};
 use std::alloc::{AllocError, Global};
 
-/// How many entries the machine's lists have room for from the start.
+/// The number of entries for which the machine's lists have room at the start.
 const ENTRIES: u64 = 65_536;
 
-/// What tests are run in. All of its memory is kept from test to test.
+/// The memory that tests run in. All of it is kept from test to test.
 #[derive(Drop)]
 pub(crate) struct Tester {
     alloc: Global,
@@ -31,14 +31,14 @@ pub(crate) struct Tester {
     answer: AnswerText,
 }
 
-/// The verdict on a test that has one.
+/// Returns the verdict on a test that passes or fails.
 fn met_or_not(met: bool) -> Verdict
     ensures { result ≡ (if met then Verdict.Met else Verdict.Unmet) }
 {
     if met { Verdict::Met } else { Verdict::Unmet }
 }
 
-/// Whether the answer in JSON isn't too long.
+/// Returns whether the answer in JSON is short enough.
 fn fits(
     alloc: Global,
     kept: &mut AnswerText,
@@ -59,7 +59,7 @@ fn fits(
     }
 }
 
-/// The verdict where the text isn't matched.
+/// Returns the verdict on a text that doesn't match.
 pub(crate) fn judge_none(test: &Test, prefix: &str, program: &Program) -> Verdict
     ensures { result ≡ by_found prefix.now test.now None }
 {
@@ -78,7 +78,7 @@ impl Tester {
         })
     }
 
-    /// The verdict over the captures of the run before, which matched.
+    /// Returns the verdict on the captures of the last run, which matched.
     pub(crate) fn judge_match(
         &mut self,
         test: &Test,

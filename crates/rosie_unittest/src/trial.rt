@@ -1,4 +1,4 @@
-// A test, and what it is tried with.
+// A test, and the rule that it tests.
 ghost use Rattle.std.specs.Prelude.{◌≡◌, ◌≤◌, encode_utf8_all, length, map, List, IfOk};
 ghost use Rattle.std.specs.List.{All};
 ghost use Rattle.rpl_core.specs.Table.{bodies_of};
@@ -18,28 +18,28 @@ use rpl_package::{PackageSet, Target};
 use rpl_unittest::{Test, Tests};
 use std::alloc::Global;
 
-/// A test, and what it is tried with.
+/// A test, and the rule that it tests.
 #[derive(Drop)]
 pub(crate) struct Trial {
     pub(crate) test: Test,
-    /// The rule that it is tried with. There is none where no statement of the file binds its name,
-    /// or the name is that of a hidden rule.
+    /// The rule that the test is tried with. There is none if no statement of the file binds
+    /// the test's name, or if the name is that of a hidden rule.
     pub(crate) target: Option<Target>,
 }
 
-/// The test itself, whose text is one of a file.
+/// Returns the test itself, whose text is that of a file.
 fn with_text(test: Test) -> Test
     requires { length (encode_utf8_all test.text) ≤ 1048576 }
     ensures same { result ≡ test }
     ensures text { IsText result.text }
 {
-    // That it is of characters alone is known of what is looked at.
+    // That the text consists of characters is known of a text that is looked at.
     let _text = test.text.as_str();
     test
 }
 
-/// Checks the goal of a target, where there is one. The goal is small and isn't kept: it is made
-/// anew for its code.
+/// Checks the goal of a target, if there is one. The goal is small and isn't kept: it is made
+/// again for its code.
 fn check_goal(alloc: Global, rules: &Checked, target: Option<Target>) -> Result<(), NoMemory>
     requires { IsBound (bodies_of rules.now) target }
     ensures { IfOk result (λ _. ∥ IsReady (subject_for (bodies_of rules.now) target) ∥₁) }
@@ -51,7 +51,7 @@ fn check_goal(alloc: Global, rules: &Checked, target: Option<Target>) -> Result<
     Ok(())
 }
 
-/// What each test is tried with, by the names of the module with this number.
+/// Returns the trial of each test, by the names of the module with this number.
 pub(crate) fn trials_of(
     alloc: Global,
     set: &PackageSet,

@@ -1,15 +1,15 @@
-// How a test comes out.
+// The verdict on a test.
 
-/// How a test comes out.
+/// The verdict on a test.
 #[derive(Clone, Copy, Debug, PartialEq, Eq)]
 pub enum Verdict {
-    /// It is met.
+    /// The test passes.
     Met,
-    /// It isn't met.
+    /// The test fails.
     Unmet,
-    /// Its run passes the budget.
+    /// The run exceeds its budget.
     Spent,
-    /// The answer to its text would be too long.
+    /// The answer to the test's text is too long.
     LongAnswer,
     /// The code of its goal is too long.
     LongCode,

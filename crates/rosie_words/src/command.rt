@@ -1,4 +1,4 @@
-//! What the words ask for.
+//! A parsed command line.
 
 use crate::lists::Paths;
 use rpl_encode::Style;
@@ -17,13 +17,13 @@ pub enum What {
     Test { file: Chars },
     /// Lists the names that a pattern may use.
     List,
-    /// Prints what a pattern stands for.
+    /// Prints the expansion of a pattern.
     Expand { pattern: Chars },
     /// Prints how each line was matched.
     Trace { pattern: Chars, inputs: Paths },
     /// Makes a sample input and matches it.
     Sample { seed: u32, lines: u32 },
-    /// Reads the edits of a session.
+    /// Carries out the commands of a session.
     Repl,
     /// Writes the code of a pattern.
     Compile { pattern: Chars },
@@ -31,7 +31,7 @@ pub enum What {
     Class { name: Chars },
 }
 
-/// A command line as it was read, its defaults filled in.
+/// A parsed command line, with its defaults filled in.
 #[derive(Debug, Drop)]
 pub struct Command {
     /// The command and its arguments.
@@ -42,20 +42,20 @@ pub struct Command {
     pub folders: LibPath,
     /// The style of `-o`; by default `Line` for `grep` and `Json` otherwise.
     pub style: Style,
-    /// `-w`: an input is one line.
+    /// `-w`: the whole input is one line.
     pub whole: bool,
-    /// `-a`: lines that did not match are reported too.
+    /// `-a`: lines that don't match are reported too.
     pub all: bool,
-    /// `-F`: the pattern is the text itself.
+    /// `-F`: the pattern is a literal text.
     pub fixed: bool,
-    /// The machine steps of `--budget` that a line may take.
+    /// `--budget`: the number of the machine's steps that a line may take.
     pub budget: Option<u64>,
     /// `--steps`: the steps of each line are reported.
     pub steps: bool,
     /// `--code`: the program is printed too.
     pub code: bool,
-    /// The work of `--limit` that a line's trace may take; by default 10,000.
+    /// `--limit`: the work that the trace of a line may take; by default 10,000.
     pub limit: u32,
-    /// The file of `--code-file` that holds the program.
+    /// `--code-file`: the file that holds the program.
     pub code_file: Option<Chars>,
 }

@@ -1,4 +1,4 @@
-//! Why words are no command.
+//! The faults of a command line.
 
 ghost use Rattle.std.specs.Prelude.{◌≡◌};
 ghost use Rattle.rosie_words.specs.declared.fault.UsageFault.TheVariants.{NoMemory};
@@ -9,33 +9,33 @@ use thiserror::Error;
 
 /// The first fault of the words of a command line.
 ///
-/// Faults of single words come first, in the order of the words; then those of the whole, in the
-/// order of the variants from `NoCommand` on, and at last a `BadValue` of an argument. `fault_line`
-/// is what is printed of it.
+/// Faults of single words come first, in the order of the words. Faults of the whole follow, in
+/// the order of the variants from `NoCommand` on, and a `BadValue` of an argument comes last.
+/// `fault_line` returns the line that reports a fault.
 #[derive(Debug, Drop, Error)]
 pub enum UsageFault {
-    /// There is no memory for the reading.
+    /// There is not enough memory to parse the words.
     #[error("out of memory")]
     NoMemory,
-    /// The option of this word is not in the table.
+    /// This option is not in the table.
     #[error("unknown option")]
     UnknownOption(Chars),
-    /// The option of this word takes no value, but has one after `=`.
+    /// This option takes no value, but has one after `=`.
     #[error("unexpected value")]
     UnexpectedValue(Chars),
-    /// The option of this word takes the next word as its value, and there is none.
+    /// This option takes the next word as its value, and there is none.
     #[error("missing value")]
     MissingValue(Chars),
-    /// This value of an option, or this argument of `sample`, is not of the right form.
+    /// This value of an option, or this argument of `sample`, is malformed.
     #[error("bad value")]
     BadValue(Chars),
     /// There is no argument.
     #[error("no command")]
     NoCommand,
-    /// The first argument, this word, is not a command.
+    /// This word, the first argument, is not a command.
     #[error("unknown command")]
     UnknownCommand(Chars),
-    /// The option of this word is not for the command.
+    /// This option is not for the command.
     #[error("not for this command")]
     NotForCommand(Chars),
     /// The command needs more arguments.

@@ -1,9 +1,9 @@
-//! The words of the command line: each list of words is one command with its options, or has one
-//! first fault.
+//! The words of the command line: each list of words is either one command with its options, or
+//! has one first fault.
 //!
-//! [`read_words`] is the reading, for the top call. It promises the whole of it: which command, and
-//! of the faults the first, exactly where it is due. [`usage`] and [`fault_line`] are what a fault
-//! prints.
+//! The crate serves the top call. [`read_words`] parses the words. Its contract says for all
+//! words which command they are, or which of their faults is the first. [`usage`] and
+//! [`fault_line`] return the texts that are printed for a fault.
 #![tactic(auto)]
 
 mod command;

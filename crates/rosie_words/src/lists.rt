@@ -1,4 +1,4 @@
-//! The lists of a command.
+//! The lists in a command.
 
 use rpl_list::List;
 use rpl_text::Chars;

@@ -1,4 +1,4 @@
-//! What the options set.
+//! The values that options set.
 
 ghost use Rattle.std.specs.Prelude.{◌≡◌, ◌≢◌, [], true, OnOk, IfOk, IfErr, None, chars};
 ghost use Rattle.rosie_words.specs.Table.{row};
@@ -18,13 +18,13 @@ use rpl_package::{LibPath, Root, Roots};
 use rpl_text::Chars;
 use std::alloc::Global;
 
-/// The most machine steps that `--budget` may give.
+/// The greatest number of steps for `--budget`.
 const MAX_BUDGET: u64 = 1_000_000_000_000;
 
-/// The most work that `--limit` may give, and what counts without it.
+/// The greatest work for `--limit`, which is also the default.
 const MAX_LIMIT: u32 = 10_000;
 
-/// What the options so far set.
+/// The values that the options so far have set.
 #[derive(Drop)]
 pub(crate) struct OptionValues {
     pub(crate) roots: Roots,
@@ -40,7 +40,7 @@ pub(crate) struct OptionValues {
     pub(crate) code_file: Option<Chars>,
 }
 
-/// The folders of a library path; `None` where one is empty.
+/// Returns the folders of a library path, or `None` if one of them is empty.
 fn folders(alloc: Global, value: &str) -> Result<Option<LibPath>, NoMemory>
     ensures { IfOk result (λ o. o ≡ path_of value.now) }
 {
@@ -55,7 +55,7 @@ fn folders(alloc: Global, value: &str) -> Result<Option<LibPath>, NoMemory>
 }
 
 impl OptionValues {
-    /// What no option sets.
+    /// Returns the values without any option.
     pub(crate) fn new(alloc: Global) -> Result<OptionValues, NoMemory>
         ensures { IfOk result (λ s. s ≡ values_of []) }
     {
@@ -76,7 +76,7 @@ impl OptionValues {
         })
     }
 
-    /// One more option. Where the value is not of the right form, nothing changes.
+    /// Sets the value of one more option. If the value is malformed, nothing changes.
     pub(crate) fn set(
         &mut self,
         alloc: Global,
@@ -118,7 +118,7 @@ impl OptionValues {
         Ok(())
     }
 
-    /// The command with these settings.
+    /// Returns the command with these values.
     pub(crate) fn into_command(self, command: CommandName, what: What) -> Command
         ensures { result ≡ command_from self command what }
     {

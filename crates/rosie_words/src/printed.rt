@@ -1,4 +1,4 @@
-//! What is printed of the words.
+//! The texts that are printed for a fault of the words.
 
 ghost use Rattle.std.specs.Prelude.{◌≡◌, ◌++◌, IfOk, OnOk, encode_utf8_all, string_bytes};
 ghost use Rattle.rosie_words.specs.Printed.{fault_line, message, usage};
@@ -22,21 +22,21 @@ usage: rosie [options] match PATTERN [FILE ...]
        rosie [options] class NAME
 ";
 
-/// The usage text: a line for each form of each command.
+/// Returns the usage text: one line for each form of each command.
 pub fn usage() -> &'static str
     ensures { result.now ≡ usage }
 {
     USAGE
 }
 
-/// The text of a word.
+/// Returns the text of a word.
 fn text(word: &Chars) -> &str
     ensures { result.now ≡ encode_utf8_all word.now }
 {
     word.as_str()
 }
 
-/// Adds what is wrong, and the word that is.
+/// Appends a message, and the word that it is about.
 fn push_said(line: &mut String, what: &str, word: &Chars) -> Result<(), NoMemory>
     ensures { OnOk result (string_bytes line.new
         ≡ string_bytes line.old ++ (what.now ++ encode_utf8_all word.now)) }
@@ -45,7 +45,7 @@ fn push_said(line: &mut String, what: &str, word: &Chars) -> Result<(), NoMemory
     line.push_str(text(word))
 }
 
-/// Adds a fault in words.
+/// Appends the message for a fault.
 fn push_message(line: &mut String, fault: &UsageFault) -> Result<(), NoMemory>
     ensures { OnOk result (string_bytes line.new ≡ string_bytes line.old ++ message fault.now) }
 {
@@ -63,7 +63,7 @@ fn push_message(line: &mut String, fault: &UsageFault) -> Result<(), NoMemory>
     }
 }
 
-/// The line of a fault, with its line feed: `rosie: usage: ` and what is wrong.
+/// Returns the line of a fault, with its line feed: `rosie: usage: ` and the message.
 pub fn fault_line(alloc: Global, fault: &UsageFault) -> Result<String, NoMemory>
     ensures { IfOk result (λ line. string_bytes line ≡ fault_line fault.now) }
 {

@@ -1,4 +1,4 @@
-//! The reading of the command line.
+//! The parsing of the command line.
 
 ghost use Rattle.std.specs.Prelude.{◌≡◌, ◌≢◌, ◌++◌, [], ◌∷◌, List, map, OnOk, IfOk, IfErr, Some};
 ghost use Rattle.std.specs.Prelude.{None, Ok, Err};
@@ -27,7 +27,8 @@ struct Given<'a> {
     word: &'a str,
 }
 
-/// The word of the first option that is not for the command, where a code file may be given.
+/// Returns the word of the first option that is not for the command. With `has_code`, a code
+/// file was given.
 fn stray<'a>(options: &[Given<'a>], command: CommandName, has_code: bool) -> Option<&'a str>
     ensures { half_of result ≡ stray_word command has_code (map seen options.now) }
 {
@@ -39,7 +40,7 @@ fn stray<'a>(options: &[Given<'a>], command: CommandName, has_code: bool) -> Opt
     None
 }
 
-/// The command of the options and the arguments.
+/// Returns the command for these options and arguments.
 fn choose(
     alloc: Global,
     values: OptionValues,
@@ -65,7 +66,7 @@ fn choose(
     Ok(values.into_command(command, what))
 }
 
-/// What the words so far say.
+/// The state of the parse after some words.
 #[derive(Drop)]
 struct Reader<'a> {
     front: Front<'a>,
@@ -75,7 +76,7 @@ struct Reader<'a> {
 }
 
 impl<'a> Reader<'a> {
-    /// Before the first word.
+    /// Returns the state before the first word.
     fn new(alloc: Global) -> Result<Reader<'a>, NoMemory>
         ensures { IfOk result Starts }
     {
@@ -87,7 +88,7 @@ impl<'a> Reader<'a> {
         })
     }
 
-    /// One more option.
+    /// Takes one more option.
     fn set(
         &mut self,
         alloc: Global,
@@ -105,7 +106,7 @@ impl<'a> Reader<'a> {
         Ok(())
     }
 
-    /// One more word, in its role.
+    /// Takes one more word, in its role.
     fn apply(&mut self, alloc: Global, role: Role<'a>, word: &'a str) -> Result<(), UsageFault>
         requires { IsFair role }
         ensures sound { OnOk result (fault (role_of role.entry) word.now ≡ None) }
@@ -128,7 +129,7 @@ impl<'a> Reader<'a> {
         }
     }
 
-    /// One more word.
+    /// Takes one more word.
     fn take(&mut self, alloc: Global, word: &'a str) -> Result<(), UsageFault>
         ensures ok { OnOk result (Takes self.old self.new word.now) }
         ensures fault { IfErr result (λ e. e ≢ E.NoMemory →
@@ -140,7 +141,7 @@ impl<'a> Reader<'a> {
         Ok(())
     }
 
-    /// No word follows.
+    /// Ends the parse after the last word.
     fn finish(self, alloc: Global) -> Result<Command, UsageFault>
         ensures ok { IfOk result (λ c. finished self.entry ≡ Ok c) }
         ensures fault { IfErr result (λ e. e ≢ E.NoMemory → finished self.entry ≡ Err e) }
@@ -152,9 +153,11 @@ impl<'a> Reader<'a> {
     }
 }
 
-/// The command that the words ask for, its options and defaults filled in.
+/// Parses the words of a command line. Returns the command, with its options and defaults
+/// filled in.
 ///
-/// `words` are those after the program's name. A fault is the first of the words, or `NoMemory`.
+/// `words` are those after the program's name. The error is the first fault of the words, or
+/// `NoMemory`.
 ///
 /// # Examples
 ///
@@ -176,7 +179,7 @@ pub fn read_words(alloc: Global, words: &[String]) -> Result<Command, UsageFault
     reader.finish(alloc)
 }
 
-/// Out of memory is no reading of any words: `NoMemory` is the machine's own answer.
+/// Proves that no words have `NoMemory` as their fault: it is the machine's own answer.
 pub fn no_reading_is_out_of_memory()
     ensures { (words : List Word) → reading words ≢ Err E.NoMemory }
 {}

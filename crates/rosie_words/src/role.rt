@@ -1,4 +1,4 @@
-//! The role of each word, given by the words before it.
+//! The role of each word, which depends on the words before it.
 
 ghost use Rattle.std.specs.Prelude.{◌≡◌};
 ghost use Rattle.rosie_words.specs.Roles.{is_option, is_long, name_of, value_of, option_role, role};
@@ -8,18 +8,18 @@ ghost use Rattle.rosie_words.specs.Table.{option_named};
 
 use crate::table::{OptionName, option_named};
 
-/// What the words before leave.
+/// The state left by the words before.
 #[derive(Clone, Copy)]
 pub(crate) enum Front<'a> {
-    /// An option may stand.
+    /// An option may follow.
     Free,
-    /// The value of the option in this word is due.
+    /// The value of this option, given in this word, must follow.
     Owed(OptionName, &'a str),
-    /// All words are arguments.
+    /// All words that follow are arguments.
     Ended,
 }
 
-/// What a word is.
+/// The role of a word.
 #[derive(Clone, Copy)]
 pub(crate) enum Role<'a> {
     /// The `--` that ends the options.
@@ -40,21 +40,21 @@ pub(crate) enum Role<'a> {
     Value(OptionName, &'a str),
 }
 
-/// A dash and more.
+/// Returns whether the word is a dash and more.
 fn is_option(word: &str) -> bool
     ensures { result ≡ is_option word.now }
 {
     matches!(word.as_bytes(), [b'-', _, ..])
 }
 
-/// Two dashes, and maybe more.
+/// Returns whether the word begins with two dashes.
 fn is_long(word: &str) -> bool
     ensures { result ≡ is_long word.now }
 {
     matches!(word.as_bytes(), [b'-', b'-', ..])
 }
 
-/// An option's name, and the value in the same word.
+/// Returns an option's name, and the value in the same word, if there is one.
 fn halves(word: &str) -> (&str, Option<&str>)
     ensures name { result.0.now ≡ name_of word.now }
     ensures value { half_of result.1 ≡ value_of word.now }
@@ -68,7 +68,7 @@ fn halves(word: &str) -> (&str, Option<&str>)
     }
 }
 
-/// The role of an option's word.
+/// Returns the role of an option's word.
 fn option_role(word: &str) -> Role<'_>
     ensures value { role_of result ≡ option_role (option_named (name_of word.now))
         (value_of word.now) }
@@ -95,7 +95,7 @@ fn option_role(word: &str) -> Role<'_>
 }
 
 impl<'a> Front<'a> {
-    /// The role of the next word.
+    /// Returns the role of the next word.
     pub(crate) fn role(self, word: &'a str) -> Role<'a>
         ensures value { role_of result ≡ role (front_of self.entry) word.now }
         ensures fair { IsFair result }
@@ -108,7 +108,7 @@ impl<'a> Front<'a> {
         }
     }
 
-    /// What that word leaves.
+    /// Returns the state after that word.
     pub(crate) fn next(self, role: Role<'a>, word: &'a str) -> Front<'a>
         ensures { front_of result ≡ next (front_of self.entry) (role_of role.entry) word.now }
     {

@@ -19,7 +19,7 @@ pub(crate) enum CommandName {
     Class,
 }
 
-/// An option, whichever of its spellings was used.
+/// An option, in any of its spellings.
 #[derive(Clone, Copy)]
 pub(crate) enum OptionName {
     File,
@@ -36,7 +36,7 @@ pub(crate) enum OptionName {
     CodeFile,
 }
 
-/// The option that a word names.
+/// Returns the option that a word names.
 pub(crate) fn option_named(name: &str) -> Option<OptionName>
     ensures { result ≡ option_named name.now }
 {
@@ -57,7 +57,7 @@ pub(crate) fn option_named(name: &str) -> Option<OptionName>
     }
 }
 
-/// The command that a word names.
+/// Returns the command that a word names.
 pub(crate) fn command_named(name: &str) -> Option<CommandName>
     ensures { result ≡ command_named name.now }
 {
@@ -77,7 +77,7 @@ pub(crate) fn command_named(name: &str) -> Option<CommandName>
 }
 
 impl OptionName {
-    /// The option stands with a value.
+    /// Returns whether the option takes a value.
     pub(crate) fn takes_value(self) -> bool
         ensures { result ≡ has_value (row self).value }
     {
@@ -91,7 +91,7 @@ impl OptionName {
         )
     }
 
-    /// A code file takes the place of the option.
+    /// Returns whether a code file takes the place of the option.
     fn makes_code(self) -> bool
         ensures { result ≡ makes_code self }
     {
@@ -101,7 +101,7 @@ impl OptionName {
         )
     }
 
-    /// The option is for the command, where a code file may be given.
+    /// Returns whether the option is for the command. With `has_code`, a code file was given.
     pub(crate) fn is_for(self, command: CommandName, has_code: bool) -> bool
         ensures { result ≡ is_for command has_code self }
     {
@@ -111,7 +111,7 @@ impl OptionName {
         self.is_of(command)
     }
 
-    /// The table has the option for the command.
+    /// Returns whether the table has the option for the command.
     fn is_of(self, command: CommandName) -> bool
         ensures { result ≡ takes command self }
     {

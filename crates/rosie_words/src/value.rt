@@ -10,7 +10,7 @@ use rpl_encode::Style;
 use rpl_text::Chars;
 use std::alloc::Global;
 
-/// The style that a word names.
+/// Returns the style that a word names.
 pub(crate) fn style_named(word: &str) -> Option<Style>
     ensures { result ≡ style_named word.now }
 {
@@ -25,7 +25,7 @@ pub(crate) fn style_named(word: &str) -> Option<Style>
     }
 }
 
-/// The number that a word spells in decimal digits, where it is from `least` to `most`.
+/// Returns the number that a word spells in decimal digits, if it is from `least` to `most`.
 pub(crate) fn number_in(word: &str, least: u64, most: u64) -> Option<u64>
     requires { most ≤ 2 ^ 40 }
     ensures { result ≡ number_in least most word.now }
@@ -46,7 +46,7 @@ pub(crate) fn number_in(word: &str, least: u64, most: u64) -> Option<u64>
     (least <= number).then_some(number)
 }
 
-/// The fault of a value that is not of the right form.
+/// Returns the fault of a malformed value.
 pub(crate) fn bad_value(alloc: Global, value: &str) -> UsageFault
     ensures { result ≢ E.NoMemory → result ≡ E.BadValue (chars value.now) }
 {

@@ -22,7 +22,7 @@ const MAX_SEED: u32 = 2_147_483_647;
 /// The most lines of a sample.
 const MAX_LINES: u32 = 1_000_000;
 
-/// The paths of some words.
+/// Returns some words as paths.
 fn paths(alloc: Global, words: &[&str]) -> Result<Paths, NoMemory>
     ensures { IfOk result (λ p. p ≡ map chars (map text words.now)) }
 {
@@ -33,7 +33,7 @@ fn paths(alloc: Global, words: &[&str]) -> Result<Paths, NoMemory>
     Ok(paths)
 }
 
-/// There is no argument.
+/// Checks that there is no argument.
 fn none(arguments: &[&str]) -> Result<(), UsageFault>
     ensures ok { IfOk result (λ _. none (map text arguments.now) ≡ Ok tt) }
     ensures fault { IfErr result (λ e. none (map text arguments.now) ≡ Err e) }
@@ -45,7 +45,7 @@ fn none(arguments: &[&str]) -> Result<(), UsageFault>
     }
 }
 
-/// The one argument.
+/// Returns the only argument.
 fn only(alloc: Global, arguments: &[&str]) -> Result<Chars, UsageFault>
     ensures ok { IfOk result (λ word. only (map text arguments.now) ≡ Ok word) }
     ensures fault { IfErr result (λ e. e ≢ E.NoMemory → only (map text arguments.now) ≡ Err e) }
@@ -64,7 +64,7 @@ struct PatternInputs {
     inputs: Paths,
 }
 
-/// The pattern and the input files.
+/// Returns the pattern and the input files among the arguments.
 fn pattern_inputs_of(alloc: Global, arguments: &[&str]) -> Result<PatternInputs, UsageFault>
     ensures ok { IfOk result (λ s. pattern_inputs_of (map text arguments.now)
         ≡ Ok (pattern_inputs_seen s)) }
@@ -80,7 +80,7 @@ fn pattern_inputs_of(alloc: Global, arguments: &[&str]) -> Result<PatternInputs,
     }
 }
 
-/// The number that an argument spells, up to `most`.
+/// Returns the number that an argument spells, if it is at most `most`.
 fn number_argument(alloc: Global, word: &str, most: u32) -> Result<u32, UsageFault>
     ensures ok { IfOk result (λ n. number_in 0 most word.now ≡ Some n) }
     ensures fault { IfErr result (λ e. e ≢ E.NoMemory →
@@ -92,7 +92,7 @@ fn number_argument(alloc: Global, word: &str, most: u32) -> Result<u32, UsageFau
     }
 }
 
-/// A sample with this seed and number of lines.
+/// Returns the sample with this seed and number of lines.
 fn sample_of(alloc: Global, seed: &str, lines: &str) -> Result<What, UsageFault>
     ensures ok { IfOk result (λ w. sample_of seed.now lines.now ≡ Ok w) }
     ensures fault { IfErr result (λ e. e ≢ E.NoMemory → sample_of seed.now lines.now ≡ Err e) }
@@ -103,7 +103,7 @@ fn sample_of(alloc: Global, seed: &str, lines: &str) -> Result<What, UsageFault>
     })
 }
 
-/// The sample of two arguments.
+/// Returns the sample that two arguments describe.
 fn sample(alloc: Global, arguments: &[&str]) -> Result<What, UsageFault>
     ensures ok { IfOk result (λ w. sample (map text arguments.now) ≡ Ok w) }
     ensures fault { IfErr result (λ e. e ≢ E.NoMemory → sample (map text arguments.now) ≡ Err e) }
@@ -115,7 +115,7 @@ fn sample(alloc: Global, arguments: &[&str]) -> Result<What, UsageFault>
     }
 }
 
-/// The command with its arguments, where a code file may be given.
+/// Returns the command with its arguments. With `has_code`, a code file was given.
 pub(crate) fn what(
     alloc: Global,
     command: CommandName,

@@ -1,4 +1,4 @@
-// What is wrong with look-behinds.
+// Faults of look-behinds.
 ghost use Rattle.std.specs.Option.{option_or};
 ghost use Rattle.std.specs.Prelude.{◌≡◌, nat_lt};
 ghost use Rattle.rpl_core.specs.Lengths.{greatest};
@@ -13,14 +13,14 @@ use rpl_core::{Peg, greatest_length, has_call, has_repetition};
 /// The greatest number of characters that the body of a look-behind may take.
 const MAX_LENGTH: u32 = 255;
 
-/// The body of a look-behind may take too many characters.
+/// Returns whether the body of a look-behind may take too many characters.
 fn is_too_long(body: &Peg) -> bool
     ensures { result ≡ nat_lt 255 (greatest (core_of body.now)) }
 {
     greatest_length(body) > MAX_LENGTH
 }
 
-/// Some look-behind in the pattern may take too many.
+/// Returns whether any look-behind in the pattern may take too many characters.
 #[cycle(long)]
 fn has_long_behind(peg: &Peg) -> bool
     ensures { result ≡ B.has_long_behind (core_of peg.now) }
@@ -35,7 +35,7 @@ fn has_long_behind(peg: &Peg) -> bool
     }
 }
 
-/// Some look-behind in the parts may.
+/// Returns whether any look-behind in the parts may take too many characters.
 #[cycle(long)]
 fn any_has_long_behind(parts: &[Peg]) -> bool
     ensures { result ≡ B.any_has_long_behind (cores parts.now) }
@@ -48,11 +48,11 @@ fn any_has_long_behind(parts: &[Peg]) -> bool
     false
 }
 
-/// What is wrong with the look-behind at this body, or else with the first bad one inside it.
+/// Returns the fault of the look-behind with this body, or else of the first bad one inside it.
 ///
-/// A body that calls nothing and repeats nothing has no look-behind that does, so of those inside
-/// it only the lengths are asked, and a length stops at the next look-behind: each part is looked
-/// at a few times, however deep look-behinds stand in one another.
+/// If a body contains no call and no repetition, neither do the look-behinds inside it. So only
+/// their lengths are checked, and a length stops at the next look-behind: each part is visited only
+/// a few times, however deeply look-behinds are nested.
 fn behind_cause(body: &Peg) -> Option<BehindCause>
     ensures { some_cause result ≡ option_or (C.cause_of (core_of body.now))
         (C.first_cause (core_of body.now)) }
@@ -68,8 +68,8 @@ fn behind_cause(body: &Peg) -> Option<BehindCause>
     }
 }
 
-/// What is wrong with the first bad look-behind of the pattern, an outer one before those inside
-/// it.
+/// Returns the fault of the first bad look-behind in the pattern. An outer one comes before those
+/// inside it.
 #[cycle(cause)]
 pub(crate) fn first_cause(peg: &Peg) -> Option<BehindCause>
     ensures { some_cause result ≡ C.first_cause (core_of peg.now) }
@@ -84,7 +84,7 @@ pub(crate) fn first_cause(peg: &Peg) -> Option<BehindCause>
     }
 }
 
-/// That of the first part that has one.
+/// Returns the fault of the first part that has one.
 #[cycle(cause)]
 fn first_cause_in(parts: &[Peg]) -> Option<BehindCause>
     ensures { some_cause result ≡ C.first_cause_in (cores parts.now) }

@@ -23,7 +23,7 @@ use rpl_core::{Peg, Rules};
 use std::alloc::Global;
 use std::marker::Model;
 
-/// A table of rules without faults, with the marks of the rules that may be empty and of those that
+/// A table of rules without faults, with marks for the rules that may be empty and for those that
 /// may halt. Contracts see the rules.
 #[derive(Drop)]
 pub struct Checked {
@@ -52,7 +52,7 @@ impl Model for Checked {
 }
 
 impl Checked {
-    /// The rules.
+    /// Returns the rules.
     pub fn rules(&self) -> &Rules
         ensures { rules_of result.now ≡ self.now }
     {
@@ -60,11 +60,11 @@ impl Checked {
     }
 }
 
-/// The table, if it has no fault; else its first.
+/// Returns the table if it has no fault, and its first fault otherwise.
 ///
-/// Blocks, and rules outside blocks, are taken in the order of the table. Of each the look-behinds
-/// of all its rules come first, then left recursion, then empty loops, then halts under predicates.
-/// It needs a table in order, as every expansion is.
+/// Blocks, and rules outside blocks, are checked in the order of the table. In each, the
+/// look-behinds of all its rules come first, then left recursion, then empty loops, then halts
+/// under predicates. The table must be in order, as every expansion is.
 ///
 /// # Examples
 ///
@@ -97,7 +97,7 @@ pub struct CheckedPeg {
 }
 
 impl CheckedPeg {
-    /// The pattern.
+    /// Returns the pattern.
     pub fn peg(&self) -> &Peg
         ensures { result.now ≡ peg_of self.now }
     {
@@ -105,7 +105,7 @@ impl CheckedPeg {
     }
 }
 
-/// The first fault of a pattern: a look-behind, an empty loop, or a halt under a predicate.
+/// Checks a pattern for its first fault: a look-behind, an empty loop, or a halt under a predicate.
 fn check_goal(peg: &Peg, empties: &[bool], halting: &[bool]) -> Result<(), CheckFault>
     ensures exactly { Answers (goal_fault (marked empties.now) (marked halting.now)
         (core_of peg.now)) result }
@@ -123,9 +123,9 @@ fn check_goal(peg: &Peg, empties: &[bool], halting: &[bool]) -> Result<(), Check
     Ok(())
 }
 
-/// The pattern, if it has no fault; else its first. A pattern without faults means something on
-/// every text, and so does its code. It needs each call to be one of a rule of the table, and never
-/// answers that memory runs out.
+/// Returns the pattern if it has no fault, and its first fault otherwise. A pattern without faults
+/// has a meaning on every text, and so has its code. Each call in it must name a rule of the table.
+/// Never returns `NoMemory`.
 pub fn check_pattern(_alloc: Global, checked: &Checked, peg: Peg) -> Result<CheckedPeg, CheckFault>
     requires { (r : ℕ) → calls (core_of peg) r ≡ true → r < length checked.now }
     ensures exactly { (d : Facts (bodies_of checked.now))

@@ -1,4 +1,4 @@
-// Which rules may be empty, and which may halt.
+// The rules that may be empty, and those that may halt.
 ghost use Rattle.std.specs.Prelude.{◌≡◌, ◌<◌, ◌≤◌, false, true, length, slice_get};
 ghost use Rattle.rpl_core.specs.Listed.{bodies_in};
 ghost use Rattle.rpl_core.specs.View.{core_of, cores};
@@ -9,14 +9,14 @@ ghost use Rattle.rpl_check.specs.inside.Rounds.{test_of};
 
 use rpl_core::{Peg, Rules};
 
-/// What is asked of all rules.
+/// A property that is determined for every rule.
 #[derive(Clone, Copy)]
 pub(crate) enum Fact {
     MayBeEmpty,
     MayHalt,
 }
 
-/// The list marks the rule.
+/// Returns whether the list marks the rule.
 pub(crate) fn is_marked(marks: &[bool], rule: u32) -> bool
     ensures { result ≡ marked marks.now rule }
 {
@@ -27,7 +27,8 @@ pub(crate) fn is_marked(marks: &[bool], rule: u32) -> bool
     }
 }
 
-/// The pattern may succeed and take nothing, where just the marked rules may.
+/// Returns whether the pattern may succeed without taking a character, if exactly the marked rules
+/// may.
 #[cycle(empty)]
 pub(crate) fn may_be_empty(peg: &Peg, empties: &[bool]) -> bool
     ensures { result ≡ S.may_be_empty (marked empties.now) (core_of peg.now) }
@@ -43,7 +44,7 @@ pub(crate) fn may_be_empty(peg: &Peg, empties: &[bool]) -> bool
     }
 }
 
-/// So may all parts.
+/// Returns whether every part may.
 #[cycle(empty)]
 fn all_may_be_empty(parts: &[Peg], empties: &[bool]) -> bool
     ensures { result ≡ S.all_may_be_empty (marked empties.now) (cores parts.now) }
@@ -56,7 +57,7 @@ fn all_may_be_empty(parts: &[Peg], empties: &[bool]) -> bool
     true
 }
 
-/// So may some part.
+/// Returns whether any part may.
 #[cycle(empty)]
 fn any_may_be_empty(parts: &[Peg], empties: &[bool]) -> bool
     ensures { result ≡ S.any_may_be_empty (marked empties.now) (cores parts.now) }
@@ -69,7 +70,7 @@ fn any_may_be_empty(parts: &[Peg], empties: &[bool]) -> bool
     false
 }
 
-/// The pattern may end the whole match, where just the marked rules may.
+/// Returns whether the pattern may end the whole match, if exactly the marked rules may.
 #[cycle(halt)]
 pub(crate) fn may_halt(peg: &Peg, halting: &[bool]) -> bool
     ensures { result ≡ S.may_halt (marked halting.now) (core_of peg.now) }
@@ -86,7 +87,7 @@ pub(crate) fn may_halt(peg: &Peg, halting: &[bool]) -> bool
     }
 }
 
-/// So may some part.
+/// Returns whether any part may.
 #[cycle(halt)]
 fn any_may_halt(parts: &[Peg], halting: &[bool]) -> bool
     ensures { result ≡ S.any_may_halt (marked halting.now) (cores parts.now) }
@@ -99,7 +100,7 @@ fn any_may_halt(parts: &[Peg], halting: &[bool]) -> bool
     false
 }
 
-/// The pattern passes the test of the fact, where just the marked rules do.
+/// Returns whether the pattern has the fact, if exactly the marked rules have it.
 fn holds(peg: &Peg, fact: Fact, marks: &[bool]) -> bool
     ensures { result ≡ test_of fact (marked marks.now) (core_of peg.now) }
 {
@@ -109,7 +110,8 @@ fn holds(peg: &Peg, fact: Fact, marks: &[bool]) -> bool
     }
 }
 
-/// The body of the rule with this number passes the test of the fact, if there is such a rule.
+/// Returns whether the body of the rule with this number has the fact. False if there is no such
+/// rule.
 pub(crate) fn rule_holds(rules: &Rules, number: u32, fact: Fact, marks: &[bool]) -> bool
     ensures { result ≡ passes (test_of fact (marked marks.now))
         (slice_get (bodies_in rules.now) number) }

@@ -1,35 +1,34 @@
-// Why a table or a pattern is refused.
+// The reasons why a table or a pattern is refused.
 ghost use Rattle.std.specs.Prelude.{◌≡◌};
 
 use crate::NoMemory;
 use thiserror::Error;
 
-/// Why a look-behind is refused.
+/// The reason why a look-behind is refused.
 #[derive(Clone, Copy, Debug, PartialEq, Eq)]
 pub enum BehindCause {
     /// Its body calls a rule.
     Recursive,
-    /// Its body has a repetition.
+    /// Its body contains a repetition.
     Repetition,
     /// Its body may take more than 255 characters.
     TooLong,
 }
 
-/// Why a table of rules or a pattern is refused. A rule is its number in the table; where there is
-/// none it is the pattern.
+/// The reason why a table of rules or a pattern is refused. `rule` is the number of a rule in the
+/// table; without one, the fault is in the pattern itself.
 #[derive(Debug, Drop, Error)]
 pub enum CheckFault {
     /// Memory ran out.
     #[error("out of memory")]
     NoMemory,
-    /// A look-behind whose lengths have no bound, or too high a one.
+    /// A look-behind whose lengths have no bound, or one that is too high.
     #[error("look-behind")]
     LookBehind {
         rule: Option<u32>,
         cause: BehindCause,
     },
-    /// The rules of a block that may call themselves again before a character is taken, all of them
-    /// in order.
+    /// The rules of a block that may call themselves again before a character is taken, in order.
     #[error("left recursion")]
     LeftRecursion {
         rules: Vec<u32>,

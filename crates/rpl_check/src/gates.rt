@@ -1,7 +1,8 @@
-// The order in which rules of a block come to have a fact, each after those by which it has it.
+// The order in which the rules of a block acquire a fact, each after the rules that give it the
+// fact.
 //
-// Only the time hangs on it: a rule is marked where it passes, whatever order it is looked at in.
-// So a body is walked once for its gates, and once more in its turn.
+// Only the running time depends on this order: a rule is marked if it passes, whenever it is
+// visited. So a body is walked once for its gates and once more when it is marked.
 ghost use Rattle.std.specs.Prelude.{◌-◌, ◌<◌, ◌≤◌};
 
 use crate::NoMemory;
@@ -10,7 +11,8 @@ use crate::group::Group;
 use rpl_core::Peg;
 use std::alloc::Global;
 
-/// Whether a pattern passes: surely, never, or once enough of the rules that it calls do.
+/// The state of a pattern: it has the fact, never has it, or has it once enough of the rules it
+/// calls do.
 #[derive(Clone, Copy)]
 enum Port {
     Open,
@@ -18,9 +20,9 @@ enum Port {
     Waits,
 }
 
-/// The gates of a block's patterns, where the marks are those of the rules before it. The first
-/// are those of its rules, and each other stands after the one above it, and has a call below it.
-/// So many calls were noted.
+/// The gates of the patterns of a block; `marks` covers the rules before it. The first gates are
+/// those of the block's rules. Every other gate comes after the one above it and has a call below
+/// it. `calls` counts the calls noted.
 #[derive(Drop)]
 struct Gates<'a> {
     start: u32,
@@ -33,7 +35,7 @@ struct Gates<'a> {
 }
 
 impl<'a> Gates<'a> {
-    /// A gate for each rule.
+    /// Creates one gate per rule.
     fn new(alloc: Global, start: u32, end: u32, marks: &'a [bool]) -> Result<Gates<'a>, NoMemory>
         requires { start ≤ end }
     {
@@ -52,7 +54,7 @@ impl<'a> Gates<'a> {
         })
     }
 
-    /// One gate more, which never opens yet.
+    /// Adds a gate, which cannot open yet.
     fn add(&mut self, above: usize) -> Result<usize, NoMemory> {
         let gate = self.needs.len();
         self.above.push(above)?;
@@ -60,8 +62,8 @@ impl<'a> Gates<'a> {
         Ok(gate)
     }
 
-    /// Takes the gate back, and those after it, where no call was noted since there were so many:
-    /// none of them waits.
+    /// Removes the gate and those after it, unless a call was noted since the count was `calls`.
+    /// None of the gates removed is waiting.
     fn take_back(&mut self, gate: usize, calls: usize) {
         if self.calls == calls {
             self.above.truncate(gate);
@@ -69,14 +71,14 @@ impl<'a> Gates<'a> {
         }
     }
 
-    /// The gate opens once so many of those below it did.
+    /// Makes the gate open once this many of the gates and calls below it have opened.
     fn set(&mut self, gate: usize, needs: usize) {
         if gate < self.needs.len() {
             self.needs[gate] = needs;
         }
     }
 
-    /// A call below the gate.
+    /// Notes a call below the gate.
     fn call(&mut self, rule: u32, gate: usize) -> Result<Port, NoMemory> {
         if self.start <= rule && rule < self.end {
             let place = (rule - self.start) as usize;
@@ -94,7 +96,7 @@ impl<'a> Gates<'a> {
     }
 }
 
-/// The port of a pattern that may be empty, below the gate.
+/// Returns the port of a pattern below the gate, for the fact that it may be empty.
 #[cycle(ports)]
 fn empty_port(gates: &mut Gates, peg: &Peg, gate: usize) -> Result<Port, NoMemory> {
     match peg {
@@ -108,7 +110,7 @@ fn empty_port(gates: &mut Gates, peg: &Peg, gate: usize) -> Result<Port, NoMemor
     }
 }
 
-/// That of parts that may all be empty.
+/// Does the same for a sequence, in which every part needs the fact.
 #[cycle(ports)]
 fn all_empty_port(gates: &mut Gates, parts: &[Peg], above: usize) -> Result<Port, NoMemory> {
     let calls = gates.calls;
@@ -132,7 +134,7 @@ fn all_empty_port(gates: &mut Gates, parts: &[Peg], above: usize) -> Result<Port
     Ok(Port::Waits)
 }
 
-/// That of parts of which one may be empty.
+/// Does the same for a choice, in which one part needs the fact.
 #[cycle(ports)]
 fn any_empty_port(gates: &mut Gates, parts: &[Peg], above: usize) -> Result<Port, NoMemory> {
     let calls = gates.calls;
@@ -156,7 +158,8 @@ fn any_empty_port(gates: &mut Gates, parts: &[Peg], above: usize) -> Result<Port
     Ok(Port::Waits)
 }
 
-/// The port of a pattern that may halt, below the gate, which any call in it opens.
+/// Returns the port of a pattern below the gate, for the fact that it may halt. The gate opens as
+/// soon as any rule that the pattern calls has the fact.
 #[cycle(halts)]
 fn halt_port(gates: &mut Gates, peg: &Peg, gate: usize) -> Result<Port, NoMemory> {
     match peg {
@@ -171,7 +174,7 @@ fn halt_port(gates: &mut Gates, peg: &Peg, gate: usize) -> Result<Port, NoMemory
     }
 }
 
-/// That of parts of which one may halt.
+/// Does the same for parts of which one needs the fact.
 #[cycle(halts)]
 fn any_halt_port(gates: &mut Gates, parts: &[Peg], gate: usize) -> Result<Port, NoMemory> {
     let mut waits = false;
@@ -189,7 +192,7 @@ fn any_halt_port(gates: &mut Gates, parts: &[Peg], gate: usize) -> Result<Port, 
     }
 }
 
-/// The port of the rule at this place of the group, whose gate has that number.
+/// Returns the port of the rule at this place of the group. The number of its gate is its place.
 fn rule_port(gates: &mut Gates, group: &Group, place: u32, fact: Fact) -> Result<Port, NoMemory>
     requires { place < group.now.end - group.now.start }
 {
@@ -203,8 +206,8 @@ fn rule_port(gates: &mut Gates, group: &Group, place: u32, fact: Fact) -> Result
     }
 }
 
-/// One below the gate opened: it may open, and those above it. A rule's gate that opens joins the
-/// list.
+/// Records that something below the gate opened. If that opens the gate, those above it may open
+/// too. When the gate of a rule opens, the rule joins the list.
 fn open(
     above: &[usize],
     needs: &mut [usize],
@@ -246,7 +249,8 @@ fn open_callers(
     Ok(())
 }
 
-/// Places of a group's rules that have the fact, each after those by which it has it.
+/// Returns the places of the group's rules that have the fact, each after the rules that give it
+/// the fact.
 pub(crate) fn turns(
     alloc: Global,
     group: &Group,

@@ -5,8 +5,8 @@ ghost use Rattle.rpl_check.specs.inside.Groups.{IsGroup};
 
 use rpl_core::{Rules, joins_next};
 
-/// A group of a table's rules: a block, or a rule outside blocks. Its rules have the numbers from
-/// `start` on and before `end`.
+/// A group of a table's rules: a block, or a rule outside blocks. Its rules are numbered from
+/// `start` up to, but not including, `end`.
 #[derive(Clone, Copy)]
 pub(crate) struct Group<'a> {
     pub(crate) rules: &'a Rules,
@@ -14,7 +14,7 @@ pub(crate) struct Group<'a> {
     pub(crate) end: u32,
 }
 
-/// Where the group ends that begins with this rule.
+/// Returns the end of the group that begins with this rule.
 pub(crate) fn group_end(rules: &Rules, start: u32) -> u32
     requires { start < length (rules_of rules.now) }
     ensures within { result ≤ length (rules_of rules.now) }

@@ -20,7 +20,7 @@ use crate::recursion::Block;
 use rpl_core::{Rules, is_outside};
 use std::alloc::Global;
 
-/// What is wrong with the first bad look-behind of the rule.
+/// Returns the fault of the first bad look-behind of the rule.
 fn cause_at(rules: &Rules, number: u32) -> Option<BehindCause>
     ensures { some_cause result ≡ body_cause (slice_get (bodies_in rules.now) number) }
 {
@@ -30,7 +30,7 @@ fn cause_at(rules: &Rules, number: u32) -> Option<BehindCause>
     }
 }
 
-/// The rule repeats something that may be empty.
+/// Returns whether the rule repeats a body that may be empty.
 fn has_loop_at(rules: &Rules, number: u32, empties: &[bool]) -> bool
     ensures { result ≡ passes (has_empty_loop (marked empties.now))
         (slice_get (bodies_in rules.now) number) }
@@ -41,7 +41,7 @@ fn has_loop_at(rules: &Rules, number: u32, empties: &[bool]) -> bool
     }
 }
 
-/// The rule has a predicate that may halt.
+/// Returns whether the rule has a predicate that may halt.
 fn has_halt_at(rules: &Rules, number: u32, halting: &[bool]) -> bool
     ensures { result ≡ passes (has_halt_inside (marked halting.now))
         (slice_get (bodies_in rules.now) number) }
@@ -52,7 +52,7 @@ fn has_halt_at(rules: &Rules, number: u32, halting: &[bool]) -> bool
     }
 }
 
-/// The rule has no bad look-behind.
+/// Checks that the rule has no bad look-behind.
 fn check_behind(rules: &Rules, number: u32) -> Result<(), CheckFault>
     ensures { Answers (behind_at (bodies_in rules.now) number) result }
 {
@@ -65,7 +65,7 @@ fn check_behind(rules: &Rules, number: u32) -> Result<(), CheckFault>
     }
 }
 
-/// The rule has no empty loop.
+/// Checks that the rule has no empty loop.
 fn check_loop(rules: &Rules, number: u32, empties: &[bool]) -> Result<(), CheckFault>
     ensures { Answers (loop_at (marked empties.now) (bodies_in rules.now) number) result }
 {
@@ -75,7 +75,7 @@ fn check_loop(rules: &Rules, number: u32, empties: &[bool]) -> Result<(), CheckF
     Ok(())
 }
 
-/// The rule has no halt under a predicate.
+/// Checks that the rule has no halt under a predicate.
 fn check_halt(rules: &Rules, number: u32, halting: &[bool]) -> Result<(), CheckFault>
     ensures { Answers (halt_at (marked halting.now) (bodies_in rules.now) number) result }
 {
@@ -85,7 +85,7 @@ fn check_halt(rules: &Rules, number: u32, halting: &[bool]) -> Result<(), CheckF
     Ok(())
 }
 
-/// No rule of the block has a bad look-behind.
+/// Checks that no rule of the block has a bad look-behind.
 fn check_behinds(group: &Group) -> Result<(), CheckFault>
     requires { group.now.start ≤ group.now.end }
     ensures { Answers (first_from (behind_at (bodies_in group.now.rules.now)) group.now.start
@@ -97,8 +97,8 @@ fn check_behinds(group: &Group) -> Result<(), CheckFault>
     Ok(())
 }
 
-/// No rule of the block reaches itself before a character. A rule outside blocks calls only earlier
-/// ones.
+/// Checks that no rule of the block reaches itself before a character. A rule outside blocks calls
+/// only earlier rules.
 fn check_recursion(alloc: Global, group: &Group, empties: &[bool]) -> Result<(), CheckFault>
     requires within { (group.now.start < group.now.end)
         × (group.now.end ≤ length (rules_of group.now.rules.now)) }
@@ -125,7 +125,7 @@ fn check_recursion(alloc: Global, group: &Group, empties: &[bool]) -> Result<(),
     Err(CheckFault::LeftRecursion { rules: list })
 }
 
-/// No rule of the block has an empty loop.
+/// Checks that no rule of the block has an empty loop.
 fn check_loops(group: &Group, empties: &[bool]) -> Result<(), CheckFault>
     requires { group.now.start ≤ group.now.end }
     ensures { Answers (first_from (loop_at (marked empties.now) (bodies_in group.now.rules.now))
@@ -138,7 +138,7 @@ fn check_loops(group: &Group, empties: &[bool]) -> Result<(), CheckFault>
     Ok(())
 }
 
-/// No rule of the block has a halt under a predicate.
+/// Checks that no rule of the block has a halt under a predicate.
 fn check_halts(group: &Group, halting: &[bool]) -> Result<(), CheckFault>
     requires { group.now.start ≤ group.now.end }
     ensures { Answers (first_from (halt_at (marked halting.now) (bodies_in group.now.rules.now))
@@ -151,7 +151,7 @@ fn check_halts(group: &Group, halting: &[bool]) -> Result<(), CheckFault>
     Ok(())
 }
 
-/// The first fault of a block, or of a rule outside blocks.
+/// Checks a block, or a rule outside blocks, for its first fault.
 fn check_group(
     alloc: Global,
     group: &Group,
@@ -174,7 +174,7 @@ fn check_group(
     check_halts(group, halting)
 }
 
-/// The first fault of the table.
+/// Checks the table for its first fault.
 pub(crate) fn check_table(
     alloc: Global,
     rules: &Rules,

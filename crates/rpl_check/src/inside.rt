@@ -8,7 +8,8 @@ ghost use Rattle.rpl_core.specs.inside.Marks.{marked};
 use crate::facts::{may_be_empty, may_halt};
 use rpl_core::Peg;
 
-/// The pattern repeats something that may be empty, where just the marked rules may.
+/// Returns whether the pattern repeats a body that may be empty, if exactly the marked rules may be
+/// empty.
 #[cycle(empty_loop)]
 pub(crate) fn has_empty_loop(peg: &Peg, empties: &[bool]) -> bool
     ensures { result ≡ L.has_empty_loop (marked empties.now) (core_of peg.now) }
@@ -24,7 +25,7 @@ pub(crate) fn has_empty_loop(peg: &Peg, empties: &[bool]) -> bool
     }
 }
 
-/// Some part does.
+/// Returns whether any part does.
 #[cycle(empty_loop)]
 fn any_has_empty_loop(parts: &[Peg], empties: &[bool]) -> bool
     ensures { result ≡ L.any_has_empty_loop (marked empties.now) (cores parts.now) }
@@ -37,8 +38,8 @@ fn any_has_empty_loop(parts: &[Peg], empties: &[bool]) -> bool
     false
 }
 
-/// No predicate in the pattern may halt, where just the marked rules may. A body that may not halt
-/// has no predicate that may, so none is looked at twice.
+/// Returns whether no predicate in the pattern may halt, if exactly the marked rules may halt. A
+/// body that may not halt contains no predicate that may, so nothing is visited twice.
 #[cycle(stay)]
 pub(crate) fn predicates_stay(peg: &Peg, halting: &[bool]) -> bool
     ensures { result ≡ S.predicates_stay (marked halting.now) (core_of peg.now) }
@@ -55,7 +56,7 @@ pub(crate) fn predicates_stay(peg: &Peg, halting: &[bool]) -> bool
     }
 }
 
-/// No predicate in the parts may.
+/// Returns whether no predicate in the parts may halt.
 #[cycle(stay)]
 fn all_predicates_stay(parts: &[Peg], halting: &[bool]) -> bool
     ensures { result ≡ S.all_predicates_stay (marked halting.now) (cores parts.now) }

@@ -1,13 +1,13 @@
-// What holds of the static facts alone.
+// Laws that hold for the static facts alone.
 ghost use Rattle.rpl_check.specs.Laws.{FactsLaw, OneFactsLaw};
 
-/// Each table whose calls stay in it has static facts, so that the contracts of this crate speak of
-/// something.
+/// Every table whose calls stay inside it has static facts, so the contracts of this crate are
+/// never vacuous.
 pub fn facts_law()
     ensures { FactsLaw }
 {}
 
-/// A table has one set of static facts.
+/// A table has exactly one set of static facts.
 pub fn one_facts_law()
     ensures { OneFactsLaw }
 {}

@@ -1,11 +1,11 @@
-//! The check of patterns before they run: whatever passes means something on every line, and the
-//! rest is refused.
+//! The check of patterns before they run: every pattern that passes has a meaning on every line,
+//! and all others are refused.
 //!
-//! `check` takes a whole table of rules and `check_pattern` a pattern over it. Each names exactly
-//! the first fault that is due, in a stated order: a look-behind without a fixed bound, left
-//! recursion, a repetition of what may be empty, or a halt under a predicate. That a pattern that
-//! passes has an outcome on every text is a clause of `check_pattern`, so whoever compiles it needs
-//! no further premise. `specs/Facts.antt` and `specs/Faults.antt` define what is due.
+//! `check` checks a whole table of rules, `check_pattern` a pattern over it. Each returns exactly
+//! the first fault in a stated order: a look-behind without a fixed bound, left recursion, a
+//! repetition whose body may be empty, or a halt under a predicate. A clause of `check_pattern`
+//! states that a pattern that passes has an outcome on every text, so its compiler needs no further
+//! premise. `specs/Facts.antt` and `specs/Faults.antt` define the faults.
 #![tactic(auto)]
 
 mod behinds;

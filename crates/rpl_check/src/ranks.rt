@@ -1,9 +1,10 @@
-// Rules that are on no ring because every call of theirs is of a lower rank, where no call of the
-// block is of a higher one. The ranks are the numbers of strongly connected components, by
+// The ranks of rules. If no call of the block goes to a higher rank, a rule whose calls all go to
+// lower ranks is on no cycle. The ranks are the numbers of strongly connected components, found by
 // Kosaraju's two passes (Sharir 1981).
 //
-// Only the time hangs on the components: `falls` tests the ranks, and where they don't pass no rule
-// is marked by them; what `roots.rt` makes of the roots holds whatever they are.
+// Only the running time depends on the components: `falls` checks the ranks, and if the check
+// fails, no rule is marked because of them. What `roots.rt` derives from the roots holds for any
+// roots.
 ghost use Rattle.std.specs.Prelude.{◌≡◌, ◌+◌, ◌-◌, ◌<◌, ◌≤◌, ℕ, IfOk, true};
 ghost use Rattle.rpl_check.specs.Facts.{calls_at};
 ghost use Rattle.rpl_check.specs.inside.Ranks.{Falls, rank_of};
@@ -14,7 +15,7 @@ use crate::NoMemory;
 use crate::recursion::Block;
 use std::alloc::Global;
 
-/// For each place the places of those that it calls, from those that call it.
+/// Returns the places that each place calls, given the places that call it.
 fn calls_of(alloc: Global, callers: &[Vec<u32>]) -> Result<Vec<Vec<u32>>, NoMemory> {
     let mut calls = Vec::new(alloc);
     for _ in 0..callers.len() {
@@ -28,7 +29,7 @@ fn calls_of(alloc: Global, callers: &[Vec<u32>]) -> Result<Vec<Vec<u32>>, NoMemo
     Ok(calls)
 }
 
-/// Each of these places calls this one.
+/// Adds `place` to the calls of each of these places.
 fn add_callee(calls: &mut [Vec<u32>], those: &[u32], place: u32) -> Result<(), NoMemory> {
     for caller in those {
         let at = *caller as usize;
@@ -39,9 +40,9 @@ fn add_callee(calls: &mut [Vec<u32>], those: &[u32], place: u32) -> Result<(), N
     Ok(())
 }
 
-/// A walk up from callee to caller: which places were met, and in which order, those on the way and
-/// how many of their callers were tried, and those that were left, each after all that were first
-/// met from it.
+/// A depth-first walk from callee to caller: the places visited, the order of visits, the current
+/// path with the number of callers tried at each place, and the finished places, each after all
+/// places first visited from it.
 #[derive(Drop)]
 struct Walk {
     met: Vec<bool>,
@@ -51,7 +52,7 @@ struct Walk {
 }
 
 impl Walk {
-    /// Goes on to this place, if it wasn't met.
+    /// Moves to this place, if it has not been visited.
     fn meet(&mut self, place: u32) -> Result<(), NoMemory> {
         let at = place as usize;
         if at < self.met.len() && !self.met[at] {
@@ -62,7 +63,7 @@ impl Walk {
         Ok(())
     }
 
-    /// Goes one step on, and whether there was one to go.
+    /// Makes one step. Returns whether there was one to make.
     fn step(&mut self, callers: &[Vec<u32>]) -> Result<bool, NoMemory> {
         let Some((place, tried)) = self.way.pop() else {
             return Ok(false);
@@ -77,7 +78,7 @@ impl Walk {
         Ok(true)
     }
 
-    /// Walks from this place as far as there is a way; in at most so many steps.
+    /// Walks from this place as far as possible, in at most `steps` steps.
     fn walk(&mut self, callers: &[Vec<u32>], place: u32, steps: usize) -> Result<(), NoMemory> {
         self.meet(place)?;
         for _ in 0..steps {
@@ -89,7 +90,7 @@ impl Walk {
     }
 }
 
-/// The walk over all places.
+/// Walks over all places.
 fn walk_all(alloc: Global, callers: &[Vec<u32>]) -> Result<Walk, NoMemory> {
     let mut steps = callers.len();
     for those in callers {
@@ -109,9 +110,10 @@ fn walk_all(alloc: Global, callers: &[Vec<u32>]) -> Result<Walk, NoMemory> {
     Ok(walk)
 }
 
-/// The strongly connected components of the places of a block: for each place the rank and the root
-/// of its component; and all places in two orders. In `down` each stands after its root and one
-/// that calls it, in `up` each after its root and one that it calls, both of its component.
+/// The strongly connected components of the places of a block: the rank of each place, the root of
+/// its component, and all places in two orders. In `down`, each place comes after its root and
+/// after a place of its component that calls it; in `up`, after its root and after a place of its
+/// component that it calls.
 #[derive(Drop)]
 pub(crate) struct Components {
     pub(crate) ranks: Vec<u32>,
@@ -121,7 +123,7 @@ pub(crate) struct Components {
 }
 
 impl Components {
-    /// Gives this rank and this root to the place, if it has none yet.
+    /// Gives the place this rank and root, if it has none yet.
     fn give(&mut self, place: u32, rank: u32, root: u32) -> Result<(), NoMemory> {
         let at = place as usize;
         if at < self.ranks.len() && at < self.roots.len() && self.ranks[at] == 0 {
@@ -132,7 +134,7 @@ impl Components {
         Ok(())
     }
 
-    /// Gives them to each of these places that has none yet.
+    /// Gives this rank and root to each of these places that has none yet.
     fn give_each(&mut self, those: &[u32], rank: u32, root: u32) -> Result<(), NoMemory> {
         for place in those {
             self.give(*place, rank, root)?;
@@ -140,7 +142,7 @@ impl Components {
         Ok(())
     }
 
-    /// Gives this rank to the root and to all that are called from it and have none yet.
+    /// Gives this rank to the root and to all places reachable from it by calls that have none yet.
     fn give_all(&mut self, calls: &[Vec<u32>], rank: u32, root: u32) -> Result<(), NoMemory> {
         let first = self.down.len();
         self.give(root, rank, root)?;
@@ -157,8 +159,8 @@ impl Components {
     }
 }
 
-/// The components of places by their callers. Those of one ring have one rank, and each other calls
-/// lower ones alone.
+/// Returns the components of places, given the callers of each. Places on one cycle have the same
+/// rank, and every other call goes to a lower rank.
 pub(crate) fn find_components(alloc: Global, callers: &[Vec<u32>]) -> Result<Components, NoMemory> {
     let calls = calls_of(alloc, callers)?;
     let Walk { up, left, .. } = walk_all(alloc, callers)?;
@@ -179,7 +181,8 @@ pub(crate) fn find_components(alloc: Global, callers: &[Vec<u32>]) -> Result<Com
 impl Block<'_> {
     ghost use Rattle.rpl_check.specs.inside.Within.{IsLong, Stands, empty_in, table_of};
 
-    /// The rank of a rule: one more than the list says, or 0 if it stands before the block.
+    /// Returns the rank of a rule: one more than its entry in `ranks`, or 0 if the rule is before
+    /// the block.
     fn rank(&self, ranks: &[u32], rule: u32) -> u64
         ensures { result ≡ rank_of self.now.start ranks.now rule }
     {
@@ -192,7 +195,7 @@ impl Block<'_> {
         }
     }
 
-    /// The highest rank of these rules, or 0.
+    /// Returns the highest rank of these rules, or 0.
     fn highest(&self, ranks: &[u32], rules: &[u32]) -> u64
         ensures { (t : ℕ) → waits rules.now t ≡ true → rank_of self.now.start ranks.now t ≤ result }
     {
@@ -203,7 +206,8 @@ impl Block<'_> {
         highest
     }
 
-    /// The highest rank of the rules that the one at this place calls before a character, or 0.
+    /// Returns the highest rank of the rules that the rule at this place calls before a character,
+    /// or 0.
     fn highest_call(&self, alloc: Global, ranks: &[u32], place: u32) -> Result<u64, NoMemory>
         requires block { Stands self.now }
         requires inside { place < self.now.end - self.now.start }
@@ -216,7 +220,7 @@ impl Block<'_> {
         Ok(self.highest(ranks, &list))
     }
 
-    /// The rule at this place calls none of a higher rank.
+    /// Returns whether the rule at this place calls no rule of a higher rank.
     fn falls_at(&self, alloc: Global, ranks: &[u32], place: u32) -> Result<bool, NoMemory>
         requires block { Stands self.now }
         requires inside { place < self.now.end - self.now.start }
@@ -229,7 +233,7 @@ impl Block<'_> {
         Ok(highest <= self.rank(ranks, self.start + place))
     }
 
-    /// No rule of the block calls one of a higher rank.
+    /// Returns whether no rule of the block calls a rule of a higher rank.
     fn falls(&self, alloc: Global, ranks: &[u32]) -> Result<bool, NoMemory>
         requires { Stands self.now }
         ensures { IfOk result (λ b. b ≡ true →
@@ -243,7 +247,7 @@ impl Block<'_> {
         Ok(true)
     }
 
-    /// Marks the rule at this place, if it calls only rules of lower ranks.
+    /// Marks the rule at this place if it calls only rules of lower ranks.
     fn mark_if_alone(
         &self,
         alloc: Global,
@@ -270,8 +274,8 @@ impl Block<'_> {
         Ok(())
     }
 
-    /// Marks each rule of the block that calls only rules of lower ranks, if no call is of a higher
-    /// one.
+    /// Marks each rule of the block that calls only rules of lower ranks, if no call goes to a
+    /// higher rank.
     pub(crate) fn mark_alone(
         &self,
         alloc: Global,

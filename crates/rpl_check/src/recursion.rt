@@ -1,4 +1,4 @@
-// Which rules of a block reach themselves before a character is taken.
+// The rules of a block that reach themselves before a character is taken (left recursion).
 ghost use Rattle.std.specs.Prelude.{◌≡◌, ℕ, ◌-◌, ◌<◌, ◌≤◌, ◌^◌, Bool, false, true, nat_eq, length};
 ghost use Rattle.std.specs.Prelude.{IfOk, OnOk, ◌+◌};
 ghost use Rattle.rpl_core.specs.View.{core_of, cores};
@@ -18,7 +18,8 @@ use crate::ranks::find_components;
 use rpl_core::{Peg, Rules};
 use std::alloc::Global;
 
-/// The rule stands before the block that begins at `start`, or is marked in the block's list.
+/// Returns whether the rule is before the block that begins at `start`, or is marked in the block's
+/// list.
 fn is_clean(clean: &[bool], start: u32, rule: u32) -> bool
     ensures { result ≡ marked_from start clean.now rule }
 {
@@ -29,8 +30,8 @@ fn is_clean(clean: &[bool], start: u32, rule: u32) -> bool
     }
 }
 
-/// Whether the pattern may be empty, where each rule that it may call before a character is clean;
-/// else nothing.
+/// Returns whether the pattern may be empty, if each rule that it may call before a character is
+/// clean, and `None` otherwise.
 #[cycle(front)]
 fn clean_front(peg: &Peg, empties: &[bool], clean: &[bool], start: u32) -> Option<bool>
     ensures { result ≡ clean_core (marked empties.now) (marked_from start clean.now)
@@ -54,7 +55,7 @@ fn clean_front(peg: &Peg, empties: &[bool], clean: &[bool], start: u32) -> Optio
     }
 }
 
-/// That of a pattern that may be empty, whatever its body.
+/// Returns the same for a pattern that may be empty whatever its body.
 fn stays(body: Option<bool>) -> Option<bool>
     ensures { (w e : Bool) → body ≡ within_or_none w e → result ≡ within_or_none w true }
 {
@@ -64,7 +65,7 @@ fn stays(body: Option<bool>) -> Option<bool>
     }
 }
 
-/// That of parts in turn.
+/// Returns the same for a sequence of parts.
 #[cycle(front)]
 fn clean_front_in_turn(parts: &[Peg], empties: &[bool], clean: &[bool], start: u32) -> Option<bool>
     ensures { result ≡ clean_all (marked empties.now) (marked_from start clean.now)
@@ -80,7 +81,7 @@ fn clean_front_in_turn(parts: &[Peg], empties: &[bool], clean: &[bool], start: u
     Some(true)
 }
 
-/// That of a choice of the parts.
+/// Returns the same for a choice of parts.
 #[cycle(front)]
 fn clean_front_of_each(parts: &[Peg], empties: &[bool], clean: &[bool], start: u32) -> Option<bool>
     ensures { result ≡ clean_each (marked empties.now) (marked_from start clean.now)
@@ -96,8 +97,8 @@ fn clean_front_of_each(parts: &[Peg], empties: &[bool], clean: &[bool], start: u
     Some(any)
 }
 
-/// The rules of a block that were found, and those of them whose bodies weren't looked at. The
-/// block begins at `start`.
+/// The rules of a block found so far, and those of them whose bodies have not been searched yet.
+/// The block begins at `start`.
 #[derive(Drop)]
 struct BlockSearch {
     start: u32,
@@ -106,7 +107,7 @@ struct BlockSearch {
 }
 
 impl BlockSearch {
-    /// Finds the rule, if it is one of the block.
+    /// Finds the rule, if it is in the block.
     fn find(&mut self, rule: u32) -> Result<(), NoMemory>
         ensures { OnOk result (Finds (λ r. nat_eq rule r) self.old self.new) }
     {
@@ -122,7 +123,8 @@ impl BlockSearch {
     }
 }
 
-/// Finds the rules that the pattern may call before a character, and tells whether it may be empty.
+/// Finds the rules that the pattern may call before a character, and returns whether it may be
+/// empty.
 #[cycle(find)]
 fn find_calls(search: &mut BlockSearch, peg: &Peg, empties: &[bool]) -> Result<bool, NoMemory>
     ensures finds { OnOk result (Finds (calls_here (marked empties.now) (core_of peg.now))
@@ -158,7 +160,7 @@ fn find_calls(search: &mut BlockSearch, peg: &Peg, empties: &[bool]) -> Result<b
     }
 }
 
-/// Finds those of parts in turn.
+/// Does the same for a sequence of parts.
 #[cycle(find)]
 fn find_front_calls(
     search: &mut BlockSearch,
@@ -178,7 +180,7 @@ fn find_front_calls(
     Ok(true)
 }
 
-/// Finds those of a choice of the parts.
+/// Does the same for a choice of parts.
 #[cycle(find)]
 fn find_all_calls(
     search: &mut BlockSearch,
@@ -198,7 +200,8 @@ fn find_all_calls(
     Ok(any)
 }
 
-/// Lists the rules that the pattern may call before a character, and tells whether it may be empty.
+/// Lists the rules that the pattern may call before a character, and returns whether it may be
+/// empty.
 #[cycle(list)]
 fn list_calls(list: &mut Vec<u32>, peg: &Peg, empties: &[bool]) -> Result<bool, NoMemory>
     ensures lists { OnOk result
@@ -234,7 +237,7 @@ fn list_calls(list: &mut Vec<u32>, peg: &Peg, empties: &[bool]) -> Result<bool, 
     }
 }
 
-/// Lists those of parts in turn.
+/// Does the same for a sequence of parts.
 #[cycle(list)]
 fn list_front_calls(list: &mut Vec<u32>, parts: &[Peg], empties: &[bool]) -> Result<bool, NoMemory>
     ensures lists { OnOk result
@@ -251,7 +254,7 @@ fn list_front_calls(list: &mut Vec<u32>, parts: &[Peg], empties: &[bool]) -> Res
     Ok(true)
 }
 
-/// Lists those of a choice of the parts.
+/// Does the same for a choice of parts.
 #[cycle(list)]
 fn list_all_calls(list: &mut Vec<u32>, parts: &[Peg], empties: &[bool]) -> Result<bool, NoMemory>
     ensures lists { OnOk result
@@ -268,8 +271,8 @@ fn list_all_calls(list: &mut Vec<u32>, parts: &[Peg], empties: &[bool]) -> Resul
     Ok(any)
 }
 
-/// Which rules of a block wait for which: for each place the places of those that call it, and how
-/// many calls of each are to come.
+/// The dependencies inside a block: for each place, the places that call it and the number of its
+/// own calls still pending.
 #[derive(Drop)]
 struct Turns {
     callers: Vec<Vec<u32>>,
@@ -277,7 +280,7 @@ struct Turns {
 }
 
 impl Turns {
-    /// No rule waits.
+    /// Returns dependencies in which no rule waits.
     fn new(alloc: Global, count: u32) -> Result<Turns, NoMemory>
         ensures { IfOk result (λ t. (length t.callers.items ≡ count) ×
             (length t.needs.items ≡ count)) }
@@ -292,7 +295,7 @@ impl Turns {
         })
     }
 
-    /// The rule at `place` calls the one at `called`.
+    /// Notes that the rule at `place` calls the one at `called`.
     fn note(&mut self, place: u32, called: u32) -> Result<(), NoMemory>
         ensures { OnOk result (length self.new.callers.items ≡ length self.old.callers.items) }
     {
@@ -304,8 +307,7 @@ impl Turns {
         Ok(())
     }
 
-    /// Lists places so that each stands after those that it calls, as far as there is such an
-    /// order.
+    /// Lists places so that each comes after those that it calls, as far as such an order exists.
     fn order(&mut self, alloc: Global) -> Result<Vec<u32>, NoMemory> {
         let mut order = Vec::new(alloc);
         let mut place: u32 = 0;
@@ -324,7 +326,7 @@ impl Turns {
     }
 }
 
-/// One call of the rule at this place is done, and whether it was the last.
+/// Marks one call of the rule at this place as done. Returns whether it was the last.
 fn is_last(needs: &mut [u32], place: u32) -> bool {
     let at = place as usize;
     if at >= needs.len() || needs[at] == 0 {
@@ -334,7 +336,7 @@ fn is_last(needs: &mut [u32], place: u32) -> bool {
     needs[at] == 0
 }
 
-/// The rule at this place is done: those whose last call it was join the list.
+/// Marks the rule at this place as done. Its callers with no other pending call join the list.
 fn release(
     callers: &[Vec<u32>],
     needs: &mut [u32],
@@ -353,8 +355,8 @@ fn release(
     Ok(())
 }
 
-/// A block of the table: its rules from `start` on and before `end`, and which rules of the table
-/// may be empty.
+/// A block of the table: its rules from `start` up to, but not including, `end`, and the rules of
+/// the table that may be empty.
 #[derive(Clone, Copy)]
 pub(crate) struct Block<'a> {
     pub(crate) rules: &'a Rules,
@@ -366,7 +368,7 @@ pub(crate) struct Block<'a> {
 impl Block<'_> {
     ghost use Rattle.rpl_check.specs.inside.Within.{Stands, IsLong, empty_in, table_of};
 
-    /// Finds the calls of the rule with this number, if there is one.
+    /// Finds the calls of the rule with this number, if it exists.
     fn find_calls_of(&self, search: &mut BlockSearch, number: u32) -> Result<(), NoMemory>
         ensures { OnOk result
             (Finds (calls_at (empty_in self.now) (table_of self.now) number) search.old
@@ -378,7 +380,7 @@ impl Block<'_> {
         Ok(())
     }
 
-    /// The rule calls only clean rules before a character.
+    /// Returns whether the rule calls only clean rules before a character.
     fn calls_clean(&self, number: u32, clean: &[bool]) -> bool
         ensures clean { result ≡ true → (r : ℕ) →
             calls_at (empty_in self.now) (table_of self.now) number r ≡ true →
@@ -393,7 +395,8 @@ impl Block<'_> {
         }
     }
 
-    /// The rule reaches itself before a character: its calls are followed through the block.
+    /// Returns whether the rule reaches itself before a character, by following its calls through
+    /// the block.
     fn reaches_itself(&self, alloc: Global, number: u32) -> Result<bool, NoMemory>
         requires block { Stands self.now }
         requires within { (self.now.start ≤ number) × (number < self.now.end) }
@@ -412,8 +415,8 @@ impl Block<'_> {
         Ok(search.marks[(number - self.start) as usize])
     }
 
-    /// Marks the rule at this place of the block, if it calls only marked rules and earlier blocks
-    /// before a character.
+    /// Marks the rule at this place of the block if, before a character, it calls only marked rules
+    /// and earlier blocks.
     fn mark_if_clean(&self, place: u32, clean: &mut [bool])
         requires block { Stands self.now }
         requires long { IsLong self.now clean.old }
@@ -429,8 +432,8 @@ impl Block<'_> {
         }
     }
 
-    /// Marks rules of a block that don't reach themselves, without a search: those of the list in
-    /// turn. Where each stands after those that it calls, all of the list are marked.
+    /// Marks rules of a block that don't reach themselves, in the order of the list and without a
+    /// search. If each comes after those that it calls, the whole list is marked.
     fn mark_in_turn(&self, order: &[u32], clean: &mut [bool])
         requires block { Stands self.now }
         requires long { IsLong self.now clean.old }
@@ -471,7 +474,7 @@ impl Block<'_> {
         Ok(())
     }
 
-    /// Which rules of a block wait for which.
+    /// Returns the dependencies inside the block.
     fn turns(&self, alloc: Global) -> Result<Turns, NoMemory>
         requires { Stands self.now }
     {
@@ -484,8 +487,8 @@ impl Block<'_> {
         Ok(turns)
     }
 
-    /// A list of such marks; and marks those that reach themselves in the other. Where the order
-    /// has all rules, none is on a ring, and no components are asked for.
+    /// Returns marks of rules that don't reach themselves, and marks rules that do in `left`. If
+    /// the order contains all rules, none is on a cycle, and the components are not computed.
     fn clean_rules(&self, alloc: Global, left: &mut [bool]) -> Result<Vec<bool>, NoMemory>
         requires block { Stands self.now }
         requires left_long { IsLong self.now left.old }
@@ -509,8 +512,8 @@ impl Block<'_> {
         Ok(clean)
     }
 
-    /// The rule reaches itself before a character. One that is clean doesn't, and one that is
-    /// marked does; another is searched.
+    /// Returns whether the rule reaches itself before a character. A clean rule doesn't, and a
+    /// marked rule does; any other is searched.
     fn is_left_recursive(
         &self,
         alloc: Global,
@@ -537,8 +540,8 @@ impl Block<'_> {
         self.reaches_itself(alloc, number)
     }
 
-    /// Lists the rules of a block that reach themselves, where the clean ones are marked, and
-    /// some that reach themselves.
+    /// Lists the rules of a block that reach themselves, given marks of the clean ones and of some
+    /// that reach themselves.
     fn list_selves(
         &self,
         alloc: Global,
@@ -563,7 +566,7 @@ impl Block<'_> {
         Ok(list)
     }
 
-    /// The rules of a block that reach themselves before a character, in order.
+    /// Returns the rules of a block that reach themselves before a character, in order.
     pub(crate) fn selves(&self, alloc: Global) -> Result<Vec<u32>, NoMemory>
         requires { Stands self.now }
         ensures { OverReach (table_of self.now) (empty_in self.now) (λ reach.

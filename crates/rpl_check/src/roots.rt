@@ -1,7 +1,7 @@
-// Rules of rings: those that their component's root reaches, and that reach it.
+// Rules on cycles: those that the root of their component reaches and that reach it.
 //
-// Each rule of a component is looked at once in an order down from the root, and once in an order
-// up to it. What is marked holds for every order and for any roots.
+// Each rule of a component is visited once in an order down from the root, and once in an order up
+// to it. The marks are correct for every order and for any roots.
 ghost use Rattle.std.specs.Prelude.{◌≡◌, ◌-◌, ◌<◌, ◌≤◌, ◌⊎◌, ℕ, false, slice_index_or, true};
 ghost use Rattle.rpl_check.specs.inside.Rings.{AreAbove, AreBelow};
 ghost use Rattle.rpl_check.specs.inside.Search.{AreLeft};
@@ -13,7 +13,7 @@ use crate::ranks::Components;
 use crate::recursion::Block;
 use std::alloc::Global;
 
-/// The rule at this place is the root of its component.
+/// Returns whether the rule at this place is the root of its component.
 fn is_root(roots: &[u32], place: u32) -> bool
     ensures { result ≡ true → slice_index_or roots.now place 0 ≡ place }
 {
@@ -26,7 +26,8 @@ fn is_root(roots: &[u32], place: u32) -> bool
 impl Block<'_> {
     ghost use Rattle.rpl_check.specs.inside.Within.{IsLong, Stands, empty_in, table_of};
 
-    /// The rule is one of the block, and the root of its component stands at this place.
+    /// Returns whether the rule is in the block and the root of its component is at the place
+    /// `root`.
     fn has_root(&self, roots: &[u32], rule: u32, root: u32) -> bool
         ensures { result ≡ true → (self.now.start ≤ rule) × (rule < self.now.end)
             × (slice_index_or roots.now (rule - self.now.start) 0 ≡ root) }
@@ -40,7 +41,7 @@ impl Block<'_> {
         }
     }
 
-    /// The rule is one of the block with this root, and is the root or marked.
+    /// Returns whether the rule is in the block, has this root, and is the root or marked.
     fn is_above(&self, roots: &[u32], rule: u32, root: u32, above: &[bool]) -> bool
         ensures { result ≡ true → (self.now.start ≤ rule)
             × (slice_index_or roots.now (rule - self.now.start) 0 ≡ root)
@@ -54,8 +55,8 @@ impl Block<'_> {
         place == root || is_marked(above, place)
     }
 
-    /// If the rule at this place is a root or marked, marks the rules of its component that it
-    /// calls.
+    /// Marks the rules of the component that the rule at this place calls, if that rule is a root
+    /// or marked.
     fn mark_below(
         &self,
         alloc: Global,
@@ -86,7 +87,7 @@ impl Block<'_> {
         Ok(())
     }
 
-    /// Marks the rule at this place, if it calls its root or a marked rule of its component.
+    /// Marks the rule at this place if it calls its root or a marked rule of its component.
     fn mark_above(
         &self,
         alloc: Global,
@@ -118,7 +119,7 @@ impl Block<'_> {
         Ok(())
     }
 
-    /// Marks the rules that their roots reach, in the order of these places.
+    /// Marks the rules that their roots reach, visiting these places in order.
     fn mark_all_below(
         &self,
         alloc: Global,
@@ -139,7 +140,7 @@ impl Block<'_> {
         Ok(())
     }
 
-    /// Marks the rules that reach their roots, in the order of these places.
+    /// Marks the rules that reach their roots, visiting these places in order.
     fn mark_all_above(
         &self,
         alloc: Global,
@@ -160,7 +161,7 @@ impl Block<'_> {
         Ok(())
     }
 
-    /// Marks the rules that their root reaches, and that reach it or are it.
+    /// Marks the rules that their root reaches and that reach it or are it.
     fn mark_both(&self, roots: &[u32], below: &[bool], above: &[bool], left: &mut [bool])
         requires block { Stands self.now }
         requires below_long { IsLong self.now below.now }
@@ -182,7 +183,7 @@ impl Block<'_> {
         }
     }
 
-    /// Marks the rules of rings, without a search.
+    /// Marks the rules on cycles, without a search.
     pub(crate) fn mark_rings(
         &self,
         alloc: Global,

@@ -1,4 +1,4 @@
-// A fact of all rules, found block by block.
+// A fact of all rules, determined block by block.
 ghost use Rattle.std.specs.Prelude.{◌≡◌, ℕ, ◌<◌, false, true, length, slice_get, IfOk, OnOk};
 ghost use Rattle.rpl_core.specs.Listed.{blocks_in, bodies_in, rules_of};
 ghost use Rattle.rpl_check.specs.Facts.{IsLeast, Solves, passes};
@@ -14,7 +14,7 @@ use crate::group::{Group, group_end};
 use rpl_core::Rules;
 use std::alloc::Global;
 
-/// The rule isn't marked, and passes.
+/// Returns whether the rule isn't marked but has the fact.
 fn is_new(rules: &Rules, number: u32, fact: Fact, marks: &[bool]) -> bool
     requires { number < length marks.now }
     ensures new { result ≡ true → (marked marks.now number ≡ false)
@@ -31,7 +31,8 @@ fn is_new(rules: &Rules, number: u32, fact: Fact, marks: &[bool]) -> bool
     }
 }
 
-/// One round over the rules of a block, the last first, and whether it marked a rule.
+/// Makes one round over the rules of a block, from the last to the first. Returns whether it marked
+/// a rule.
 fn round(group: &Group, fact: Fact, marks: &mut [bool]) -> bool
     requires within { IsWithin group.now }
     requires some { AreSome fact group.now marks.old }
@@ -70,7 +71,7 @@ fn mark_if_new(group: &Group, place: u32, fact: Fact, marks: &mut [bool])
     }
 }
 
-/// Marks rules of a block that have the fact: those of the list in turn.
+/// Marks the rules of the list that have the fact, in its order.
 fn mark_in_turn(group: &Group, order: &[u32], fact: Fact, marks: &mut [bool])
     requires within { IsWithin group.now }
     requires some { AreSome fact group.now marks.old }
@@ -81,8 +82,8 @@ fn mark_in_turn(group: &Group, order: &[u32], fact: Fact, marks: &mut [bool])
     }
 }
 
-/// Marks rules of a block that have the fact, each after those by which it has it. A rule alone
-/// needs no order.
+/// Marks rules of a block that have the fact, each after the rules that give it the fact. A single
+/// rule needs no order.
 fn mark_most(alloc: Global, group: &Group, fact: Fact, marks: &mut [bool]) -> Result<(), NoMemory>
     requires within { IsWithin group.now }
     requires some { AreSome fact group.now marks.old }
@@ -95,8 +96,8 @@ fn mark_most(alloc: Global, group: &Group, fact: Fact, marks: &mut [bool]) -> Re
     Ok(())
 }
 
-/// Marks the rules of a block that have the fact: in turn, and then by rounds until one marks
-/// nothing, as the first does.
+/// Marks the rules of a block that have the fact: first in order, then in rounds until a round
+/// marks nothing, which the first one usually does.
 fn close(alloc: Global, group: &Group, fact: Fact, marks: &mut [bool]) -> Result<(), NoMemory>
     requires within { IsWithin group.now }
     requires earlier { CallsBefore (bodies_in group.now.rules.now) group.now.start }
@@ -128,7 +129,7 @@ fn close_all(alloc: Global, rules: &Rules, fact: Fact, marks: &mut [bool]) -> Re
     Ok(())
 }
 
-/// The marks of all rules that have the fact.
+/// Returns the marks of all rules that have the fact.
 pub(crate) fn work_out(alloc: Global, rules: &Rules, fact: Fact) -> Result<Vec<bool>, NoMemory>
     requires { IsInOrder (bodies_in rules.now) (blocks_in rules.now) }
     ensures { IfOk result (λ marks. IsLeast (Solves (test_of fact) (bodies_in rules.now))

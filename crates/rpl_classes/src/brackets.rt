@@ -19,19 +19,20 @@ use crate::symbols::{accept, skip_blanks, skip_word};
 use rpl_text::Text;
 use std::alloc::Global;
 
-/// A class between a bracket's `[` and the place after its `]`.
+/// The text of a class, between a bracket's `[` and the place after its `]`.
 #[derive(Clone, Copy)]
 struct ClassText {
-    /// A `^` stands before the name.
+    /// Whether a `^` precedes the name.
     negated: bool,
-    /// Where the name begins and ends.
+    /// The byte offset of the name's start.
     start: usize,
     end: usize,
     /// The place after the `]`.
     next: usize,
 }
 
-/// The name of a class at a place, where `:` and `]` follow it: its end, and the place after.
+/// Parses the name of a class that `:` and `]` follow. Returns the end of the name and the place
+/// after the `]`.
 fn name_at(text: &str, start: usize) -> Option<(usize, usize)>
     requires { IsPlace (chars text.now) start }
     ensures { let t = chars text.now in
@@ -47,7 +48,7 @@ fn name_at(text: &str, start: usize) -> Option<(usize, usize)>
     Some((end, next))
 }
 
-/// The class at a place after a bracket's `[`.
+/// Parses the class at a place directly after a bracket's `[`.
 fn class_at(text: &str, place: usize) -> Option<ClassText>
     requires { IsPlace (chars text.now) place }
     ensures { let t = chars text.now in
@@ -66,7 +67,7 @@ fn class_at(text: &str, place: usize) -> Option<ClassText>
     })
 }
 
-/// The text between two places.
+/// Returns the text between two places.
 fn part(text: &str, from: usize, to: usize) -> &str
     requires from { IsPlace (chars text.now) from }
     requires to { IsPlace (chars text.now) to }
@@ -77,7 +78,7 @@ fn part(text: &str, from: usize, to: usize) -> &str
     Text::new(text).slice(from, to)
 }
 
-/// The set of a class, whose name stands after the place `inside`, in the bracket at `at`.
+/// Returns the set of a class. Its name begins after the place `inside`, in the bracket at `at`.
 fn class_set(
     alloc: Global,
     text: &str,
@@ -102,7 +103,7 @@ fn class_set(
     }
 }
 
-/// The set, or its complement where a `^` says so.
+/// Returns the set, or its complement if `negated`.
 pub(crate) fn signed_set(alloc: Global, negated: bool, set: Set) -> Result<Set, NoMemory>
     ensures { IfOk result (λ s. s ≡ (if negated then others set else set)) }
 {
@@ -113,15 +114,15 @@ pub(crate) fn signed_set(alloc: Global, negated: bool, set: Set) -> Result<Set, 
     }
 }
 
-/// What stands at a bracket's place.
+/// The start of a bracket.
 pub(crate) enum Begun {
-    /// The whole bracket: its set, and the place after its `]`.
+    /// A whole bracket: its set, and the place after its `]`.
     Whole(Set, usize),
-    /// A compound: whether a `^` stands before it, and the place of its first member.
+    /// A compound: whether a `^` precedes it, and the place of its first member.
     Compound(bool, usize),
 }
 
-/// What stands after a bracket's `[` and `^`: a list, or a compound up to its first member.
+/// Parses what follows a bracket's `[` and `^`: a list, or a compound up to its first member.
 fn content_at(alloc: Global, text: &str, negated: bool, place: usize) -> Result<Begun, SetFault>
     requires { IsPlace (chars text.now) place }
     ensures value { let t = chars text.now in Begins t place
@@ -136,7 +137,7 @@ fn content_at(alloc: Global, text: &str, negated: bool, place: usize) -> Result<
     Ok(Begun::Whole(signed_set(alloc, negated, set)?, next))
 }
 
-/// The bracket at a place, up to its first member where it is a compound.
+/// Parses the bracket at a place; if it is a compound, only up to its first member.
 pub(crate) fn begin_at(alloc: Global, text: &str, place: usize) -> Result<Begun, SetFault>
     requires { IsPlace (chars text.now) place }
     ensures { let t = chars text.now in Begins t (place + 1) (reading (symbols_from t place))
@@ -155,7 +156,7 @@ pub(crate) fn begin_at(alloc: Global, text: &str, place: usize) -> Result<Begun,
     content_at(alloc, text, true, behind)
 }
 
-/// The set of what stands after the outermost `[` and `^`.
+/// Parses what follows the outermost `[` and `^`, and returns its set.
 fn content_set(alloc: Global, text: &str, place: usize) -> Result<Set, SetFault>
     requires { IsPlace (chars text.now) place }
     ensures { let t = chars text.now in GivesSet t (content (symbols_from t place)) result }
@@ -166,23 +167,24 @@ fn content_set(alloc: Global, text: &str, place: usize) -> Result<Set, SetFault>
     }
 }
 
-/// A bracket's set.
+/// The result of reading a bracket.
 #[derive(Debug, Drop)]
 pub struct Bracket {
-    /// The characters that are listed.
+    /// The characters listed in the bracket.
     pub set: Set,
-    /// A `^` stands after the outermost `[`: the characters that are not in the set are meant.
+    /// Whether a `^` follows the outermost `[`. If so, the bracket means the characters that are
+    /// not in `set`.
     pub negated: bool,
 }
 
-/// The set of a text that is one bracket, from its `[` to the matching `]`.
+/// Parses a text that is one bracket, from its `[` to the matching `]`.
 ///
-/// A bracket is a class `[:name:]` or `[:^name:]`; or a compound, whose first character but blanks
-/// is `[`, of brackets side by side and of the operators `&&` and `--`, from left to right; or else
-/// a list of characters and escapes, of which `x-y` alone is a range. The first fault by place is
-/// answered. A text that is no bracket is BadSet where it goes wrong, at its end at the latest;
-/// what stands after the matching `]` isn't looked at. Brackets may stand in one another to any
-/// depth: no call nests with them.
+/// A bracket is one of three things: a class `[:name:]` or `[:^name:]`; a compound, whose first
+/// character after any blanks is `[`; or a list of characters and escapes. A compound consists of
+/// brackets side by side and of the operators `&&` and `--`, which apply from left to right. A list
+/// is a range only if it is `x-y` and nothing else. The first fault by place is returned. A text
+/// that is not a bracket is `BadSet` where it goes wrong, at its end at the latest; nothing after
+/// the matching `]` is read. Brackets may be nested to any depth without nesting any call.
 pub fn read_bracket(alloc: Global, text: &str) -> Result<Bracket, SetFault>
     ensures { IsRead (bracket_of (chars text.now)) result }
 {

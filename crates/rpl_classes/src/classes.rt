@@ -22,7 +22,7 @@ pub(crate) enum NamedClass {
 }
 
 impl NamedClass {
-    /// The class with this name.
+    /// Returns the class with this name.
     pub(crate) fn from_name(name: &str) -> Option<NamedClass>
         ensures { MatchOption result ((k : NamedClass) →
             name_of k ≢ name.now) (λ k. name_of k ≡ name.now) }
@@ -44,7 +44,7 @@ impl NamedClass {
         }
     }
 
-    /// The ranges of the class.
+    /// Returns the ranges of the class.
     pub(crate) fn ranges(self) -> &'static [(u32, u32)]
         ensures { HasJust result.now (in_class self) }
     {

@@ -1,6 +1,6 @@
-// Compounds: brackets side by side and joined by operators. Those that are open are kept in a
-// stack, so that brackets may stand in one another to any depth. Ranges are collected as they come,
-// those to keep and those to take away: a set is made of them once, where the compound ends.
+// Compounds: brackets side by side or joined by operators. Open compounds are kept on a stack, so
+// brackets may be nested to any depth. The ranges to keep and the ranges to remove are collected as
+// they are read, and become a set once, at the end of the compound.
 ghost use Rattle.std.specs.Prelude.{◌≡◌, ◌≤◌, ◌++◌, [], chars, IfOk};
 ghost use Rattle.rpl_text.specs.Places.{IsPlace};
 ghost use Rattle.rpl_classes.specs.Norm.{norm};
@@ -19,14 +19,14 @@ use crate::symbols::{accept, skip_blanks};
 use regex_class::ClassRange;
 use std::alloc::Global;
 
-/// What joins two unions of brackets.
+/// An operator between two unions of brackets.
 #[derive(Clone, Copy)]
 pub(crate) enum Operator {
     Both,
     Without,
 }
 
-/// The place after a character that stands twice.
+/// Returns the place after a character that occurs twice in a row at `place`.
 fn accept_twice(text: &str, place: usize, c: char) -> Option<usize>
     requires { IsPlace (chars text.now) place }
     ensures { AcceptsTwice (chars text.now) place c result }
@@ -35,7 +35,7 @@ fn accept_twice(text: &str, place: usize, c: char) -> Option<usize>
     accept(text, next, c)
 }
 
-/// The operator at a place, and the place after it.
+/// Returns the operator at a place, and the place after it.
 fn operator_at(text: &str, place: usize) -> Option<(Operator, usize)>
     requires { IsPlace (chars text.now) place }
     ensures { OperatorAt (chars text.now) place result }
@@ -47,7 +47,7 @@ fn operator_at(text: &str, place: usize) -> Option<(Operator, usize)>
     Some((Operator::Without, next))
 }
 
-/// The ranges that were joined so far, less those that were taken away again.
+/// The left operand so far: the ranges kept, and the ranges to remove from them.
 #[derive(Drop)]
 pub(crate) struct Left {
     kept: Vec<ClassRange>,
@@ -55,7 +55,7 @@ pub(crate) struct Left {
 }
 
 impl Left {
-    /// Takes more ranges away.
+    /// Removes more ranges.
     fn less(self, ranges: &[ClassRange]) -> Result<Left, NoMemory>
         ensures kept { IfOk result (λ l. l.kept.items ≡ self.kept.items) }
         ensures taken { IfOk result (λ l. l.taken.items ≡ self.taken.items ++ ranges.now) }
@@ -65,7 +65,7 @@ impl Left {
         Ok(Left { kept, taken })
     }
 
-    /// What is left, as a set.
+    /// Returns the remaining characters as a set.
     fn set(self, alloc: Global) -> Result<Set, NoMemory>
         ensures { IfOk result (λ s. s ≡ left_set self) }
     {
@@ -78,14 +78,14 @@ impl Left {
     }
 }
 
-/// What stands before a union of a compound: the last operator, and what stands on its left.
+/// The part of a compound before a union: its left operand and the last operator.
 #[derive(Drop)]
 pub(crate) struct Before {
     operator: Operator,
     left: Left,
 }
 
-/// A union joined with what stands before it. To keep what is in both is to take the others away.
+/// Joins a union with the part before it. Keeping the characters in both means removing the others.
 fn joined(alloc: Global, before: Option<Before>, union: Vec<ClassRange>) -> Result<Left, NoMemory>
     ensures { IfOk result (λ l. left_set l ≡ joined_by before (norm union.items)) }
 {
@@ -104,13 +104,13 @@ fn joined(alloc: Global, before: Option<Before>, union: Vec<ClassRange>) -> Resu
     }
 }
 
-/// A compound whose `]` is still to come.
+/// A compound whose `]` has not been read yet.
 #[derive(Drop)]
 pub(crate) struct Open {
-    /// A `^` stands before it.
+    /// Whether a `^` precedes it.
     negated: bool,
     before: Option<Before>,
-    /// The ranges of the brackets side by side that were read last.
+    /// The ranges of the current union: the adjacent brackets read last.
     union: Vec<ClassRange>,
 }
 
@@ -127,7 +127,7 @@ impl Open {
         }
     }
 
-    /// One more bracket.
+    /// Adds a bracket to the union.
     fn add(self, set: &Set) -> Result<Open, NoMemory>
         ensures negated { IfOk result (λ o. o.negated ≡ self.negated) }
         ensures before { IfOk result (λ o. o.before ≡ self.before) }
@@ -147,15 +147,15 @@ impl Open {
     }
 }
 
-/// What follows a member of a compound.
+/// The step after a member of a compound.
 pub(crate) enum Step {
-    /// Another member, at the place.
+    /// Another member, which starts at this place.
     Member(Open, usize),
-    /// The compound's end: its set, and the place after its `]`.
+    /// The end of the compound: its set, and the place after its `]`.
     Closed(Set, usize),
 }
 
-/// What follows a member of a compound, whose set it is and whose end is the place.
+/// Returns the step after a member, given the member's set and the place where it ends.
 fn step_from(
     alloc: Global,
     text: &str,
@@ -199,16 +199,16 @@ fn step_from(
     Ok(Step::Member(further, skip_blanks(text, next)))
 }
 
-/// What follows a bracket.
+/// The step after a bracket.
 pub(crate) enum Next {
-    /// Another bracket, at the place.
+    /// Another bracket, which starts at this place.
     Bracket(usize),
-    /// The end of all: the whole set.
+    /// The end of the outermost compound, with its set.
     End(Set),
 }
 
-/// What follows a bracket whose set and end these are, in the last of the open compounds. Those
-/// that end here are closed.
+/// Returns the step after a bracket in the last of the open compounds, given the bracket's set and
+/// end. Compounds that end here are closed.
 fn go_on(
     alloc: Global,
     text: &str,
@@ -238,7 +238,7 @@ fn go_on(
     Ok(Next::End(set))
 }
 
-/// The set of a compound whose first member is at a place.
+/// Returns the set of a compound whose first member starts at a place.
 pub(crate) fn compound_set(alloc: Global, text: &str, place: usize) -> Result<Set, SetFault>
     requires { IsPlace (chars text.now) place }
     ensures { let t = chars text.now in GivesSet t (opened t place) result }

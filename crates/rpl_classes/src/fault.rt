@@ -1,4 +1,4 @@
-// Why a text has no set.
+// The reasons why a text has no set.
 ghost use Rattle.std.specs.Prelude.{◌≡◌};
 ghost use Rattle.rpl_classes.specs.declared.fault.SetFault.TheVariants.{NoMemory as OutOfMemory};
 
@@ -6,28 +6,29 @@ use crate::NoMemory;
 use std::alloc::AllocFailed;
 use thiserror::Error;
 
-/// Why a bracket or a name has no set. `at` is a byte place of the text, 0 for a name.
+/// The reason why a bracket or a name has no set. `at` is a byte offset in the text, and 0 for a
+/// name.
 #[derive(Clone, Copy, Debug, PartialEq, Eq, Error)]
 pub enum SetFault {
     /// Memory ran out.
     #[error("out of memory")]
     NoMemory,
-    /// A class's name is none of the table's; `at` is the bracket's `[`.
+    /// No class has this name; `at` is the offset of the bracket's `[`.
     #[error("unknown class")]
     UnknownClass {
-        /// Where the bracket begins.
+        /// The offset where the bracket begins.
         at: usize,
     },
-    /// A `-` stands between characters that it makes no range of.
+    /// A `-` between characters that doesn't form a range with them.
     #[error("bad range")]
     BadRange {
-        /// Where the `-` stands.
+        /// The offset of the `-`.
         at: usize,
     },
-    /// A character stands where none may, or the bracket ends where one is missing.
+    /// An unexpected character, or an early end of the bracket where a character is missing.
     #[error("bad set")]
     BadSet {
-        /// Where that character stands.
+        /// The offset of that character or end.
         at: usize,
     },
 }

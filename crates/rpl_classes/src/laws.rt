@@ -1,13 +1,13 @@
-// What holds of all sets and of all brackets.
+// Laws that hold for all sets and all brackets.
 ghost use Rattle.rpl_classes.specs.Laws.{OneList, ReadsInItsOwnWords};
 
-/// Sets with the same members are the same list, and that list is sorted and joined, and holds only
-/// characters.
+/// Sets with the same members are the same list. The list is sorted, its ranges don't touch, and it
+/// contains only characters.
 pub fn one_list()
     ensures { OneList }
 {}
 
-/// How a bracket is read, said of brackets of any depth and length.
+/// States how brackets of any depth and length are read.
 pub fn reads_in_its_own_words()
     ensures { ReadsInItsOwnWords }
 {}

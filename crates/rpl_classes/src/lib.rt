@@ -1,11 +1,11 @@
 //! Sets of characters, and the brackets that spell them.
 //!
-//! For the parser, which reads brackets, and for all that carry sets down to the machine, which
-//! asks `Set::has` once a character. A set is seen as its list of ranges, which rise, don't touch
-//! and hold no surrogates, so sets with the same members are the same list. Each call promises
-//! exactly its members, `Set::named` those of a class of the POSIX C locale or of a name of
-//! Unicode, and `read_bracket` the set or the first fault with its place; besides, only memory can
-//! run out.
+//! The parser reads brackets with this crate, and every later stage carries its sets down to the
+//! machine, which calls `Set::has` once per character. Contracts see a set as its list of ranges,
+//! which are sorted, don't touch and contain no surrogates, so sets with the same members are the
+//! same list. Each call promises exactly the members of its result: `Set::named` those of a class
+//! of the POSIX C locale or of a name of Unicode, and `read_bracket` the set, or the first fault
+//! with its place. The only other failure is out of memory.
 #![tactic(auto)]
 
 mod bits;

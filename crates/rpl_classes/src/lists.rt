@@ -11,7 +11,7 @@ use crate::set::Set;
 use crate::symbols::{Symbol, accept, symbol_at};
 use std::alloc::Global;
 
-/// The character of a list at a place, and the place after it.
+/// Returns the character of a list at a place, and the place after it.
 fn member_at(text: &str, place: usize) -> Option<(char, usize)>
     requires { IsPlace (chars text.now) place }
     ensures { TakesMember (chars text.now) place result }
@@ -28,7 +28,7 @@ fn member_at(text: &str, place: usize) -> Option<(char, usize)>
     }
 }
 
-/// A list of three, `x-y`.
+/// A list of exactly three symbols, `x-y`.
 #[derive(Clone, Copy)]
 struct DashRange {
     low: char,
@@ -39,7 +39,7 @@ struct DashRange {
     next: usize,
 }
 
-/// The list of three at a place, with its `]`.
+/// Parses a list `x-y`, with its `]`, at a place.
 fn range_at(text: &str, place: usize) -> Option<DashRange>
     requires { IsPlace (chars text.now) place }
     ensures { let t = chars text.now in
@@ -58,7 +58,7 @@ fn range_at(text: &str, place: usize) -> Option<DashRange>
     })
 }
 
-/// Whether a `-` stands at a place by no escape, neither first nor last in its list.
+/// Returns whether an unescaped `-` is at a place, neither first nor last in its list.
 fn is_inner_dash(text: &str, place: usize, is_first: bool) -> bool
     requires { IsPlace (chars text.now) place }
     ensures { let s = symbols_from (chars text.now) place in
@@ -70,7 +70,8 @@ fn is_inner_dash(text: &str, place: usize, is_first: bool) -> bool
     }
 }
 
-/// One more character of any other list, or none at its `]`, and the place after it.
+/// Returns the next character of a list that is not `x-y`, or none at its `]`, and the place after
+/// it.
 fn list_step(text: &str, at: usize, is_first: bool) -> Result<(Option<char>, usize), SetFault>
     requires { IsPlace (chars text.now) at }
     ensures { StepsList (chars text.now) at is_first result }
@@ -91,7 +92,7 @@ fn list_step(text: &str, at: usize, is_first: bool) -> Result<(Option<char>, usi
     Ok((Some(c), next))
 }
 
-/// Any other list at a place, with its `]`: its characters one by one.
+/// Parses a list that is not `x-y`, with its `]`, character by character.
 fn each_at(alloc: Global, text: &str, place: usize) -> Result<(Set, usize), SetFault>
     requires { IsPlace (chars text.now) place }
     ensures value { Gives (chars text.now) result
@@ -110,7 +111,7 @@ fn each_at(alloc: Global, text: &str, place: usize) -> Result<(Set, usize), SetF
     }
 }
 
-/// The set of a list at a place, with its `]`, and the place after it.
+/// Parses a list with its `]` at a place. Returns its set and the place after it.
 pub(crate) fn list_at(alloc: Global, text: &str, place: usize) -> Result<(Set, usize), SetFault>
     requires { IsPlace (chars text.now) place }
     ensures value { Gives (chars text.now) result (list (symbols_from (chars text.now) place)) }

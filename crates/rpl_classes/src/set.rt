@@ -1,5 +1,4 @@
-// A set of characters: its ranges, which its copies share, and two masks for the test of an ASCII
-// character.
+// A set of characters: its ranges, which copies share, and two masks to test ASCII characters.
 ghost use Rattle.std.specs.Prelude.{◌≡◌, ℕ, ◌<◌, ◌≤◌, ◌||◌, ◌&&◌, ◌↔◌, [], ◌∷◌, ◌++◌, not, nat_eq};
 ghost use Rattle.std.specs.Prelude.{nat_le, IfOk};
 ghost use Rattle.std.specs.Prelude.{IfSome, OnOk, IsTrue, chars, true, false};
@@ -28,20 +27,20 @@ use std::rc::Rc;
 /// The ranges of a set.
 #[derive(Debug, Drop)]
 enum Ranges {
-    /// A single one, which takes no memory of its own: the set of each character of a text.
+    /// A single range, which allocates no memory: the set of each character of a text.
     One([ClassRange; 1]),
-    /// What the set and its copies share.
+    /// The ranges that the set and its copies share.
     Shared(Rc<Class>),
 }
 
 /// A set of characters.
 ///
-/// Contracts see it as its list of ranges, in numbers of characters with both ends. The ranges of a
-/// set and of its copies stand in memory once, where they are several.
+/// Contracts see it as its list of ranges, in character numbers, with both ends included. If there
+/// are several ranges, a set and its copies share one list in memory.
 #[derive(Debug, Drop)]
 pub struct Set {
     ranges: Ranges,
-    /// The members from 0 to 63, and those from 64 to 127, as bits.
+    /// The members from 0 to 63 and from 64 to 127, as bits.
     masks: [u64; 2],
 }
 
@@ -59,7 +58,7 @@ impl Model for Set {
         × ((j : ℕ) → j < 2 → IsBitmap (64 * j) (held a.ranges) (get_or a.masks j 0)) };
 }
 
-/// The set of a class that is normal, with its masks.
+/// Returns the set of a class in normal form, with its masks.
 fn sealed(alloc: Global, class: Class) -> Result<Set, NoMemory>
     requires { IsNormal class.ranges.items }
     ensures { IfOk result (λ s. s ≡ class.ranges.items) }
@@ -74,7 +73,7 @@ fn sealed(alloc: Global, class: Class) -> Result<Set, NoMemory>
     }
 }
 
-/// The set of a range that is normal.
+/// Returns the set of a range in normal form.
 fn single(low: u32, high: u32) -> Set
     requires { IsNormal ((low, high) ∷ []) }
     ensures same { result ≡ (low, high) ∷ [] }
@@ -87,7 +86,7 @@ fn single(low: u32, high: u32) -> Set
     }
 }
 
-/// The set with a list of ranges that is normal.
+/// Returns the set of a list of ranges in normal form.
 fn listed(alloc: Global, list: RangeList) -> Result<Set, NoMemory>
     requires { IsNormal list }
     ensures { IfOk result (λ s. s ≡ list) }
@@ -96,7 +95,7 @@ fn listed(alloc: Global, list: RangeList) -> Result<Set, NoMemory>
     sealed(alloc, Class { ranges })
 }
 
-/// What a name stands for in Unicode.
+/// Returns the set that Unicode gives to a name.
 fn unicode_set(alloc: Global, name: &str) -> Result<Set, SetFault>
     ensures { IsNamed (option_map set_of (members (chars name.now))) result }
 {
@@ -110,7 +109,7 @@ fn unicode_set(alloc: Global, name: &str) -> Result<Set, SetFault>
     }
 }
 
-/// Adds one number, where the test says so.
+/// Adds a number if `test` holds.
 fn push_where(ranges: &mut Vec<ClassRange>, number: u32, test: bool) -> Result<(), NoMemory>
     ensures { OnOk result ((c : ℕ) →
         in_ranges ranges.new.items c
@@ -122,7 +121,7 @@ fn push_where(ranges: &mut Vec<ClassRange>, number: u32, test: bool) -> Result<(
     Ok(())
 }
 
-/// The ranges of a class, and the other case of each ASCII letter in it.
+/// Returns the ranges of a class, and the other case of each ASCII letter in it.
 fn with_cases(alloc: Global, class: &Class) -> Result<Vec<ClassRange>, NoMemory>
     ensures { let own = class.now.ranges.items in
         IfOk result (λ v. (c : ℕ) →
@@ -138,7 +137,7 @@ fn with_cases(alloc: Global, class: &Class) -> Result<Vec<ClassRange>, NoMemory>
 }
 
 impl Set {
-    /// The ranges.
+    /// Returns the ranges.
     #[inline(always)]
     fn as_slice(&self) -> &[ClassRange]
         ensures same { result.now ≡ self.now }
@@ -150,7 +149,7 @@ impl Set {
         }
     }
 
-    /// The set as a class of its own.
+    /// Returns the set as a class of its own.
     fn class(&self, alloc: Global) -> Result<Class, NoMemory>
         ensures same { IfOk result (λ k. k.ranges.items ≡ self.now) }
         ensures normal { IfOk result (λ k. IsNormal k.ranges.items) }
@@ -159,22 +158,22 @@ impl Set {
         Ok(Class { ranges })
     }
 
-    /// The set with no member.
+    /// Returns the empty set.
     pub fn empty(alloc: Global) -> Result<Set, NoMemory>
         ensures { IfOk result (λ s. s ≡ []) }
     {
         sealed(alloc, Class::empty(alloc))
     }
 
-    /// The set of all characters.
+    /// Returns the set of all characters.
     pub fn all(alloc: Global) -> Result<Set, NoMemory>
         ensures { IfOk result (λ s. s ≡ (0, 0xd7ff) ∷ (0xe000, 0x10_ffff) ∷ []) }
     {
         Set::from_ranges(alloc, &[(0, 0x10_ffff)])
     }
 
-    /// The characters of the ranges, which come in any order and may overlap. A range whose start
-    /// is above its end is empty.
+    /// Returns the set of the characters in the ranges, which may come in any order and overlap. A
+    /// range whose start is above its end is empty.
     pub fn from_ranges(alloc: Global, ranges: &[(u32, u32)]) -> Result<Set, NoMemory>
         ensures ranges { IfOk result (λ s. s ≡ norm ranges.now) }
         ensures normal { IfOk result IsNormal }
@@ -183,7 +182,7 @@ impl Set {
         listed(alloc, characters(alloc, ranges)?)
     }
 
-    /// The characters from `low` to `high`, both included.
+    /// Returns the set of the characters from `low` to `high`, both included.
     pub fn range(alloc: Global, low: char, high: char) -> Result<Set, NoMemory>
         requires { low ≤ high }
         ensures ranges { IfOk result (λ s. s ≡ norm ((low, high) ∷ [])) }
@@ -197,10 +196,10 @@ impl Set {
         Set::from_ranges(alloc, &[(low, high)])
     }
 
-    /// The characters that a name stands for: a class of the POSIX C locale by its own name,
-    /// spelled exactly so, or else a binary property, a general category or a script of Unicode by
-    /// its long or short name, in any case and with any `_`. UnknownClass, with the place 0,
-    /// exactly where the name stands for neither.
+    /// Returns the set with this name. The name is first looked up, spelled exactly, among the
+    /// classes of the POSIX C locale, then among the binary properties, general categories and
+    /// scripts of Unicode, by long or short name, in any case and with any `_`. Returns
+    /// `UnknownClass` with `at` 0 exactly when neither has the name.
     pub fn named(alloc: Global, name: &str) -> Result<Set, SetFault>
         ensures value { IsNamed (set_named (chars name.now)) result }
         ensures normal { IfOk result IsNormal }
@@ -212,7 +211,7 @@ impl Set {
         }
     }
 
-    /// The characters that are in at least one of the two.
+    /// Returns the characters that are in at least one of the two sets.
     pub fn union(&self, alloc: Global, other: &Set) -> Result<Set, NoMemory>
         ensures ranges { IfOk result (λ s. s ≡ norm (self.now ++ other.now)) }
         ensures normal { IfOk result IsNormal }
@@ -224,7 +223,7 @@ impl Set {
         sealed(alloc, Class::new(ranges)?)
     }
 
-    /// The characters that are not in the set.
+    /// Returns the characters that are not in the set.
     pub fn complement(&self, alloc: Global) -> Result<Set, NoMemory>
         ensures ranges { IfOk result (λ s. s ≡ others self.now) }
         ensures normal { IfOk result IsNormal }
@@ -234,7 +233,7 @@ impl Set {
         all.without(alloc, self)
     }
 
-    /// The characters that are in this set and not in the other.
+    /// Returns the characters that are in this set and not in the other.
     pub fn without(&self, alloc: Global, other: &Set) -> Result<Set, NoMemory>
         ensures ranges { IfOk result (λ s. s ≡ without self.now other.now) }
         ensures normal { IfOk result IsNormal }
@@ -246,7 +245,7 @@ impl Set {
         sealed(alloc, own.difference(&others)?)
     }
 
-    /// The characters that are in both.
+    /// Returns the characters that are in both sets.
     pub fn both(&self, alloc: Global, other: &Set) -> Result<Set, NoMemory>
         ensures ranges { IfOk result (λ s. s ≡ both self.now other.now) }
         ensures normal { IfOk result IsNormal }
@@ -258,7 +257,7 @@ impl Set {
         sealed(alloc, own.intersection(&others)?)
     }
 
-    /// The set with the other case of each ASCII letter in it.
+    /// Returns the set extended by the other case of each ASCII letter in it.
     pub fn widen_ci(&self, alloc: Global) -> Result<Set, NoMemory>
         ensures ranges { IfOk result (λ s. s ≡ widened self.now) }
         ensures normal { IfOk result IsNormal }
@@ -270,8 +269,8 @@ impl Set {
         sealed(alloc, Class::new(ranges)?)
     }
 
-    /// The set with all characters that share a simple folding with one in it, in any script. One
-    /// character stands for one: foldings to several characters are left out.
+    /// Returns the set extended by all characters, in any script, that share a simple case folding
+    /// with a member. Foldings from one character to several are left out.
     pub fn fold(&self, alloc: Global) -> Result<Set, NoMemory>
         ensures ranges { IfOk result (λ s. s ≡ folded self.now) }
         ensures normal { IfOk result IsNormal }
@@ -280,8 +279,8 @@ impl Set {
         listed(alloc, folds_of(alloc, self.as_slice())?)
     }
 
-    /// The same set once more. It shares the ranges, so no memory is taken; where they have as
-    /// many owners as can be counted, it has ranges of its own.
+    /// Returns a copy of the set. It shares the ranges and allocates no memory, unless the count of
+    /// their owners is at its maximum; then it gets ranges of its own.
     pub fn copy(&self, alloc: Global) -> Result<Set, NoMemory>
         ensures { IfOk result (λ s. s ≡ self.now) }
     {
@@ -298,14 +297,15 @@ impl Set {
         })
     }
 
-    /// Whether the two have the same members.
+    /// Returns whether the two sets have the same members.
     pub fn same(&self, other: &Set) -> bool
         ensures { IsTrue result ↔ (self.now ≡ other.now) }
     {
         self.as_slice() == other.as_slice()
     }
 
-    /// Whether the character is in the set. For an ASCII character this is one test of a bit.
+    /// Returns whether the character is in the set. For an ASCII character this is a single bit
+    /// test.
     #[inline]
     pub fn has(&self, c: char) -> bool
         ensures { result ≡ in_ranges self.now c }
@@ -318,7 +318,7 @@ impl Set {
         }
     }
 
-    /// The ASCII characters that are in the set, as the bits of two words.
+    /// Returns the ASCII characters in the set, as the bits of two words.
     #[inline(always)]
     pub fn ascii(&self) -> [u64; 2]
         ensures { (c : ℕ) → IsMarked result c ↔ ((c < 128) × (in_ranges self.now c ≡ true)) }
@@ -326,7 +326,8 @@ impl Set {
         self.masks
     }
 
-    /// The ASCII characters that are in this set and not in the other, as the bits of two words.
+    /// Returns the ASCII characters that are in this set and not in the other, as the bits of two
+    /// words.
     pub fn ascii_without(&self, other: &Set) -> [u64; 2]
         ensures { (c : ℕ) → IsMarked result c ↔ ((c < 128) × (in_ranges self.now c ≡ true)
             × (in_ranges other.now c ≡ false)) }
@@ -337,7 +338,7 @@ impl Set {
         ]
     }
 
-    /// The ranges in order, as numbers of characters, each with both its ends.
+    /// Returns the ranges in order, as character numbers with both ends included.
     pub fn ranges(&self) -> &[(u32, u32)]
         ensures same { result.now ≡ self.now }
         ensures normal { IsNormal self.now }

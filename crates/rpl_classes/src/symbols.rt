@@ -1,4 +1,4 @@
-// The symbols of a bracket's text, by byte places.
+// The symbols of a bracket's text, by byte offset.
 ghost use Rattle.std.specs.Prelude.{◌≡◌, chars};
 ghost use Rattle.rpl_text.specs.Places.{index, IsPlace, step_from};
 ghost use Rattle.rpl_classes.specs.Symbols.{symbols_from, is_plain, is_blank, past_blanks};
@@ -7,16 +7,16 @@ ghost use Rattle.rpl_classes.specs.inside.Scanned.{Scanned, Accepts, Skipped, Wo
 
 use rpl_text::{Text, read_escape};
 
-/// A character of a bracket's text, as it stands or by an escape.
+/// A character of a bracket's text, plain or escaped.
 #[derive(Clone, Copy)]
 pub(crate) enum Symbol {
     Plain(char),
     Escaped(char),
-    /// The text ends here, or a backslash begins no escape.
+    /// The text ends here, or a backslash is not followed by an escape.
     End,
 }
 
-/// The character at a place, and the next place.
+/// Returns the character at a place, and the next place.
 fn step_at(text: &str, place: usize) -> Option<(char, usize)>
     requires { IsPlace (chars text.now) place }
     ensures { result ≡ step_from (chars text.now) (index (chars text.now) place) }
@@ -24,7 +24,7 @@ fn step_at(text: &str, place: usize) -> Option<(char, usize)>
     Text::new(text).step(place)
 }
 
-/// The symbol at a place, and the place after it.
+/// Returns the symbol at a place, and the place after it.
 pub(crate) fn symbol_at(text: &str, place: usize) -> (Symbol, usize)
     requires { IsPlace (chars text.now) place }
     ensures { Scanned (chars text.now) place result.0 result.1 }
@@ -43,7 +43,7 @@ pub(crate) fn symbol_at(text: &str, place: usize) -> (Symbol, usize)
     }
 }
 
-/// Whether the symbol is this character as it stands.
+/// Returns whether the symbol is this character, unescaped.
 fn is_plain(symbol: Symbol, c: char) -> bool
     ensures { result ≡ is_plain c symbol }
 {
@@ -53,7 +53,7 @@ fn is_plain(symbol: Symbol, c: char) -> bool
     }
 }
 
-/// The place after a character, where it stands at a place by no escape.
+/// Returns the place after a character if it is at `place`, unescaped.
 pub(crate) fn accept(text: &str, place: usize, c: char) -> Option<usize>
     requires { IsPlace (chars text.now) place }
     ensures { Accepts (chars text.now) place c result }
@@ -72,7 +72,7 @@ fn is_blank(symbol: Symbol) -> bool
     is_plain(symbol, ' ') || is_plain(symbol, '\t')
 }
 
-/// The place after the spaces and tabs from a place on.
+/// Returns the end of the spaces and tabs that start at `place`.
 pub(crate) fn skip_blanks(text: &str, place: usize) -> usize
     requires { IsPlace (chars text.now) place }
     ensures { Skipped (chars text.now) place (past_blanks (symbols_from (chars text.now) place))
@@ -97,7 +97,7 @@ fn is_word(symbol: Symbol) -> bool
     }
 }
 
-/// The place after the letters, digits and `_` from a place on.
+/// Returns the end of the letters, digits and `_` that start at `place`.
 pub(crate) fn skip_word(text: &str, place: usize) -> usize
     requires { IsPlace (chars text.now) place }
     ensures { Worded (chars text.now) place result }

@@ -1,5 +1,5 @@
-// A program's code with numbers of its own, each set and each text once and in the order of their
-// first uses.
+// Copying a program's code with new numbers: each set and each text once, in the order of their
+// first use.
 ghost use Rattle.std.specs.Prelude.{◌≡◌, [], ◌∷◌, ◌<◌, ◌≤◌, OnOk, IfOk, length, slice_index_or};
 ghost use Rattle.std.specs.Prelude.{true};
 ghost use Rattle.rpl_core.specs.Numbers.{in_range, instr_of};
@@ -12,7 +12,7 @@ use rpl_intern::Draft;
 use rpl_text::Chars;
 use std::alloc::Global;
 
-/// The set with this number.
+/// Returns the set with this number.
 fn set_of(program: &Program, number: u32) -> &Set
     requires { number < length (sets_of program.now) }
     ensures { result.now ≡ slice_index_or (sets_of program.now) number [] }
@@ -23,7 +23,7 @@ fn set_of(program: &Program, number: u32) -> &Set
     }
 }
 
-/// A copy of the text with this number.
+/// Returns a copy of the text with this number.
 fn text_of(alloc: Global, program: &Program, number: u32) -> Result<Chars, NoMemory>
     requires { number < length (labels_of program.now) }
     ensures { IfOk result (λ text. text ≡ slice_index_or (labels_of program.now) number []) }

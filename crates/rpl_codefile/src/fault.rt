@@ -1,4 +1,4 @@
-// Why there is no program.
+// The reasons why bytes give no program.
 ghost use Rattle.std.specs.Prelude.{◌≡◌};
 ghost use Rattle.rpl_codefile.specs.declared.fault.CodeFault.TheVariants as F;
 
@@ -6,15 +6,15 @@ use rpl_core::NoMemory;
 use std::alloc::AllocFailed;
 use thiserror::Error;
 
-/// Why bytes give no program.
+/// The reason why bytes give no program.
 #[derive(Clone, Copy, Debug, PartialEq, Eq, Error)]
 pub enum CodeFault {
     #[error("out of memory")]
     NoMemory,
-    /// They are the spelling of no code.
+    /// The bytes spell no code.
     #[error("not a code file")]
     NotCode,
-    /// They are the spelling of a code that isn't safe.
+    /// The bytes spell code that isn't safe.
     #[error("unsafe code")]
     NotSafe,
 }

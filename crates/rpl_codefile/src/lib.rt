@@ -1,10 +1,10 @@
-//! Code files: the spelling of a program's code as bytes, so that a pattern is compiled once and
-//! carried to where no packages are.
+//! Code files: a program's code written (spelled) as bytes, so that a pattern can be compiled once
+//! and used where no packages are installed.
 //!
-//! `write_code` gives a code's one spelling; `read_code` gives back the program, and refuses bytes
-//! that spell nothing, and code that isn't safe, exactly. So a file from a stranger can do nothing
-//! but match. Reading takes memory linear in the file, and time too, but for the order in which
-//! ranges, sets and texts are brought: a logarithm more, whatever the file holds.
+//! `write_code` returns the one spelling of a code. `read_code` returns the program, and refuses
+//! exactly the bytes that spell nothing and the code that isn't safe. So a file from a stranger can
+//! do nothing except match. Reading takes memory linear in the file. Its time is linear too, except
+//! for sorting ranges, sets and texts, which adds a logarithmic factor, whatever the file contains.
 #![tactic(auto)]
 
 mod code_file;

@@ -1,5 +1,5 @@
-// Reading from left to right. What is no spelling may be read too: whoever reads writes what was
-// read once more, and compares.
+// Reading from left to right. Some bytes that are not a spelling are read without a fault, so the
+// caller writes the result again and compares.
 ghost use Rattle.std.specs.Prelude.{◌≡◌};
 ghost use Rattle.std.specs.Int.{w32, w64};
 ghost use Rattle.rpl_codefile.specs.Spelling.{file_of};
@@ -13,7 +13,7 @@ use rpl_core::{Instr, Instrs, Labels, Sets};
 use rpl_text::Chars;
 use std::alloc::Global;
 
-/// A number of four bytes, the highest first, and the bytes after it.
+/// Reads a four-byte big-endian number. Returns it and the bytes after it.
 fn u32_at(bytes: &[u8]) -> Result<(u32, &[u8]), CodeFault>
     ensures { Gives (λ x. (x.0, x.1.now)) result (number_at w32 bytes.now) }
 {
@@ -25,7 +25,7 @@ fn u32_at(bytes: &[u8]) -> Result<(u32, &[u8]), CodeFault>
     Ok((number, rest))
 }
 
-/// A number of eight bytes, the highest first, and the bytes after it.
+/// Reads an eight-byte big-endian number. Returns it and the bytes after it.
 fn u64_at(bytes: &[u8]) -> Result<(u64, &[u8]), CodeFault>
     ensures { Gives (λ x. (x.0, x.1.now)) result (number_at w64 bytes.now) }
 {
@@ -39,7 +39,7 @@ fn u64_at(bytes: &[u8]) -> Result<(u64, &[u8]), CodeFault>
     Ok((number, rest))
 }
 
-/// The instruction of a byte, where it has no operand.
+/// Returns the instruction with this byte, if it has no operand.
 fn bare_of(byte: u8) -> Option<Instr>
     ensures { result ≡ bare byte }
 {
@@ -56,7 +56,7 @@ fn bare_of(byte: u8) -> Option<Instr>
     }
 }
 
-/// The instruction of a byte, where it has one operand.
+/// Returns the instruction with this byte, if it has one operand.
 fn one_of(byte: u8, n: u32) -> Option<Instr>
     ensures { result ≡ with_number byte n }
 {
@@ -76,7 +76,7 @@ fn one_of(byte: u8, n: u32) -> Option<Instr>
     }
 }
 
-/// The rest of an instruction with one operand.
+/// Reads the rest of an instruction with one operand.
 fn read_one(byte: u8, bytes: &[u8]) -> Result<(Instr, &[u8]), CodeFault>
     ensures { Gives (λ x. (x.0, x.1.now)) result (one_at byte bytes.now) }
 {
@@ -87,7 +87,7 @@ fn read_one(byte: u8, bytes: &[u8]) -> Result<(Instr, &[u8]), CodeFault>
     }
 }
 
-/// The rest of `testset`, which has two operands.
+/// Reads the rest of `testset`, which has two operands.
 fn read_two(bytes: &[u8]) -> Result<(Instr, &[u8]), CodeFault>
     ensures { Gives (λ x. (x.0, x.1.now)) result (two_at bytes.now) }
 {
@@ -96,7 +96,7 @@ fn read_two(bytes: &[u8]) -> Result<(Instr, &[u8]), CodeFault>
     Ok((Instr::TestSet(to, set), rest))
 }
 
-/// An instruction.
+/// Reads an instruction.
 #[tactic(auto, unfolding(crate::specs::inside::Reading::instr_at))]
 fn read_instr(bytes: &[u8]) -> Result<(Instr, &[u8]), CodeFault>
     ensures { Gives (λ x. (x.0, x.1.now)) result (instr_at bytes.now) }
@@ -116,7 +116,7 @@ fn read_instr(bytes: &[u8]) -> Result<(Instr, &[u8]), CodeFault>
     }
 }
 
-/// A range.
+/// Reads a range.
 #[tactic(auto, unfolding(crate::specs::inside::Reading::range_at))]
 fn read_range(bytes: &[u8]) -> Result<((u32, u32), &[u8]), CodeFault>
     ensures { Gives (λ x. (x.0, x.1.now)) result (range_at bytes.now) }
@@ -126,7 +126,7 @@ fn read_range(bytes: &[u8]) -> Result<((u32, u32), &[u8]), CodeFault>
     Ok(((low, high), rest))
 }
 
-/// So many ranges.
+/// Reads `count` ranges.
 fn read_ranges(
     alloc: Global,
     count: u32,
@@ -144,7 +144,7 @@ fn read_ranges(
     Ok((ranges, rest))
 }
 
-/// A set, in its one form, whatever ranges say it.
+/// Reads a set and puts it into normal form, whatever ranges spell it.
 #[tactic(auto, unfolding(crate::specs::inside::Reading::set_at))]
 fn read_set(alloc: Global, bytes: &[u8]) -> Result<(Set, &[u8]), CodeFault>
     ensures { Gives (λ x. (x.0, x.1.now)) result (set_at bytes.now) }
@@ -155,7 +155,7 @@ fn read_set(alloc: Global, bytes: &[u8]) -> Result<(Set, &[u8]), CodeFault>
     Ok((set, rest))
 }
 
-/// So many sets.
+/// Reads `count` sets.
 fn read_sets(alloc: Global, count: u32, bytes: &[u8]) -> Result<(Sets, &[u8]), CodeFault>
     ensures { Gives (λ x. (x.0, x.1.now)) result (items_at set_at count bytes.now) }
 {
@@ -169,7 +169,7 @@ fn read_sets(alloc: Global, count: u32, bytes: &[u8]) -> Result<(Sets, &[u8]), C
     Ok((sets, rest))
 }
 
-/// A text.
+/// Reads a text.
 #[tactic(auto, unfolding(crate::specs::inside::Reading::text_at))]
 fn read_text(alloc: Global, bytes: &[u8]) -> Result<(Chars, &[u8]), CodeFault>
     ensures { Gives (λ x. (x.0, x.1.now)) result (text_at bytes.now) }
@@ -186,7 +186,7 @@ fn read_text(alloc: Global, bytes: &[u8]) -> Result<(Chars, &[u8]), CodeFault>
     }
 }
 
-/// So many texts.
+/// Reads `count` texts.
 fn read_texts(alloc: Global, count: u32, bytes: &[u8]) -> Result<(Labels, &[u8]), CodeFault>
     ensures { Gives (λ x. (x.0, x.1.now)) result (items_at text_at count bytes.now) }
 {
@@ -200,7 +200,7 @@ fn read_texts(alloc: Global, count: u32, bytes: &[u8]) -> Result<(Labels, &[u8])
     Ok((texts, rest))
 }
 
-/// So many instructions.
+/// Reads `count` instructions.
 fn read_instrs(alloc: Global, count: u32, bytes: &[u8]) -> Result<(Instrs, &[u8]), CodeFault>
     ensures { Gives (λ x. (x.0, x.1.now)) result (items_at instr_at count bytes.now) }
 {
@@ -214,7 +214,7 @@ fn read_instrs(alloc: Global, count: u32, bytes: &[u8]) -> Result<(Instrs, &[u8]
     Ok((instrs, rest))
 }
 
-/// What the bytes after the first eight say.
+/// Reads the bytes after the first eight.
 #[tactic(auto, unfolding(crate::specs::inside::Reading::file_at))]
 pub(crate) fn read_file(alloc: Global, bytes: &[u8]) -> Result<(Instrs, Sets, Labels), CodeFault>
     ensures { Gives (λ x. file_of x.0 x.1 x.2) result (file_at bytes.now) }

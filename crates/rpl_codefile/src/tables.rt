@@ -1,5 +1,5 @@
-// Whether the tables of a file have just what its code uses, each once and in the order of the
-// first uses. Nothing is found by a hash, which a stranger's file could be made to defeat.
+// The check that the tables of a file contain exactly what its code uses, each once and in the
+// order of first use. It uses no hashes, which a stranger's file could be made to defeat.
 ghost use Rattle.std.specs.Prelude.{◌≡◌, ◌↔◌, IsTrue, IfOk, Some, length};
 ghost use Rattle.rpl_codefile.specs.inside.Tables.{Apart, AreParts, IsOrdered, come, number_in};
 ghost use Rattle.rpl_codefile.specs.inside.Tables.{set_number};
@@ -12,14 +12,14 @@ use rpl_text::Chars;
 use std::alloc::Global;
 use std::collections::BTreeSet;
 
-/// A table of a file.
+/// The table of a file that is checked.
 #[derive(Clone, Copy)]
 pub(crate) enum Table {
     Sets,
     Texts,
 }
 
-/// The number of the set that an instruction names.
+/// Returns the number of the set that an instruction refers to.
 fn set_number(item: Instr) -> Option<u32>
     ensures { result ≡ set_number item }
 {
@@ -29,7 +29,7 @@ fn set_number(item: Instr) -> Option<u32>
     }
 }
 
-/// The number of the text that an instruction names.
+/// Returns the number of the text that an instruction refers to.
 fn text_number(item: Instr) -> Option<u32>
     ensures { result ≡ text_number item }
 {
@@ -39,7 +39,7 @@ fn text_number(item: Instr) -> Option<u32>
     }
 }
 
-/// The number by which an instruction names an entry of the table.
+/// Returns the number of the entry of the table that an instruction refers to.
 fn number_in(table: Table, item: Instr) -> Option<u32>
     ensures { result ≡ number_in table item }
 {
@@ -49,7 +49,8 @@ fn number_in(table: Table, item: Instr) -> Option<u32>
     }
 }
 
-/// How many numbers have come, with this one: `None` where one below it hasn't.
+/// Returns how many numbers have occurred, including this one, or `None` if a number below it has
+/// not occurred.
 fn with_next(came: u64, number: Option<u32>) -> Option<u64>
     ensures { result ≡ with_next came number }
 {
@@ -60,7 +61,7 @@ fn with_next(came: u64, number: Option<u32>) -> Option<u64>
     }
 }
 
-/// How many entries of the table the code uses, where it uses each for the first time after all
+/// Returns how many entries of the table the code uses, if it first uses each after all entries
 /// before it.
 fn count_used(table: Table, code: &[Instr]) -> Option<u64>
     ensures { result ≡ come (number_in table) 0 code.now }
@@ -72,7 +73,7 @@ fn count_used(table: Table, code: &[Instr]) -> Option<u64>
     Some(came)
 }
 
-/// The code uses each of so many entries of the table, for the first time in their order.
+/// Returns whether the code uses each of `count` entries of the table, first used in their order.
 fn uses_all(table: Table, code: &[Instr], count: usize) -> bool
     ensures { IsTrue result ↔ (come (number_in table) 0 code.now ≡ Some count) }
 {
@@ -82,7 +83,7 @@ fn uses_all(table: Table, code: &[Instr], count: usize) -> bool
     }
 }
 
-/// No two sets are the same.
+/// Returns whether no two sets are the same.
 fn are_sets_apart(alloc: Global, sets: &[Set]) -> Result<bool, NoMemory>
     ensures { IfOk result (λ apart. IsTrue apart ↔ Apart sets.now) }
 {
@@ -95,7 +96,7 @@ fn are_sets_apart(alloc: Global, sets: &[Set]) -> Result<bool, NoMemory>
     Ok(true)
 }
 
-/// No two texts are the same.
+/// Returns whether no two texts are the same.
 fn are_texts_apart(alloc: Global, texts: &[Chars]) -> Result<bool, NoMemory>
     ensures { IfOk result (λ apart. IsTrue apart ↔ Apart texts.now) }
 {
@@ -108,8 +109,8 @@ fn are_texts_apart(alloc: Global, texts: &[Chars]) -> Result<bool, NoMemory>
     Ok(true)
 }
 
-/// The code has one or more instructions and not too many, its numbers are in range, and it uses
-/// each set and each text, for the first time in their order.
+/// Returns whether the code has at least one instruction and not too many, its numbers are in
+/// range, and it uses each set and each text, first used in their order.
 fn is_ordered(code: &Instrs, sets: &Sets, texts: &Labels) -> bool
     ensures { IsTrue result ↔ IsOrdered code.now sets.now texts.now }
 {
@@ -120,14 +121,14 @@ fn is_ordered(code: &Instrs, sets: &Sets, texts: &Labels) -> bool
         && uses_all(Table::Texts, code.as_slice(), texts.len())
 }
 
-/// No two sets and no two texts are the same.
+/// Returns whether no two sets and no two texts are the same.
 fn are_apart(alloc: Global, sets: &Sets, texts: &Labels) -> Result<bool, NoMemory>
     ensures { IfOk result (λ apart. IsTrue apart ↔ Apart sets.now × Apart texts.now) }
 {
     Ok(are_sets_apart(alloc, sets.as_slice())? && are_texts_apart(alloc, texts.as_slice())?)
 }
 
-/// The parts are those of a file.
+/// Returns whether the parts are those of a file.
 pub(crate) fn are_parts(
     alloc: Global,
     code: &Instrs,

@@ -11,7 +11,7 @@ use rpl_core::{Instr, Instrs, Labels, NoMemory, Sets};
 use rpl_text::Chars;
 use std::alloc::Global;
 
-/// Adds a number: four bytes, the highest first.
+/// Appends a number as four big-endian bytes.
 fn put_number(out: &mut Bytes, n: u32) -> Result<(), NoMemory>
     ensures short { n < 2 ^ 32 }
     ensures bytes { OnOk result (out.new ≡ out.old ++ number n) }
@@ -19,7 +19,7 @@ fn put_number(out: &mut Bytes, n: u32) -> Result<(), NoMemory>
     out.extend_from_slice(&n.to_be_bytes())
 }
 
-/// Adds an instruction with one operand.
+/// Appends an instruction with one operand.
 fn put_one(out: &mut Bytes, byte: u8, n: u32) -> Result<(), NoMemory>
     ensures short { n < 2 ^ 32 }
     ensures bytes { OnOk result (out.new ≡ out.old ++ byte ∷ number n) }
@@ -28,14 +28,14 @@ fn put_one(out: &mut Bytes, byte: u8, n: u32) -> Result<(), NoMemory>
     put_number(out, n)
 }
 
-/// Adds an instruction without operands.
+/// Appends an instruction without operands.
 fn put_bare(out: &mut Bytes, byte: u8) -> Result<(), NoMemory>
     ensures { OnOk result (out.new ≡ out.old ++ byte ∷ []) }
 {
     out.push(byte)
 }
 
-/// Adds an instruction: its byte, and its operands in the order in which they print.
+/// Appends an instruction: its byte, then its operands in the order in which they are printed.
 fn put_instr(out: &mut Bytes, item: Instr) -> Result<(), NoMemory>
     ensures short { OnOk result (Short item) }
     ensures bytes { OnOk result (out.new ≡ out.old ++ instr item) }
@@ -67,7 +67,7 @@ fn put_instr(out: &mut Bytes, item: Instr) -> Result<(), NoMemory>
     }
 }
 
-/// Adds a range: its low and its high value.
+/// Appends a range: its lowest and its highest value.
 fn put_range(out: &mut Bytes, item: (u32, u32)) -> Result<(), NoMemory>
     ensures short { OnOk result (ShortRange item) }
     ensures bytes { OnOk result (out.new ≡ out.old ++ range item) }
@@ -76,7 +76,7 @@ fn put_range(out: &mut Bytes, item: (u32, u32)) -> Result<(), NoMemory>
     put_number(out, item.1)
 }
 
-/// Adds ranges.
+/// Appends ranges.
 fn put_ranges(out: &mut Bytes, ranges: &[(u32, u32)]) -> Result<(), NoMemory>
     ensures short { OnOk result (All ShortRange ranges.now) }
     ensures bytes { OnOk result (out.new ≡ out.old ++ flat_map range ranges.now) }
@@ -87,8 +87,8 @@ fn put_ranges(out: &mut Bytes, ranges: &[(u32, u32)]) -> Result<(), NoMemory>
     Ok(())
 }
 
-/// Adds a set: the number of its ranges, of which no set has more than there are characters, and
-/// each.
+/// Appends a set: the number of its ranges, which is at most the number of characters, and each
+/// range.
 fn put_set(out: &mut Bytes, item: &Set) -> Result<(), NoMemory>
     ensures fits { OnOk result (FitsSet item.now) }
     ensures bytes { OnOk result (out.new ≡ out.old ++ set item.now) }
@@ -98,7 +98,7 @@ fn put_set(out: &mut Bytes, item: &Set) -> Result<(), NoMemory>
     put_ranges(out, ranges)
 }
 
-/// Adds bytes after their number in eight bytes, the highest first.
+/// Appends the number of bytes as eight big-endian bytes, then the bytes.
 fn put_bytes(out: &mut Bytes, bytes: &[u8]) -> Result<(), NoMemory>
     ensures short { OnOk result (length bytes.now < 2 ^ 64) }
     ensures bytes { OnOk result (out.new ≡ out.old ++ counted bytes.now) }
@@ -107,7 +107,7 @@ fn put_bytes(out: &mut Bytes, bytes: &[u8]) -> Result<(), NoMemory>
     out.extend_from_slice(bytes)
 }
 
-/// Adds a text, in UTF-8.
+/// Appends a text in UTF-8.
 fn put_text(out: &mut Bytes, item: &str) -> Result<(), NoMemory>
     ensures fits { OnOk result (FitsText (chars item.now)) }
     ensures bytes { OnOk result (out.new ≡ out.old ++ text (chars item.now)) }
@@ -115,7 +115,7 @@ fn put_text(out: &mut Bytes, item: &str) -> Result<(), NoMemory>
     put_bytes(out, item.as_bytes())
 }
 
-/// Adds sets.
+/// Appends sets.
 fn put_sets(out: &mut Bytes, sets: &[Set]) -> Result<(), NoMemory>
     ensures fits { OnOk result (All FitsSet sets.now) }
     ensures bytes { OnOk result (out.new ≡ out.old ++ flat_map set sets.now) }
@@ -126,7 +126,7 @@ fn put_sets(out: &mut Bytes, sets: &[Set]) -> Result<(), NoMemory>
     Ok(())
 }
 
-/// Adds texts.
+/// Appends texts.
 fn put_texts(out: &mut Bytes, texts: &[Chars]) -> Result<(), NoMemory>
     ensures fits { OnOk result (All FitsText texts.now) }
     ensures bytes { OnOk result (out.new ≡ out.old ++ flat_map text texts.now) }
@@ -137,7 +137,7 @@ fn put_texts(out: &mut Bytes, texts: &[Chars]) -> Result<(), NoMemory>
     Ok(())
 }
 
-/// Adds instructions.
+/// Appends instructions.
 fn put_instrs(out: &mut Bytes, code: &[Instr]) -> Result<(), NoMemory>
     ensures short { OnOk result (All Short code.now) }
     ensures bytes { OnOk result (out.new ≡ out.old ++ flat_map instr code.now) }
@@ -148,14 +148,14 @@ fn put_instrs(out: &mut Bytes, code: &[Instr]) -> Result<(), NoMemory>
     Ok(())
 }
 
-/// Adds the eight bytes with which each file begins.
+/// Appends the eight bytes with which each file begins.
 fn put_magic(out: &mut Bytes) -> Result<(), NoMemory>
     ensures { OnOk result (out.new ≡ out.old ++ magic) }
 {
     out.extend_from_slice(b"RPLCODE1")
 }
 
-/// The spelling of these parts.
+/// Returns the spelling of these parts.
 pub(crate) fn write_parts(
     alloc: Global,
     code: &Instrs,

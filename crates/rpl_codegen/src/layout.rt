@@ -1,4 +1,4 @@
-// Where the rules begin.
+// The addresses where the rules begin.
 ghost use Rattle.std.specs.Prelude.{◌≡◌, ◌++◌, IfOk, OnOk, min, slice_get, true};
 ghost use Rattle.rpl_core.specs.Listed.{rules_of};
 ghost use Rattle.rpl_core.specs.Marked.{has};
@@ -15,7 +15,7 @@ use rpl_core::{Peg, Rules};
 use std::alloc::Global;
 use std::collections::BTreeSet;
 
-/// Where each rule of the code begins, and the address after the last instruction.
+/// The address where each rule of the code begins, and the address after the last instruction.
 #[derive(Drop)]
 pub(crate) struct Layout {
     starts: Starts,
@@ -25,13 +25,13 @@ pub(crate) struct Layout {
 impl Layout {
     ghost use Rattle.rpl_codegen.specs.inside.Written.{address_of};
 
-    /// The allocator of what is written by it.
+    /// Returns the allocator for everything written with this layout.
     pub(crate) fn alloc(&self) -> Global {
         *self.starts.list.allocator()
     }
 
-    /// The addresses of the rules after the goal. Only reached rules take room. The nodes of the
-    /// goal and of the reached rules are added to the plan in the order in which the code is
+    /// Computes the addresses of the rules after the goal. Only reached rules take space. The nodes
+    /// of the goal and of the reached rules are added to the plan in the order in which the code is
     /// written.
     pub(crate) fn new(
         alloc: Global,
@@ -60,15 +60,15 @@ impl Layout {
         Ok(Layout { starts, end: next })
     }
 
-    /// The number of instructions of the whole code, or the first number past the limit.
+    /// Returns the number of instructions of the whole code, or the first number past the limit.
     pub(crate) fn size(&self) -> u32
         ensures { result ≡ self.now.end }
     {
         self.end
     }
 
-    /// Where the rule with this number begins, or where it would, as it isn't reached: that of
-    /// the next, or the end.
+    /// Returns the address where the rule with this number begins. For a rule that isn't reached
+    /// this is the address of the next reached one, or the end.
     pub(crate) fn address(&self, rule: u32) -> u32
         ensures { result ≡ address_of self.now rule }
     {
@@ -76,8 +76,8 @@ impl Layout {
     }
 }
 
-/// The number of instructions of a rule with its return, or the first number past the limit. The
-/// nodes of the rule are added to the plan.
+/// Returns the number of instructions of a rule with its return, or the first number past the
+/// limit. The nodes of the rule are added to the plan.
 fn rule_size(
     alloc: Global,
     measured: &mut Measured,

@@ -1,10 +1,10 @@
-// The rules of a set, one after the other.
+// Iteration over the rules of a set.
 ghost use Rattle.std.specs.Prelude.{◌≡◌, ◌<◌, ◌≤◌, ◌^◌, ℕ, false, true};
 ghost use Rattle.rpl_core.specs.Marked.{has};
 
 use std::collections::BTreeSet;
 
-/// The first number from there on that the set has, or the end where none comes before it.
+/// Returns the first number from `from` on that is in the set, or `end` if there is none below it.
 pub(crate) fn next_in(rules: &BTreeSet<u32>, from: usize, end: usize) -> usize
     requires from { from ≤ end }
     requires small { end < 2 ^ 32 }

@@ -1,5 +1,5 @@
-// What is known of a pattern, and of each pattern in it, before any code is written: how many
-// instructions it has, and the head that is tested before it.
+// The facts about a pattern, and about each pattern in it, that are computed before any code is
+// written: its number of instructions, and the head that is tested before it.
 ghost use Rattle.std.specs.Option.{option_copied};
 ghost use Rattle.std.specs.Prelude.{◌≡◌, ◌+◌, ◌-◌, ◌*◌, ◌<◌, ◌≤◌, [], ◌++◌, IfOk, OnOk, None, Some};
 ghost use Rattle.std.specs.Prelude.{drop, false};
@@ -23,7 +23,7 @@ use std::alloc::Global;
 /// The greatest number of instructions that a program may have.
 pub(crate) const MAX_CODE: u32 = 1_048_576;
 
-/// The sum, or the first number past the limit.
+/// Returns the sum, or the first number past the limit.
 pub(crate) fn capped(a: u32, b: u32) -> u32
     requires a { a ≤ 1048577 }
     requires b { b ≤ 1048577 }
@@ -32,8 +32,8 @@ pub(crate) fn capped(a: u32, b: u32) -> u32
     (a + b).min(MAX_CODE + 1)
 }
 
-/// The number of instructions of a look-behind whose body has `size`, or the first number past the
-/// limit.
+/// Returns the number of instructions of a look-behind with a body of `size` instructions, or the
+/// first number past the limit.
 pub(crate) fn behind_size(size: u32, least: u32, most: u32) -> u32
     requires { size ≤ 1048577 }
     ensures { result ≡ min 1048577 ((most + 1 - least) * (size + 3) + 1) }
@@ -42,9 +42,9 @@ pub(crate) fn behind_size(size: u32, least: u32, most: u32) -> u32
     (lengths * (size as u64 + 3) + 1).min(MAX_CODE as u64 + 1) as u32
 }
 
-/// The number of instructions of a pattern, or the first number past the limit; its number among
-/// the parts of a sequence, if it is one; and its head, if others follow it in a choice and it has
-/// one.
+/// The facts about a pattern: its number of instructions, or the first number past the limit; its
+/// number among the parts of a sequence, if it is one of them; and its head, if it has one and
+/// other parts of a choice follow it.
 #[derive(Drop)]
 pub(crate) struct Node {
     size: u32,
@@ -52,7 +52,7 @@ pub(crate) struct Node {
     head: Option<Set>,
 }
 
-/// Nodes in the order in which the code is written, and which of them comes next.
+/// Nodes in the order in which the code is written, and the index of the next one.
 #[derive(Drop)]
 pub(crate) struct Nodes {
     list: Vec<Node>,
@@ -62,14 +62,14 @@ pub(crate) struct Nodes {
 impl Nodes {
     ghost use Rattle.rpl_codegen.specs.inside.Taken.{Takes, head_at, left, part_at, size_at};
 
-    /// The nodes from the first on.
+    /// Returns the nodes, with the first one next.
     pub(crate) fn new(list: Vec<Node>) -> Nodes
         ensures { left result ≡ list.items }
     {
         Nodes { list, next: 0 }
     }
 
-    /// The size of the next node.
+    /// Returns the size of the next node.
     pub(crate) fn size(&self) -> u32
         requires { 0 < length (left self.now) }
         ensures { result ≡ size_at (left self.now) }
@@ -77,7 +77,7 @@ impl Nodes {
         self.list[self.next].size
     }
 
-    /// Which part of its sequence the next node is of.
+    /// Returns the number of the next node among the parts of its sequence.
     pub(crate) fn part(&self) -> usize
         requires { 0 < length (left self.now) }
         ensures { result ≡ part_at (left self.now) }
@@ -85,7 +85,7 @@ impl Nodes {
         self.list[self.next].part
     }
 
-    /// The head of the next node, if one is tested.
+    /// Returns the head of the next node, if one is tested.
     pub(crate) fn head(&self) -> Option<&Set>
         requires { 0 < length (left self.now) }
         ensures { option_copied result ≡ head_at (left self.now) }
@@ -93,7 +93,7 @@ impl Nodes {
         self.list[self.next].head.as_ref()
     }
 
-    /// Takes the next node, and gives its size.
+    /// Takes the next node and returns its size.
     pub(crate) fn take(&mut self) -> u32
         requires { 0 < length (left self.old) }
         ensures size { result ≡ size_at (left self.old) }
@@ -105,8 +105,8 @@ impl Nodes {
     }
 }
 
-/// What is gathered while patterns are measured: their nodes, and the ranges of those heads that
-/// are part of a greater one.
+/// The results of measuring patterns: their nodes, and the ranges of heads that are part of a
+/// larger head.
 #[derive(Drop)]
 pub(crate) struct Measured {
     pub(crate) nodes: Vec<Node>,
@@ -114,7 +114,7 @@ pub(crate) struct Measured {
 }
 
 impl Measured {
-    /// Nothing yet.
+    /// Returns empty results.
     pub(crate) fn new(alloc: Global) -> Measured
         ensures { result.nodes.items ≡ [] }
     {
@@ -126,14 +126,14 @@ impl Measured {
 }
 
 /// The number of instructions of a pattern, or the first number past the limit, and whether it has
-/// a head. Both are had in one walk, since each level needs both of the one below.
+/// a head. One walk computes both, since each level needs both from the level below.
 #[derive(Clone, Copy)]
 pub(crate) struct Shape {
     pub(crate) size: u32,
     has_head: bool,
 }
 
-/// A pattern with no head.
+/// Returns the shape of a pattern without a head.
 fn headless(size: u32) -> Shape
     ensures size { result.size ≡ size }
     ensures head { result.has_head ≡ false }
@@ -144,8 +144,8 @@ fn headless(size: u32) -> Shape
     }
 }
 
-/// Adds the nodes of the pattern and of all patterns in it. The ranges of its head are added, if it
-/// has one; else there may be more ranges of no use.
+/// Adds the nodes of the pattern and of all patterns in it, and the ranges of its head if it has
+/// one. If it has none, unused ranges may have been added.
 #[cycle(measure)]
 pub(crate) fn measure(alloc: Global, measured: &mut Measured, peg: &Peg) -> Result<Shape, NoMemory>
     ensures nodes { OnOk result (measured.new.nodes.items ≡ measured.old.nodes.items
@@ -170,9 +170,8 @@ pub(crate) fn measure(alloc: Global, measured: &mut Measured, peg: &Peg) -> Resu
     Ok(shape)
 }
 
-/// Adds the nodes of a part of a sequence, by its number there.
-/// A part that makes no code leaves no node behind, so that
-/// whoever writes the sequence passes over it unseen.
+/// Adds the nodes of a part of a sequence, with its number there. A part without code leaves no
+/// node, so that the writer of the sequence skips it without visiting it.
 #[cycle(measure)]
 fn measure_part(
     alloc: Global,
@@ -206,7 +205,7 @@ fn measure_part(
     Ok(shape)
 }
 
-/// Adds the nodes of a part of a choice that others follow: its node has its head.
+/// Adds the nodes of a part of a choice that other parts follow. Its node has its head.
 #[cycle(measure)]
 fn measure_tried(alloc: Global, measured: &mut Measured, part: &Peg) -> Result<Shape, NoMemory>
     ensures nodes { OnOk result (measured.new.nodes.items
@@ -233,8 +232,8 @@ fn measure_tried(alloc: Global, measured: &mut Measured, part: &Peg) -> Result<S
     Ok(shape)
 }
 
-/// Puts the normal form of the ranges from `start` on in their place, and gives the set that they
-/// are; no set and no ranges, if no head was found.
+/// Replaces the ranges from `start` on by their normal form, and returns their set. If no head was
+/// found, removes the ranges and returns no set.
 fn join(
     alloc: Global,
     ranges: &mut Vec<ClassRange>,
@@ -258,7 +257,7 @@ fn join(
     Ok(Some(set))
 }
 
-/// Adds the nodes of the patterns in this one, and its ranges.
+/// Adds the nodes of the patterns in this one, and the ranges of its head.
 #[cycle(measure)]
 fn measure_inner(alloc: Global, measured: &mut Measured, peg: &Peg) -> Result<Shape, NoMemory>
     ensures nodes { OnOk result (measured.new.nodes.items ≡ measured.old.nodes.items
@@ -310,7 +309,7 @@ fn measure_inner(alloc: Global, measured: &mut Measured, peg: &Peg) -> Result<Sh
     }
 }
 
-/// A look-behind, whose body counts only where there is a length to try.
+/// Measures a look-behind. Its body counts only if there is a length to try.
 #[cycle(measure)]
 fn measure_behind(
     alloc: Global,
@@ -334,7 +333,7 @@ fn measure_behind(
     Ok(headless(behind_size(inner.size, least, most)))
 }
 
-/// All parts in turn, whose head is that of the first.
+/// Measures a sequence of parts. Its head is that of the first part.
 #[cycle(measure)]
 fn measure_all(alloc: Global, measured: &mut Measured, parts: &[Peg]) -> Result<Shape, NoMemory>
     ensures nodes { OnOk result (measured.new.nodes.items
@@ -361,7 +360,7 @@ fn measure_all(alloc: Global, measured: &mut Measured, parts: &[Peg]) -> Result<
     })
 }
 
-/// A choice of these parts, which has a head where each part has one.
+/// Measures a choice of parts. It has a head if each part has one.
 #[cycle(measure)]
 fn measure_first(alloc: Global, measured: &mut Measured, parts: &[Peg]) -> Result<Shape, NoMemory>
     ensures nodes { OnOk result (measured.new.nodes.items

@@ -1,4 +1,4 @@
-// Where the rules of a code begin.
+// The addresses where the rules of a code begin.
 ghost use Rattle.std.specs.Prelude.{◌≡◌, ◌<◌, ◌∷◌, [], ◌++◌, OnOk};
 ghost use Rattle.std.specs.List.{All};
 ghost use Rattle.std.specs.List.Sorted.{IsNonDecreasingBy};
@@ -14,7 +14,7 @@ pub(crate) struct Start {
     pub(crate) address: u32,
 }
 
-/// Where rules begin, in their order. Contracts see the list.
+/// The addresses where rules begin, in the order of the rules. Contracts see the list.
 #[derive(Drop)]
 pub(crate) struct Starts {
     pub(crate) list: Vec<Start>,
@@ -30,7 +30,7 @@ impl Starts {
         }
     }
 
-    /// One rule more, after all that there are.
+    /// Adds a rule after all those already there.
     pub(crate) fn push(&mut self, rule: u32, address: u32) -> Result<(), NoMemory>
         requires { All (λ s. s.rule < rule) self.old.list.items }
         ensures { OnOk result (self.new.list.items
@@ -40,7 +40,7 @@ impl Starts {
         Ok(())
     }
 
-    /// Where the first rule begins that has at least this number, or `end`.
+    /// Returns the address where the first rule with at least this number begins, or `end`.
     pub(crate) fn find(&self, rule: u32, end: u32) -> u32
         ensures { result ≡ start_from self.now.list.items rule end }
     {

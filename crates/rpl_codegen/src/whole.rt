@@ -29,7 +29,7 @@ use std::alloc::Global;
 use std::collections::BTreeSet;
 use thiserror::Error;
 
-/// Why there is no code.
+/// The reason why a goal has no code.
 #[derive(Debug, Drop, Error)]
 pub enum CompileFault {
     /// Memory ran out.
@@ -48,9 +48,9 @@ impl From<NoMemory> for CompileFault {
     }
 }
 
-/// The code of the goal over the table of rules: the goal's own code, `finish`, and each rule that
-/// it reaches in the order of the table. Equal sets, and equal texts, are kept once, in the order
-/// of their first uses.
+/// Returns the code of the goal over the table of rules: the goal's own code, `finish`, and each
+/// rule that it reaches, in the order of the table. Equal sets and equal texts are stored once, in
+/// the order of their first use.
 pub(crate) fn compile_goal(
     alloc: Global,
     rules: &Rules,
@@ -81,7 +81,7 @@ pub(crate) fn compile_goal(
     Ok(program_of(alloc, draft)?)
 }
 
-/// The program of a draft.
+/// Returns the program of a draft.
 fn program_of(alloc: Global, draft: Draft) -> Result<Program, NoMemory>
     requires { AreInRange draft.code draft.sets draft.labels }
     ensures code { IfOk result (λ p. code_of p ≡ draft.code) }
@@ -94,7 +94,7 @@ fn program_of(alloc: Global, draft: Draft) -> Result<Program, NoMemory>
     Ok(Program::new(draft.code, sets, labels))
 }
 
-/// A table of rules, and the numbers of those that are reached.
+/// A table of rules, and the numbers of the rules that are reached.
 #[derive(Clone, Copy)]
 struct Reached<'a> {
     rules: &'a Rules,

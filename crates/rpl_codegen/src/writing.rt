@@ -1,5 +1,6 @@
-// The code of each kind of pattern. Sizes are known before, so that each jump is written with its
-// address. Each writer takes the nodes of the pattern that it writes, and of all patterns in it.
+// The code of each kind of pattern. Sizes are known beforehand, so each jump is written with its
+// address. Each function that writes a pattern takes the nodes of that pattern and of all patterns
+// in it.
 ghost use Rattle.std.specs.Prelude.{◌≡◌, ◌<◌, ◌+◌, ◌-◌, ◌*◌, ◌≤◌, OnOk, length};
 ghost use Rattle.rpl_core.specs.Code as C;
 ghost use Rattle.rpl_core.specs.Head as H;
@@ -20,7 +21,7 @@ use rpl_intern::Draft;
 use rpl_text::Chars;
 use std::alloc::Global;
 
-/// A look-behind: its lengths, its body, and where its code ends.
+/// A look-behind: its lengths, its body, and the address where its code ends.
 #[derive(Clone, Copy)]
 struct Look<'a> {
     least: u32,
@@ -29,7 +30,7 @@ struct Look<'a> {
     end: u32,
 }
 
-/// Patterns that stand in a row, and where the code of all of them ends.
+/// Patterns in a row, and the address where the code of all of them ends.
 #[derive(Clone, Copy)]
 struct Row<'a> {
     parts: &'a Pegs,
@@ -53,7 +54,7 @@ pub(crate) fn emit(
     emit_inner(draft, layout, nodes, peg, end)
 }
 
-/// Writes the code of the pattern up to `end`. Its own node is taken already.
+/// Writes the code of the pattern up to `end`. Its own node has already been taken.
 #[cycle(emit)]
 fn emit_inner(
     draft: &mut Draft,
@@ -93,8 +94,8 @@ fn emit_inner(
     }
 }
 
-/// Writes the parts in turn up to `end`. Each next node is of the next part that makes code: the
-/// others have none.
+/// Writes a sequence of parts up to `end`. Each next node belongs to the next part that has code:
+/// the other parts have no node.
 #[cycle(emit)]
 fn emit_all(
     draft: &mut Draft,
@@ -113,7 +114,7 @@ fn emit_all(
     let parts = row.parts.as_slice();
     while draft.next() < row.end {
         let number = nodes.part();
-        // There always is one: the test is for the bound of the index alone.
+        // There always is one; this test only bounds the index.
         if number >= parts.len() {
             return Ok(());
         }
@@ -123,7 +124,7 @@ fn emit_all(
     Ok(())
 }
 
-/// Writes a choice of the parts. Each part but the last goes to the end where it succeeds.
+/// Writes a choice of the parts. Each part except the last jumps to the end if it succeeds.
 #[cycle(emit)]
 fn emit_first(
     draft: &mut Draft,
@@ -150,7 +151,7 @@ fn emit_first(
     emit(draft, layout, nodes, &parts[last])
 }
 
-/// Writes a part that others follow, with the test of its head if it has one.
+/// Writes a part that other parts follow, with the test of its head if it has one.
 #[cycle(emit)]
 fn emit_tried(
     draft: &mut Draft,
@@ -264,8 +265,8 @@ fn emit_and(
     draft.put(Instr::Fail)
 }
 
-/// Writes a look-behind: each length in turn, for which the nodes of the body are taken anew, and
-/// then that none fits.
+/// Writes a look-behind: each length one after the other, each with the nodes of the body taken
+/// anew, and then a failure if none fits.
 #[cycle(emit)]
 fn emit_behind(
     draft: &mut Draft,

@@ -1,11 +1,11 @@
-// A text of its own.
+// Owned byte strings.
 ghost use Rattle.std.specs.Prelude.{◌≡◌, IfOk};
 
 use crate::NoMemory;
 use std::alloc::Global;
 use std::marker::Model;
 
-/// A text of its own. Contracts see it as its bytes.
+/// An owned byte string. Contracts see it as its bytes.
 #[derive(Drop)]
 pub struct Bytes {
     held: Vec<u8>,
@@ -20,7 +20,7 @@ impl Model for Bytes {
 }
 
 impl Bytes {
-    /// A copy of the text.
+    /// Returns a copy of the text.
     pub fn from_slice(alloc: Global, text: &[u8]) -> Result<Bytes, NoMemory>
         ensures { IfOk result (λ b. b ≡ text.now) }
     {
@@ -29,7 +29,7 @@ impl Bytes {
         Ok(Bytes { held })
     }
 
-    /// The text as a borrowed one.
+    /// Returns the bytes as a slice.
     #[inline(always)]
     pub fn as_slice(&self) -> &[u8]
         ensures { result.now ≡ self.now }

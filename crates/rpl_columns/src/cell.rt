@@ -1,4 +1,4 @@
-// The text of a cell in each format, of the text as a tree spells it.
+// The text of a cell in each format, from the text as a tree spells it.
 ghost use Rattle.std.specs.Prelude.{◌≡◌, ◌++◌, ◌<◌, OnOk, IfSome, length, option_map};
 ghost use Rattle.std.specs.Prelude.{◌&&◌, not};
 ghost use Rattle.rpl_print.specs.Quoted.{is_plain};
@@ -8,7 +8,7 @@ use crate::NoMemory;
 use crate::spelling::control_of;
 use rpl_print::is_plain;
 
-/// The byte that an escape with this letter stands for, where that is a short one.
+/// Returns the byte that the short escape with this letter represents, or the letter itself.
 fn unescaped(letter: u8) -> u8
     ensures { result ≡ C.unescaped letter }
 {
@@ -22,7 +22,7 @@ fn unescaped(letter: u8) -> u8
     }
 }
 
-/// Takes the first byte off a spelled text, after a backslash.
+/// Splits the first byte off a spelled text that follows a backslash.
 fn first_escaped(spelled: &[u8]) -> Option<(u8, &[u8])>
     ensures value { option_map (λ r. (r.0, r.1.now)) result ≡ C.first_escaped spelled.now }
     ensures fewer { IfSome result (λ r. length r.1.now < length spelled.now) }
@@ -40,8 +40,8 @@ fn first_escaped(spelled: &[u8]) -> Option<(u8, &[u8])>
     }
 }
 
-/// Takes the first byte off a spelled text, together with the escape that it may stand as. Where
-/// the text is empty, or no text is spelled so, there is none.
+/// Splits the first byte, which may be written as an escape, off a spelled text. Returns `None` if
+/// the text is empty or no text is spelled this way.
 fn first_byte(spelled: &[u8]) -> Option<(u8, &[u8])>
     ensures value { option_map (λ r. (r.0, r.1.now)) result ≡ C.first_in spelled.now }
     ensures fewer { IfSome result (λ r. length r.1.now < length spelled.now) }
@@ -56,7 +56,7 @@ fn first_byte(spelled: &[u8]) -> Option<(u8, &[u8])>
     Some((spelled[0], rest))
 }
 
-/// Adds bytes as they are.
+/// Appends bytes unchanged.
 #[inline(always)]
 pub(crate) fn put(out: &mut Vec<u8>, bytes: &[u8]) -> Result<(), NoMemory>
     ensures { OnOk result (out.new.items ≡ out.old.items ++ bytes.now) }
@@ -64,7 +64,7 @@ pub(crate) fn put(out: &mut Vec<u8>, bytes: &[u8]) -> Result<(), NoMemory>
     out.extend_from_slice(bytes)
 }
 
-/// Adds a byte, a quote twice.
+/// Appends a byte, doubled if it is a quote.
 fn put_doubled_byte(out: &mut Vec<u8>, byte: u8) -> Result<(), NoMemory>
     ensures { OnOk result (out.new.items ≡ out.old.items ++ C.doubled_byte byte) }
 {
@@ -75,7 +75,7 @@ fn put_doubled_byte(out: &mut Vec<u8>, byte: u8) -> Result<(), NoMemory>
     Ok(())
 }
 
-/// Adds the text, with each quote twice.
+/// Appends the text with each quote doubled.
 fn put_doubled(out: &mut Vec<u8>, spelled: &[u8]) -> Result<(), NoMemory>
     ensures { OnOk result (out.new.items ≡ out.old.items ++ C.doubled (C.text_of spelled.now)) }
 {
@@ -90,14 +90,14 @@ fn put_doubled(out: &mut Vec<u8>, spelled: &[u8]) -> Result<(), NoMemory>
     Ok(())
 }
 
-/// Whether a byte of a text makes it stand in quotes.
+/// Returns whether a text that contains this byte is quoted.
 fn wants_quotes(byte: u8) -> bool
     ensures { result ≡ C.wants_quotes byte }
 {
     byte == b',' || byte == b'"' || byte == b'\n' || byte == b'\r'
 }
 
-/// Whether the text stands in quotes.
+/// Returns whether the text is quoted.
 fn is_to_be_quoted(spelled: &[u8]) -> bool
     ensures { result ≡ C.is_to_be_quoted (C.text_of spelled.now) }
 {
@@ -111,7 +111,7 @@ fn is_to_be_quoted(spelled: &[u8]) -> bool
     false
 }
 
-/// Whether no byte is a comma.
+/// Returns whether no byte is a comma.
 #[inline(always)]
 fn has_no_comma(bytes: &[u8]) -> bool
     ensures { result ≡ C.has_no_comma bytes.now }
@@ -123,7 +123,7 @@ fn has_no_comma(bytes: &[u8]) -> bool
     is_all
 }
 
-/// Adds a cell of comma-separated values.
+/// Appends a cell of comma-separated values.
 #[inline(always)]
 pub(crate) fn put_csv(out: &mut Vec<u8>, spelled: &[u8]) -> Result<(), NoMemory>
     ensures { OnOk result (out.new.items ≡ out.old.items ++ C.csv_cell (C.text_of spelled.now)) }
@@ -134,7 +134,7 @@ pub(crate) fn put_csv(out: &mut Vec<u8>, spelled: &[u8]) -> Result<(), NoMemory>
     put_csv_slowly(out, spelled)
 }
 
-/// The same where some byte doesn't stand for itself, perhaps.
+/// Does the same for a text that may contain escapes or bytes that need quotes.
 #[inline(never)]
 fn put_csv_slowly(out: &mut Vec<u8>, spelled: &[u8]) -> Result<(), NoMemory>
     ensures { OnOk result (out.new.items ≡ out.old.items ++ C.csv_cell (C.text_of spelled.now)) }
@@ -148,7 +148,7 @@ fn put_csv_slowly(out: &mut Vec<u8>, spelled: &[u8]) -> Result<(), NoMemory>
     Ok(())
 }
 
-/// Adds a byte as a cell of tab-separated values has it.
+/// Appends a byte in the form it has in tab-separated values.
 fn put_tsv_byte(out: &mut Vec<u8>, byte: u8) -> Result<(), NoMemory>
     ensures { OnOk result (out.new.items ≡ out.old.items ++ C.tsv_byte byte) }
 {
@@ -164,7 +164,7 @@ fn put_tsv_byte(out: &mut Vec<u8>, byte: u8) -> Result<(), NoMemory>
     }
 }
 
-/// Adds a cell of tab-separated values.
+/// Appends a cell of tab-separated values.
 #[inline(always)]
 pub(crate) fn put_tsv(out: &mut Vec<u8>, spelled: &[u8]) -> Result<(), NoMemory>
     ensures { OnOk result (out.new.items ≡ out.old.items ++ C.tsv_cell (C.text_of spelled.now)) }
@@ -175,7 +175,7 @@ pub(crate) fn put_tsv(out: &mut Vec<u8>, spelled: &[u8]) -> Result<(), NoMemory>
     put_tsv_slowly(out, spelled)
 }
 
-/// The same where some byte doesn't stand for itself, perhaps.
+/// Does the same for a text that may contain escapes.
 #[inline(never)]
 fn put_tsv_slowly(out: &mut Vec<u8>, spelled: &[u8]) -> Result<(), NoMemory>
     ensures { OnOk result (out.new.items ≡ out.old.items ++ C.tsv_cell (C.text_of spelled.now)) }

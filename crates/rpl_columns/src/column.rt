@@ -1,4 +1,4 @@
-// A column: its name, and which nodes it takes.
+// A column: its name, and the nodes it takes.
 ghost use Rattle.std.specs.Prelude.{◌≡◌, ◌<◌, IfOk, option_map};
 ghost use Rattle.std.specs.Prelude.{◌&&◌};
 ghost use Rattle.rpl_columns.specs.Columns as C;
@@ -9,25 +9,25 @@ use rpl_print::push_quoted;
 use std::alloc::Global;
 use std::marker::Model;
 
-/// Which part of its nodes a column takes.
+/// The part of its nodes that a column takes.
 #[derive(Clone, Copy)]
 pub enum Part {
-    /// Their texts.
+    /// The text of a node.
     Text,
-    /// Their first places.
+    /// The place where a node starts.
     Start,
-    /// The places after their ends.
+    /// The place where a node ends.
     End,
 }
 
 /// A column.
 #[derive(Drop)]
 pub struct Column {
-    /// What stands over it, as JSON spells it between quotes.
+    /// The name in the header, escaped as in JSON, without quotes.
     pub name: Bytes,
-    /// The type of the node that its nodes are in, if it has one.
+    /// The type of the node that must enclose the column's nodes, if any.
     pub outer: Option<Bytes>,
-    /// The type of its nodes, or the last part of it.
+    /// The type of the column's nodes, or the last part of it.
     pub label: Bytes,
     pub part: Part,
 }
@@ -50,7 +50,7 @@ impl Model for Columns {
 impl Columns {
     ghost use Rattle.std.specs.Prelude.{[], ◌∷◌, ◌++◌, OnOk};
 
-    /// No column.
+    /// Returns an empty list of columns.
     pub fn new(alloc: Global) -> Columns
         ensures { result ≡ [] }
     {
@@ -77,7 +77,7 @@ impl Columns {
     }
 }
 
-/// A string of JSON without its quotes.
+/// Returns a JSON string without its quotes.
 pub(crate) fn unquoted(string: &[u8]) -> &[u8]
     ensures { result.now ≡ C.unquoted string.now }
 {
@@ -86,7 +86,7 @@ pub(crate) fn unquoted(string: &[u8]) -> &[u8]
     &string[from..to]
 }
 
-/// A text as JSON spells it between quotes.
+/// Returns a text escaped as in JSON, without quotes.
 #[tactic(auto, unfolding(crate::specs::Columns::spelled))]
 pub fn spelled(alloc: Global, text: &str) -> Result<Bytes, NoMemory>
     ensures { IfOk result (λ b. b ≡ C.spelled text.now) }
@@ -96,7 +96,7 @@ pub fn spelled(alloc: Global, text: &str) -> Result<Bytes, NoMemory>
     Bytes::from_slice(alloc, unquoted(string.as_bytes()))
 }
 
-/// Whether a byte may stand in a type.
+/// Returns whether a byte may occur in a type.
 fn is_of_type(byte: u8) -> bool
     ensures { result ≡ C.is_of_type byte }
 {
@@ -110,7 +110,7 @@ fn is_of_type(byte: u8) -> bool
         || byte == b'>'
 }
 
-/// Whether each byte may stand in a type.
+/// Returns whether each byte may occur in a type.
 fn are_of_type(bytes: &[u8]) -> bool
     ensures { result ≡ C.are_of_type bytes.now }
 {
@@ -121,14 +121,15 @@ fn are_of_type(bytes: &[u8]) -> bool
     is_all
 }
 
-/// Whether this is a type, or the last part of one.
+/// Returns whether this is a type, or the last part of one.
 fn is_type(text: &str) -> bool
     ensures { result ≡ C.is_type text.now }
 {
     !text.is_empty() && are_of_type(text.as_bytes())
 }
 
-/// Which part a column takes, by what stands after the `@`.
+/// Returns the part named by the word after the `@`: `s` for the start, `e` for the end. Without a
+/// word it is the text.
 fn part_named(word: Option<&str>) -> Option<Part>
     ensures { result ≡ C.part_named (option_map (λ w. w.now) word.entry) }
 {
@@ -140,7 +141,7 @@ fn part_named(word: Option<&str>) -> Option<Part>
     }
 }
 
-/// The halves of a word before and after the first `=`. Where there is none the first is the word.
+/// Splits a word at the first `=`. Without one, returns the whole word.
 fn name_and_type(word: &str) -> (&str, Option<&str>)
     ensures before { result.0.now ≡ C.before 61 word.now }
     ensures after { option_map (λ w. w.now) result.1 ≡ C.rest_after 61 word.now }
@@ -151,7 +152,7 @@ fn name_and_type(word: &str) -> (&str, Option<&str>)
     }
 }
 
-/// The same at the first `@`.
+/// Splits a word at the first `@`, in the same way.
 fn path_and_part(word: &str) -> (&str, Option<&str>)
     ensures before { result.0.now ≡ C.before 64 word.now }
     ensures after { option_map (λ w. w.now) result.1 ≡ C.rest_after 64 word.now }
@@ -162,7 +163,7 @@ fn path_and_part(word: &str) -> (&str, Option<&str>)
     }
 }
 
-/// The same at the first `/`.
+/// Splits a word at the first `/`, in the same way.
 fn outer_and_inner(word: &str) -> (&str, Option<&str>)
     ensures before { result.0.now ≡ C.before 47 word.now }
     ensures after { option_map (λ w. w.now) result.1 ≡ C.rest_after 47 word.now }
@@ -173,7 +174,7 @@ fn outer_and_inner(word: &str) -> (&str, Option<&str>)
     }
 }
 
-/// The column of a name and of the types before and after the `/`, if they are types.
+/// Returns the column with this name and the types before and after the `/`, if they are types.
 fn column_at(
     alloc: Global,
     name: &str,
@@ -215,7 +216,7 @@ fn column_at(
     }
 }
 
-/// The column of a name and of what stands after it.
+/// Returns the column with this name and the path and part after it.
 fn column_from(alloc: Global, name: &str, word: &str) -> Result<Option<Column>, NoMemory>
     ensures { IfOk result (λ c. c ≡ C.column_from name.now word.now) }
 {
@@ -229,7 +230,7 @@ fn column_from(alloc: Global, name: &str, word: &str) -> Result<Option<Column>, 
     }
 }
 
-/// The depth of the outer node that a node of this depth is in.
+/// Returns the depth of the outer node, if a node of this depth is inside it.
 #[inline(always)]
 fn still_enclosing(enclosing: Option<usize>, depth: usize) -> Option<usize>
     ensures { result ≡ C.still_enclosing enclosing depth }
@@ -240,7 +241,7 @@ fn still_enclosing(enclosing: Option<usize>, depth: usize) -> Option<usize>
     }
 }
 
-/// Whether the type is this name, or ends with a dot and this name.
+/// Returns whether the type is this name, or ends with a dot and this name.
 #[inline(always)]
 fn is_named(label: &[u8], name: &[u8]) -> bool
     ensures { result ≡ C.is_named label.now name.now }
@@ -253,7 +254,7 @@ fn is_named(label: &[u8], name: &[u8]) -> bool
 }
 
 impl Column {
-    /// The column of a word `TYPE` or `NAME=TYPE`, if its type is one.
+    /// Returns the column of a word `TYPE` or `NAME=TYPE`, if its type is valid.
     #[tactic(auto, unfolding(crate::specs::Columns::column_of))]
     pub fn of_word(alloc: Global, word: &str) -> Result<Option<Column>, NoMemory>
         ensures { IfOk result (λ c. c ≡ C.column_of word.now) }
@@ -265,7 +266,7 @@ impl Column {
         }
     }
 
-    /// Whether a node of this depth is in the outer node, if the column has one.
+    /// Returns whether a node of this depth is inside the outer node, if the column has one.
     #[inline(always)]
     fn is_inside(&self, enclosing: Option<usize>, depth: usize) -> bool
         ensures { result ≡ C.is_inside self.now.outer enclosing depth }
@@ -276,8 +277,8 @@ impl Column {
         }
     }
 
-    /// Whether the column takes a node of this type and depth. `enclosing` is the depth of the
-    /// outer node that is open before it.
+    /// Returns whether the column takes a node of this type and depth. `enclosing` is the depth of
+    /// the outer node that is open before it.
     #[inline(always)]
     pub(crate) fn takes(&self, enclosing: Option<usize>, label: &[u8], depth: usize) -> bool
         ensures { result ≡ C.takes self.now enclosing label.now depth }
@@ -285,7 +286,7 @@ impl Column {
         self.is_inside(enclosing, depth) && is_named(label, self.label.as_slice())
     }
 
-    /// The outer node that is open after such a node.
+    /// Returns the depth of the outer node that is open after a node of this type and depth.
     #[inline(always)]
     pub(crate) fn next_enclosing(
         &self,
@@ -312,7 +313,7 @@ impl Column {
 }
 
 impl Part {
-    /// Where this part of a node stands.
+    /// Returns where this part of a node is in its line.
     #[inline(always)]
     pub(crate) fn span(self, parts: Parts) -> Span
         ensures { result ≡ C.span_of self parts }

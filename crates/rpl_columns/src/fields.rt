@@ -1,4 +1,4 @@
-// All fields of a tree, as an object of JSON.
+// All fields of a tree, as a JSON object.
 ghost use Rattle.std.specs.Prelude.{◌≡◌, ◌++◌, [], length, drop, map, OnOk};
 ghost use Rattle.std.specs.Str.{bytes_eq};
 ghost use Rattle.rpl_columns.specs.Cells.{between};
@@ -10,7 +10,7 @@ use crate::row::put_separator;
 use crate::spelling::are_same;
 use crate::{NoMemory, Node, Tree};
 
-/// The last part of a type: what stands after its last dot, or all.
+/// Returns the last part of a type: the text after its last dot, or all of it.
 #[tactic(auto, using(crate::proofs::Naming::part_dot, crate::proofs::Naming::part_other))]
 fn last_part(label: &[u8]) -> &[u8]
     ensures { result.now ≡ F.last_part label.now }
@@ -24,21 +24,21 @@ fn last_part(label: &[u8]) -> &[u8]
     &label[start..]
 }
 
-/// The name of the field that a node is of.
+/// Returns the name of the field that a node belongs to.
 fn key_of(line: &[u8], node: Node) -> &[u8]
     ensures { result.now ≡ F.key_of line.now node }
 {
     last_part(node.parts.label.of(line))
 }
 
-/// Whether the bytes are the same.
+/// Returns whether the bytes are the same.
 fn are_equal(left: &[u8], right: &[u8]) -> bool
     ensures { result ≡ bytes_eq left.now right.now }
 {
     left.len() == right.len() && are_same(left, right)
 }
 
-/// Whether the name of a field is that of one of these nodes.
+/// Returns whether one of these nodes belongs to the field with this name.
 fn is_known(line: &[u8], known: &[Node], key: &[u8]) -> bool
     ensures { result ≡ F.is_known key.now (map (F.key_of line.now) known.now) }
 {
@@ -49,7 +49,7 @@ fn is_known(line: &[u8], known: &[Node], key: &[u8]) -> bool
     is_any
 }
 
-/// Whether a node has a field of a new name.
+/// Returns whether a node is a leaf of a field that none of the known nodes belongs to.
 fn is_new(line: &[u8], known: &[Node], node: Node) -> bool
     ensures { result ≡ F.is_new (map (F.key_of line.now) known.now) node.is_leaf
         (F.key_of line.now node) }
@@ -57,7 +57,7 @@ fn is_new(line: &[u8], known: &[Node], node: Node) -> bool
     node.is_leaf && !is_known(line, known, key_of(line, node))
 }
 
-/// Finds a node for each name of a field, in the order in which the names first come.
+/// Finds one node for each field name, in the order of the first occurrence of the names.
 fn find_keys(keys: &mut Vec<Node>, line: &[u8], nodes: &[Node]) -> Result<(), NoMemory>
     ensures { OnOk result (map (F.key_of line.now) keys.new.items
         ≡ F.keys [] (map (seen line.now) nodes.now)) }
@@ -71,14 +71,14 @@ fn find_keys(keys: &mut Vec<Node>, line: &[u8], nodes: &[Node]) -> Result<(), No
     Ok(())
 }
 
-/// Whether a node is one of a field.
+/// Returns whether a node belongs to the field with this name.
 fn is_field(line: &[u8], key: &[u8], node: Node) -> bool
     ensures { result ≡ F.is_field key.now node.is_leaf (part_of line.now node.parts.label) }
 {
     node.is_leaf && are_equal(key_of(line, node), key)
 }
 
-/// How many nodes are of a field.
+/// Returns the number of nodes in a field.
 fn count_values(line: &[u8], key: &[u8], nodes: &[Node]) -> usize
     ensures { result ≡ length (F.values key.now (map (seen line.now) nodes.now)) }
 {
@@ -91,7 +91,7 @@ fn count_values(line: &[u8], key: &[u8], nodes: &[Node]) -> usize
     count
 }
 
-/// Adds a text in quotes.
+/// Appends a text in quotes.
 fn put_quoted(out: &mut Vec<u8>, text: &[u8]) -> Result<(), NoMemory>
     ensures { OnOk result (out.new.items ≡ out.old.items ++ F.in_quotes text.now) }
 {
@@ -100,7 +100,7 @@ fn put_quoted(out: &mut Vec<u8>, text: &[u8]) -> Result<(), NoMemory>
     put(out, b"\"")
 }
 
-/// Adds the texts of a field, with commas between them.
+/// Appends the texts of a field, separated by commas.
 fn put_values(out: &mut Vec<u8>, line: &[u8], key: &[u8], nodes: &[Node]) -> Result<(), NoMemory>
     ensures { OnOk result (out.new.items ≡ out.old.items
         ++ F.values_text (F.values key.now (map (seen line.now) nodes.now))) }
@@ -116,7 +116,7 @@ fn put_values(out: &mut Vec<u8>, line: &[u8], key: &[u8], nodes: &[Node]) -> Res
     Ok(())
 }
 
-/// Adds what a field is: a string, or a list of strings where it has several nodes.
+/// Appends the value of a field: a string, or a list of strings if it has several nodes.
 fn put_value(out: &mut Vec<u8>, line: &[u8], key: &[u8], nodes: &[Node]) -> Result<(), NoMemory>
     ensures { OnOk result (out.new.items ≡ out.old.items
         ++ F.value_text (F.values key.now (map (seen line.now) nodes.now))) }
@@ -129,7 +129,7 @@ fn put_value(out: &mut Vec<u8>, line: &[u8], key: &[u8], nodes: &[Node]) -> Resu
     put(out, b"]")
 }
 
-/// Adds a field.
+/// Appends a field.
 fn put_field(out: &mut Vec<u8>, line: &[u8], key: &[u8], nodes: &[Node]) -> Result<(), NoMemory>
     ensures { OnOk result (out.new.items ≡ out.old.items
         ++ F.field (map (seen line.now) nodes.now) key.now) }
@@ -139,7 +139,7 @@ fn put_field(out: &mut Vec<u8>, line: &[u8], key: &[u8], nodes: &[Node]) -> Resu
     put_value(out, line, key, nodes)
 }
 
-/// Adds the fields of these names, with commas between them.
+/// Appends the fields with these names, separated by commas.
 fn put_members(
     out: &mut Vec<u8>,
     line: &[u8],
@@ -156,7 +156,7 @@ fn put_members(
     Ok(())
 }
 
-/// The nodes below the root.
+/// Returns the nodes below the root.
 fn below_root(nodes: &[Node]) -> &[Node]
     ensures { result.now ≡ drop 1 nodes.now }
 {
@@ -164,7 +164,8 @@ fn below_root(nodes: &[Node]) -> &[Node]
     &nodes[from..]
 }
 
-/// Adds the object of all fields of a tree, with its line feed. `keys` is memory alone.
+/// Appends the object of all fields of a tree, and a line feed. `keys` serves only as reusable
+/// memory.
 #[tactic(auto, unfolding(crate::specs::Fields::fields_row))]
 pub(crate) fn put_fields(
     out: &mut Vec<u8>,

@@ -1,13 +1,13 @@
 // The formats of a table.
 
-/// How a table is written.
+/// The format in which a table is written.
 #[derive(Clone, Copy)]
 pub enum Format {
-    /// Comma-separated values, as RFC 4180 has them, but that a line ends with a line feed alone.
+    /// Comma-separated values as in RFC 4180, except that lines end with a line feed alone.
     Csv,
-    /// Tab-separated values, where a tab, a line feed, a carriage return and a backslash within a
-    /// cell are `\t`, `\n`, `\r` and `\\`.
+    /// Tab-separated values. A tab, a line feed, a carriage return and a backslash inside a cell
+    /// are written `\t`, `\n`, `\r` and `\\`.
     Tsv,
-    /// A JSON object a row, each cell a string, or `null` where the field is absent.
+    /// One JSON object per row. Each cell is a string, or `null` if the field is absent.
     Json,
 }

@@ -1,19 +1,19 @@
-// What holds of the definitions.
+// Laws that hold for the definitions.
 ghost use Rattle.rpl_columns.specs.Laws.{AreReadBack};
 ghost use Rattle.rpl_columns.specs.Taken.{TakesNodes};
 ghost use Rattle.rpl_columns.specs.Trees.{ReadsTrees};
 
-/// A text that is spelled as `rosie` spells it is read as that text.
+/// A text spelled as `rosie` spells it is read back as that text.
 pub fn texts_are_read_back()
     ensures { AreReadBack }
 {}
 
-/// The lines whose nodes are found are just those that are trees as `rosie` writes them.
+/// The lines whose nodes are found are exactly the trees that `rosie` writes.
 pub fn trees_are_read()
     ensures { ReadsTrees }
 {}
 
-/// A column takes of a tree just the nodes that the tree itself says.
+/// A column takes exactly the nodes that the definition over the tree itself gives.
 pub fn nodes_are_taken()
     ensures { TakesNodes }
 {}

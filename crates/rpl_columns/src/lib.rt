@@ -1,9 +1,9 @@
-//! A row of a table out of a tree: [`read_tree`] finds the nodes of a line that is a tree, spelled
-//! just as `rosie` spells it, and [`put_row`] writes the cells of its columns in one of three
+//! Table rows made from trees. [`read_tree`] finds the nodes of a line that is a tree written
+//! exactly as `rosie` writes it, and [`put_row`] writes the cells of its columns in one of three
 //! formats, or all its fields.
 //!
-//! The reader takes no memory but the list of nodes, which is kept from line to line, and refuses
-//! whatever `rosie` doesn't write.
+//! The reader allocates only the list of nodes, which is reused from line to line, and refuses
+//! everything that `rosie` doesn't write.
 #![tactic(auto)]
 
 mod bytes;

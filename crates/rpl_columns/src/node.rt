@@ -1,15 +1,15 @@
-// Where the parts of a node stand in its line.
+// The places of a node's parts in its line.
 ghost use Rattle.std.specs.Prelude.{◌≡◌, slice_range};
 
-/// A part of a line: the bytes from one place up to another.
+/// A part of a line: the bytes from `from` up to, but not including, `to`.
 #[derive(Clone, Copy)]
 pub struct Span {
     pub from: usize,
     pub to: usize,
 }
 
-/// Where the parts of a node stand in the line. All are as they are spelled there, the type and the
-/// text without their quotes.
+/// The places of a node's parts in the line. The parts are spelled as in the line; the type and the
+/// text are without their quotes.
 #[derive(Clone, Copy)]
 pub struct Parts {
     pub label: Span,
@@ -22,14 +22,15 @@ pub struct Parts {
 #[derive(Clone, Copy)]
 pub struct Node {
     pub parts: Parts,
-    /// How many nodes it is in.
+    /// The number of nodes that enclose it.
     pub depth: usize,
-    /// No node is in it.
+    /// Whether it encloses no node.
     pub is_leaf: bool,
 }
 
 impl Span {
-    /// The bytes of the line there. Places after the line's end count as its end.
+    /// Returns the bytes of the line at this span. Places after the end of the line count as its
+    /// end.
     #[inline(always)]
     pub(crate) fn of(self, line: &[u8]) -> &[u8]
         ensures { result.now ≡ slice_range line.now self.from self.to }

@@ -12,14 +12,14 @@ use crate::fields::put_fields;
 use crate::{Bytes, Column, Columns, Format, NoMemory, Node};
 use std::alloc::Global;
 
-/// What is written of each tree.
+/// The options for writing each tree.
 #[derive(Drop)]
 pub struct Sheet {
     pub format: Format,
-    /// Without columns all fields are written, as JSON.
+    /// The columns. Without any, all fields are written, as JSON.
     pub columns: Columns,
-    /// What stands between the texts of a cell, as JSON spells it between quotes. Where there is
-    /// none a cell has the first text alone.
+    /// The text between the texts of a cell, escaped as in JSON, without quotes. Without one, a
+    /// cell holds only the first text.
     pub joint: Option<Bytes>,
 }
 
@@ -30,12 +30,12 @@ pub struct Tree<'a> {
     pub nodes: &'a [Node],
 }
 
-/// Memory that is kept from row to row.
+/// Memory that is reused from row to row.
 #[derive(Drop)]
 pub struct Room {
-    /// The text of a cell that is put together.
+    /// The text of a cell while it is being joined.
     cell: Vec<u8>,
-    /// A node for each name of a field.
+    /// One node for each field name.
     keys: Vec<Node>,
 }
 
@@ -48,7 +48,7 @@ impl Room {
     }
 }
 
-/// The text of the first node that a column takes, as it is spelled.
+/// Returns the spelled text of the first node that a column takes.
 #[inline(always)]
 fn first_text<'a>(column: &Column, tree: Tree<'a>) -> Option<&'a [u8]>
     ensures { option_map (λ t. t.now) result ≡ R.joined None (picked column.now None
@@ -66,14 +66,14 @@ fn first_text<'a>(column: &Column, tree: Tree<'a>) -> Option<&'a [u8]>
     None
 }
 
-/// Whether a column takes a node of the tree.
+/// Returns whether a column takes any node of the tree.
 pub fn occurs(column: &Column, tree: Tree<'_>) -> bool
     ensures { result ≡ R.occurs column.now (map (seen tree.entry.line.now) tree.entry.nodes.now) }
 {
     first_text(column, tree).is_some()
 }
 
-/// Adds one text more to a cell.
+/// Appends one more text to a cell.
 fn add_text(cell: &mut Vec<u8>, joint: &[u8], is_found: bool, text: &[u8]) -> Result<(), NoMemory>
     ensures { OnOk result (cell.new.items ≡ R.added joint.now is_found cell.old.items text.now) }
 {
@@ -85,8 +85,7 @@ fn add_text(cell: &mut Vec<u8>, joint: &[u8], is_found: bool, text: &[u8]) -> Re
     put(cell, text)
 }
 
-/// Takes the texts of all nodes of a column, with the joint between them. Answers whether there is
-/// one.
+/// Joins the texts of all nodes of a column. Returns whether there is at least one.
 fn all_texts(
     cell: &mut Vec<u8>,
     joint: &[u8],
@@ -112,7 +111,7 @@ fn all_texts(
     Ok(is_found)
 }
 
-/// Adds a member of a JSON object.
+/// Appends a member of a JSON object.
 fn put_member(out: &mut Vec<u8>, name: &[u8], text: Option<&[u8]>) -> Result<(), NoMemory>
     ensures { OnOk result (out.new.items
         ≡ out.old.items ++ R.member name.now (option_map (λ t. t.now) text.entry)) }
@@ -129,7 +128,7 @@ fn put_member(out: &mut Vec<u8>, name: &[u8], text: Option<&[u8]>) -> Result<(),
     }
 }
 
-/// A text, or the empty one.
+/// Returns the text, or the empty text if there is none.
 #[inline(always)]
 fn or_nothing(text: Option<&[u8]>) -> &[u8]
     ensures { result.now ≡ R.or_nothing (option_map (λ t. t.now) text.entry) }
@@ -140,7 +139,7 @@ fn or_nothing(text: Option<&[u8]>) -> &[u8]
     }
 }
 
-/// Adds a cell of a column with this name.
+/// Appends a cell of the column with this name.
 #[inline(always)]
 fn put_cell(
     out: &mut Vec<u8>,
@@ -158,7 +157,7 @@ fn put_cell(
     }
 }
 
-/// A text, where one was found.
+/// Returns the text if one was found.
 #[inline(always)]
 fn found_text(text: &[u8], is_found: bool) -> Option<&[u8]>
     ensures { option_map (λ t. t.now) result ≡ R.found_text is_found text.now }
@@ -166,7 +165,7 @@ fn found_text(text: &[u8], is_found: bool) -> Option<&[u8]>
     if is_found { Some(text) } else { None }
 }
 
-/// Adds the cell of a column.
+/// Appends the cell of a column.
 #[inline(always)]
 fn put_column(
     out: &mut Vec<u8>,
@@ -188,7 +187,7 @@ fn put_column(
     }
 }
 
-/// What stands between two cells.
+/// Returns the byte between two cells.
 fn separator(format: Format) -> u8
     ensures { result ≡ R.separator format }
 {
@@ -199,7 +198,7 @@ fn separator(format: Format) -> u8
     }
 }
 
-/// What stands before the first cell.
+/// Returns the bytes before the first cell.
 fn opening(format: Format) -> &'static [u8]
     ensures { result.now ≡ R.opening format }
 {
@@ -209,7 +208,7 @@ fn opening(format: Format) -> &'static [u8]
     }
 }
 
-/// What stands after the last cell.
+/// Returns the bytes after the last cell.
 fn closing(format: Format) -> &'static [u8]
     ensures { result.now ≡ R.closing format }
 {
@@ -219,7 +218,7 @@ fn closing(format: Format) -> &'static [u8]
     }
 }
 
-/// Adds what stands before a cell that so many come before.
+/// Appends the separator before the cell with this index, unless it is the first.
 #[inline(always)]
 pub(crate) fn put_separator(out: &mut Vec<u8>, separator: u8, index: usize) -> Result<(), NoMemory>
     ensures { OnOk result (out.new.items ≡ out.old.items ++ before separator index) }
@@ -231,7 +230,7 @@ pub(crate) fn put_separator(out: &mut Vec<u8>, separator: u8, index: usize) -> R
     Ok(())
 }
 
-/// Adds the cells of a tree, with what stands between them.
+/// Appends the cells of a tree, with separators.
 fn put_cells(
     out: &mut Vec<u8>,
     cell: &mut Vec<u8>,
@@ -251,7 +250,7 @@ fn put_cells(
     Ok(())
 }
 
-/// Writes two quotes where nothing stands from `start` on.
+/// Writes two quotes if nothing was written from `start` on.
 fn fill_blank(out: &mut Vec<u8>, start: usize) -> Result<(), NoMemory>
     requires { start ≤ vec_len out.old }
     ensures { OnOk result (out.new.items ≡ take start out.old.items
@@ -263,7 +262,7 @@ fn fill_blank(out: &mut Vec<u8>, start: usize) -> Result<(), NoMemory>
     Ok(())
 }
 
-/// The same where the format has it so: a row of one empty cell would be an empty line in CSV.
+/// Does the same if the format needs it: in CSV, a row of one empty cell would be an empty line.
 fn fill_cells(out: &mut Vec<u8>, format: Format, start: usize) -> Result<(), NoMemory>
     requires { start ≤ vec_len out.old }
     ensures { OnOk result (out.new.items ≡ take start out.old.items
@@ -276,7 +275,7 @@ fn fill_cells(out: &mut Vec<u8>, format: Format, start: usize) -> Result<(), NoM
     }
 }
 
-/// Ends a row, whose cells stand from `start` on.
+/// Ends a row whose cells begin at `start`.
 fn end_row(out: &mut Vec<u8>, format: Format, start: usize) -> Result<(), NoMemory>
     requires { start ≤ vec_len out.old }
     ensures { OnOk result (out.new.items ≡ take start out.old.items
@@ -287,7 +286,7 @@ fn end_row(out: &mut Vec<u8>, format: Format, start: usize) -> Result<(), NoMemo
     Ok(())
 }
 
-/// Adds the row of the columns.
+/// Appends the row of the columns.
 fn put_columns_row(
     out: &mut Vec<u8>,
     cell: &mut Vec<u8>,
@@ -304,7 +303,7 @@ fn put_columns_row(
     end_row(out, sheet.format, start)
 }
 
-/// Adds the row of a tree, with its line feed. `room` is memory alone.
+/// Appends the row of a tree, and a line feed. `room` serves only as reusable memory.
 pub fn put_row(
     out: &mut Vec<u8>,
     room: &mut Room,
@@ -321,7 +320,7 @@ pub fn put_row(
     put_columns_row(out, &mut room.cell, sheet, tree)
 }
 
-/// Adds the names of the columns, with what stands between them.
+/// Appends the names of the columns, with separators.
 fn put_names(out: &mut Vec<u8>, sheet: &Sheet) -> Result<(), NoMemory>
     ensures { OnOk result (out.new.items ≡ out.old.items
         ++ between (R.separator sheet.now.format)
@@ -338,7 +337,7 @@ fn put_names(out: &mut Vec<u8>, sheet: &Sheet) -> Result<(), NoMemory>
     Ok(())
 }
 
-/// Adds the row of the names of the columns, with its line feed.
+/// Appends the row of column names, and a line feed.
 fn put_names_row(out: &mut Vec<u8>, sheet: &Sheet) -> Result<(), NoMemory>
     ensures { OnOk result (out.new.items ≡ out.old.items ++ R.row_text sheet.now.format
         (R.names sheet.now.format sheet.now.columns)) }
@@ -349,7 +348,7 @@ fn put_names_row(out: &mut Vec<u8>, sheet: &Sheet) -> Result<(), NoMemory>
     end_row(out, sheet.format, start)
 }
 
-/// Adds the row of the names of the columns, with its line feed. In JSON there is none.
+/// Appends the row of column names, and a line feed. Appends nothing in JSON.
 #[tactic(auto, unfolding(crate::specs::Rows::header))]
 pub fn put_header(out: &mut Vec<u8>, sheet: &Sheet) -> Result<(), NoMemory>
     ensures { OnOk result (out.new.items ≡ out.old.items ++ R.header sheet.now) }

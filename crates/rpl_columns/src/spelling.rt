@@ -1,5 +1,5 @@
-// The smallest parts of a tree's line: words, numbers and strings. Each function is given a place
-// in the line and answers the place after what it found there, if it is there.
+// The smallest parts of a tree's line: words, numbers and strings. Each function takes a place in
+// the line and returns the place after the part that it found there, if any.
 ghost use Rattle.std.specs.Prelude.{◌≡◌, ◌+◌, ◌-◌, ◌≤◌, ◌<◌, ◌∷◌, length, drop, option_map, IfSome};
 ghost use Rattle.std.specs.Prelude.{slice_index, slice_range, false, ℕ};
 ghost use Rattle.std.specs.Str.{bytes_eq};
@@ -11,8 +11,8 @@ ghost use Rattle.rpl_columns.specs.Nodes.{number_in, span_seen, string_in};
 
 use crate::node::Span;
 
-/// Whether the bytes are the same, of which there are as many. Where the number is known to the
-/// compiler, this is a few instructions.
+/// Returns whether the bytes are the same. Both slices have the same length. If the compiler knows
+/// the length, this compiles to a few instructions.
 #[inline(always)]
 pub(crate) fn are_same(left: &[u8], right: &[u8]) -> bool
     requires { length left.now ≡ length right.now }
@@ -25,7 +25,7 @@ pub(crate) fn are_same(left: &[u8], right: &[u8]) -> bool
     is_all
 }
 
-/// The place after this word.
+/// Returns the place after this word.
 #[inline(always)]
 pub(crate) fn after(line: &[u8], at: usize, word: &[u8]) -> Option<usize>
     requires { at ≤ length line.now }
@@ -43,7 +43,7 @@ pub(crate) fn after(line: &[u8], at: usize, word: &[u8]) -> Option<usize>
     }
 }
 
-/// Whether a byte stands for itself within quotes.
+/// Returns whether a byte needs no escape inside quotes.
 #[inline(always)]
 fn is_plain_byte(byte: u8) -> bool
     ensures { result ≡ Q.is_plain_byte byte }
@@ -51,10 +51,10 @@ fn is_plain_byte(byte: u8) -> bool
     byte >= 0x20 && byte != b'"' && byte != b'\\'
 }
 
-/// How many bytes are looked at together.
+/// The number of bytes tested together.
 const CHUNK: usize = 16;
 
-/// Whether each byte stands for itself within quotes.
+/// Returns whether no byte needs an escape inside quotes.
 #[inline(always)]
 fn are_plain(bytes: &[u8]) -> bool
     ensures { result ≡ Q.is_plain bytes.now }
@@ -66,7 +66,7 @@ fn are_plain(bytes: &[u8]) -> bool
     is_all
 }
 
-/// Goes past bytes that stand for themselves, to the first that doesn't or to the end of the line.
+/// Returns the place of the first byte that needs an escape inside quotes, or the end of the line.
 #[inline(always)]
 fn plain_end(line: &[u8], from: usize) -> usize
     requires { from ≤ length line.now }
@@ -86,7 +86,7 @@ fn plain_end(line: &[u8], from: usize) -> usize
     at
 }
 
-/// Whether this is the letter of a short escape.
+/// Returns whether this is the letter of a short escape.
 fn is_short_escape(letter: u8) -> bool
     ensures { result ≡ is_short_escape letter }
 {
@@ -96,7 +96,7 @@ fn is_short_escape(letter: u8) -> bool
     }
 }
 
-/// The value of a hexadecimal digit, of which the letters are small, or 16.
+/// Returns the value of a lowercase hexadecimal digit, or 16 for any other byte.
 fn hex_value(digit: u8) -> u8
     ensures value { result ≡ S.hex_value digit }
     ensures bound { result ≤ 16 }
@@ -108,7 +108,7 @@ fn hex_value(digit: u8) -> u8
     }
 }
 
-/// The byte below 32 that the first four digits stand for, unless it has a short escape.
+/// Returns the byte below 32 that the first four digits represent, unless it has a short escape.
 pub(crate) fn control_of(digits: &[u8]) -> Option<u8>
     ensures value { result ≡ control_in digits.now }
     ensures enough { IfSome result (λ _. 4 ≤ length digits.now) }
@@ -131,7 +131,7 @@ pub(crate) fn control_of(digits: &[u8]) -> Option<u8>
     }
 }
 
-/// How many bytes an escape has after its backslash, or 0 where there is no escape.
+/// Returns the number of bytes of an escape after its backslash, or 0 if there is no escape.
 fn escape_count(rest: &[u8]) -> usize
     ensures value { result ≡ escape_count rest.now }
     ensures within { result ≤ length rest.now }
@@ -151,8 +151,8 @@ fn escape_count(rest: &[u8]) -> usize
     }
 }
 
-/// The place of the quote that ends a string, or of what no string has. `from` is the place of its
-/// first byte.
+/// Returns the place of the quote that ends a string, or of the first byte that no string contains.
+/// `from` is the place of the string's first byte.
 #[inline(always)]
 fn string_end(line: &[u8], from: usize) -> usize
     requires { from ≤ length line.now }
@@ -167,7 +167,7 @@ fn string_end(line: &[u8], from: usize) -> usize
     }
 }
 
-/// The same from a backslash on.
+/// Does the same, starting at a backslash.
 #[inline(never)]
 fn escaped_end(line: &[u8], from: usize) -> usize
     requires within { from ≤ length line.now }
@@ -186,7 +186,7 @@ fn escaped_end(line: &[u8], from: usize) -> usize
     at
 }
 
-/// Whether this is a digit.
+/// Returns whether this is a digit.
 #[inline(always)]
 fn is_digit(byte: u8) -> bool
     ensures { result ≡ is_digit byte }
@@ -194,7 +194,7 @@ fn is_digit(byte: u8) -> bool
     b'0' <= byte && byte <= b'9'
 }
 
-/// The place after the digits.
+/// Returns the place after the digits.
 #[inline(always)]
 fn digits_end(line: &[u8], from: usize) -> usize
     requires { from ≤ length line.now }
@@ -208,7 +208,8 @@ fn digits_end(line: &[u8], from: usize) -> usize
     at
 }
 
-/// A number that isn't 0, and the place after this word.
+/// Parses a number without a leading 0, followed by this word. Returns the number and the place
+/// after the word.
 #[inline(always)]
 pub(crate) fn after_number(line: &[u8], from: usize, word: &[u8]) -> Option<(Span, usize)>
     requires { from ≤ length line.now }
@@ -224,7 +225,8 @@ pub(crate) fn after_number(line: &[u8], from: usize, word: &[u8]) -> Option<(Spa
     Some((Span { from, to }, end))
 }
 
-/// A string, and the place after this word, which begins with its quote.
+/// Parses a string, followed by this word, which begins with the string's closing quote. Returns
+/// the string and the place after the word.
 #[inline(always)]
 pub(crate) fn after_string(line: &[u8], from: usize, word: &[u8]) -> Option<(Span, usize)>
     requires { from ≤ length line.now }

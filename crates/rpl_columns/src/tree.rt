@@ -8,7 +8,7 @@ use crate::NoMemory;
 use crate::node::{Node, Parts};
 use crate::spelling::{after, after_number, after_string};
 
-/// Finds the parts of a node, and the place after its text.
+/// Parses a node up to its text. Returns its parts, and the place after its text.
 #[inline(always)]
 #[tactic(auto, unfolding(crate::specs::Nodes::node_in))]
 fn read_parts(line: &[u8], at: usize) -> Option<(Parts, usize)>
@@ -30,15 +30,15 @@ fn read_parts(line: &[u8], at: usize) -> Option<(Parts, usize)>
     Some((parts, at))
 }
 
-/// Where the reading of a tree goes on.
+/// The state from which the reading of a tree continues.
 #[derive(Clone, Copy)]
 struct Reached {
     at: usize,
-    /// How many lists of nodes are open there.
+    /// The number of lists of nodes that are open there.
     depth: usize,
 }
 
-/// Goes past the ends of lists and of the nodes that they are in.
+/// Skips the ends of lists and of the nodes that contain them.
 #[inline(always)]
 #[tactic(auto, unfolding(crate::specs::Nodes::closed))]
 fn close_lists(line: &[u8], reached: Reached) -> Reached
@@ -61,7 +61,7 @@ fn close_lists(line: &[u8], reached: Reached) -> Reached
     Reached { at, depth }
 }
 
-/// Goes on after a node that no node is in, to the next node or to the end of the tree.
+/// Continues after a node without children, to the next node or to the end of the tree.
 #[inline(always)]
 #[tactic(auto, unfolding(crate::specs::Nodes::next_in))]
 fn next_node(line: &[u8], reached: Reached) -> Option<Reached>
@@ -82,7 +82,8 @@ fn next_node(line: &[u8], reached: Reached) -> Option<Reached>
     Some(Reached { at, depth })
 }
 
-/// Finds a node, and where the next begins. Where no list is open the tree ends there.
+/// Parses a node. Returns it with the state where the next one begins; if no list is open in that
+/// state, the tree ends there.
 #[inline(always)]
 #[tactic(auto, unfolding(crate::specs::Nodes::step_in))]
 fn read_step(line: &[u8], reached: Reached) -> Option<(Node, Reached)>
@@ -116,9 +117,9 @@ fn read_step(line: &[u8], reached: Reached) -> Option<(Node, Reached)>
     }
 }
 
-/// Finds the nodes of the tree that the line is, in the order in which they are written. Answers
-/// whether it is one, spelled just as `rosie` spells it. Where it is none, the nodes are some that
-/// it begins with.
+/// Finds the nodes of the tree that the line is, in the order in which they are written. Returns
+/// whether the line is a tree, written exactly as `rosie` writes it. If it is not, `nodes` holds
+/// some nodes from its start.
 pub fn read_tree(line: &[u8], nodes: &mut Vec<Node>) -> Result<bool, NoMemory>
     ensures { IfOk result (λ found. tree_in line.now
         ≡ if_found found (map (seen line.now) nodes.new.items)) }

@@ -1,43 +1,43 @@
 //! The simulation theorem: the code of a goal, run by the machine, does what the goal means.
 //!
-//! It is for those who read or change the definitions of `rpl_core`, and for the contracts of the
-//! compiler and of the top call, which rest on it. It holds no code: each function has no
-//! parameters and an empty body, and its contract is a law about the definitions alone, whose
-//! statement stands in `specs/Laws.antt`.
+//! For readers and authors of the definitions of `rpl_core`, and for the contracts of the compiler
+//! and of the top call, which rest on this theorem. The crate contains no code: each function has
+//! no parameters and an empty body, and its contract is a law about the definitions alone, stated
+//! in `specs/Laws.antt`.
 #![tactic(auto)]
 
 ghost use Rattle.rpl_compile_laws.specs.Laws.{SimulationLaw, AnswerLaw, NoHaltLaw, OneTreeLaw};
 ghost use Rattle.rpl_compile_laws.specs.Laws.{TerminationLaw};
 
-/// The code of a goal, no predicate of which may halt, runs on each text as the goal means, where
-/// the meaning isn't open: it ends at the same place with just the trees of the meaning, or fails,
-/// after at most four times the work of the meaning and two steps; with fewer steps than it needs
-/// it is unfinished.
+/// The code of a goal none of whose predicates may halt runs on each text as the goal means, if the
+/// meaning isn't open. It ends at the same place with exactly the trees of the meaning, or fails.
+/// It takes at most two steps more than four times the work of the meaning; with fewer steps than
+/// it needs, it is unfinished.
 pub fn simulation_law()
     ensures { SimulationLaw }
 {}
 
-/// What each answer of the machine tells of the meaning, where the meaning isn't open: a match that
-/// the meaning matches to the same place with just those captures, a failure that it fails, and an
-/// unfinished run that four times the work of the meaning and two is over the bound.
+/// What each answer of the machine implies, if the meaning isn't open. After a match, the meaning
+/// matches up to the same place with exactly those captures. After a failure, the meaning fails.
+/// After an unfinished run, four times the work of the meaning plus two exceeds the bound.
 pub fn answer_law()
     ensures { AnswerLaw }
 {}
 
-/// No body of a predicate may halt, where neither the goal nor any rule has a halt in it.
+/// No body of a predicate may halt if neither the goal nor any rule contains a halt.
 pub fn no_halt_law()
     ensures { NoHaltLaw }
 {}
 
-/// A match of a goal that is a capture, or a call of a rule whose body is one, has one tree, with
-/// the capture's label, from the first place to the place after the match.
+/// A match of a goal that is a capture, or a call of a rule whose body is one, has one tree. The
+/// tree has the capture's label and extends from the first place to the place after the match.
 pub fn one_tree_law()
     ensures { OneTreeLaw }
 {}
 
-/// The meaning of a goal is never open, on any text, where the table and the goal are such that
-/// evaluations end: no repeated body may be empty, no rule calls itself before it has taken a
-/// character, each call is a rule of the table, and the body of a look-behind has no call and no
+/// The meaning of a goal is open on no text if the table and the goal ensure that evaluations end:
+/// no repeated body can match the empty text, no rule calls itself before it has taken a character,
+/// each call names a rule of the table, and the body of a look-behind contains no call and no
 /// repetition.
 pub fn termination_law()
     ensures { TerminationLaw }

@@ -1,12 +1,12 @@
-// What a run captures.
+// The captures of a run.
 
-/// One capture of a run, in the order in which the machine made them: `specs/Forest.antt` says
-/// which list stands for which trees. Places are numbers of bytes from the line's start.
+/// One capture of a run, in the order in which the machine made them. `specs/Forest.antt` defines
+/// which list represents which trees. Places are byte offsets from the start of the line.
 #[derive(Clone, Copy, Debug, PartialEq, Eq)]
 pub enum Caught {
-    /// A tree of the type with this number begins.
+    /// The start of a tree of the type with this number.
     Begin { label: u32, place: usize },
-    /// The tree begun last of those still open ends.
+    /// The end of the innermost open tree.
     Finish { place: usize },
     /// A note of the text with this number.
     Note { text: u32, place: usize },

@@ -5,35 +5,35 @@ ghost use Rattle.std.specs.Prelude.{◌≡◌, length};
 
 use rpl_list::List;
 
-/// An instruction, with its operands in the order in which they print: an address from 0, the
+/// An instruction, with its operands in the order in which they are printed: an address from 0, the
 /// number of a set, the number of a text, or a count of characters. `specs/Machine.antt` defines
 /// the step of each.
 #[derive(Clone, Copy)]
 pub enum Instr {
-    /// Takes a character of the set, else fails.
+    /// Takes a character of the set; fails if none follows.
     Set(u32),
-    /// Fails anywhere but at the first place.
+    /// Fails everywhere except at the first place.
     Start,
-    /// Fails anywhere but at the last place.
+    /// Fails everywhere except at the last place.
     End,
-    /// Pushes an entry: a failure goes on at the address, from this place.
+    /// Pushes an entry: a later failure resumes at the address, from this place.
     Choice(u32),
-    /// Takes the entry off and goes to the address.
+    /// Pops the entry and jumps to the address.
     Commit(u32),
-    /// Takes the entry off and fails.
+    /// Pops the entry and fails.
     FailTwice,
-    /// Takes the entry off, goes back to its place and captures, and goes to the address.
+    /// Pops the entry, restores its place and captures, and jumps to the address.
     BackCommit(u32),
     /// Fails.
     Fail,
-    /// Goes so many characters back, or fails.
+    /// Goes back by this number of characters; fails if there are fewer.
     Back(u32),
-    /// Where this is the entry's place, takes it off, goes back to its captures and goes to the
-    /// address; else fails.
+    /// If this is the entry's place, pops the entry, restores its captures and jumps to the
+    /// address; otherwise fails.
     Meet(u32),
-    /// Pushes the next address and goes to the address.
+    /// Pushes the next address and jumps to the address.
     Call(u32),
-    /// Goes on where the call was.
+    /// Returns to the address after the call.
     Return,
     /// Begins a tree of the type with this number.
     Open(u32),
@@ -43,21 +43,23 @@ pub enum Instr {
     Note(u32),
     /// Ends the run with a match.
     Finish,
-    /// Goes on where a character of the set follows, without taking it; else goes to the address.
+    /// Continues if a character of the set follows, without taking it; otherwise jumps to the
+    /// address.
     TestSet(u32, u32),
     /// Takes characters of the set as long as they follow.
     Span(u32),
-    /// Sets the entry to this place and the present captures, and goes to the address.
+    /// Sets the entry to this place and the current captures, and jumps to the address.
     PartialCommit(u32),
-    /// Ends each open tree here, and then the run with a match.
+    /// Ends each open tree here, then ends the run with a match.
     Halt,
 }
 
-/// Instructions in order, the first at address 0. Contracts see their list.
+/// Instructions in order, the first at address 0. Contracts see them as a list.
 pub type Instrs = List<Instr>;
 
 impl Instr {
-    /// The numbers of the instruction are in range, among so many instructions, sets and texts.
+    /// Returns whether the instruction's numbers are in range, given the numbers of instructions,
+    /// sets and texts.
     pub fn is_in_range(self, code: usize, sets: usize, labels: usize) -> bool
         ensures { result ≡ in_range code sets labels self }
     {
@@ -77,7 +79,8 @@ impl Instr {
     }
 }
 
-/// The numbers of all instructions are in range, among so many sets and texts.
+/// Returns whether the numbers of all instructions are in range, given the numbers of sets and
+/// texts.
 pub(crate) fn are_in_range(code: &Instrs, sets: usize, labels: usize) -> bool
     ensures { result ≡ list_all (in_range (length code.now) sets labels) code.now }
 {

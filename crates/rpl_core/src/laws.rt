@@ -1,18 +1,18 @@
-// What holds of the definitions alone.
+// Laws that hold for the definitions alone.
 ghost use Rattle.rpl_core.specs.Laws.{CodeLaw, DepthLaw, FlatLaw, HasCodeLaw, RunLaw};
 
-/// An outcome that isn't open is the same, with the same work, at every greater depth.
+/// An outcome that isn't open stays the same, with the same work, at every greater depth.
 pub fn depth_law()
     ensures { DepthLaw }
 {}
 
-/// A run that has ended ends the same way with any bound that lets it make its steps, and with no
+/// A run that has ended ends in the same way under every bound that allows its steps, and under no
 /// smaller one.
 pub fn run_law()
     ensures { RunLaw }
 {}
 
-/// A capture list is that of at most one list of trees.
+/// A capture list represents at most one list of trees.
 pub fn flat_law()
     ensures { FlatLaw }
 {}
@@ -22,7 +22,7 @@ pub fn code_law()
     ensures { CodeLaw }
 {}
 
-/// A goal has a code over a table of rules, so what is said of its code is said of something.
+/// A goal has a code over a table of rules, so statements about its code are never vacuous.
 pub fn has_code_law()
     ensures { HasCodeLaw }
 {}

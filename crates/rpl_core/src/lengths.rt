@@ -1,17 +1,18 @@
-// How many characters a pattern may take, and what leaves that open.
+// The number of characters that a pattern may take, and the parts that leave it open.
 ghost use Rattle.std.specs.Prelude.{◌≡◌, min};
 ghost use Rattle.rpl_core.specs.Lengths as L;
 ghost use Rattle.rpl_core.specs.View.{core_of, cores};
 
 use crate::peg::Peg;
 
-/// Where the greatest length stops: one more than the body of a look-behind may take.
+/// The cap on the greatest length: one more than the body of a look-behind may take.
 const LONGEST: u32 = 256;
 
-/// Where the least length stops: as many characters as a pattern of 65,536 parts can ask for.
+/// The cap on the least length: the greatest number of characters that a pattern of 65,536 parts
+/// can require.
 const LONGEST_LEAST: u32 = 65_536;
 
-/// The pattern calls some rule.
+/// Returns whether the pattern calls a rule.
 #[cycle(call)]
 pub fn has_call(peg: &Peg) -> bool
     ensures { result ≡ L.has_call (core_of peg.now) }
@@ -27,7 +28,7 @@ pub fn has_call(peg: &Peg) -> bool
     }
 }
 
-/// Some part calls one.
+/// Returns whether any part calls a rule.
 #[cycle(call)]
 fn any_has_call(parts: &[Peg]) -> bool
     ensures { result ≡ L.any_has_call (cores parts.now) }
@@ -40,7 +41,7 @@ fn any_has_call(parts: &[Peg]) -> bool
     false
 }
 
-/// The pattern repeats something.
+/// Returns whether the pattern contains a repetition.
 #[cycle(repetition)]
 pub fn has_repetition(peg: &Peg) -> bool
     ensures { result ≡ L.has_repetition (core_of peg.now) }
@@ -56,7 +57,7 @@ pub fn has_repetition(peg: &Peg) -> bool
     }
 }
 
-/// Some part does.
+/// Returns whether any part contains a repetition.
 #[cycle(repetition)]
 fn any_has_repetition(parts: &[Peg]) -> bool
     ensures { result ≡ L.any_has_repetition (cores parts.now) }
@@ -69,8 +70,8 @@ fn any_has_repetition(parts: &[Peg]) -> bool
     false
 }
 
-/// The greatest number of characters that a pattern without calls and repetitions takes, or 256
-/// where it is greater.
+/// Returns the greatest number of characters that a pattern without calls and repetitions takes, at
+/// most 256.
 #[cycle(greatest)]
 pub fn greatest_length(peg: &Peg) -> u32
     ensures { result ≡ min 256 (L.greatest (core_of peg.now)) }
@@ -85,7 +86,7 @@ pub fn greatest_length(peg: &Peg) -> u32
     }
 }
 
-/// That of all parts in turn.
+/// Returns the sum of the greatest lengths of the parts, at most 256.
 #[cycle(greatest)]
 fn greatest_sum(parts: &[Peg]) -> u32
     ensures { result ≡ min 256 (L.greatest_sum (cores parts.now)) }
@@ -97,7 +98,7 @@ fn greatest_sum(parts: &[Peg]) -> u32
     sum
 }
 
-/// That of some part.
+/// Returns the maximum of the greatest lengths of the parts.
 #[cycle(greatest)]
 fn greatest_of(parts: &[Peg]) -> u32
     ensures { result ≡ min 256 (L.greatest_of (cores parts.now)) }
@@ -109,8 +110,8 @@ fn greatest_of(parts: &[Peg]) -> u32
     most
 }
 
-/// The least number of characters that a pattern without calls and repetitions takes, or 65,536
-/// where it is greater.
+/// Returns the least number of characters that a pattern without calls and repetitions takes, at
+/// most 65,536.
 #[cycle(least)]
 pub fn least_length(peg: &Peg) -> u32
     ensures { result ≡ min 65536 (L.least (core_of peg.now)) }
@@ -125,7 +126,7 @@ pub fn least_length(peg: &Peg) -> u32
     }
 }
 
-/// That of all parts in turn.
+/// Returns the sum of the least lengths of the parts, at most 65,536.
 #[cycle(least)]
 fn least_sum(parts: &[Peg]) -> u32
     ensures { result ≡ min 65536 (L.least_sum (cores parts.now)) }
@@ -137,7 +138,7 @@ fn least_sum(parts: &[Peg]) -> u32
     sum
 }
 
-/// That of some part.
+/// Returns the minimum of the least lengths of the parts.
 #[cycle(least)]
 fn least_of(parts: &[Peg]) -> u32
     ensures { result ≡ min 65536 (L.least_of (cores parts.now)) }

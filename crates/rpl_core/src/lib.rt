@@ -1,9 +1,10 @@
-//! What a pattern means, what the machine does, and the code that joins them, as definitions
-//! (`specs/`), and the types that hold patterns, rules and code. Every other crate of patterns
-//! stands on these: expansion makes a `Peg`, the compiler a `Program`, and the machine runs it. The
-//! types promise that rules have distinct names and that every number in a program is in range;
-//! [`reached_rules`] finds just the rules that a goal reaches, and [`reached`] marks them; the laws
-//! say what holds of the definitions alone. docs/MEANING.md tells the definitions in plain words.
+//! The definitions (`specs/`) of what a pattern means, what the machine does, and the code that
+//! joins the two, and the types that hold patterns, rules and code. Every other crate that handles
+//! patterns builds on these: expansion makes a `Peg`, the compiler a `Program`, and the machine
+//! runs it. The types promise that rules have distinct names and that every number in a program is
+//! in range. [`reached_rules`] finds exactly the rules that a goal reaches, and [`reached`] marks
+//! them. The laws state properties of the definitions alone. docs/MEANING.md explains the
+//! definitions in plain words.
 #![tactic(auto)]
 
 mod caught;
@@ -25,5 +26,5 @@ pub use peg::{Peg, Pegs};
 pub use program::{Labels, Program, Sets};
 pub use reach::{reached, reached_rules};
 pub use rules::{Rule, Rules};
-/// Out of memory, which every call that takes memory may answer.
+/// Out of memory, which every call that allocates may return.
 pub use std::alloc::AllocError as NoMemory;

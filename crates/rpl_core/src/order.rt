@@ -1,4 +1,4 @@
-// Whether tables stand in order, and patterns call rules of their table.
+// The order of tables, and calls of rules inside their table.
 ghost use Rattle.std.specs.Prelude.{◌≡◌, ℕ, ◌<◌, ◌≤◌, ◌↔◌, IsTrue, None, true, nat_lt, length};
 ghost use Rattle.std.specs.Prelude.{slice_get};
 ghost use Rattle.rpl_core.specs.Listed.{blocks_in, bodies_in, rules_of};
@@ -11,7 +11,7 @@ ghost use Rattle.rpl_core.specs.inside.Standing as S;
 use crate::peg::Peg;
 use crate::rules::Rules;
 
-/// The block of the rule with this number, if there is the rule and it stands in one.
+/// Returns the block of the rule with this number, if the rule exists and is in a block.
 fn block_of(rules: &Rules, number: u32) -> Option<u32>
     ensures { result ≡ block_at (slice_get (blocks_in rules.now) number) }
 {
@@ -21,7 +21,7 @@ fn block_of(rules: &Rules, number: u32) -> Option<u32>
     }
 }
 
-/// Both rules stand in one block.
+/// Returns whether both rules are in the same block.
 fn same_block(rules: &Rules, one: u32, other: u32) -> bool
     ensures { result ≡ O.same_block
         (block_at (slice_get (blocks_in rules.now) one))
@@ -33,7 +33,7 @@ fn same_block(rules: &Rules, one: u32, other: u32) -> bool
     }
 }
 
-/// The rule stands in one block with the next one.
+/// Returns whether the rule is in the same block as the next one.
 pub fn joins_next(rules: &Rules, number: u32) -> bool
     requires { number < length (rules_of rules.now) }
     ensures { result ≡ O.joins_next (blocks_in rules.now) number }
@@ -41,7 +41,7 @@ pub fn joins_next(rules: &Rules, number: u32) -> bool
     same_block(rules, number, number + 1)
 }
 
-/// The rule stands outside blocks.
+/// Returns whether the rule is in no block.
 pub fn is_outside(rules: &Rules, number: u32) -> bool
     ensures { IsTrue result ↔ (block_at (slice_get (blocks_in rules.now) number) ≡ None) }
 {
@@ -51,14 +51,14 @@ pub fn is_outside(rules: &Rules, number: u32) -> bool
     }
 }
 
-/// The rule may call the other.
+/// Returns whether the rule may call the other.
 fn may_call(rules: &Rules, number: u32, other: u32) -> bool
     ensures { result ≡ S.may_call (blocks_in rules.now) number other }
 {
     other < number || same_block(rules, number, other)
 }
 
-/// The rule may call each rule that the pattern calls.
+/// Returns whether the rule may call each rule that the pattern calls.
 #[cycle(only)]
 fn calls_only(peg: &Peg, rules: &Rules, number: u32) -> bool
     ensures { result ≡ S.calls_only (S.may_call (blocks_in rules.now) number) (core_of peg.now) }
@@ -74,7 +74,7 @@ fn calls_only(peg: &Peg, rules: &Rules, number: u32) -> bool
     }
 }
 
-/// The rule may call each rule that the parts call.
+/// Returns whether the rule may call each rule that the parts call.
 #[cycle(only)]
 fn all_call_only(parts: &[Peg], rules: &Rules, number: u32) -> bool
     ensures { result ≡ S.all_call_only (S.may_call (blocks_in rules.now) number) (cores parts.now) }
@@ -87,7 +87,7 @@ fn all_call_only(parts: &[Peg], rules: &Rules, number: u32) -> bool
     true
 }
 
-/// The rule may call each rule that its body calls.
+/// Returns whether the rule may call each rule that its body calls.
 fn body_calls_only(rules: &Rules, number: u32) -> bool
     ensures { result ≡ S.body_calls_only
         (S.may_call (blocks_in rules.now) number)
@@ -99,8 +99,8 @@ fn body_calls_only(rules: &Rules, number: u32) -> bool
     }
 }
 
-/// An earlier rule is in the block of this one, where all blocks of earlier rules are below `next`:
-/// none is, where this one isn't.
+/// Returns whether an earlier rule is in the same block as this one. All blocks of earlier rules
+/// are below `next`, so none is if this rule's block isn't below `next`.
 fn has_mate(rules: &Rules, number: u32, next: u64) -> bool
     requires { S.AreBelow (blocks_in rules.now) number next }
     ensures { result ≡ S.has_mate (blocks_in rules.now) number number }
@@ -118,7 +118,7 @@ fn has_mate(rules: &Rules, number: u32, next: u64) -> bool
     false
 }
 
-/// The block of the rule, if it stands in one, isn't below `next`.
+/// Returns whether the rule is in no block or in one that isn't below `next`.
 fn is_new(rules: &Rules, number: u32, next: u64) -> bool
     ensures { result ≡ S.is_new next (block_at (slice_get (blocks_in rules.now) number)) }
 {
@@ -128,7 +128,8 @@ fn is_new(rules: &Rules, number: u32, next: u64) -> bool
     }
 }
 
-/// The rule is in the block of an earlier one, and not in that of the rule before it.
+/// Returns whether the rule is in the block of an earlier one, but not in that of the rule directly
+/// before it.
 fn is_split(rules: &Rules, number: u32, next: u64) -> bool
     requires inside { number < length (rules_of rules.now) }
     requires below { S.AreBelow (blocks_in rules.now) number next }
@@ -140,7 +141,7 @@ fn is_split(rules: &Rules, number: u32, next: u64) -> bool
     !joins_next(rules, number - 1) && has_mate(rules, number, next)
 }
 
-/// The rule stands in order.
+/// Returns whether the rule is in order.
 fn stands(rules: &Rules, number: u32, next: u64) -> bool
     requires inside { number < length (rules_of rules.now) }
     requires below { S.AreBelow (blocks_in rules.now) number next }
@@ -149,7 +150,8 @@ fn stands(rules: &Rules, number: u32, next: u64) -> bool
     body_calls_only(rules, number) && !is_split(rules, number, next)
 }
 
-/// A number above the block of the rule, too, where it was above those before.
+/// Returns a number above the block of the rule and, if `next` was above those of the earlier
+/// rules, above theirs.
 fn above(rules: &Rules, number: u32, next: u64) -> u64
     ensures { result ≡ S.above next (block_at (slice_get (blocks_in rules.now) number)) }
 {
@@ -159,10 +161,10 @@ fn above(rules: &Rules, number: u32, next: u64) -> u64
     }
 }
 
-/// The table stands in order: the rules of a block stand side by side, and each rule calls only
-/// earlier rules and those of its block. A caller that knows this of its table needn't ask. Blocks
-/// are best numbered in order: one whose number isn't above those before has its first rule
-/// compared with all earlier rules.
+/// Returns whether the table is in order: the rules of a block are adjacent, and each rule calls
+/// only earlier rules and those of its block. A caller that already knows this of its table can
+/// skip the call. Number blocks in ascending order if you can: the first rule of a block whose
+/// number isn't above all earlier ones is compared with every earlier rule.
 pub fn is_in_order(rules: &Rules) -> bool
     ensures { IsTrue result ↔ IsInOrder (bodies_in rules.now) (blocks_in rules.now) }
 {
@@ -176,7 +178,7 @@ pub fn is_in_order(rules: &Rules) -> bool
     true
 }
 
-/// The pattern calls only the first `count` rules.
+/// Returns whether the pattern calls only the first `count` rules.
 #[cycle(within)]
 fn calls_within(peg: &Peg, count: usize) -> bool
     ensures { result ≡ S.calls_only (λ r. nat_lt r count) (core_of peg.now) }
@@ -192,7 +194,7 @@ fn calls_within(peg: &Peg, count: usize) -> bool
     }
 }
 
-/// The parts call only the first `count` rules.
+/// Returns whether the parts call only the first `count` rules.
 #[cycle(within)]
 fn all_call_within(parts: &[Peg], count: usize) -> bool
     ensures { result ≡ S.all_call_only (λ r. nat_lt r count) (cores parts.now) }
@@ -205,7 +207,7 @@ fn all_call_within(parts: &[Peg], count: usize) -> bool
     true
 }
 
-/// The pattern calls rules of the table alone.
+/// Returns whether the pattern calls only rules of the table.
 pub fn calls_are_rules(rules: &Rules, peg: &Peg) -> bool
     ensures { IsTrue result ↔ ((r : ℕ) → calls (core_of peg.now) r ≡ true →
         r < length (rules_of rules.now)) }

@@ -9,31 +9,31 @@ use rpl_classes::Set;
 use rpl_text::Chars;
 use std::alloc::Global;
 
-/// Patterns in order, as the parts of a sequence or of a choice.
+/// Patterns in order, such as the parts of a sequence or a choice.
 #[cycle(peg)]
 #[derive(Drop)]
 pub struct Pegs {
     items: Vec<Peg>,
 }
 
-/// A parsing expression whose names are gone: what `specs/Core.antt` defines and
-/// `specs/Meaning.antt` explains.
+/// A parsing expression without names, as defined by `specs/Core.antt`; `specs/Meaning.antt`
+/// defines its meaning.
 #[cycle(peg)]
 #[derive(Drop)]
 pub enum Peg {
     /// One character of the set.
     Set(Set),
-    /// All parts in turn.
+    /// All parts, one after the other.
     Seq(Pegs),
-    /// The first of two or more parts that succeeds.
+    /// The first part, of two or more, that succeeds.
     Choice(Pegs),
-    /// The body again and again, as long as it succeeds.
+    /// The body repeated as long as it succeeds.
     Many(Box<Peg>),
-    /// Succeeds where the body fails, and takes nothing.
+    /// Succeeds if the body fails. Takes no characters.
     Not(Box<Peg>),
-    /// Succeeds where the body does, and takes nothing.
+    /// Succeeds if the body succeeds. Takes no characters.
     And(Box<Peg>),
-    /// Succeeds where the body, tried from `least` to `most` characters back, ends just here.
+    /// Succeeds if the body, tried from `least` to `most` characters back, ends exactly here.
     Behind {
         least: u32,
         most: u32,
@@ -43,18 +43,18 @@ pub enum Peg {
     Call(u32),
     /// The body, whose match becomes one tree of this type.
     Capture(Chars, Box<Peg>),
-    /// A tree of type `message` with this text, and nothing taken.
+    /// A tree of type `message` with this text. Takes no characters.
     Note(Chars),
-    /// Succeeds at the first place alone.
+    /// Succeeds only at the first place.
     Start,
-    /// Succeeds at the last place alone.
+    /// Succeeds only at the last place.
     End,
     /// Ends the whole match here, with the trees so far.
     Halt,
 }
 
 impl Pegs {
-    /// No patterns. It takes no memory.
+    /// Returns an empty list of patterns. Allocates no memory.
     pub fn new(alloc: Global) -> Pegs
         ensures { listed result ≡ [] }
     {
@@ -63,7 +63,7 @@ impl Pegs {
         }
     }
 
-    /// Adds a pattern at the end. Where memory runs out, nothing changes.
+    /// Adds a pattern at the end. When memory runs out, nothing changes.
     pub fn push(&mut self, item: Peg) -> Result<(), NoMemory>
         ensures ok { OnOk result (listed self.new ≡ listed self.old ++ item ∷ []) }
         ensures err { OnErr result (listed self.new ≡ listed self.old) }
@@ -72,28 +72,28 @@ impl Pegs {
         Ok(())
     }
 
-    /// The number of patterns.
+    /// Returns the number of patterns.
     pub fn len(&self) -> usize
         ensures { result ≡ length (listed self.now) }
     {
         self.items.len()
     }
 
-    /// The pattern with this number, from 0.
+    /// Returns the pattern with this number, from 0.
     pub fn get(&self, index: usize) -> Option<&Peg>
         ensures { option_copied result ≡ slice_get (listed self.now) index }
     {
         self.items.get(index)
     }
 
-    /// All of them.
+    /// Returns all patterns.
     pub fn as_slice(&self) -> &[Peg]
         ensures { result.now ≡ listed self.now }
     {
         &self.items
     }
 
-    /// Patterns of the same cores.
+    /// Returns a copy of the patterns, with the same cores.
     #[cycle(copy)]
     pub fn copy(&self, alloc: Global) -> Result<Pegs, NoMemory>
         ensures { IfOk result (λ ps. cores (listed ps) ≡ cores (listed self.now)) }
@@ -106,7 +106,7 @@ impl Pegs {
     }
 }
 
-/// A box with a copy of the pattern.
+/// Returns a copy of the pattern in a box.
 #[cycle(copy)]
 fn boxed(alloc: Global, body: &Peg) -> Result<Box<Peg>, NoMemory>
     ensures { IfOk result (λ b. core_of b.value ≡ core_of body.now) }
@@ -116,7 +116,7 @@ fn boxed(alloc: Global, body: &Peg) -> Result<Box<Peg>, NoMemory>
 }
 
 impl Peg {
-    /// A pattern of the same core.
+    /// Returns a copy of the pattern, with the same core.
     #[cycle(copy)]
     pub fn copy(&self, alloc: Global) -> Result<Peg, NoMemory>
         ensures { IfOk result (λ p. core_of p ≡ core_of self.now) }

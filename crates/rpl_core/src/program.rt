@@ -8,14 +8,14 @@ use rpl_classes::Set;
 use rpl_list::List;
 use rpl_text::Chars;
 
-/// Sets in order, numbered from 0. Contracts see the list of their lists of ranges.
+/// Sets in order, numbered from 0. Contracts see a list of lists of ranges.
 pub type Sets = List<Set>;
 
-/// Texts in order, numbered from 0. Contracts see the list of their lists of characters.
+/// Texts in order, numbered from 0. Contracts see a list of lists of characters.
 pub type Labels = List<Chars>;
 
-/// Code, with the sets and the texts that its instructions name by number. Each number is in range,
-/// and each address is that of an instruction.
+/// Code, with the sets and texts that its instructions refer to by number. Every number is in
+/// range, and every address is that of an instruction.
 #[derive(Drop)]
 pub struct Program {
     code: Instrs,
@@ -27,7 +27,7 @@ pub struct Program {
 impl Program {
     ghost use Rattle.rpl_core.specs.Program.{code_of, sets_of, labels_of};
 
-    /// The program of these parts.
+    /// Returns the program made of these parts.
     pub fn new(code: Instrs, sets: Sets, labels: Labels) -> Program
         requires { AreInRange code sets labels }
         ensures code { code_of result ≡ code }
@@ -37,14 +37,15 @@ impl Program {
         Program { code, sets, labels }
     }
 
-    /// The parts make a program: each number is in range, and each address that of an instruction.
+    /// Returns whether the parts make a program: every number is in range, and every address is
+    /// that of an instruction.
     pub fn are_in_range(code: &Instrs, sets: &Sets, labels: &Labels) -> bool
         ensures { IsTrue result ↔ AreInRange code.now sets.now labels.now }
     {
         are_in_range(code, sets.len(), labels.len())
     }
 
-    /// The instructions, the first at address 0. Each number in them is in range.
+    /// Returns the instructions, the first at address 0. Every number in them is in range.
     pub fn code(&self) -> &[Instr]
         ensures same { result.now ≡ code_of self.now }
         ensures in_range { AreInRange (code_of self.now) (sets_of self.now) (labels_of self.now) }
@@ -52,28 +53,28 @@ impl Program {
         self.code.as_slice()
     }
 
-    /// The sets, the first with the number 0.
+    /// Returns the sets, numbered from 0.
     pub fn sets(&self) -> &[Set]
         ensures { result.now ≡ sets_of self.now }
     {
         self.sets.as_slice()
     }
 
-    /// The set with this number.
+    /// Returns the set with this number.
     pub fn set(&self, id: u32) -> Option<&Set>
         ensures { option_copied result ≡ slice_get (sets_of self.now) id }
     {
         self.sets.get(id as usize)
     }
 
-    /// The texts, the first with the number 0.
+    /// Returns the texts, numbered from 0.
     pub fn labels(&self) -> &[Chars]
         ensures { result.now ≡ labels_of self.now }
     {
         self.labels.as_slice()
     }
 
-    /// The text with this number: the type of a tree, or a note.
+    /// Returns the text with this number: the type of a tree, or a note.
     pub fn label(&self, id: u32) -> Option<&str>
         ensures { option_map chars (option_copied result) ≡ slice_get (labels_of self.now) id }
     {

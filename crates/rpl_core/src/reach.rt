@@ -13,7 +13,7 @@ use crate::rules::Rules;
 use std::alloc::Global;
 use std::collections::BTreeSet;
 
-/// The rules found so far, and those of them whose bodies weren't looked at.
+/// The rules found so far, and those of them whose bodies have not been searched yet.
 #[derive(Drop)]
 struct RuleSearch {
     found: BTreeSet<u32>,
@@ -50,7 +50,7 @@ fn find_calls(search: &mut RuleSearch, peg: &Peg) -> Result<(), NoMemory>
     }
 }
 
-/// Finds the rules that some part calls.
+/// Finds the rules that the parts call.
 #[cycle(find)]
 fn find_all(search: &mut RuleSearch, parts: &[Peg]) -> Result<(), NoMemory>
     ensures { OnOk result (Finds (calls_any (cores parts.now)) search.old search.new) }
@@ -61,8 +61,8 @@ fn find_all(search: &mut RuleSearch, parts: &[Peg]) -> Result<(), NoMemory>
     Ok(())
 }
 
-/// The rules of the table that the goal reaches. It costs what these rules cost, however long the
-/// table is.
+/// Returns the rules of the table that the goal reaches. The cost depends on these rules alone, not
+/// on the length of the table.
 pub fn reached_rules(alloc: Global, rules: &Rules, goal: &Peg) -> Result<BTreeSet<u32>, NoMemory>
     requires { CallsAreRules (bodies_of (rules_of rules.now)) (core_of goal.now) }
     ensures { IfOk result (HasReached (bodies_of (rules_of rules.now)) (core_of goal.now)) }
@@ -81,7 +81,7 @@ pub fn reached_rules(alloc: Global, rules: &Rules, goal: &Peg) -> Result<BTreeSe
     Ok(found)
 }
 
-/// Which rules of the table the goal reaches, in a list as long as the table.
+/// Returns which rules of the table the goal reaches, in a list as long as the table.
 pub fn reached(alloc: Global, rules: &Rules, goal: &Peg) -> Result<Vec<bool>, NoMemory>
     requires { CallsAreRules (bodies_of (rules_of rules.now)) (core_of goal.now) }
     ensures { IfOk result (λ marks. MarksReached (bodies_of (rules_of rules.now)) (core_of goal.now)

@@ -8,7 +8,7 @@ use crate::peg::Peg;
 use rpl_text::Chars;
 use std::alloc::Global;
 
-/// A rule: its full name, the number of its recursive block if it stands in one, and its body.
+/// A rule: its full name, the number of its recursive block if it is in one, and its body.
 #[derive(Drop)]
 pub struct Rule {
     pub name: Chars,
@@ -16,7 +16,7 @@ pub struct Rule {
     pub body: Peg,
 }
 
-/// The table of rules, in order. `Peg::Call` holds a place in it, from 0. No two rules have the
+/// The table of rules, in order. `Peg::Call` holds an index into it, from 0. No two rules have the
 /// same full name.
 #[derive(Drop)]
 pub struct Rules {
@@ -28,7 +28,7 @@ pub struct Rules {
 impl Rules {
     ghost use Rattle.rpl_core.specs.Listed.{rules_of};
 
-    /// No rules. It takes no memory.
+    /// Returns an empty table. Allocates no memory.
     pub fn new(alloc: Global) -> Rules
         ensures { rules_of result ≡ [] }
     {
@@ -37,7 +37,7 @@ impl Rules {
         }
     }
 
-    /// Adds a rule of a new name at the end. Where memory runs out, nothing changes.
+    /// Adds a rule with a new name at the end. When memory runs out, nothing changes.
     pub fn push(&mut self, rule: Rule) -> Result<(), NoMemory>
         requires few { length (rules_of self.old) < 0xffff_ffff }
         requires new_name { IsNew rule.name (names_of (rules_of self.old)) }
@@ -48,7 +48,7 @@ impl Rules {
         Ok(())
     }
 
-    /// The number of rules, which have distinct names.
+    /// Returns the number of rules. Their names are distinct.
     pub fn len(&self) -> usize
         ensures count { result ≡ length (rules_of self.now) }
         ensures few { result < 2 ^ 32 }
@@ -57,7 +57,7 @@ impl Rules {
         self.items.len()
     }
 
-    /// The rule with this number, from 0.
+    /// Returns the rule with this number, from 0.
     pub fn get(&self, rule: u32) -> Option<&Rule>
         ensures { option_copied result ≡ slice_get (rules_of self.now) rule }
     {

@@ -1,4 +1,4 @@
-// The text of an answer, whole.
+// The whole text of an answer.
 ghost use Rattle.std.specs.Prelude.{◌≡◌, ◌≤◌, ◌++◌, [], IfOk, OnErr, OnOk, length};
 ghost use Rattle.std.specs.Option.{option_copied};
 ghost use Rattle.rpl_core.specs.Program.{labels_of};
@@ -19,21 +19,22 @@ use rpl_tree::Forest;
 use std::alloc::Global;
 use std::marker::Model;
 
-/// The greatest number of bytes of an answer.
+/// The most bytes that an answer may have.
 pub(crate) const MAX_ANSWER_BYTES: usize = 67_108_864;
 
-/// The text of an answer, in memory that is kept from line to line. Contracts see its bytes.
+/// The text of an answer, in memory that is kept from line to line. Its bytes are visible to
+/// contracts.
 #[derive(Drop)]
 pub struct AnswerText {
     text: Page,
     draft: Draft,
 }
 
-/// The next text, until it is known that it isn't too long, and the room for the work on it.
+/// The next text, until it is known not to be too long, and the memory needed to write it.
 #[derive(Drop)]
 struct Draft {
     text: Page,
-    /// How many nodes are still to come in each list of JSON that is open.
+    /// The number of nodes still to come in each open list of JSON.
     pending: Vec<usize>,
     escapes: Escapes,
 }
@@ -47,7 +48,7 @@ impl Model for AnswerText {
 }
 
 impl AnswerText {
-    /// No text. Takes no memory.
+    /// Returns an empty text, without allocating.
     pub fn new(alloc: Global) -> AnswerText
         ensures { result ≡ [] }
     {
@@ -57,16 +58,17 @@ impl AnswerText {
         }
     }
 
-    /// Its bytes.
+    /// Returns the bytes of the text.
     pub fn as_slice(&self) -> &[u8]
         ensures { result.now ≡ self.now }
     {
         self.text.as_slice()
     }
 
-    /// Becomes the text of a line's outcome in a style: of the trees that were found, or of none,
-    /// whose types are numbered as these texts are. It is written in the memory that there is where
-    /// that is enough, and taken back as soon as it is too long. After a refusal it is as it was.
+    /// Replaces the text by that of a line's outcome in a style: of the trees that were found,
+    /// whose types are numbered as in `Fronts`, or of no match. The kept memory is used as far
+    /// as it is enough, and the work ends as soon as the text is too long. After an error the
+    /// old text stays.
     pub fn fill(
         &mut self,
         style: Style,
@@ -96,7 +98,7 @@ impl AnswerText {
     }
 }
 
-/// The text of a line's outcome in a style.
+/// Returns the text of a line's outcome in a style.
 ///
 /// # Examples
 ///
@@ -127,7 +129,7 @@ pub fn encode(
     Ok(Bytes::from_vec(answer.text.into_vec()))
 }
 
-/// Writes the text of a line that isn't matched.
+/// Writes the text for a line that isn't matched.
 fn put_miss(out: &mut Page, style: Style) -> Result<(), NoMemory>
     ensures { OnOk result (out.new ≡ out.old ++ (line_by_line (none style))) }
 {
@@ -183,7 +185,7 @@ impl Draft {
     }
 }
 
-/// Writes the texts of the hits of a search, or the text of the root where there is none.
+/// Writes the texts of the hits of a search, or the text of the root if there are no hits.
 fn put_hits(
     out: &mut Page,
     line: &[u8],

@@ -1,4 +1,4 @@
-// The texts of the root, and of the nodes directly under it.
+// The texts of the root and of the nodes directly below it.
 ghost use Rattle.std.specs.Prelude.{◌≡◌, ◌<◌, ◌⊎◌, ◌++◌, [], ◌∷◌, slice_get, OnOk, IfOk, IfSome};
 ghost use Rattle.std.specs.Prelude.{IfNone};
 ghost use Rattle.rpl_encode.specs.Answer.{IsTooLong, below_root, line_by_line};
@@ -26,7 +26,7 @@ pub(crate) fn put_line(out: &mut Page, bytes: &[u8]) -> Result<(), NoMemory>
     out.put(b"\n")
 }
 
-/// Writes the text of the first tree and a line feed, or nothing where there is no tree.
+/// Writes the text of the first tree and a line feed, or nothing if there is no tree.
 pub(crate) fn put_root_text(
     out: &mut Page,
     line: &[u8],
@@ -43,8 +43,8 @@ pub(crate) fn put_root_text(
     }
 }
 
-/// Writes the texts of the nodes directly under the root, or only those of hits, each with a line
-/// feed. Tells whether there was one.
+/// Writes the texts of the nodes directly below the root, or only those of hits, each with a
+/// line feed. Returns whether there was one.
 pub(crate) fn put_texts(
     out: &mut Page,
     only_hits: bool,
@@ -85,7 +85,7 @@ pub(crate) fn put_texts(
     Ok(some)
 }
 
-/// The number of nodes below the first one; a note has none.
+/// Returns the number of nodes below the first one. A note has none.
 fn below_first(forest: &Forest) -> usize
     ensures { result ≡ below_of_first forest.now }
 {
@@ -95,7 +95,7 @@ fn below_first(forest: &Forest) -> usize
     }
 }
 
-/// The node with a number, where nodes are still to come.
+/// Returns the node with a number, if nodes are still to come.
 fn node_within(forest: &Forest, index: usize, left: usize) -> Option<Node>
     ensures some { IfSome result (λ node. (0 < left) × (slice_get forest.now index ≡ Some node)) }
     ensures none { IfNone result ((left ≡ 0) ⊎ (slice_get forest.now index ≡ None)) }
@@ -103,7 +103,7 @@ fn node_within(forest: &Forest, index: usize, left: usize) -> Option<Node>
     if left > 0 { forest.get(index) } else { None }
 }
 
-/// Whether the text of a node is printed.
+/// Returns whether the text of a node is printed.
 fn wants(only_hits: bool, node: Node, fronts: &Fronts) -> bool
     ensures { result ≡ is_printed fronts.now only_hits node }
 {

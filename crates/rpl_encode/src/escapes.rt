@@ -1,4 +1,4 @@
-// What stands for the bytes of a line in strings of JSON.
+// The escaped form of a line in strings of JSON.
 ghost use Rattle.std.specs.Prelude.{◌≡◌, ◌<◌, ◌≤◌, ◌+◌, ◌*◌, ◌++◌, length, drop, slice_range};
 ghost use Rattle.std.specs.Prelude.{vec_len, IfSome, OnOk};
 ghost use Rattle.std.specs.Char.{digit_char};
@@ -12,37 +12,37 @@ use rpl_core::NoMemory;
 use rpl_print::is_plain;
 use std::alloc::Global;
 
-/// How what stands for a part of a line is found.
+/// The way in which the escaped form of a part of a line is found.
 #[derive(Clone, Copy)]
 pub(crate) enum Kind {
-    /// No byte of the line needs an escape, so a part stands for itself.
+    /// No byte of the line needs an escape, so a part is its own escaped form.
     Plain,
-    /// What stands for the whole line is kept, and that for a part is cut out of it.
+    /// The escaped form of the whole line is kept, and that of a part is cut out of it.
     Kept,
-    /// The line is long: a part is escaped as it is printed.
+    /// The line is long: a part is escaped each time it is printed.
     Long,
 }
 
-/// The bytes of a line for which what stands for it is kept, at most. Parts of a short line are
-/// printed once for each node over them; for a long one that would take memory of many times its
-/// length.
+/// The most bytes of a line whose escaped form is kept. The parts of a line are printed once
+/// for each node over them; for a long line the kept form would take many times its length in
+/// memory.
 const KEPT: usize = 4096;
 
-/// What stands for the parts of a line in strings of JSON, made ready once for all the parts of it
-/// that are printed.
+/// The escaped forms of the parts of a line, prepared once for all parts of the line that are
+/// printed.
 #[derive(Drop)]
 pub(crate) struct Escapes {
     kind: Kind,
-    /// It ends with what stands for a line that is kept. Its memory, and that of the places, serves
-    /// the next line too.
+    /// A buffer that ends with the escaped form of the line, if that is kept. Its memory, and
+    /// that of `places`, is used again for the next line.
     string: Vec<u8>,
-    /// The place in the string where what stands for each byte of such a line begins, and where
-    /// that for the last ends.
+    /// The offset in `string` at which the escaped form of each byte of the line begins, and
+    /// the offset at which the last one ends.
     places: Vec<usize>,
 }
 
 impl Escapes {
-    /// Those of the empty line. Takes no memory.
+    /// Returns the escaped forms of the empty line, without allocating.
     pub(crate) fn new(alloc: Global) -> Escapes {
         Escapes {
             kind: Kind::Plain,
@@ -51,7 +51,7 @@ impl Escapes {
         }
     }
 
-    /// Becomes those of a line.
+    /// Replaces the escaped forms by those of `line`.
     pub(crate) fn fill(&mut self, line: &str) -> Result<(), NoMemory>
         ensures { OnOk result (AreOf line.now self.new) }
     {
@@ -71,8 +71,9 @@ impl Escapes {
         Ok(())
     }
 
-    /// What stands for the part of their line between two places, where it is at hand. The part is
-    /// empty where the end is before the start, and ends where the line does.
+    /// Returns the escaped form of the part of the line between two offsets, if it is at hand.
+    /// The part is empty if the end is before the start, and it ends with the line at the
+    /// latest.
     #[inline(always)]
     pub(crate) fn part<'a>(&'a self, line: &'a [u8], start: usize, end: usize) -> Option<&'a [u8]>
         requires { AreOf line.now self.now }
@@ -90,7 +91,7 @@ impl Escapes {
     }
 }
 
-/// Makes the list so long at least.
+/// Lengthens the list to at least `count` items.
 fn lengthen<T: Copy>(list: &mut Vec<T>, count: usize, filler: T) -> Result<(), NoMemory>
     ensures { OnOk result (count ≤ vec_len list.new) }
 {
@@ -100,8 +101,8 @@ fn lengthen<T: Copy>(list: &mut Vec<T>, count: usize, filler: T) -> Result<(), N
     list.resize(count, filler)
 }
 
-/// Writes what stands for the line at the end of the string, and where in it what stands for each
-/// byte begins.
+/// Writes the escaped form of the line at the end of the string, and the offset in the string
+/// at which the escaped form of each byte begins.
 fn keep(string: &mut [u8], places: &mut [usize], line: &[u8])
     requires string { 6 * length line.now ≤ length string.old }
     requires places { length line.now < length places.old }
@@ -117,7 +118,7 @@ fn keep(string: &mut [u8], places: &mut [usize], line: &[u8])
     }
 }
 
-/// What stands for the part of a line that is kept between two places.
+/// Returns the escaped form of the part of a kept line between two offsets.
 fn cut_out<'a>(
     line: &[u8],
     string: &'a [u8],
@@ -132,14 +133,13 @@ fn cut_out<'a>(
     &string[places[start]..places[end]]
 }
 
-/// So many bytes are escaped at a time, and what stands for all of them has room in so many.
+/// The number of bytes that are escaped at a time, and the room for their escaped forms.
 const CHUNK: usize = 64;
 
 const ROOM: usize = 6 * CHUNK;
 
-/// Adds what stands for these bytes in a string of JSON. They are taken a few at a time: a list
-/// that grows is slow where little is added at once, and in a line of JSON few bytes stand between
-/// two quotes.
+/// Appends the escaped form of the bytes. They are taken a few at a time: a list grows slowly
+/// if little is appended at once, and in a line of JSON there are few bytes between two quotes.
 pub(crate) fn put_bytes(out: &mut Page, bytes: &[u8]) -> Result<(), NoMemory>
     ensures { OnOk result (out.new ≡ out.old ++ escape bytes.now) }
 {
@@ -152,8 +152,8 @@ pub(crate) fn put_bytes(out: &mut Page, bytes: &[u8]) -> Result<(), NoMemory>
     Ok(())
 }
 
-/// Adds what stands for a few bytes. Where one needs an escape, all is put together in a buffer,
-/// from its end.
+/// Appends the escaped form of a few bytes. If one of them needs an escape, the whole is put
+/// together in a buffer, from its end.
 fn put_chunk(out: &mut Page, bytes: &[u8]) -> Result<(), NoMemory>
     requires { length bytes.now ≤ 64 }
     ensures { OnOk result (out.new ≡ out.old ++ escape bytes.now) }
@@ -171,7 +171,8 @@ fn put_chunk(out: &mut Page, bytes: &[u8]) -> Result<(), NoMemory>
     out.put(&buffer[at..])
 }
 
-/// Writes what stands for a byte so that it ends at `end`, and tells where that starts.
+/// Writes the escaped form of a byte so that it ends at `end`, and returns the offset at which
+/// it starts.
 #[inline(always)]
 fn write_escaped(byte: u8, buffer: &mut [u8], end: usize) -> usize
     requires { (6 ≤ end) × (end ≤ length buffer.old) }
@@ -185,7 +186,7 @@ fn write_escaped(byte: u8, buffer: &mut [u8], end: usize) -> usize
     write_escape(byte, buffer, end)
 }
 
-/// Whether the byte needs no escape.
+/// Returns whether the byte needs no escape.
 #[inline]
 fn is_plain_byte(byte: u8) -> bool
     ensures { result ≡ Q.is_plain_byte byte }
@@ -193,7 +194,7 @@ fn is_plain_byte(byte: u8) -> bool
     byte >= 0x20 && byte != b'"' && byte != b'\\'
 }
 
-/// The same, also where the byte needs an escape.
+/// Does the same as `write_escaped`, for any byte.
 fn write_escape(byte: u8, buffer: &mut [u8], end: usize) -> usize
     requires { (6 ≤ end) × (end ≤ length buffer.old) }
     ensures start { (result ≤ end) × (end ≤ result + 6) }
@@ -211,7 +212,7 @@ fn write_escape(byte: u8, buffer: &mut [u8], end: usize) -> usize
     write_before(&[byte], buffer, end)
 }
 
-/// The letter of the byte's short escape, or 0 where it has none.
+/// Returns the letter of the byte's short escape, or 0 if it has none.
 fn short_escape(byte: u8) -> u8
     ensures { result ≡ escape_letter byte }
 {
@@ -226,7 +227,7 @@ fn short_escape(byte: u8) -> u8
     }
 }
 
-/// A hexadecimal digit.
+/// Returns the hexadecimal digit of a value.
 fn digit(value: u8) -> u8
     requires { value < 16 }
     ensures { result ≡ digit_char value }

@@ -4,10 +4,10 @@ ghost use Rattle.rpl_encode.specs.declared.fault.EncodeFault.TheVariants.{NoMemo
 use rpl_core::NoMemory;
 use thiserror::Error;
 
-/// Why there is no text.
+/// The reason why there is no text.
 #[derive(Clone, Copy, Debug, PartialEq, Eq, Error)]
 pub enum EncodeFault {
-    /// Memory ran out.
+    /// There is not enough memory.
     #[error("out of memory")]
     NoMemory,
     /// The text has more than 67,108,864 bytes.

@@ -1,10 +1,11 @@
-//! The text of an answer in each style, for whoever writes answers.
+//! The text of an answer in each style, for commands that print answers.
 //!
-//! [`AnswerText::fill`] and [`encode`] give exactly the text of the definition: of a match as JSON,
-//! as the whole line, as the texts of hits, of the nodes under the root or of the root, or as
-//! `true`, and of a line that isn't matched nothing, or `false`. An answer of more than 67,108,864
-//! bytes is refused; after a refusal what was there stays. An `AnswerText` is kept from line to
-//! line and takes no memory once it has grown. [`Fronts`] are made once for a program.
+//! [`AnswerText::fill`] and [`encode`] give exactly the text of the definition. A match is
+//! printed as JSON, as the whole line, as the texts of hits, of the nodes below the root or of
+//! the root, or as `true`; a line that isn't matched as nothing, or as `false`. An answer of
+//! more than 67,108,864 bytes is refused, and after an error the previous text stays. An
+//! `AnswerText` is kept from line to line, and allocates nothing once it has grown. [`Fronts`]
+//! are made once for a program.
 #![tactic(auto)]
 
 mod answer;

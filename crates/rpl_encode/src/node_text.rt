@@ -1,4 +1,4 @@
-// What is written of one node.
+// The text of one node.
 ghost use Rattle.std.specs.Prelude.{◌≡◌, ◌+◌, ◌^◌, ◌<◌, ◌≤◌, ◌++◌, ◌∷◌, ◌↔◌, length, drop};
 ghost use Rattle.std.specs.Prelude.{slice_range};
 ghost use Rattle.std.specs.Prelude.{IsTrue, OnOk};
@@ -19,14 +19,14 @@ use itoa::Buffer;
 use rpl_core::NoMemory;
 use rpl_tree::Node;
 
-/// The text with this number.
+/// Returns the text with a number.
 pub(crate) fn label_of(fronts: &Fronts, number: u32) -> &str
     ensures { result.now ≡ encode_utf8_all (label_in fronts.now number) }
 {
     fronts.label(number).unwrap_or("")
 }
 
-/// The text of a node: its part of the line, or what a note says.
+/// Returns the text of a node: its part of the line, or the text of a note.
 pub(crate) fn text_of<'a>(node: Node, line: &'a [u8], fronts: &'a Fronts) -> &'a [u8]
     ensures { result.now ≡ text_at fronts.now line.now node }
 {
@@ -36,8 +36,8 @@ pub(crate) fn text_of<'a>(node: Node, line: &'a [u8], fronts: &'a Fronts) -> &'a
     }
 }
 
-/// The part of a line between two places. It is empty where the end is before the start, and ends
-/// where the line does.
+/// Returns the part of the line between two offsets. It is empty if the end is before the
+/// start, and it ends with the line at the latest.
 pub(crate) fn part_of(line: &[u8], start: usize, end: usize) -> &[u8]
     ensures { result.now ≡ slice_range line.now start end }
 {
@@ -46,8 +46,8 @@ pub(crate) fn part_of(line: &[u8], start: usize, end: usize) -> &[u8]
     &line[start..end]
 }
 
-/// Writes the object of a node, with a comma before it unless it is the first, up to the first of
-/// the nodes below it or to its end.
+/// Writes the object of a node, after a comma unless the node is the first, up to the first
+/// node below it or to its end.
 pub(crate) fn put_node(
     out: &mut Page,
     node: Node,
@@ -97,7 +97,7 @@ fn put_message(
     put_ending(out, has_subs)
 }
 
-/// Whether its places, printed one higher, are numbers of 64 bits.
+/// Returns whether the node's positions, printed one higher, are numbers of 64 bits.
 #[inline(always)]
 fn is_near(node: Node) -> bool
     ensures { IsTrue result ↔ ((node.start + 1 < 2 ^ 64) × (node.end + 1 < 2 ^ 64)) }
@@ -128,7 +128,7 @@ fn put_far(
     put_ending(out, has_subs)
 }
 
-/// Writes the quote after the text of a node, and what stands after it.
+/// Writes the quote after the text of a node, and what follows it.
 #[inline]
 fn put_ending(out: &mut Page, has_subs: bool) -> Result<(), NoMemory>
     ensures { OnOk result (out.new ≡ out.old ++ 34 ∷ ending has_subs) }
@@ -140,7 +140,7 @@ fn put_ending(out: &mut Page, has_subs: bool) -> Result<(), NoMemory>
     }
 }
 
-/// Writes the bytes so that they end at `end`, and tells where they start.
+/// Writes the bytes so that they end at `end`, and returns the offset at which they start.
 #[inline(always)]
 pub(crate) fn write_before(bytes: &[u8], buffer: &mut [u8], end: usize) -> usize
     requires { (length bytes.now ≤ end) × (end ≤ length buffer.old) }
@@ -153,7 +153,7 @@ pub(crate) fn write_before(bytes: &[u8], buffer: &mut [u8], end: usize) -> usize
     start
 }
 
-/// Writes two places, each one higher, up to the quote before the text.
+/// Writes two positions, each one higher, up to the quote before the text.
 #[inline(never)]
 fn put_places(out: &mut Page, start: usize, end: usize) -> Result<(), NoMemory>
     ensures { OnOk result

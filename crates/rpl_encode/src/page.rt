@@ -10,11 +10,11 @@ use rpl_tree::Node;
 use std::alloc::Global;
 use std::marker::Model;
 
-/// A text that grows at its end, in memory that is kept when it is cleared. Contracts see its
-/// bytes.
+/// A text that grows at its end, in memory that is kept when it is cleared. Its bytes are
+/// visible to contracts.
 #[derive(Drop)]
 pub(crate) struct Page {
-    /// The text, and room after it.
+    /// The text, and unused room after it.
     bytes: Vec<u8>,
     len: usize,
 }
@@ -30,7 +30,7 @@ impl Model for Page {
 }
 
 impl Page {
-    /// No text. Takes no memory.
+    /// Returns an empty text, without allocating.
     pub(crate) fn new(alloc: Global) -> Page
         ensures { result ≡ [] }
     {
@@ -40,7 +40,7 @@ impl Page {
         }
     }
 
-    /// The number of bytes.
+    /// Returns the number of bytes.
     #[inline(always)]
     pub(crate) fn len(&self) -> usize
         ensures { result ≡ length self.now }
@@ -48,21 +48,21 @@ impl Page {
         self.len
     }
 
-    /// Its bytes.
+    /// Returns the bytes.
     pub(crate) fn as_slice(&self) -> &[u8]
         ensures { result.now ≡ self.now }
     {
         &self.bytes[..self.len]
     }
 
-    /// Becomes the empty text.
+    /// Makes the text empty.
     pub(crate) fn clear(&mut self)
         ensures { self.new ≡ [] }
     {
         self.len = 0;
     }
 
-    /// Its bytes, in a list of their own.
+    /// Returns the bytes as a list of their own.
     pub(crate) fn into_vec(self) -> Vec<u8>
         ensures { result.items ≡ self }
     {
@@ -71,7 +71,7 @@ impl Page {
         bytes
     }
 
-    /// Adds these bytes.
+    /// Appends the bytes.
     #[inline(always)]
     pub(crate) fn put(&mut self, bytes: &[u8]) -> Result<(), NoMemory>
         ensures { OnOk result (self.new ≡ self.old ++ bytes.now) }
@@ -81,8 +81,8 @@ impl Page {
         Ok(())
     }
 
-    /// Adds the object of a node that begins with this front, up to the first of the nodes below it
-    /// or to its end. There is one look for room.
+    /// Appends the object of a node that begins with this front, up to the first node below it
+    /// or to its end. Room for all of it is made at once.
     pub(crate) fn put_object(
         &mut self,
         front: &[u8],
@@ -106,13 +106,13 @@ impl Page {
     }
 }
 
-/// What an object has at most besides its front and its text.
+/// The most bytes of an object besides its front and its text.
 const MORE: usize = 64;
 
-/// So much room is made at least, so that little is seldom added.
+/// The least number of bytes by which the room grows, so that it grows seldom.
 const STEP: usize = 1024;
 
-/// Makes room for so many bytes after the first `len`, which stay.
+/// Makes room for `count` bytes after the first `len`, which stay.
 #[inline(always)]
 fn make_room(bytes: &mut Vec<u8>, len: usize, count: usize) -> Result<(), NoMemory>
     requires { len ≤ vec_len bytes.old }
@@ -126,7 +126,7 @@ fn make_room(bytes: &mut Vec<u8>, len: usize, count: usize) -> Result<(), NoMemo
     lengthen(bytes, len, count)
 }
 
-/// The same where there is less.
+/// Does the same as `make_room` if there is less room than that.
 #[cold]
 #[inline(never)]
 fn lengthen(bytes: &mut Vec<u8>, len: usize, count: usize) -> Result<(), NoMemory>
@@ -135,12 +135,12 @@ fn lengthen(bytes: &mut Vec<u8>, len: usize, count: usize) -> Result<(), NoMemor
     ensures inside { len ≤ vec_len bytes.new }
     ensures room { OnOk result (len + count ≤ vec_len bytes.new) }
 {
-    // Where a sum saturates, no `Vec` can have so many bytes, and `resize` fails.
+    // If a sum saturates, no `Vec` can have so many bytes, and `resize` fails.
     let least = len.saturating_add(count);
     bytes.resize(least.saturating_add(STEP), 0)
 }
 
-/// Writes the bytes from `at` on, and tells where they end.
+/// Writes the bytes at `at`, and returns the offset at which they end.
 #[inline(always)]
 fn write_at(bytes: &[u8], buffer: &mut [u8], at: usize) -> usize
     requires { at + length bytes.now ≤ length buffer.old }
@@ -153,7 +153,7 @@ fn write_at(bytes: &[u8], buffer: &mut [u8], at: usize) -> usize
     end
 }
 
-/// Writes where a node starts and ends, each place one higher, up to the quote before its text.
+/// Writes the start and the end of a node, each one higher, up to the quote before its text.
 #[inline(always)]
 fn write_places(node: Node, buffer: &mut [u8], at: usize) -> usize
     requires places { (node.start + 1 < 2 ^ 64) × (node.end + 1 < 2 ^ 64) }
@@ -170,7 +170,7 @@ fn write_places(node: Node, buffer: &mut [u8], at: usize) -> usize
     write_at(b",\"data\":\"", buffer, at)
 }
 
-/// Writes the quote after the text of a node, and what stands after it.
+/// Writes the quote after the text of a node, and what follows it.
 #[inline(always)]
 fn write_ending(has_subs: bool, buffer: &mut [u8], at: usize) -> usize
     requires { at + 10 ≤ length buffer.old }
@@ -185,7 +185,7 @@ fn write_ending(has_subs: bool, buffer: &mut [u8], at: usize) -> usize
     }
 }
 
-/// Writes a number from `at` on, and tells where it ends.
+/// Writes a number at `at`, and returns the offset at which it ends.
 #[inline(always)]
 fn write_number(number: u64, buffer: &mut [u8], at: usize) -> usize
     requires { at + 20 ≤ length buffer.old }
@@ -203,7 +203,7 @@ fn write_number(number: u64, buffer: &mut [u8], at: usize) -> usize
     write_long(number, buffer, at)
 }
 
-/// The same, also where there are more than two digits.
+/// Does the same as `write_number`, for a number of any length.
 #[inline(never)]
 fn write_long(number: u64, buffer: &mut [u8], at: usize) -> usize
     requires { at + 20 ≤ length buffer.old }
@@ -216,7 +216,7 @@ fn write_long(number: u64, buffer: &mut [u8], at: usize) -> usize
     end
 }
 
-/// The number of digits of a number.
+/// Returns the number of decimal digits.
 fn count_digits(number: u64) -> usize
     ensures { result ≡ length (decimal number) }
 {

@@ -1,9 +1,9 @@
-// What the nodes of a line are written from.
+// The inputs for writing the nodes of a line.
 use crate::escapes::Escapes;
 use crate::front::Fronts;
 
-/// What the objects of a line's nodes are written from: the line, what stands for its parts in
-/// strings of JSON, and the fronts of the types.
+/// The inputs for writing the objects of a line's nodes: the line, the escaped forms of its
+/// parts, and the fronts of the types.
 #[derive(Clone, Copy)]
 pub(crate) struct Source<'a> {
     pub(crate) line: &'a [u8],

@@ -2,16 +2,16 @@
 ghost use Rattle.std.specs.Prelude.{◌↔◌, IsTrue};
 ghost use Rattle.rpl_encode.specs.Answer.{IgnoresTrees};
 
-/// How an answer is printed.
+/// The form in which an answer is printed.
 #[derive(Clone, Copy, Debug, PartialEq, Eq)]
 pub enum Style {
     /// The tree of the match, as one object.
     Json,
     /// The whole line.
     Line,
-    /// The text of each hit of a search; where there is none, the text of the match.
+    /// The text of each hit of a search, or the text of the match if there are no hits.
     Matches,
-    /// The text of each node directly under the root.
+    /// The text of each node directly below the root.
     Subs,
     /// The text of the match.
     Plain,
@@ -20,7 +20,7 @@ pub enum Style {
 }
 
 impl Style {
-    /// Whether the text of a match is the same whatever its trees are, so that they needn't be
+    /// Returns whether the text of a match is the same for all trees, so that they needn't be
     /// made.
     pub fn ignores_trees(self) -> bool
         ensures { IsTrue result ↔ IgnoresTrees self }

@@ -29,8 +29,8 @@ use crate::style::Style;
 use rpl_core::NoMemory;
 use rpl_tree::{Forest, Node};
 
-/// Writes the object of the first tree and a line feed, or nothing where there is no tree.
-/// `pending` is room for the work.
+/// Writes the object of the first tree and a line feed, or nothing if there is no tree.
+/// `pending` is memory for the work.
 pub(crate) fn put_tree(
     out: &mut Page,
     pending: &mut Vec<usize>,
@@ -55,7 +55,7 @@ pub(crate) fn put_tree(
     Ok(out.put(b"\n")?)
 }
 
-/// Of the lists, just that of the nodes below the root is open, where any are printed there.
+/// Opens only the list of the nodes below the root, if any are printed there.
 fn open_root(lists: &mut Vec<usize>, has_subs: bool, below: usize) -> Result<(), NoMemory>
     ensures { OnOk result (lists.new.items ≡ (if has_subs then below ∷ [] else [])) }
 {
@@ -66,7 +66,7 @@ fn open_root(lists: &mut Vec<usize>, has_subs: bool, below: usize) -> Result<(),
     Ok(())
 }
 
-/// A list begins in which so many nodes are still to come.
+/// Opens a list in which `count` nodes are still to come.
 fn open_list(pending: &mut Vec<usize>, count: usize) -> Result<(), NoMemory>
     ensures items { OnOk result (pending.new.items ≡ pending.old.items ++ count ∷ []) }
     ensures len { OnOk result (vec_len pending.new ≡ vec_len pending.old + 1) }
@@ -75,16 +75,16 @@ fn open_list(pending: &mut Vec<usize>, count: usize) -> Result<(), NoMemory>
     Ok(())
 }
 
-/// Whether nodes are printed below this one: it has some, the next of which has the number `next`
-/// among `count`. A note has none.
+/// Returns whether nodes are printed below this one: it has some, the first of which has the
+/// number `next` among `count`. A note has none.
 fn has_subs(node: Node, below: usize, next: usize, count: usize) -> bool
     ensures { IsTrue result ↔ ((node.note ≡ None) × (0 < below) × (next < count)) }
 {
     node.note.is_none() && below > 0 && next < count
 }
 
-/// Writes the nodes from the second on, and closes the lists that are open. `lists` has the number
-/// of nodes that are still to come in each of them, the innermost last.
+/// Writes the nodes from the second on, and closes the open lists. `lists` has the number of
+/// nodes still to come in each of them, the innermost last.
 fn put_below(
     out: &mut Page,
     lists: &mut Vec<usize>,
@@ -113,7 +113,7 @@ fn put_below(
         }
         match forest.get(index) {
             Some(node) if left > 0 => {
-                // A node's nodes end at the latest where those of its parent do.
+                // A node's list ends at the latest where that of its parent ends.
                 let below = node.below.min(left - 1);
                 let behind = left - 1 - below;
                 index += 1;

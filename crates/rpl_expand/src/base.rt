@@ -1,4 +1,4 @@
-// What an expression is expanded over.
+// The context of an expansion.
 ghost use Rattle.std.specs.Prelude.{◌≡◌, IfOk};
 ghost use Rattle.rpl_core.specs.Core as C;
 ghost use Rattle.rpl_core.specs.View.{core_of};
@@ -11,8 +11,8 @@ use rpl_forms::Inner;
 use rpl_forms::inner::call;
 use std::alloc::Global;
 
-/// Where an expression stands, the rules of the table so far, and what is known of what stands for
-/// each of them in a look-behind.
+/// The scope of an expression, the rules of the table so far, and what is known of the inlined
+/// body of each.
 #[derive(Clone, Copy)]
 pub(crate) struct Base<'a> {
     pub(crate) scope: Scope<'a>,
@@ -21,7 +21,7 @@ pub(crate) struct Base<'a> {
 }
 
 impl Base<'_> {
-    /// A call of a rule, or what stands for it in a look-behind.
+    /// Returns a call of a rule, or its inlined body inside a look-behind.
     pub(crate) fn call(
         &self,
         alloc: Global,

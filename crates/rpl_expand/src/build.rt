@@ -1,4 +1,4 @@
-// The core of an expression, or what stands for it in a look-behind.
+// The core of an expression, or its inlined form inside a look-behind.
 ghost use Rattle.std.specs.Prelude.{◌≡◌, ◌≤◌, IfOk, OnOk, IsTrue, Some, chars, true};
 ghost use Rattle.rpl_core.specs.Core as C;
 ghost use Rattle.rpl_core.specs.Core.{Core};
@@ -25,7 +25,7 @@ use rpl_macro::Macro;
 use rpl_syntax::{Expr, Sign};
 use std::alloc::Global;
 
-/// How many turns a repetition asks for, and how many it allows, if not any number.
+/// The least number of turns of a repetition, and the greatest, unless it is unlimited.
 #[derive(Clone, Copy)]
 struct Turns {
     least: u32,
@@ -33,7 +33,7 @@ struct Turns {
 }
 
 impl Turns {
-    /// No turn is asked for or allowed.
+    /// Returns whether no turn is required or allowed.
     fn is_never(self) -> bool
         ensures least { IsTrue result → self.least ≡ 0 }
         ensures most { IsTrue result → self.most ≡ Some 0 }
@@ -44,7 +44,8 @@ impl Turns {
         }
     }
 
-    /// A cooked group is asked for once at most, so that no boundary stands between turns.
+    /// Returns whether at most one turn is required and exactly one is allowed, so that a cooked
+    /// group has no boundary between turns.
     fn is_once(self) -> bool
         ensures least { IsTrue result → self.least ≤ 1 }
         ensures most { IsTrue result → self.most ≡ Some 1 }
@@ -56,7 +57,7 @@ impl Turns {
     }
 }
 
-/// The boundary after an item, unless it stands alone.
+/// Returns the boundary after an item, unless it stands alone.
 fn boundary_behind(
     alloc: Global,
     base: &Base<'_>,
@@ -73,7 +74,7 @@ fn boundary_behind(
     Ok(Some(base.call(alloc, in_lookbehind, base.scope.boundary)?))
 }
 
-/// An item more at the end, with what stands after it.
+/// Appends an item and the boundary after it, if there is one.
 fn append_item(parts: &mut Pegs, item: Peg, behind: Option<Peg>) -> Result<(), NoMemory>
     ensures { OnOk result (cores (listed parts.new)
         ≡ F.joined (cores (listed parts.old)) (C.Then (core_of item) (core_if behind))) }
@@ -85,7 +86,7 @@ fn append_item(parts: &mut Pegs, item: Peg, behind: Option<Peg>) -> Result<(), N
     }
 }
 
-/// A predicate that looks ahead.
+/// Returns a predicate that looks ahead.
 fn predicate(alloc: Global, sign: Sign, body: Peg) -> Result<Peg, NoMemory>
     ensures { IfOk result (λ p. core_of p ≡ ahead sign (core_of body)) }
 {
@@ -95,7 +96,8 @@ fn predicate(alloc: Global, sign: Sign, body: Peg) -> Result<Peg, NoMemory>
     }
 }
 
-/// The core of an expression, after the rules of a table; or what stands for it in a look-behind.
+/// Returns the core of an expression over the rules of a table, or its inlined form inside a
+/// look-behind.
 #[cycle(build)]
 pub(crate) fn build(alloc: Global, base: &Base<'_>, mode: Mode, e: &Expr) -> Result<Peg, NoMemory>
     requires { Knows base.now }
@@ -142,7 +144,7 @@ pub(crate) fn build(alloc: Global, base: &Base<'_>, mode: Mode, e: &Expr) -> Res
     }
 }
 
-/// A repetition. The body of one with no turns isn't looked at: it may be of any size.
+/// Returns a repetition. If it has no turns, its body is ignored, and so may be of any size.
 #[cycle(build)]
 fn build_repeat(
     alloc: Global,
@@ -171,7 +173,7 @@ fn build_repeat(
     cooked_repeat(alloc, boundary, turn, turns.least, turns.most)
 }
 
-/// A macro of an argument.
+/// Returns a macro applied to its argument.
 #[cycle(build)]
 fn build_macro(
     alloc: Global,
@@ -195,7 +197,7 @@ fn build_macro(
     }
 }
 
-/// A raw group.
+/// Returns a raw group.
 #[cycle(build)]
 fn build_raw(alloc: Global, base: &Base<'_>, mode: Mode, items: &[Expr]) -> Result<Peg, NoMemory>
     requires { Knows base.now }
@@ -212,7 +214,7 @@ fn build_raw(alloc: Global, base: &Base<'_>, mode: Mode, items: &[Expr]) -> Resu
     }
 }
 
-/// A cooked group.
+/// Returns a cooked group.
 #[cycle(build)]
 fn build_cooked(alloc: Global, base: &Base<'_>, mode: Mode, items: &[Expr]) -> Result<Peg, NoMemory>
     requires { Knows base.now }
@@ -229,7 +231,7 @@ fn build_cooked(alloc: Global, base: &Base<'_>, mode: Mode, items: &[Expr]) -> R
     }
 }
 
-/// Some expressions.
+/// Returns the cores of several expressions.
 #[cycle(build)]
 fn build_all(alloc: Global, base: &Base<'_>, mode: Mode, items: &[Expr]) -> Result<Pegs, NoMemory>
     requires { Knows base.now }
@@ -243,7 +245,7 @@ fn build_all(alloc: Global, base: &Base<'_>, mode: Mode, items: &[Expr]) -> Resu
     Ok(parts)
 }
 
-/// The items of a cooked group with the boundaries between them.
+/// Returns the items of a cooked group, with the boundaries between them.
 #[cycle(build)]
 fn build_spaced(
     alloc: Global,

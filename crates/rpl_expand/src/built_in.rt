@@ -15,7 +15,7 @@ use rpl_forms::make::{append, choice, pair};
 use rpl_text::Chars;
 use std::alloc::Global;
 
-/// A blank of ASCII.
+/// Returns an ASCII blank.
 fn blank(alloc: Global) -> Result<Peg, NoMemory>
     ensures { IfOk result (λ p. core_of p ≡ T.blank) }
 {
@@ -23,7 +23,7 @@ fn blank(alloc: Global) -> Result<Peg, NoMemory>
     Ok(Peg::Set(set))
 }
 
-/// A letter or a digit of ASCII.
+/// Returns an ASCII letter or digit.
 fn word(alloc: Global) -> Result<Peg, NoMemory>
     ensures { IfOk result (λ p. core_of p ≡ T.word) }
 {
@@ -31,7 +31,7 @@ fn word(alloc: Global) -> Result<Peg, NoMemory>
     Ok(Peg::Set(set))
 }
 
-/// A punctuation mark of ASCII.
+/// Returns an ASCII punctuation mark.
 fn mark(alloc: Global) -> Result<Peg, NoMemory>
     ensures { IfOk result (λ p. core_of p ≡ T.mark) }
 {
@@ -42,7 +42,7 @@ fn mark(alloc: Global) -> Result<Peg, NoMemory>
     Ok(Peg::Set(set))
 }
 
-/// The character before.
+/// Returns a look-behind at the previous character.
 fn before(alloc: Global, body: Peg) -> Result<Peg, NoMemory>
     ensures { IfOk result (λ p. core_of p ≡ C.Behind 1 1 (core_of body)) }
 {
@@ -53,21 +53,21 @@ fn before(alloc: Global, body: Peg) -> Result<Peg, NoMemory>
     })
 }
 
-/// The pattern follows.
+/// Returns a positive lookahead.
 fn ahead(alloc: Global, body: Peg) -> Result<Peg, NoMemory>
     ensures { IfOk result (λ p. core_of p ≡ C.And (core_of body)) }
 {
     Ok(Peg::And(Box::new(alloc, body)?))
 }
 
-/// The pattern doesn't follow.
+/// Returns a negative lookahead.
 fn absent(alloc: Global, body: Peg) -> Result<Peg, NoMemory>
     ensures { IfOk result (λ p. core_of p ≡ C.Not (core_of body)) }
 {
     Ok(Peg::Not(Box::new(alloc, body)?))
 }
 
-/// Blanks.
+/// Returns one or more blanks.
 fn blanks(alloc: Global) -> Result<Peg, NoMemory>
     ensures { IfOk result (λ p. core_of p ≡ F.pair T.blank (C.Many T.blank)) }
 {
@@ -75,7 +75,7 @@ fn blanks(alloc: Global) -> Result<Peg, NoMemory>
     pair(alloc, blank(alloc)?, more)
 }
 
-/// The start of a word.
+/// Returns the start of a word.
 fn word_start(alloc: Global) -> Result<Peg, NoMemory>
     ensures { IfOk result (λ p. core_of p ≡ F.pair (C.And T.word) (C.Not (C.Behind 1 1 T.word))) }
 {
@@ -85,7 +85,7 @@ fn word_start(alloc: Global) -> Result<Peg, NoMemory>
     pair(alloc, follows, none)
 }
 
-/// The end of some blanks.
+/// Returns the end of a run of blanks.
 fn blanks_end(alloc: Global) -> Result<Peg, NoMemory>
     ensures { IfOk result (λ p. core_of p ≡ F.pair (C.Behind 1 1 T.blank) (C.Not T.blank)) }
 {
@@ -94,7 +94,7 @@ fn blanks_end(alloc: Global) -> Result<Peg, NoMemory>
     pair(alloc, stands, none)
 }
 
-/// The boundary between two words.
+/// Returns the boundary between two words.
 fn boundary(alloc: Global) -> Result<Peg, NoMemory>
     ensures { IfOk result (λ p. core_of p ≡ T.boundary) }
 {
@@ -109,7 +109,7 @@ fn boundary(alloc: Global) -> Result<Peg, NoMemory>
     Ok(choice(parts))
 }
 
-/// A table of the two built-in rules, of which `halt` has this full name.
+/// Returns a table of the two built-in rules, in which `halt` has this full name.
 pub(crate) fn built_in(alloc: Global, halt: &str) -> Result<Rules, NoMemory>
     requires { chars halt.now ≢ codes "~" }
     ensures { IfOk result (λ rs. rows_of (rules_of rs) ≡ T.built_in (chars halt.now)) }

@@ -1,4 +1,4 @@
-// A table of rules while it is made.
+// A table of rules that is being built.
 ghost use Rattle.std.specs.Prelude.{◌≡◌, ◌++◌, ◌∷◌, ◌<◌, [], IfOk, OnOk, length};
 ghost use Rattle.rpl_core.specs.Listed.{rules_of};
 ghost use Rattle.rpl_core.specs.Table.{IsNew, names_of};
@@ -11,7 +11,7 @@ use rpl_forms::Inner;
 use rpl_forms::inner::{inners, push_inner};
 use std::alloc::Global;
 
-/// The rules so far, and what is known of what stands for each of them in a look-behind.
+/// The rules so far, and what is known of the inlined body of each.
 #[derive(Drop)]
 pub(crate) struct Growing {
     pub(crate) rules: Rules,
@@ -19,7 +19,7 @@ pub(crate) struct Growing {
     ghost as_many: { length known.items ≡ length (rules_of rules) },
 }
 
-/// Adds a rule, whose name no other has, to the parts of a table.
+/// Adds a rule, whose name must be new, to the parts of a table.
 fn add_rule(rules: &mut Rules, known: &mut Vec<Option<Inner>>, rule: Rule) -> Result<(), NoMemory>
     requires few { length (rules_of rules.old) < 0xffff_ffff }
     requires new_name { IsNew rule.name (names_of (rules_of rules.old)) }
@@ -35,7 +35,7 @@ fn add_rule(rules: &mut Rules, known: &mut Vec<Option<Inner>>, rule: Rule) -> Re
 }
 
 impl Growing {
-    /// A table that begins with these rules.
+    /// Returns a table that begins with these rules.
     pub(crate) fn new(alloc: Global, rules: Rules) -> Result<Growing, NoMemory>
         ensures rules { IfOk result (λ t. t.rules ≡ rules) }
         ensures knows { IfOk result (λ t. KnowsInners t.known.items
@@ -45,7 +45,7 @@ impl Growing {
         Ok(Growing { rules, known })
     }
 
-    /// The table with a rule more, whose name no other has.
+    /// Returns the table with one more rule, whose name must be new.
     pub(crate) fn with(self, rule: Rule) -> Result<Growing, NoMemory>
         requires few { length (rules_of self.rules) < 0xffff_ffff }
         requires new_name { IsNew rule.name (names_of (rules_of self.rules)) }

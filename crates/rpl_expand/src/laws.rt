@@ -1,4 +1,4 @@
-// What holds of every core.
+// Laws of every core.
 ghost use Rattle.std.specs.Prelude.{◌≤◌};
 ghost use Rattle.rpl_core.specs.Core.{Core};
 ghost use Rattle.rpl_core.specs.Lengths.{least};
@@ -12,19 +12,19 @@ pub fn group_of_one()
     ensures { GroupOfOne }
 {}
 
-/// `e{n}` has exactly n copies of the core of `e`, where `e` is no `( )` group.
+/// `e{n}` has exactly n copies of the core of `e`, unless `e` is a `( )` group.
 pub fn exactly_turns()
     ensures { ExactlyTurns }
 {}
 
-/// An expression in which no items stand side by side outside `{ }`, and no name, `~` or `error`,
-/// calls nothing in its core.
+/// The core of an expression calls nothing if the expression has no name, no `~` and no `error`,
+/// and no adjacent items outside `{ }`.
 pub fn still_calls_nothing()
     ensures { StillCallsNothing }
 {}
 
-/// Folding a set twice is folding it once, and takes in both cases of its ASCII letters; so a macro
-/// has the core of the expression that its equation gives.
+/// Folding a set twice is the same as folding it once, and adds both cases of its ASCII letters.
+/// It follows that a macro has the core of the expression that its equation gives.
 pub fn macro_is_equation()
     ensures folding { FoldsOnce }
     ensures equation { MacroIsEquation }
@@ -35,9 +35,9 @@ pub fn uci_keeps_others()
     ensures { UciKeepsOthers }
 {}
 
-/// A core every choice of which has a part, as in each core of a loaded set (`cores_have_parts` of
-/// `rpl_load_laws`), asks for no more characters than it has nodes. So the least length of a
-/// look-behind, which stops at 65,536, is that of its body.
+/// If every choice in a core has a part, the core requires no more characters than it has nodes.
+/// In a loaded set every choice has one (`cores_have_parts` of `rpl_load_laws`). So the least
+/// length of a look-behind, which saturates at 65,536, is that of its body.
 pub fn least_within_nodes()
     ensures { (p : Core) → HasParts p → least p ≤ nodes p }
 {}

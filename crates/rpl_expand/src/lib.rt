@@ -1,13 +1,15 @@
-//! The expansion of expressions to cores: names and macros are gone, boundaries stand between
-//! items, counts are written out, and look-behinds have what stands for the rules that they name.
+//! The expansion of expressions to cores: names are resolved, macros are applied, boundaries are
+//! inserted between items, repetition counts are written out, and look-behinds contain the
+//! inlined bodies of the rules that they name.
 //!
-//! For the commands, once a set of packages is loaded: `expand` makes its rule table,
-//! `expand_pattern` the core of a pattern over that table, and `print_peg` prints a core. The table
-//! and the core are exactly the defined ones (`specs/Expansion.antt`, `specs/Table.antt`,
-//! `specs/Sets.antt`), and are refused exactly for the first core that is too large. Each core is
-//! counted before it is made, so that nothing of that size is; this is a rule of the code, and no
-//! clause tells it. Calls nest as deep as the expression, and as the core, which is at most 1,024
-//! deep. Besides, only memory can run out.
+//! The commands use it once a set of packages is loaded: `expand` makes the rule table of the
+//! set, `expand_pattern` the core of a pattern over that table, and `print_peg` prints a core.
+//! The table and the core are exactly those that the definitions give (`specs/Expansion.antt`,
+//! `specs/Table.antt`, `specs/Sets.antt`). They are refused exactly when a core is too large,
+//! with the first such core. Each core is counted before it is built, so that nothing too large
+//! is ever built; this is a rule of the code that no clause states. Calls nest as deep as the
+//! expression, and as the core, which is at most 1,024 deep. The only other failure is running
+//! out of memory.
 #![tactic(auto)]
 
 mod base;

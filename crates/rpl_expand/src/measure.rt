@@ -24,29 +24,29 @@ use rpl_forms::{Count, Inner};
 use rpl_macro::Macro;
 use rpl_syntax::{Expr, Sign};
 
-/// The number of characters of a text.
+/// Returns the number of characters of a text.
 fn characters(text: &str) -> usize
     ensures { result ≡ length (chars text.now) }
 {
     text.chars().count()
 }
 
-/// The expression is a predicate.
+/// Returns whether the expression is a predicate.
 pub(crate) fn is_prefix(e: &Expr) -> bool
     ensures { result ≡ E.is_prefix (expr_of e.now) }
 {
     matches!(e, Expr::Prefix(_, _))
 }
 
-/// The expression is a cooked group.
+/// Returns whether the expression is a cooked group.
 pub(crate) fn is_cooked(e: &Expr) -> bool
     ensures { result ≡ E.is_cooked (expr_of e.now) }
 {
     matches!(e, Expr::Cooked(_))
 }
 
-/// Where an expression stands, what is known of what stands for each rule in a look-behind, and
-/// whether the expression is in one.
+/// The scope of an expression, what is known of the inlined body of each rule, and whether the
+/// expression is inside a look-behind.
 #[derive(Clone, Copy)]
 pub(crate) struct Around<'a> {
     pub(crate) scope: &'a Scope<'a>,
@@ -55,7 +55,7 @@ pub(crate) struct Around<'a> {
 }
 
 impl Around<'_> {
-    /// The size and the depth of a call of a rule, or of what stands for it in a look-behind.
+    /// Returns the count of a call of a rule, or of its inlined body inside a look-behind.
     fn call(&self, rule: u32) -> Count
         ensures { (I : Inners) → KnowsInners self.now.known.now I
             → Counts result (seen self.now.in_lookbehind I (C.Call rule)) }
@@ -64,7 +64,7 @@ impl Around<'_> {
     }
 }
 
-/// The size and the depth of an expression's core, or of what stands for it in a look-behind.
+/// Returns the count of an expression's core, or of its inlined form inside a look-behind.
 #[cycle(measure)]
 pub(crate) fn measure(around: &Around<'_>, e: &Expr) -> Count
     ensures { (c : Casing) (I : Inners) → KnowsInners around.now.known.now I
@@ -110,7 +110,7 @@ pub(crate) fn measure(around: &Around<'_>, e: &Expr) -> Count
     }
 }
 
-/// A raw group.
+/// Returns the count of a raw group.
 #[cycle(measure)]
 fn measure_raw(around: &Around<'_>, items: &[Expr]) -> Count
     ensures { (c : Casing) (I : Inners) → KnowsInners around.now.known.now I
@@ -126,7 +126,7 @@ fn measure_raw(around: &Around<'_>, items: &[Expr]) -> Count
     }
 }
 
-/// A cooked group.
+/// Returns the count of a cooked group.
 #[cycle(measure)]
 fn measure_cooked(around: &Around<'_>, items: &[Expr]) -> Count
     ensures { (c : Casing) (I : Inners) → KnowsInners around.now.known.now I
@@ -142,7 +142,7 @@ fn measure_cooked(around: &Around<'_>, items: &[Expr]) -> Count
     }
 }
 
-/// Some expressions together.
+/// Returns the count of several expressions.
 #[cycle(measure)]
 fn measure_all(around: &Around<'_>, parts: &[Expr]) -> Count
     ensures { (c : Casing) (I : Inners) → KnowsInners around.now.known.now I
@@ -156,7 +156,7 @@ fn measure_all(around: &Around<'_>, parts: &[Expr]) -> Count
     sum
 }
 
-/// The items of a cooked group with the boundaries between them.
+/// Returns the count of the items of a cooked group, with the boundaries between them.
 #[cycle(measure)]
 fn measure_spaced(around: &Around<'_>, items: &[Expr]) -> Count
     ensures { (c : Casing) (I : Inners) → KnowsInners around.now.known.now I
@@ -172,7 +172,7 @@ fn measure_spaced(around: &Around<'_>, items: &[Expr]) -> Count
     sum
 }
 
-/// No boundary stands after this item: it is the last, or a predicate.
+/// Returns whether no boundary follows the item at an index: it is the last one, or a predicate.
 pub(crate) fn stands_alone(items: &[Expr], number: usize) -> bool
     requires { number < length items.now }
     ensures { result ≡ alone items.now number }
@@ -180,7 +180,7 @@ pub(crate) fn stands_alone(items: &[Expr], number: usize) -> bool
     number + 1 == items.len() || is_prefix(&items[number])
 }
 
-/// An item more, with the boundary after it unless it stands alone.
+/// Adds the count of an item, and that of the boundary after it unless it stands alone.
 fn add_item(sum: Count, item: Count, boundary: Count, alone: bool) -> Count
     ensures { (p b : Core) (rest whole : Cores) → Counts item p → Counts boundary b
         → Adds sum (C.Then p (between alone b rest)) whole → Adds result rest whole }

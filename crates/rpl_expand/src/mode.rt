@@ -1,10 +1,10 @@
-// How a part of an expression is expanded.
+// The mode in which a part of an expression is expanded.
 ghost use Rattle.std.specs.Prelude.{◌≡◌, false, true};
 ghost use Rattle.rpl_forms.specs.Forms as F;
 
 use rpl_macro::{Casing, Macro};
 
-/// In which cases letters are taken, and whether the part stands in a look-behind.
+/// The cases in which letters match, and whether the part is inside a look-behind.
 #[derive(Clone, Copy)]
 pub(crate) struct Mode {
     pub(crate) casing: Casing,
@@ -12,7 +12,7 @@ pub(crate) struct Mode {
 }
 
 impl Mode {
-    /// Letters as they are written, and no look-behind around.
+    /// Returns the mode in which letters match as written, outside any look-behind.
     pub(crate) fn plain() -> Mode
         ensures casing { result.casing ≡ Casing.Plain }
         ensures in_lookbehind { result.in_lookbehind ≡ false }
@@ -23,7 +23,7 @@ impl Mode {
         }
     }
 
-    /// The mode in a look-behind, in the same casing.
+    /// Returns the mode inside a look-behind, with the same casing.
     pub(crate) fn behind(self) -> Mode
         ensures casing { result.casing ≡ self.casing }
         ensures in_lookbehind { result.in_lookbehind ≡ true }
@@ -34,7 +34,7 @@ impl Mode {
         }
     }
 
-    /// The mode under a macro, in its casing.
+    /// Returns the mode for the argument of a macro, with its casing.
     pub(crate) fn under(self, kind: Option<Macro>) -> Mode
         ensures casing { result.casing ≡ F.casing_under kind self.casing }
         ensures in_lookbehind { result.in_lookbehind ≡ self.in_lookbehind }

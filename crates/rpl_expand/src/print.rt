@@ -16,7 +16,7 @@ use rpl_print::{push_decimal, push_quoted, push_set, push_text, text_of};
 use rpl_text::Chars;
 use std::alloc::Global;
 
-/// Adds a set in brackets.
+/// Appends a set in brackets.
 fn push_class(out: &mut String, set: &Set) -> Result<(), NoMemory>
     ensures { OnOk result (string_bytes out.new
         ≡ string_bytes out.old ++ in_brackets (codes "(set ") (set_text set.now)) }
@@ -26,7 +26,7 @@ fn push_class(out: &mut String, set: &Set) -> Result<(), NoMemory>
     out.push(')')
 }
 
-/// Adds a call of a rule by its name.
+/// Appends a call of a rule by its name.
 fn push_call(out: &mut String, rules: &Rules, rule: u32) -> Result<(), NoMemory>
     ensures { OnOk result (string_bytes out.new
         ≡ string_bytes out.old ++ in_brackets (codes "(call ")
@@ -39,7 +39,7 @@ fn push_call(out: &mut String, rules: &Rules, rule: u32) -> Result<(), NoMemory>
     out.push(')')
 }
 
-/// Adds a message.
+/// Appends a message.
 fn push_note(out: &mut String, text: &Chars) -> Result<(), NoMemory>
     ensures { OnOk result (string_bytes out.new
         ≡ string_bytes out.old ++ in_brackets
@@ -50,7 +50,7 @@ fn push_note(out: &mut String, text: &Chars) -> Result<(), NoMemory>
     out.push(')')
 }
 
-/// Adds a pattern after a head, and the bracket that ends it.
+/// Appends a head, a pattern, and the closing bracket.
 #[cycle(print)]
 fn push_body(out: &mut String, rules: &Rules, head: &str, body: &Peg) -> Result<(), NoMemory>
     ensures { OnOk result (string_bytes out.new
@@ -62,7 +62,7 @@ fn push_body(out: &mut String, rules: &Rules, head: &str, body: &Peg) -> Result<
     out.push(')')
 }
 
-/// Adds patterns after a head, and the bracket that ends them.
+/// Appends a head, patterns, and the closing bracket.
 #[cycle(print)]
 fn push_group(out: &mut String, rules: &Rules, head: &str, parts: &[Peg]) -> Result<(), NoMemory>
     ensures { OnOk result (string_bytes out.new
@@ -74,7 +74,7 @@ fn push_group(out: &mut String, rules: &Rules, head: &str, parts: &[Peg]) -> Res
     out.push(')')
 }
 
-/// Adds patterns, with a space before each.
+/// Appends patterns, with a space before each.
 #[cycle(print)]
 fn push_parts(out: &mut String, rules: &Rules, parts: &[Peg]) -> Result<(), NoMemory>
     ensures { OnOk result (string_bytes out.new
@@ -87,7 +87,7 @@ fn push_parts(out: &mut String, rules: &Rules, parts: &[Peg]) -> Result<(), NoMe
     Ok(())
 }
 
-/// Adds a look-behind.
+/// Appends a look-behind.
 #[cycle(print)]
 fn push_behind(
     out: &mut String,
@@ -108,7 +108,7 @@ fn push_behind(
     push_body(out, rules, " ", body)
 }
 
-/// Adds a pattern that makes a node.
+/// Appends a pattern that makes a node.
 #[cycle(print)]
 fn push_capture(out: &mut String, rules: &Rules, name: &Chars, body: &Peg) -> Result<(), NoMemory>
     ensures { OnOk result (string_bytes out.new
@@ -121,7 +121,8 @@ fn push_capture(out: &mut String, rules: &Rules, name: &Chars, body: &Peg) -> Re
     push_body(out, rules, " ", body)
 }
 
-/// Adds the text of a pattern over a table of rules. A call of no rule of the table has no name.
+/// Appends the text of a pattern over a table of rules. A call of a rule that is not in the table
+/// has no name.
 #[cycle(print)]
 pub fn push_peg(out: &mut String, rules: &Rules, peg: &Peg) -> Result<(), NoMemory>
     ensures { OnOk result (string_bytes out.new
@@ -144,8 +145,9 @@ pub fn push_peg(out: &mut String, rules: &Rules, peg: &Peg) -> Result<(), NoMemo
     }
 }
 
-/// The printed text of a pattern over a table of rules, as `rosie expand` writes it: `(seq (set 61)
-/// (call ~))`. A call is printed by the rule's full name; one of no rule of the table has none.
+/// Returns the text of a pattern over a table of rules, as `rosie expand` writes it: `(seq (set
+/// 61) (call ~))`. A call is printed with the full name of its rule; a call of a rule that is not
+/// in the table has no name.
 pub fn print_peg(alloc: Global, rules: &Rules, peg: &Peg) -> Result<Chars, NoMemory>
     ensures { IfOk result (λ t. encode_utf8_all t ≡ printed (names_of (rules_of rules.now))
         (core_of peg.now)) }

@@ -1,4 +1,4 @@
-// Where an expression stands.
+// The scope of an expression.
 ghost use Rattle.std.specs.Prelude.{◌≡◌};
 ghost use Rattle.rpl_expand.specs.Sets.{boundary_by, makes_tree, rule_of};
 ghost use Rattle.rpl_package.specs.Sets.{set_seen};
@@ -7,17 +7,18 @@ ghost use Rattle.rpl_package.specs.Targets as T;
 use rpl_package::PackageSet;
 use rpl_syntax::QName;
 
-/// Where an expression stands in a set of packages, and the boundary in force there.
+/// The scope of an expression in a set of packages, and the boundary in force there.
 #[derive(Clone, Copy)]
 pub(crate) struct Scope<'a> {
     pub(crate) set: &'a PackageSet,
-    /// The rule whose statement it is; with None it is the pattern.
+    /// The rule whose statement contains the expression, or `None` for the pattern.
     pub(crate) at: Option<u32>,
     pub(crate) boundary: u32,
 }
 
 impl<'a> Scope<'a> {
-    /// The scope of the statement of a rule, or, with None, of the pattern.
+    /// Returns the scope of the statement of a rule, or that of the pattern if the rule is
+    /// `None`.
     pub(crate) fn new(set: &'a PackageSet, at: Option<u32>) -> Scope<'a>
         ensures set { result.set.now ≡ set.now }
         ensures at { result.at ≡ at }
@@ -30,7 +31,7 @@ impl<'a> Scope<'a> {
         }
     }
 
-    /// The rule that a name stands for.
+    /// Returns the rule that a name resolves to.
     pub(crate) fn rule(&self, name: &QName) -> u32
         ensures { result ≡ rule_of (T.resolved (set_seen self.now.set.now) self.now.at name.now) }
     {
@@ -40,7 +41,7 @@ impl<'a> Scope<'a> {
         }
     }
 
-    /// The rule that a name stands for makes a tree.
+    /// Returns whether the rule that a name resolves to makes a tree.
     pub(crate) fn captures(&self, name: &QName) -> bool
         ensures { result ≡ makes_tree (T.resolved (set_seen self.now.set.now) self.now.at
             name.now) }

@@ -15,14 +15,15 @@ pub(crate) struct Statement<'a> {
     /// The full name of the rule.
     pub(crate) name: &'a Chars,
     pub(crate) block: Option<u32>,
-    /// The rule makes a tree.
+    /// Whether the rule makes a tree.
     pub(crate) captures: bool,
     pub(crate) scope: Scope<'a>,
     pub(crate) body: &'a Expr,
 }
 
 impl<'a> Statement<'a> {
-    /// The statement of a rule; None where there is no such rule, or no statement made it.
+    /// Returns the statement of a rule, or `None` if there is no such rule or no statement made
+    /// it.
     pub(crate) fn of(set: &'a PackageSet, rule: u32) -> Option<Statement<'a>>
         ensures { statement_found result ≡ statement_at (set_seen set.now) rule }
     {

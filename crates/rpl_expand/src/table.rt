@@ -43,7 +43,7 @@ use rpl_syntax::Expr;
 use rpl_text::Chars;
 use std::alloc::Global;
 
-/// The core of a rule or of the pattern, with these counts, isn't too large.
+/// Checks that the core of a rule or of the pattern, with this count, is not too large.
 fn check_size(rule: Option<u32>, count: Count) -> Result<(), ExpandFault>
     ensures { (p : Core) → Counts count p → Answers (size_fault rule p) result }
 {
@@ -57,7 +57,7 @@ fn check_size(rule: Option<u32>, count: Count) -> Result<(), ExpandFault>
     Ok(())
 }
 
-/// The pattern under a capture of this name, if it makes a tree.
+/// Returns the pattern, in a capture of this name if it makes a tree.
 fn under(alloc: Global, captures: bool, name: Chars, body: Peg) -> Result<Peg, NoMemory>
     ensures { IfOk result (λ p. core_of p ≡ captured captures name (core_of body)) }
 {
@@ -67,7 +67,7 @@ fn under(alloc: Global, captures: bool, name: Chars, body: Peg) -> Result<Peg, N
     Ok(Peg::Capture(name, Box::new(alloc, body)?))
 }
 
-/// Its counts.
+/// Returns the count of the result of `under`.
 fn counts_under(captures: bool, of: Count) -> Count
     ensures { (p : Core) (name : _) → Counts of p → Counts result (captured captures name p) }
 {
@@ -77,7 +77,7 @@ fn counts_under(captures: bool, of: Count) -> Count
     node(of)
 }
 
-/// The expression is the name of a rule that makes a tree.
+/// Returns whether the expression is the name of a rule that makes a tree.
 fn has_root(scope: &Scope<'_>, e: &Expr) -> bool
     ensures { result ≡ has_root (λ q. makes_tree
         (resolved (set_seen scope.now.set.now) scope.now.at q))
@@ -89,7 +89,7 @@ fn has_root(scope: &Scope<'_>, e: &Expr) -> bool
     }
 }
 
-/// The rule of a statement, after the rules of a table.
+/// Returns the rule of a statement, over the rules of a table.
 fn make_rule(alloc: Global, table: &Growing, statement: &Statement<'_>) -> Result<Rule, NoMemory>
     requires { KnowsInners table.now.known.items (inners_of (rules_of table.now.rules)) }
     ensures { IfOk result (λ r. row_at r
@@ -111,7 +111,7 @@ fn make_rule(alloc: Global, table: &Growing, statement: &Statement<'_>) -> Resul
     })
 }
 
-/// The full name of the built-in `halt` in a set.
+/// Returns the full name of the built-in `halt` in a set.
 fn halt_name(set: &PackageSet) -> &str
     ensures { chars result.now ≡ halt_name (set_seen set.now) }
 {
@@ -121,11 +121,11 @@ fn halt_name(set: &PackageSet) -> &str
     }
 }
 
-/// The rule table of a set of packages: the boundary, the built-in `halt`, and a rule for each
-/// statement of the set in its order. The first rule whose core is too large is answered instead.
-/// Each is counted before it is made.
+/// Returns the rule table of a set of packages: the boundary, the built-in `halt`, and a rule for
+/// each statement of the set, in order. If a core is too large, returns the first such rule as an
+/// error. Each core is counted before it is built.
 ///
-/// No two of these rules have one full name, as in every set that is loaded.
+/// No two of these rules may have the same full name, which is true of every set that is loaded.
 ///
 /// # Examples
 ///
@@ -162,7 +162,7 @@ pub fn expand(alloc: Global, set: &PackageSet) -> Result<Rules, ExpandFault>
     Ok(table.rules)
 }
 
-/// The size of the goal, which its root capture may stand around, is within the limits.
+/// Checks that the size of the goal, with its root capture if it has one, is within the limits.
 fn check_goal_size(
     scope: &Scope<'_>,
     known: &[Option<Inner>],
@@ -182,8 +182,9 @@ fn check_goal_size(
     check_size(None, counts_under(captures, own))
 }
 
-/// The core of a pattern over the rule table of its set, under its root capture unless it is the
-/// name of a rule that makes a tree; or that it is too large. It is counted before it is made.
+/// Returns the core of a pattern over the rule table of its set, in a root capture unless the
+/// pattern is the name of a rule that makes a tree. Returns an error if the core is too large.
+/// The core is counted before it is built.
 pub fn expand_pattern(
     alloc: Global,
     set: &PackageSet,

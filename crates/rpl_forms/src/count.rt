@@ -1,4 +1,5 @@
-// Sizes and depths of cores, from those of their parts: one function for each form.
+// Sizes and depths of cores, computed from those of their parts. There is one function for each
+// form.
 ghost use Rattle.std.specs.Prelude.{◌≡◌, ℕ, ◌≤◌, Bool, List, length, Option, true};
 ghost use Rattle.rpl_core.specs.Core as C;
 ghost use Rattle.rpl_core.specs.Core.{Core, Cores};
@@ -13,14 +14,14 @@ use crate::inner::count_call;
 use crate::size::{Count, HALT, Inner, MAX_DEPTH, MAX_SIZE};
 use rpl_macro::Macro;
 
-/// A core with no parts.
+/// Returns the count of a core without parts.
 pub fn leaf() -> Count
     ensures { (p : Core) → nodes p ≡ 1 → deep p ≡ 1 → Counts result p }
 {
     Count { size: 1, depth: 1 }
 }
 
-/// No cores.
+/// Returns the count of an empty list of cores.
 pub fn none() -> Count
     ensures all { CountsAll result C.NoMore }
     ensures start { (ps : Cores) → Adds result ps ps }
@@ -28,7 +29,7 @@ pub fn none() -> Count
     Count { size: 0, depth: 0 }
 }
 
-/// One core around these.
+/// Returns the count of one core around the given ones.
 pub fn node(of: Count) -> Count
     ensures seq { (ps : Cores) → CountsAll of ps → Counts result (C.Seq ps) }
     ensures choice { (ps : Cores) → CountsAll of ps → Counts result (C.Choice ps) }
@@ -44,7 +45,7 @@ pub fn node(of: Count) -> Count
     }
 }
 
-/// One core before others.
+/// Returns the count of a core followed by others.
 fn front(first: Count, rest: Count) -> Count
     ensures { (p : Core) (ps : Cores) → Counts first p → CountsAll rest ps →
         CountsAll result (C.Then p ps) }
@@ -55,7 +56,7 @@ fn front(first: Count, rest: Count) -> Count
     }
 }
 
-/// One core more, of those that are left.
+/// Adds the count of the next core to the sum of those before it.
 pub fn add(sum: Count, next: Count) -> Count
     ensures { (p : Core) (rest whole : Cores) → Counts next p → Adds sum (C.Then p rest) whole
         → Adds result rest whole }
@@ -66,7 +67,7 @@ pub fn add(sum: Count, next: Count) -> Count
     }
 }
 
-/// A core so many times, before others.
+/// Returns the count of `number` copies of a core, followed by others.
 fn copies(number: u32, part: Count, rest: Count) -> Count
     ensures { (p : Core) (ps : Cores) → Counts part p → CountsAll rest ps →
         CountsAll result (F.copies number p ps) }
@@ -81,7 +82,7 @@ fn copies(number: u32, part: Count, rest: Count) -> Count
     }
 }
 
-/// Two cores in turn.
+/// Returns the count of two cores, one after the other.
 pub fn pair(first: Count, second: Count) -> Count
     ensures { (p q : Core) → Counts first p → Counts second q → Counts result (F.pair p q) }
 {
@@ -90,7 +91,7 @@ pub fn pair(first: Count, second: Count) -> Count
     node(both)
 }
 
-/// A core, or nothing.
+/// Returns the count of an optional core.
 fn or_nothing(of: Count) -> Count
     ensures { (p : Core) → Counts of p → Counts result (F.or_nothing p) }
 {
@@ -99,7 +100,7 @@ fn or_nothing(of: Count) -> Count
     node(both)
 }
 
-/// A text of so many characters.
+/// Returns the count of a text of `number` characters.
 pub fn text(number: usize) -> Count
     ensures { (c : Casing) (t : List ℕ) → length t ≡ number → Counts result (F.text_core c t) }
 {
@@ -112,7 +113,7 @@ pub fn text(number: usize) -> Count
     }
 }
 
-/// So many times and more.
+/// Returns the count of a core repeated `least` or more times.
 fn endless(of: Count, least: u32) -> Count
     ensures { (p : Core) → Counts of p → Counts result (F.endless p least) }
 {
@@ -126,7 +127,7 @@ fn endless(of: Count, least: u32) -> Count
     node(all)
 }
 
-/// So many times, and up to some more.
+/// Returns the count of a core repeated `least` times, and then up to `more` times.
 fn bounded(of: Count, least: u32, more: u32) -> Count
     ensures { (p : Core) → Counts of p
         → Counts result (C.Seq (F.copies least p (F.copies more (F.or_nothing p) C.NoMore))) }
@@ -136,7 +137,8 @@ fn bounded(of: Count, least: u32, more: u32) -> Count
     node(all)
 }
 
-/// From `least` to `most` times, or `least` times and more.
+/// Returns the count of a core repeated from `least` to `most` times, or `least` or more times if
+/// there is no `most`.
 pub fn repeat(of: Count, least: u32, most: Option<u32>) -> Count
     ensures { (p : Core) → Counts of p → Counts result (F.repeat p least most) }
 {
@@ -146,7 +148,8 @@ pub fn repeat(of: Count, least: u32, most: Option<u32>) -> Count
     }
 }
 
-/// A cooked group so many times and more, with the boundary between its turns.
+/// Returns the count of a cooked group repeated `least` or more times, with the boundary between
+/// its turns.
 fn cooked_endless(boundary: Count, of: Count, least: u32) -> Count
     ensures { (b p : Core) → Counts boundary b → Counts of p →
         Counts result (F.cooked_endless b p least) }
@@ -163,7 +166,8 @@ fn cooked_endless(boundary: Count, of: Count, least: u32) -> Count
     node(all)
 }
 
-/// One turn of a cooked group, some further ones, and up to some more.
+/// Returns the count of one turn of a cooked group, `further` turns after it, and then up to
+/// `more` turns.
 fn cooked_turns(boundary: Count, of: Count, further: u32, more: u32) -> Count
     ensures { (b p : Core) → Counts boundary b → Counts of p →
         Counts result (F.cooked_turns b p further more) }
@@ -175,7 +179,7 @@ fn cooked_turns(boundary: Count, of: Count, further: u32, more: u32) -> Count
     node(all)
 }
 
-/// A cooked group from `least` to `most` times.
+/// Returns the count of a cooked group repeated from `least` to `most` times.
 fn cooked_bounded(boundary: Count, of: Count, least: u32, most: u32) -> Count
     ensures { (b p : Core) → Counts boundary b → Counts of p →
         Counts result (F.cooked_bounded b p least most) }
@@ -190,7 +194,8 @@ fn cooked_bounded(boundary: Count, of: Count, least: u32, most: u32) -> Count
     or_nothing(turns)
 }
 
-/// A cooked group from `least` to `most` times, or `least` times and more.
+/// Returns the count of a cooked group repeated from `least` to `most` times, or `least` or more
+/// times if there is no `most`.
 pub fn cooked_repeat(boundary: Count, of: Count, least: u32, most: Option<u32>) -> Count
     ensures { (b p : Core) → Counts boundary b → Counts of p →
         Counts result (F.cooked_repeat b p least most) }
@@ -201,7 +206,7 @@ pub fn cooked_repeat(boundary: Count, of: Count, least: u32, most: Option<u32>) 
     }
 }
 
-/// A tree around a core; in a look-behind there are none.
+/// Returns the count of a tree around a core. Look-behinds have no trees.
 pub fn capture(in_lookbehind: bool, of: Count) -> Count
     ensures { (p : Core) (c : List ℕ) (I : Inners) → Counts of (seen in_lookbehind I p)
         → Counts result (seen in_lookbehind I (C.Capture c p)) }
@@ -212,7 +217,7 @@ pub fn capture(in_lookbehind: bool, of: Count) -> Count
     node(of)
 }
 
-/// The characters that a search passes over.
+/// Returns the count of the characters that a search skips.
 fn passed(of: Count) -> Count
     ensures { (p : Core) → Counts of p → Counts result (F.passed p) }
 {
@@ -221,7 +226,7 @@ fn passed(of: Count) -> Count
     node(step)
 }
 
-/// A search.
+/// Returns the count of a search.
 fn found(in_lookbehind: bool, of: Count) -> Count
     ensures { (p : Core) (I : Inners) → Counts of (seen in_lookbehind I p)
         → Counts result (seen in_lookbehind I (F.found p)) }
@@ -231,7 +236,7 @@ fn found(in_lookbehind: bool, of: Count) -> Count
     pair(before, hit)
 }
 
-/// A search that keeps what it passes over.
+/// Returns the count of a search that keeps what it skips.
 fn kept(in_lookbehind: bool, of: Count) -> Count
     ensures { (p : Core) (I : Inners) → Counts of (seen in_lookbehind I p)
         → Counts result (seen in_lookbehind I (F.kept p)) }
@@ -241,7 +246,7 @@ fn kept(in_lookbehind: bool, of: Count) -> Count
     pair(before, hit)
 }
 
-/// A message and the end of the match.
+/// Returns the count of a message followed by the end of the match.
 fn error(known: &[Option<Inner>], in_lookbehind: bool) -> Count
     ensures { (I : Inners) (t : List ℕ) → KnowsInners known.now I
         → Counts result (seen in_lookbehind I (F.pair (C.Note t) (C.Call F.halt_rule))) }
@@ -250,7 +255,7 @@ fn error(known: &[Option<Inner>], in_lookbehind: bool) -> Count
     pair(leaf(), end)
 }
 
-/// A macro of an argument with these counts.
+/// Returns the count of a macro, given that of its argument.
 pub fn applied(
     known: &[Option<Inner>],
     in_lookbehind: bool,

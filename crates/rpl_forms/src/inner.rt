@@ -1,6 +1,6 @@
-// What stands for rules in a look-behind: their bodies without captures and notes, and with the
-// bodies of earlier rules in place of calls. It is counted for each rule, and made only where a
-// look-behind asks for it.
+// Inlined bodies: the form of rules inside a look-behind. Captures and notes are dropped, and
+// calls are replaced by the inlined bodies of earlier rules. Every rule's inlined body is
+// counted; it is built only if a look-behind needs it.
 ghost use Rattle.std.specs.Prelude.{◌≡◌, ◌<◌, ◌+◌, IfOk, IfSome, OnOk, Option, [], ◌∷◌, ◌++◌};
 ghost use Rattle.std.specs.Prelude.{length, slice_get, take};
 ghost use Rattle.rpl_core.specs.Core as C;
@@ -18,7 +18,7 @@ use crate::size::{Count, Inner};
 use rpl_core::{Peg, Pegs, Rule, Rules};
 use std::alloc::Global;
 
-/// What is known of what stands for the rule with this number, where anything does.
+/// Returns what is known of the inlined body of a rule, if it has one.
 fn inner_of(known: &[Option<Inner>], rule: u32) -> Option<Inner>
     ensures { result ≡ known_of (slice_get known.now rule) }
 {
@@ -28,7 +28,7 @@ fn inner_of(known: &[Option<Inner>], rule: u32) -> Option<Inner>
     }
 }
 
-/// The counts of a call, or of what stands for it.
+/// Returns the count of a call, or of its inlined body.
 pub fn count_call(known: &[Option<Inner>], in_lookbehind: bool, rule: u32) -> Count
     ensures { (I : Inners) → KnowsInners known.now I →
         Counts result (seen in_lookbehind I (C.Call rule)) }
@@ -42,7 +42,7 @@ pub fn count_call(known: &[Option<Inner>], in_lookbehind: bool, rule: u32) -> Co
     }
 }
 
-/// The counts of a pattern, or of what stands for it.
+/// Returns the count of a pattern, or of its inlined form.
 #[cycle(weigh)]
 fn weigh(known: &[Option<Inner>], in_lookbehind: bool, peg: &Peg) -> Count
     ensures { (I : Inners) → KnowsInners known.now I →
@@ -82,7 +82,7 @@ fn weigh(known: &[Option<Inner>], in_lookbehind: bool, peg: &Peg) -> Count
     }
 }
 
-/// Those of some patterns together.
+/// Returns the count of several patterns, or of their inlined forms.
 #[cycle(weigh)]
 fn weigh_all(known: &[Option<Inner>], in_lookbehind: bool, parts: &[Peg]) -> Count
     ensures { (I : Inners) → KnowsInners known.now I →
@@ -95,7 +95,7 @@ fn weigh_all(known: &[Option<Inner>], in_lookbehind: bool, parts: &[Peg]) -> Cou
     sum
 }
 
-/// The rule that the pattern calls, where it is nothing but a call, or a node of one.
+/// Returns the rule that the pattern calls, if it is only a call or a node around a call.
 fn called_alone(peg: &Peg) -> Option<u32>
     ensures { IfSome result (λ r. (I : Inners) →
         inlined I (core_of peg.now) ≡ inlined I (C.Call r)) }
@@ -110,8 +110,9 @@ fn called_alone(peg: &Peg) -> Option<u32>
     }
 }
 
-/// The first rule of a chain of calls that ends at this body of the next rule: what stands for the
-/// one stands for the other. So a chain of names, however long, is followed in one step.
+/// Returns the first rule of the chain of calls that ends at this body of the next rule. Both
+/// rules have the same inlined body, so a chain of names is followed in one step, however long it
+/// is.
 fn first_in_chain(known: &[Option<Inner>], body: &Peg) -> u32
     requires { length known.now < 0xffff_ffff }
     ensures { (I : Inners) → KnowsInners known.now I → length known.now ≡ length I
@@ -127,7 +128,7 @@ fn first_in_chain(known: &[Option<Inner>], body: &Peg) -> u32
     }
 }
 
-/// What is known of what stands for the next rule, if anything does.
+/// Returns what is known of the inlined body of the next rule, if it has one.
 fn next_inner(known: &[Option<Inner>], rule: &Rule) -> Option<Inner>
     requires { length known.now < 0xffff_ffff }
     ensures { (I : Inners) → KnowsInners known.now I → length known.now ≡ length I
@@ -142,7 +143,7 @@ fn next_inner(known: &[Option<Inner>], rule: &Rule) -> Option<Inner>
     }
 }
 
-/// Adds what is known of the next rule of a table.
+/// Appends what is known of the next rule of a table.
 pub fn push_inner(known: &mut Vec<Option<Inner>>, rule: &Rule) -> Result<(), NoMemory>
     requires { length known.old.items < 0xffff_ffff }
     ensures knows { OnOk result ((I : Inners) → KnowsInners known.old.items I →
@@ -155,7 +156,7 @@ pub fn push_inner(known: &mut Vec<Option<Inner>>, rule: &Rule) -> Result<(), NoM
     Ok(())
 }
 
-/// What is known of each rule of a table.
+/// Returns what is known of each rule of a table.
 pub fn inners(alloc: Global, rules: &Rules) -> Result<Vec<Option<Inner>>, NoMemory>
     ensures knows { IfOk result (λ v. KnowsInners v.items (inners_of (rules_of rules.now))) }
     ensures as_many { IfOk result (λ v. length v.items ≡ length (rules_of rules.now)) }
@@ -170,7 +171,7 @@ pub fn inners(alloc: Global, rules: &Rules) -> Result<Vec<Option<Inner>>, NoMemo
     Ok(known)
 }
 
-/// A box with what stands for the pattern.
+/// Returns a box with the inlined form of the pattern.
 #[cycle(inline)]
 fn boxed(
     alloc: Global,
@@ -187,7 +188,7 @@ fn boxed(
     Ok(Box::new(alloc, body)?)
 }
 
-/// What stands for each part.
+/// Returns the inlined form of each part.
 #[cycle(inline)]
 fn inline_all(
     alloc: Global,
@@ -207,7 +208,7 @@ fn inline_all(
     Ok(others)
 }
 
-/// What stands for a call: at once for the first rule of its chain.
+/// Returns the inlined body of a call. It is built directly from the first rule of its chain.
 #[cycle(inline)]
 fn inline_call(
     alloc: Global,
@@ -232,8 +233,8 @@ fn inline_call(
     inline(alloc, rules, known, inner.rule, &rule.body)
 }
 
-/// What stands for the pattern: no captures and notes, and for calls of the first `limit` rules
-/// what stands for them.
+/// Returns the inlined form of the pattern: without captures and notes, and with calls of the
+/// first `limit` rules replaced by their inlined bodies.
 #[cycle(inline)]
 fn inline(
     alloc: Global,
@@ -266,7 +267,7 @@ fn inline(
     }
 }
 
-/// A call, or what stands for it.
+/// Returns a call, or its inlined body inside a look-behind.
 pub fn call(
     alloc: Global,
     rules: &Rules,

@@ -1,10 +1,11 @@
-//! The core of each form of expression, of the cores of its parts: how large it would be, and the
-//! core itself.
+//! The core of each form of expression, built from the cores of its parts, and the size that it
+//! would have.
 //!
-//! For the expansion, which goes through an expression twice, once with `count` and, if nothing is
-//! too large, once with `make`. Both have one function for each form, and both can go in a
-//! look-behind, where captures and messages are gone and the bodies of earlier rules stand for
-//! calls (`inner`). Counts stop at one above their limits. Only memory can run out.
+//! The expansion goes through an expression twice: once with `count` and, if nothing is too
+//! large, once with `make`. Both modules have one function for each form. Both also work inside a
+//! look-behind, where captures and messages are dropped and calls are replaced by the bodies of
+//! earlier rules (`inner`). Counts saturate at one above their limits. The only failure is
+//! running out of memory.
 #![tactic(auto)]
 
 pub mod count;

@@ -1,4 +1,4 @@
-// Patterns from those of their parts: one function for each form.
+// Patterns built from those of their parts. There is one function for each form.
 ghost use Rattle.std.specs.Prelude.{◌≡◌, ◌≤◌, false, IfOk, OnOk, chars, List, Option, ℕ};
 ghost use Rattle.rpl_classes.specs.Algebra.{others};
 ghost use Rattle.rpl_core.specs.Core as C;
@@ -23,21 +23,21 @@ use rpl_syntax::{Expr, Mark};
 use rpl_text::Chars;
 use std::alloc::Global;
 
-/// All parts in turn.
+/// Returns all parts, one after the other.
 pub fn seq(parts: Pegs) -> Peg
     ensures { core_of result ≡ C.Seq (cores (listed parts)) }
 {
     Peg::Seq(parts)
 }
 
-/// The first part that succeeds.
+/// Returns the first part that succeeds.
 pub fn choice(parts: Pegs) -> Peg
     ensures { core_of result ≡ C.Choice (cores (listed parts)) }
 {
     Peg::Choice(parts)
 }
 
-/// A pattern more at the end.
+/// Appends a pattern.
 pub fn append(parts: &mut Pegs, part: Peg) -> Result<(), NoMemory>
     ensures { OnOk result (cores (listed parts.new)
         ≡ F.joined (cores (listed parts.old)) (C.Then (core_of part) C.NoMore)) }
@@ -46,7 +46,7 @@ pub fn append(parts: &mut Pegs, part: Peg) -> Result<(), NoMemory>
     Ok(())
 }
 
-/// A pattern so many times more at the end.
+/// Appends a pattern `number` times.
 pub fn append_copies(
     alloc: Global,
     parts: &mut Pegs,
@@ -62,7 +62,7 @@ pub fn append_copies(
     Ok(())
 }
 
-/// Two patterns in turn.
+/// Returns two patterns, one after the other.
 pub fn pair(alloc: Global, first: Peg, second: Peg) -> Result<Peg, NoMemory>
     ensures { IfOk result (λ p. core_of p ≡ F.pair (core_of first) (core_of second)) }
 {
@@ -72,7 +72,7 @@ pub fn pair(alloc: Global, first: Peg, second: Peg) -> Result<Peg, NoMemory>
     Ok(seq(parts))
 }
 
-/// The pattern, or nothing.
+/// Returns an optional pattern.
 pub fn or_nothing(alloc: Global, some: Peg) -> Result<Peg, NoMemory>
     ensures { IfOk result (λ p. core_of p ≡ F.or_nothing (core_of some)) }
 {
@@ -82,14 +82,14 @@ pub fn or_nothing(alloc: Global, some: Peg) -> Result<Peg, NoMemory>
     Ok(choice(parts))
 }
 
-/// The pattern again and again.
+/// Returns a pattern repeated any number of times.
 fn many(alloc: Global, body: Peg) -> Result<Peg, NoMemory>
     ensures { IfOk result (λ p. core_of p ≡ C.Many (core_of body)) }
 {
     Ok(Peg::Many(Box::new(alloc, body)?))
 }
 
-/// One character in a casing.
+/// Returns one character in a casing.
 fn character(alloc: Global, casing: Casing, c: char) -> Result<Peg, NoMemory>
     ensures { IfOk result (λ p. core_of p ≡ C.Set (set_in casing (single c))) }
 {
@@ -98,7 +98,7 @@ fn character(alloc: Global, casing: Casing, c: char) -> Result<Peg, NoMemory>
     Ok(Peg::Set(set))
 }
 
-/// The characters of a text in a casing.
+/// Returns the characters of a text in a casing.
 fn characters(alloc: Global, casing: Casing, text: &str) -> Result<Pegs, NoMemory>
     ensures { IfOk result (λ ps. cores (listed ps) ≡ F.sets casing (chars text.now)) }
 {
@@ -109,7 +109,7 @@ fn characters(alloc: Global, casing: Casing, text: &str) -> Result<Pegs, NoMemor
     Ok(parts)
 }
 
-/// A group of small patterns: of one pattern, a copy of that pattern.
+/// Returns a group of small patterns. For one pattern it is a copy of that pattern.
 fn group(alloc: Global, parts: Pegs) -> Result<Peg, NoMemory>
     ensures { IfOk result (λ p. core_of p ≡ F.seq_of (cores (listed parts))) }
 {
@@ -122,14 +122,14 @@ fn group(alloc: Global, parts: Pegs) -> Result<Peg, NoMemory>
     }
 }
 
-/// A text in a casing.
+/// Returns a text in a casing.
 pub fn text(alloc: Global, casing: Casing, text: &str) -> Result<Peg, NoMemory>
     ensures { IfOk result (λ p. core_of p ≡ F.text_core casing (chars text.now)) }
 {
     group(alloc, characters(alloc, casing, text)?)
 }
 
-/// A class in a casing.
+/// Returns a class in a casing.
 pub fn class(alloc: Global, casing: Casing, set: &Set, negated: bool) -> Result<Peg, NoMemory>
     ensures { IfOk result (λ p. core_of p ≡ C.Set (F.signed negated (set_in casing set.now))) }
 {
@@ -140,14 +140,14 @@ pub fn class(alloc: Global, casing: Casing, set: &Set, negated: bool) -> Result<
     Ok(Peg::Set(set))
 }
 
-/// Any character.
+/// Returns any one character.
 pub fn any(alloc: Global) -> Result<Peg, NoMemory>
     ensures { IfOk result (λ p. core_of p ≡ C.Set F.any) }
 {
     Ok(Peg::Set(Set::all(alloc)?))
 }
 
-/// So many times and more.
+/// Returns a pattern repeated `least` or more times.
 fn endless(alloc: Global, body: Peg, least: u32) -> Result<Peg, NoMemory>
     ensures { IfOk result (λ p. core_of p ≡ F.endless (core_of body) least) }
 {
@@ -160,7 +160,7 @@ fn endless(alloc: Global, body: Peg, least: u32) -> Result<Peg, NoMemory>
     Ok(seq(parts))
 }
 
-/// A pattern, or nothing, so many times more at the end.
+/// Appends an optional pattern `number` times.
 fn append_options(alloc: Global, parts: &mut Pegs, number: u32, part: Peg) -> Result<(), NoMemory>
     ensures { OnOk result (cores (listed parts.new)
         ≡ F.joined (cores (listed parts.old))
@@ -170,7 +170,7 @@ fn append_options(alloc: Global, parts: &mut Pegs, number: u32, part: Peg) -> Re
     append_copies(alloc, parts, number, &option)
 }
 
-/// So many times, and up to some more.
+/// Returns a pattern repeated `least` times, and then up to `more` times.
 fn bounded(alloc: Global, body: Peg, least: u32, more: u32) -> Result<Peg, NoMemory>
     ensures { IfOk result (λ p. core_of p
         ≡ C.Seq (F.copies least (core_of body)
@@ -182,7 +182,8 @@ fn bounded(alloc: Global, body: Peg, least: u32, more: u32) -> Result<Peg, NoMem
     Ok(seq(parts))
 }
 
-/// From `least` to `most` times, or `least` times and more.
+/// Returns a pattern repeated from `least` to `most` times, or `least` or more times if there is
+/// no `most`.
 pub fn repeat(alloc: Global, body: Peg, least: u32, most: Option<u32>) -> Result<Peg, NoMemory>
     ensures { IfOk result (λ p. core_of p ≡ F.repeat (core_of body) least most) }
 {
@@ -192,7 +193,7 @@ pub fn repeat(alloc: Global, body: Peg, least: u32, most: Option<u32>) -> Result
     }
 }
 
-/// A further turn of a cooked group: the boundary, and a copy of the group.
+/// Returns a further turn of a cooked group: the boundary and a copy of the group.
 fn further_turn(alloc: Global, boundary: Peg, body: &Peg) -> Result<Peg, NoMemory>
     ensures { IfOk result (λ p. core_of p ≡ F.pair (core_of boundary) (core_of body.now)) }
 {
@@ -200,7 +201,7 @@ fn further_turn(alloc: Global, boundary: Peg, body: &Peg) -> Result<Peg, NoMemor
     pair(alloc, boundary, again)
 }
 
-/// A pattern, and then another so many times.
+/// Returns a pattern followed by `number` copies of another.
 fn with_copies(alloc: Global, first: Peg, number: u32, next: &Peg) -> Result<Pegs, NoMemory>
     ensures { IfOk result (λ ps. cores (listed ps)
         ≡ C.Then (core_of first) (F.copies number (core_of next.now) C.NoMore)) }
@@ -211,7 +212,7 @@ fn with_copies(alloc: Global, first: Peg, number: u32, next: &Peg) -> Result<Peg
     Ok(parts)
 }
 
-/// A cooked group so many times and more, with the boundary between its turns.
+/// Returns a cooked group repeated `least` or more times, with the boundary between its turns.
 fn cooked_endless(alloc: Global, boundary: Peg, body: Peg, least: u32) -> Result<Peg, NoMemory>
     ensures { IfOk result (λ p. core_of p ≡ F.cooked_endless (core_of boundary) (core_of body)
         least) }
@@ -227,7 +228,7 @@ fn cooked_endless(alloc: Global, boundary: Peg, body: Peg, least: u32) -> Result
     Ok(seq(parts))
 }
 
-/// One turn of a cooked group, some further ones, and up to some more.
+/// Returns one turn of a cooked group, `further` turns after it, and then up to `more` turns.
 fn cooked_turns(
     alloc: Global,
     boundary: Peg,
@@ -244,7 +245,7 @@ fn cooked_turns(
     Ok(seq(parts))
 }
 
-/// A cooked group from `least` to `most` times.
+/// Returns a cooked group repeated from `least` to `most` times.
 fn cooked_bounded(
     alloc: Global,
     boundary: Peg,
@@ -265,7 +266,7 @@ fn cooked_bounded(
     or_nothing(alloc, turns)
 }
 
-/// A cooked group at most once, which has no boundary.
+/// Returns a cooked group repeated at most once, which needs no boundary.
 pub fn cooked_once(alloc: Global, body: Peg, least: u32) -> Result<Peg, NoMemory>
     requires { least ≤ 1 }
     ensures { IfOk result (λ p. (b : Core) →
@@ -279,7 +280,8 @@ pub fn cooked_once(alloc: Global, body: Peg, least: u32) -> Result<Peg, NoMemory
     Ok(seq(parts))
 }
 
-/// A cooked group from `least` to `most` times, or `least` times and more.
+/// Returns a cooked group repeated from `least` to `most` times, or `least` or more times if
+/// there is no `most`.
 pub fn cooked_repeat(
     alloc: Global,
     boundary: Peg,
@@ -296,7 +298,7 @@ pub fn cooked_repeat(
     }
 }
 
-/// The type of the tree of a mark.
+/// Returns the type of the tree of a mark.
 fn mark_name(alloc: Global, mark: Mark) -> Result<Chars, NoMemory>
     ensures { IfOk result (λ n. n ≡ F.mark_name mark) }
 {
@@ -306,7 +308,7 @@ fn mark_name(alloc: Global, mark: Mark) -> Result<Chars, NoMemory>
     }
 }
 
-/// A stretch of a search, which makes a node; in a look-behind there are none.
+/// Returns a stretch of a search, which makes a node except in a look-behind.
 pub fn marked(alloc: Global, in_lookbehind: bool, mark: Mark, body: Peg) -> Result<Peg, NoMemory>
     ensures { IfOk result (λ q. (I : Inners) (p : Core) → core_of body ≡ seen in_lookbehind I p
         → core_of q ≡ seen in_lookbehind I (C.Capture (F.mark_name mark) p)) }
@@ -318,7 +320,7 @@ pub fn marked(alloc: Global, in_lookbehind: bool, mark: Mark, body: Peg) -> Resu
     Ok(Peg::Capture(name, Box::new(alloc, body)?))
 }
 
-/// The characters that a search passes over.
+/// Returns the characters that a search skips.
 fn passed(alloc: Global, body: &Peg) -> Result<Peg, NoMemory>
     ensures { IfOk result (λ p. core_of p ≡ F.passed (core_of body.now)) }
 {
@@ -327,7 +329,7 @@ fn passed(alloc: Global, body: &Peg) -> Result<Peg, NoMemory>
     many(alloc, step)
 }
 
-/// A search.
+/// Returns a search.
 fn found(alloc: Global, in_lookbehind: bool, body: Peg) -> Result<Peg, NoMemory>
     ensures { IfOk result (λ q. (I : Inners) (p : Core) → core_of body ≡ seen in_lookbehind I p
         → core_of q ≡ seen in_lookbehind I (F.found p)) }
@@ -337,7 +339,7 @@ fn found(alloc: Global, in_lookbehind: bool, body: Peg) -> Result<Peg, NoMemory>
     pair(alloc, before, hit)
 }
 
-/// A search that keeps what it passes over.
+/// Returns a search that keeps what it skips.
 fn kept(alloc: Global, in_lookbehind: bool, body: Peg) -> Result<Peg, NoMemory>
     ensures { IfOk result (λ q. (I : Inners) (p : Core) → core_of body ≡ seen in_lookbehind I p
         → core_of q ≡ seen in_lookbehind I (F.kept p)) }
@@ -348,7 +350,7 @@ fn kept(alloc: Global, in_lookbehind: bool, body: Peg) -> Result<Peg, NoMemory>
     pair(alloc, before, hit)
 }
 
-/// A search again and again.
+/// Returns a repeated search.
 fn all_found(alloc: Global, in_lookbehind: bool, body: Peg) -> Result<Peg, NoMemory>
     ensures { IfOk result (λ q. (I : Inners) (p : Core) → core_of body ≡ seen in_lookbehind I p
         → core_of q ≡ seen in_lookbehind I (F.endless (F.found p) 1)) }
@@ -357,8 +359,8 @@ fn all_found(alloc: Global, in_lookbehind: bool, body: Peg) -> Result<Peg, NoMem
     endless(alloc, search, 1)
 }
 
-/// What a macro that searches makes of its argument, or a change of case, which the argument has
-/// had already.
+/// Returns what a macro that searches or changes case makes of its argument. The argument is
+/// already in the new case.
 pub fn searched(
     alloc: Global,
     in_lookbehind: bool,
@@ -378,7 +380,7 @@ pub fn searched(
     }
 }
 
-/// A message, which makes a node; in a look-behind there are none.
+/// Returns a message, which makes a node except in a look-behind.
 pub fn note(alloc: Global, in_lookbehind: bool, text: &Chars) -> Result<Peg, NoMemory>
     ensures { IfOk result (λ q. (I : Inners) → core_of q ≡ seen in_lookbehind I (C.Note text.now)) }
 {
@@ -388,7 +390,7 @@ pub fn note(alloc: Global, in_lookbehind: bool, text: &Chars) -> Result<Peg, NoM
     Ok(Peg::Note(text.copy(alloc)?))
 }
 
-/// The message of an argument. The characters of the argument aren't made.
+/// Returns the message of an argument. The characters of the argument are not made into patterns.
 pub fn message(alloc: Global, in_lookbehind: bool, arg: &Expr) -> Result<Peg, NoMemory>
     ensures { IfOk result (λ q. (I : Inners) →
         core_of q ≡ seen in_lookbehind I (C.Note (text_of (expr_of arg.now)))) }
@@ -399,7 +401,7 @@ pub fn message(alloc: Global, in_lookbehind: bool, arg: &Expr) -> Result<Peg, No
     }
 }
 
-/// A message, and the end of the match.
+/// Returns a message followed by the end of the match.
 pub fn error(
     alloc: Global,
     rules: &Rules,
@@ -417,7 +419,7 @@ pub fn error(
     pair(alloc, told, end)
 }
 
-/// The look-behind at this body.
+/// Returns a look-behind with this body.
 pub fn behind(alloc: Global, body: Peg) -> Result<Peg, NoMemory>
     ensures { IfOk result (λ p. core_of p ≡ F.behind (core_of body)) }
 {

@@ -1,17 +1,17 @@
-// Sizes and depths of cores, up to their limits.
+// Sizes and depths of cores, and their limits.
 ghost use Rattle.std.specs.Prelude.{◌≤◌};
 
-/// The most nodes that a core may have.
+/// The largest number of nodes in a core.
 pub const MAX_SIZE: u32 = 65_536;
 
-/// The greatest depth that a core may have.
+/// The greatest depth of a core.
 pub const MAX_DEPTH: u32 = 1_024;
 
-/// The number of the built-in rule `halt`, the second of each table.
+/// The number of the built-in rule `halt`, the second rule of each table.
 pub const HALT: u32 = 1;
 
-/// How many nodes a core has, and how deep they stand inside one another: each at most one above
-/// its limit, where it stops.
+/// The number of nodes of a core, and how deeply they are nested. Each saturates at one above its
+/// limit.
 #[derive(Clone, Copy, Debug)]
 pub struct Count {
     pub size: u32,
@@ -20,8 +20,8 @@ pub struct Count {
     ghost flat: { depth ≤ 1025 },
 }
 
-/// What is known of what stands for a rule in a look-behind: its counts, and the number of the
-/// first rule in a chain of calls for which the same stands.
+/// What is known of a rule's inlined body: its count, and the number of the first rule in a chain
+/// of calls that has the same inlined body.
 #[derive(Clone, Copy, Debug)]
 pub struct Inner {
     pub count: Count,

@@ -1,4 +1,4 @@
-// Code while it is written.
+// Code being written.
 ghost use Rattle.std.specs.Prelude.{◌≡◌, ◌<◌, ◌≤◌, [], ◌∷◌, ◌++◌, IfSome, IsSome, OnErr, OnOk};
 ghost use Rattle.std.specs.Prelude.{length, take};
 
@@ -9,7 +9,7 @@ use rpl_core::{Instr, Instrs};
 use rpl_text::Chars;
 use std::alloc::Global;
 
-/// Instructions in order, with the sets and the texts that they name by number.
+/// Instructions in order, with the sets and texts that they refer to by number.
 #[derive(Drop)]
 pub struct Draft {
     pub code: Instrs,
@@ -20,19 +20,19 @@ pub struct Draft {
     ghost labels_few: { length labels ≤ length code },
 }
 
-/// What an instruction does with its set.
+/// The use that an instruction makes of its set.
 #[derive(Clone, Copy)]
 enum SetUse {
     Set,
     Span,
-    /// With the address where it goes on where no character of the set follows.
+    /// `testset`, with the address to jump to if no character of the set follows.
     Test(u32),
 }
 
 impl SetUse {
     ghost use Rattle.rpl_intern.specs.inside.Uses.{numbered_set};
 
-    /// The instruction, with the number of its set.
+    /// Returns the instruction with the number of its set.
     fn instr(self, number: u32) -> Instr
         ensures { result ≡ numbered_set self number }
     {
@@ -44,7 +44,7 @@ impl SetUse {
     }
 }
 
-/// What an instruction does with its text.
+/// The use that an instruction makes of its text.
 #[derive(Clone, Copy)]
 enum TextUse {
     Open,
@@ -54,7 +54,7 @@ enum TextUse {
 impl TextUse {
     ghost use Rattle.rpl_intern.specs.inside.Uses.{numbered_text};
 
-    /// The instruction, with the number of its text.
+    /// Returns the instruction with the number of its text.
     fn instr(self, number: u32) -> Instr
         ensures { result ≡ numbered_text self number }
     {
@@ -70,7 +70,7 @@ impl Draft {
     ghost use Rattle.rpl_intern.specs.Written.{Adds, plain};
     ghost use Rattle.rpl_intern.specs.inside.Uses.{with_set, with_text};
 
-    /// Nothing yet.
+    /// Returns an empty draft.
     pub fn new(alloc: Global) -> Draft
         ensures code { result.code ≡ [] }
         ensures sets { result.sets ≡ [] }
@@ -83,14 +83,14 @@ impl Draft {
         }
     }
 
-    /// The address of the next instruction.
+    /// Returns the address of the next instruction.
     pub fn next(&self) -> u32
         ensures { result ≡ length self.now.code }
     {
         self.code.len() as u32
     }
 
-    /// Writes an instruction that names no set and no text. Where memory runs out, nothing changes.
+    /// Writes an instruction without a set or a text. When memory runs out, nothing changes.
     pub fn put(&mut self, instr: Instr) -> Result<(), NoMemory>
         requires room { length self.old.code < 1048576 }
         requires plain { IsSome (plain instr) }
@@ -101,7 +101,7 @@ impl Draft {
         Ok(())
     }
 
-    /// Writes `set`. Where memory runs out, nothing changes.
+    /// Writes `set`. When memory runs out, nothing changes.
     pub fn put_set(&mut self, alloc: Global, set: &Set) -> Result<(), NoMemory>
         requires { length self.old.code < 1048576 }
         ensures adds { OnOk result (Adds self.old self.new (I.Set set.now ∷ [])) }
@@ -110,7 +110,7 @@ impl Draft {
         self.use_set(alloc, set, SetUse::Set)
     }
 
-    /// Writes `span`. Where memory runs out, nothing changes.
+    /// Writes `span`. When memory runs out, nothing changes.
     pub fn put_span(&mut self, alloc: Global, set: &Set) -> Result<(), NoMemory>
         requires { length self.old.code < 1048576 }
         ensures adds { OnOk result (Adds self.old self.new (I.Span set.now ∷ [])) }
@@ -119,7 +119,7 @@ impl Draft {
         self.use_set(alloc, set, SetUse::Span)
     }
 
-    /// Writes `testset`, which goes to `other` where no character of the set follows. Where memory
+    /// Writes `testset`, which jumps to `other` if no character of the set follows. When memory
     /// runs out, nothing changes.
     pub fn put_test(&mut self, alloc: Global, other: u32, set: &Set) -> Result<(), NoMemory>
         requires { length self.old.code < 1048576 }
@@ -129,7 +129,7 @@ impl Draft {
         self.use_set(alloc, set, SetUse::Test(other))
     }
 
-    /// Writes `open`. Where memory runs out, nothing changes.
+    /// Writes `open`. When memory runs out, nothing changes.
     pub fn put_open(&mut self, alloc: Global, label: &Chars) -> Result<(), NoMemory>
         requires { length self.old.code < 1048576 }
         ensures adds { OnOk result (Adds self.old self.new (I.Open label.now ∷ [])) }
@@ -138,7 +138,7 @@ impl Draft {
         self.use_text(alloc, label, TextUse::Open)
     }
 
-    /// Writes `note`. Where memory runs out, nothing changes.
+    /// Writes `note`. When memory runs out, nothing changes.
     pub fn put_note(&mut self, alloc: Global, text: &Chars) -> Result<(), NoMemory>
         requires { length self.old.code < 1048576 }
         ensures adds { OnOk result (Adds self.old self.new (I.Note text.now ∷ [])) }
@@ -147,7 +147,7 @@ impl Draft {
         self.use_text(alloc, text, TextUse::Note)
     }
 
-    /// Writes an instruction with its set. Where memory runs out, nothing changes.
+    /// Writes an instruction with its set. When memory runs out, nothing changes.
     fn use_set(&mut self, alloc: Global, set: &Set, as_what: SetUse) -> Result<(), NoMemory>
         requires { length self.old.code < 1048576 }
         ensures adds { OnOk result (Adds self.old self.new (with_set as_what set.now ∷ [])) }
@@ -159,7 +159,7 @@ impl Draft {
         put_with(&mut self.code, &mut self.sets, instr, count)
     }
 
-    /// Writes an instruction with its text. Where memory runs out, nothing changes.
+    /// Writes an instruction with its text. When memory runs out, nothing changes.
     fn use_text(&mut self, alloc: Global, text: &Chars, as_what: TextUse) -> Result<(), NoMemory>
         requires { length self.old.code < 1048576 }
         ensures adds { OnOk result (Adds self.old self.new (with_text as_what text.now ∷ [])) }
@@ -172,8 +172,8 @@ impl Draft {
     }
 }
 
-/// Writes an instruction whose row was kept just now, where there were `count` of them. Where
-/// memory runs out, only these stay.
+/// Writes an instruction whose row was just added to a table that had `count` rows before. When
+/// memory runs out, only those `count` rows stay.
 fn put_with<T: Piece>(
     code: &mut Instrs,
     table: &mut Table<T>,

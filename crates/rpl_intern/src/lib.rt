@@ -1,9 +1,9 @@
-//! Code while it is written: instructions in order, with each set and each text that they name kept
-//! once.
+//! Code being written: instructions in order, with one copy of each set and each text that they
+//! refer to.
 //!
-//! It is for whoever makes a program: the compiler, and the reader and writer of code files. The
-//! tables find a set or a text by its hash, and number them in the order of their first uses, so
-//! that each code has one program (`table_law`).
+//! For code that makes a program: the compiler, and the reader and writer of code files. The tables
+//! find a set or a text by its hash, and number them in the order of their first use, so that each
+//! code has exactly one program (`table_law`).
 #![tactic(auto)]
 
 mod draft;

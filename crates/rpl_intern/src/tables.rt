@@ -1,4 +1,4 @@
-// Tables that keep each set and each text once, and find it by its hash.
+// Tables that store each set and each text once, and find it by its hash.
 ghost use Rattle.std.specs.Prelude.{◌≡◌, [], ◌∷◌, IfOk, OnErr, Some, chars, length, slice_get};
 ghost use Rattle.std.specs.Prelude.{List, take, ⊤};
 ghost use Rattle.std.specs.Bool.{Decides};
@@ -15,12 +15,12 @@ use std::alloc::Global;
 use std::hash::Hash;
 use std::marker::Model;
 
-/// What the rows of a table are made of.
+/// An element of a table's rows.
 pub trait Piece: Copy + Eq + Hash {
-    /// What holds of each row.
+    /// The property that every row has.
     ghost is_row: { List Self → Type 0 };
 
-    /// Pieces that are equal are the same.
+    /// Elements that compare equal are the same.
     ghost decides: { (x y : Self) → Decides (Self.eq x y) (x ≡ y) };
 }
 
@@ -40,17 +40,17 @@ impl Piece for char {
     ghost decides = { Decides-eqb };
 }
 
-/// Rows in the order of their first uses, each once. Contracts see the list of the lists of their
-/// pieces.
+/// Rows in the order of their first use, each stored once. Contracts see a list of lists of
+/// elements.
 #[derive(Drop)]
 pub struct Table<T: Piece> {
     known: IndexSet<Vec<T>>,
 }
 
-/// Sets, each as its ranges.
+/// A table of sets, each stored as its ranges.
 pub type SetTable = Table<ClassRange>;
 
-/// Texts, each as its characters.
+/// A table of texts, each stored as its characters.
 pub type LabelTable = Table<char>;
 
 impl<T: Piece> Model for Table<T> {
@@ -65,7 +65,7 @@ impl<T: Piece> Model for Table<T> {
 }
 
 impl<T: Piece> Table<T> {
-    /// No rows.
+    /// Returns an empty table.
     pub fn new(alloc: Global) -> Table<T>
         ensures { result ≡ [] }
     {
@@ -74,7 +74,7 @@ impl<T: Piece> Table<T> {
         }
     }
 
-    /// The number of the row, which is added where it isn't there. Where memory runs out, nothing
+    /// Returns the number of the row, and adds the row if it is new. When memory runs out, nothing
     /// changes.
     fn keep_row(&mut self, row: Vec<T>) -> Result<usize, NoMemory>
         requires { T.is_row row.items }
@@ -86,14 +86,14 @@ impl<T: Piece> Table<T> {
         Ok(number)
     }
 
-    /// How many there are.
+    /// Returns the number of rows.
     pub(crate) fn len(&self) -> usize
         ensures { result ≡ length self.now }
     {
         self.known.len()
     }
 
-    /// Only the first `count` stay.
+    /// Removes all rows after the first `count`.
     pub(crate) fn truncate(&mut self, count: usize)
         ensures { self.new ≡ take count self.old }
     {
@@ -102,7 +102,7 @@ impl<T: Piece> Table<T> {
 }
 
 impl Table<ClassRange> {
-    /// The number of the set, which is added where it isn't there. Where memory runs out, nothing
+    /// Returns the number of the set, and adds the set if it is new. When memory runs out, nothing
     /// changes.
     pub fn keep(&mut self, alloc: Global, set: &Set) -> Result<usize, NoMemory>
         ensures kept { IfOk result (λ k. Keeps self.old (set.now ∷ []) self.new) }
@@ -112,7 +112,7 @@ impl Table<ClassRange> {
         self.keep_row(Vec::from_slice(alloc, set.ranges())?)
     }
 
-    /// All of them, as the machine takes them.
+    /// Returns all sets in the form that the machine takes.
     pub fn sets(&self, alloc: Global) -> Result<Sets, NoMemory>
         ensures { IfOk result (λ sets. sets ≡ self.now) }
     {
@@ -124,7 +124,7 @@ impl Table<ClassRange> {
     }
 }
 
-/// The text's characters in a list.
+/// Returns the characters of the text as a list.
 fn characters(alloc: Global, text: &str) -> Result<Vec<char>, NoMemory>
     ensures { IfOk result (λ v. v.items ≡ chars text.now) }
 {
@@ -135,7 +135,7 @@ fn characters(alloc: Global, text: &str) -> Result<Vec<char>, NoMemory>
     Ok(all)
 }
 
-/// The text of the characters.
+/// Returns the text with these characters.
 fn text(alloc: Global, characters: &[char]) -> Result<Chars, NoMemory>
     ensures { IfOk result (λ c. c ≡ characters.now) }
 {
@@ -147,8 +147,8 @@ fn text(alloc: Global, characters: &[char]) -> Result<Chars, NoMemory>
 }
 
 impl Table<char> {
-    /// The number of the text, which is added where it isn't there. Where memory runs out, nothing
-    /// changes.
+    /// Returns the number of the text, and adds the text if it is new. When memory runs out,
+    /// nothing changes.
     pub fn keep(&mut self, alloc: Global, label: &Chars) -> Result<usize, NoMemory>
         ensures kept { IfOk result (λ k. Keeps self.old (label.now ∷ []) self.new) }
         ensures number { IfOk result (λ k. slice_get self.new k ≡ Some label.now) }
@@ -157,7 +157,7 @@ impl Table<char> {
         self.keep_row(characters(alloc, label.as_str())?)
     }
 
-    /// All of them, as the program takes them.
+    /// Returns all texts in the form that the program takes.
     pub fn labels(&self, alloc: Global) -> Result<Labels, NoMemory>
         ensures { IfOk result (λ labels. labels ≡ self.now) }
     {

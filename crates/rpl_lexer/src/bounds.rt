@@ -12,36 +12,36 @@ use crate::front::Stand;
 use crate::token::TokenKind;
 use rpl_text::value_of_digits;
 
-/// The numbers of bounds as they are written.
+/// The numbers of bounds as written.
 #[derive(Clone, Copy, Debug, PartialEq, Eq)]
 pub struct Bounds {
-    /// The first number, where there is one.
+    /// The first number, if there is one.
     pub least: Option<u64>,
     /// Whether there is a comma.
     pub comma: bool,
-    /// The number after the comma, where there is one.
+    /// The number after the comma, if there is one.
     pub most: Option<u64>,
 }
 
-/// Some bytes, from a place up to another.
+/// A range of bytes, from `start` up to but not including `end`.
 #[derive(Clone, Copy)]
 pub(crate) struct Span {
     start: usize,
     end: usize,
 }
 
-/// Where the parts of bounds stand, from after the opening brace.
+/// The spans of the parts of bounds. Offsets are counted from after the opening brace.
 #[derive(Clone, Copy)]
 pub(crate) struct Parts {
     least: Span,
     comma: bool,
     /// The digits after the comma.
     most: Span,
-    /// Where the closing brace is due.
+    /// The offset where the closing brace must be.
     close: usize,
 }
 
-/// The digits after blanks from a place on.
+/// Returns the span of the digits that follow any blanks at an offset.
 fn digits_from(bytes: &[u8], place: usize) -> Span
     requires { place ≤ length bytes.now }
     ensures value { result ≡ digits_from bytes.now place }
@@ -52,7 +52,7 @@ fn digits_from(bytes: &[u8], place: usize) -> Span
     Span { start, end }
 }
 
-/// Where the parts stand.
+/// Finds the parts of bounds in the bytes after the opening brace.
 fn parts_of(bytes: &[u8]) -> Parts
     ensures value { result ≡ parts bytes.now }
     ensures least { IsWithin (length bytes.now) result.least }
@@ -83,7 +83,7 @@ fn parts_of(bytes: &[u8]) -> Parts
     }
 }
 
-/// The bytes of a part.
+/// Returns the bytes of a span.
 fn part(bytes: &[u8], span: Span) -> &[u8]
     requires { IsWithin (length bytes.now) span }
     ensures { result.now ≡ part bytes.now span }
@@ -98,7 +98,8 @@ fn is_wide(bytes: &[u8], span: Span) -> bool
     value_of_digits(part(bytes, span)).is_none()
 }
 
-/// What stands there whose opening brace stands before the bytes, where bounds begin.
+/// Reads the bounds whose opening brace is just before the bytes. The caller has seen that bounds
+/// begin here.
 fn whole_bounds(bytes: &[u8]) -> Stand
     ensures value { result ≡ bounds_by bytes.now (parts bytes.now) }
     ensures inside { Within (1 + length bytes.now) result }
@@ -128,7 +129,7 @@ fn whole_bounds(bytes: &[u8]) -> Stand
     }
 }
 
-/// Whether bounds begin: a digit or a comma comes next, but for blanks.
+/// Returns whether bounds begin: a digit or a comma follows any blanks.
 fn begins_bounds(bytes: &[u8]) -> bool
     ensures { result ≡ begins_bounds bytes.now }
 {
@@ -138,7 +139,7 @@ fn begins_bounds(bytes: &[u8]) -> bool
     }
 }
 
-/// What stands there whose opening brace stands before the bytes.
+/// Reads the token whose opening brace is just before the bytes: bounds or a sign.
 pub(crate) fn brace(bytes: &[u8]) -> Stand
     ensures value { result ≡ brace_stands bytes.now }
     ensures inside { Within (1 + length bytes.now) result }
@@ -153,7 +154,7 @@ pub(crate) fn brace(bytes: &[u8]) -> Stand
     }
 }
 
-/// The number of a part, where it has one.
+/// Returns the number in a span, if it has digits.
 fn number_in(bytes: &[u8], span: Span) -> Option<u64>
     requires { IsWithin (length bytes.now) span }
     ensures { result ≡ number_in bytes.now span }
@@ -165,7 +166,7 @@ fn number_in(bytes: &[u8], span: Span) -> Option<u64>
     }
 }
 
-/// The numbers of bounds, from after the opening brace.
+/// Parses the numbers of bounds from the bytes after the opening brace.
 pub(crate) fn bounds_in(bytes: &[u8]) -> Bounds
     ensures { result ≡ bounds_in bytes.now }
 {

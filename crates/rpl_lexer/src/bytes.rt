@@ -1,11 +1,11 @@
-// Kinds of bytes, and how far they go.
+// Classes of bytes, and the length of their runs.
 ghost use Rattle.std.specs.Prelude.{◌≡◌, ◌+◌, ◌<◌, ◌≤◌, length, drop, take, true};
 ghost use Rattle.rpl_lexer.specs.Bytes.{is_letter, is_digit, in_class, run, has, past};
 
-/// A kind of bytes that stand side by side.
+/// A class of bytes.
 #[derive(Clone, Copy)]
 pub(crate) enum Class {
-    /// What a name goes on with: letters, digits and `_`.
+    /// The bytes that continue a name: letters, digits and `_`.
     Word,
     /// Decimal digits.
     Digit,
@@ -13,7 +13,7 @@ pub(crate) enum Class {
     Space,
 }
 
-/// Whether a name begins with the byte.
+/// Returns whether a name can begin with the byte.
 pub(crate) fn is_letter(b: u8) -> bool
     ensures { result ≡ is_letter b }
 {
@@ -36,7 +36,7 @@ fn is_in(class: Class, b: u8) -> bool
     }
 }
 
-/// How many bytes at the front are in the class.
+/// Returns how many bytes at the front are in the class.
 pub(crate) fn run_len(class: Class, bytes: &[u8]) -> usize
     ensures value { result ≡ run (in_class class) bytes.now }
     ensures inside { result ≤ length bytes.now }
@@ -49,7 +49,7 @@ pub(crate) fn run_len(class: Class, bytes: &[u8]) -> usize
     bytes.len()
 }
 
-/// The bytes from a place on.
+/// Returns the bytes from an offset on.
 pub(crate) fn behind(bytes: &[u8], place: usize) -> &[u8]
     requires { place ≤ length bytes.now }
     ensures { result.now ≡ drop place bytes.now }
@@ -57,7 +57,7 @@ pub(crate) fn behind(bytes: &[u8], place: usize) -> &[u8]
     &bytes[place..]
 }
 
-/// The first bytes.
+/// Returns the first `len` bytes.
 pub(crate) fn front_of(bytes: &[u8], len: usize) -> &[u8]
     requires { len ≤ length bytes.now }
     ensures { result.now ≡ take len bytes.now }
@@ -65,7 +65,7 @@ pub(crate) fn front_of(bytes: &[u8], len: usize) -> &[u8]
     &bytes[..len]
 }
 
-/// Where a run ends that begins at a place.
+/// Returns the offset after the run of the class that begins at an offset.
 pub(crate) fn past(class: Class, bytes: &[u8], place: usize) -> usize
     requires { place ≤ length bytes.now }
     ensures value { result ≡ past (in_class class) bytes.now place }
@@ -74,7 +74,7 @@ pub(crate) fn past(class: Class, bytes: &[u8], place: usize) -> usize
     place + run_len(class, behind(bytes, place))
 }
 
-/// Whether the byte stands at the place.
+/// Returns whether the byte at an offset is `b`.
 pub(crate) fn has_at(bytes: &[u8], place: usize, b: u8) -> bool
     ensures value { result ≡ has bytes.now place b }
     ensures inside { result ≡ true → place < length bytes.now }

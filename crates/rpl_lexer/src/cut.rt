@@ -1,4 +1,4 @@
-// A text cut into tokens.
+// The splitting of a text into tokens.
 ghost use Rattle.std.specs.Prelude.{◌≡◌, ◌≢◌, IfOk, IfErr};
 ghost use Rattle.rpl_lexer.specs.Cut.{IsCut, FailsAt};
 ghost use Rattle.rpl_lexer.specs.declared.fault.LexKind.TheVariants.{NoMemory as OutOfMemory};
@@ -10,16 +10,16 @@ use crate::gaps::gap_len;
 use crate::token::{Token, Tokens};
 use std::alloc::Global;
 
-/// How many tokens a text may have.
+/// The largest number of tokens in a text.
 const MAX_TOKENS: usize = 262_144;
 
-/// The tokens of a text, or its first fault.
+/// Splits a text into tokens, or returns its first fault.
 ///
-/// At each place the longest token is taken, with blanks and comments between tokens. Where none
-/// begins, the fault says why: `BadChar` and `OpenText` stand there, `BadEscape` at the backslash
-/// and `NumberTooWide` at the number's first digit. `TooManyTokens` stands at the start of the
-/// 262,145th token, where that has no fault of its own. The time is linear in the length of the
-/// text.
+/// The longest token is taken at each point; blanks and comments separate tokens. Where no token
+/// begins, the fault says why. `BadChar` and `OpenText` have the offset of that point,
+/// `BadEscape` that of the backslash and `NumberTooWide` that of the number's first digit.
+/// `TooManyTokens` has the offset of the 262,145th token, unless that token has a fault of its
+/// own. The time is linear in the length of the text.
 pub fn lex(alloc: Global, text: &str) -> Result<Tokens, LexFault>
     ensures tokens { IfOk result (λ ts. IsCut text.now ts) }
     ensures fault { IfErr result (λ f. f.kind ≢ OutOfMemory → FailsAt text.now f.at f.kind) }

@@ -1,4 +1,4 @@
-// Texts and brackets.
+// Quoted texts and brackets.
 ghost use Rattle.std.specs.Prelude.{◌≡◌, ◌+◌, ◌^◌, ◌<◌, ◌≤◌, ◌&&◌, not, is_some, length, drop};
 ghost use Rattle.std.specs.Prelude.{take, false, IfSome};
 ghost use Rattle.rpl_text.specs.Escapes.{escape};
@@ -13,7 +13,7 @@ use crate::front::Stand;
 use crate::token::TokenKind;
 use rpl_text::escape;
 
-/// What has characters and escapes inside.
+/// A kind of token that encloses characters and escapes.
 #[derive(Clone, Copy)]
 pub(crate) enum Enclosure {
     Quotes,
@@ -49,21 +49,21 @@ impl Enclosure {
     }
 }
 
-/// Whether the byte is a backslash that hides the next one.
+/// Returns whether the byte is a backslash that escapes the next byte.
 fn hides(hidden: bool, b: u8) -> bool
     ensures { result ≡ hides hidden b }
 {
     !hidden && b == b'\\'
 }
 
-/// Whether the byte closes the outermost, where `depth` more are open.
+/// Returns whether the byte closes the outermost enclosure, given that `depth` more are open.
 fn ends(enclosure: Enclosure, depth: usize, hidden: bool, b: u8) -> bool
     ensures { result ≡ ends enclosure depth hidden b }
 {
     !hidden && depth == 0 && enclosure.closes(b)
 }
 
-/// How many more are open after the byte.
+/// Returns how many inner brackets are open after the byte.
 fn depth_after(enclosure: Enclosure, depth: usize, hidden: bool, b: u8) -> usize
     requires { depth + 1 < 2 ^ 64 }
     ensures value { result ≡ depth_after enclosure depth hidden b }
@@ -80,8 +80,8 @@ fn depth_after(enclosure: Enclosure, depth: usize, hidden: bool, b: u8) -> usize
     }
 }
 
-/// How many bytes come up to the closing one and with it; None where the line or the text ends
-/// before.
+/// Returns the number of bytes up to and including the closing byte, or `None` if the line or the
+/// text ends first.
 fn close_len(enclosure: Enclosure, bytes: &[u8]) -> Option<usize>
     ensures value { result ≡ close enclosure 0 false bytes.now }
     ensures inside { IfSome result (λ n. n ≤ length bytes.now) }
@@ -102,7 +102,7 @@ fn close_len(enclosure: Enclosure, bytes: &[u8]) -> Option<usize>
     None
 }
 
-/// How many brackets are open at once.
+/// Returns the greatest number of brackets that are open at once.
 pub(crate) fn nesting(bytes: &[u8]) -> usize
     ensures value { result ≡ nesting bytes.now }
     ensures inside { result ≤ length bytes.now }
@@ -118,14 +118,14 @@ pub(crate) fn nesting(bytes: &[u8]) -> usize
     most
 }
 
-/// Whether a backslash stands before the bytes that begins no escape.
+/// Returns whether the byte before `rest` is a backslash that begins no escape.
 fn is_bad(hides: bool, rest: &[u8]) -> bool
     ensures { result ≡ (hides && not (is_some (escape rest.now))) }
 {
     hides && escape(rest).is_none()
 }
 
-/// The first backslash that begins no escape.
+/// Returns the offset of the first backslash that begins no escape.
 fn first_bad(bytes: &[u8]) -> Option<usize>
     ensures value { result ≡ bad false bytes.now }
     ensures inside { IfSome result (λ k. k < length bytes.now) }
@@ -141,7 +141,7 @@ fn first_bad(bytes: &[u8]) -> Option<usize>
     None
 }
 
-/// What stands there whose opening byte stands before the bytes.
+/// Reads the token whose opening byte is just before the bytes.
 pub(crate) fn enclosed(enclosure: Enclosure, bytes: &[u8]) -> Stand
     ensures value { result ≡ enclosed enclosure bytes.now }
     ensures inside { Within (1 + length bytes.now) result }

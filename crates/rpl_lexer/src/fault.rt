@@ -1,4 +1,4 @@
-// Why a text has no tokens.
+// Faults of texts that cannot be split into tokens.
 ghost use Rattle.std.specs.Prelude.{◌≡◌};
 ghost use Rattle.rpl_lexer.specs.declared.fault.LexKind.TheVariants.{NoMemory as OutOfMemory};
 
@@ -6,22 +6,22 @@ use crate::NoMemory;
 use std::alloc::AllocFailed;
 use thiserror::Error;
 
-/// What is wrong where a text has no token.
+/// The kind of a fault.
 #[derive(Clone, Copy, Debug, PartialEq, Eq, Error)]
 pub enum LexKind {
     /// Memory ran out.
     #[error("out of memory")]
     NoMemory,
-    /// No token begins with this character, or a `{` begins bounds that are not met.
+    /// No token begins with this character, or a `{` begins malformed bounds.
     #[error("bad character")]
     BadChar,
-    /// A text or a bracket doesn't end before the line feed or the end.
+    /// A quoted text or a bracket is not closed before the line feed or the end.
     #[error("text without end")]
     OpenText,
-    /// A backslash in a text or a bracket begins no escape.
+    /// A backslash in a quoted text or a bracket begins no escape.
     #[error("bad escape")]
     BadEscape,
-    /// A number is above 2^64 - 1.
+    /// A number exceeds 2^64 - 1.
     #[error("number too wide")]
     NumberTooWide,
     /// There are more than 262,144 tokens.
@@ -33,9 +33,9 @@ pub enum LexKind {
 #[derive(Clone, Copy, Debug, PartialEq, Eq, Error)]
 #[error("{kind} at byte {at}")]
 pub struct LexFault {
-    /// The byte place of the fault; 0 where memory ran out.
+    /// The byte offset of the fault; 0 if memory ran out.
     pub at: usize,
-    /// What is wrong there.
+    /// The kind of the fault.
     pub kind: LexKind,
 }
 

@@ -14,16 +14,16 @@ use crate::punct::Punct;
 use crate::token::TokenKind;
 use rpl_text::value_of_digits;
 
-/// What stands at the front of some bytes.
+/// The result of reading a token at the front of some bytes.
 #[derive(Clone, Copy)]
 pub(crate) enum Stand {
-    /// A token of so many bytes.
+    /// A token of `len` bytes.
     Found { kind: TokenKind, len: usize },
-    /// No token, for what stands so many bytes after the front.
+    /// No token, because of a fault `skip` bytes after the front.
     Fault { kind: LexKind, skip: usize },
 }
 
-/// The longest front that is a name, where a letter comes first.
+/// Returns the run of name bytes at the front: the longest name there, if a letter comes first.
 fn first_name(bytes: &[u8]) -> &[u8]
     ensures name { result.now ≡ first_name bytes.now }
     ensures len { length result.now ≡ run is_word bytes.now }
@@ -41,14 +41,14 @@ fn begins_letter(bytes: &[u8]) -> bool
     }
 }
 
-/// Whether a name that is no keyword stands at the front.
+/// Returns whether a name that is not a keyword is at the front.
 fn begins_name(bytes: &[u8]) -> bool
     ensures { result ≡ begins_name bytes.now }
 {
     begins_letter(bytes) && keyword_named(first_name(bytes)).is_none()
 }
 
-/// Whether a dot and a name that is no keyword stand after the first bytes.
+/// Returns whether a dot and a name that is not a keyword follow the first `len` bytes.
 fn qualifies(bytes: &[u8], len: usize) -> bool
     requires { len ≤ length bytes.now }
     ensures value { result ≡ qualifies bytes.now len }
@@ -56,7 +56,7 @@ fn qualifies(bytes: &[u8], len: usize) -> bool
     has_at(bytes, len, b'.') && begins_name(behind(bytes, len + 1))
 }
 
-/// What stands where a letter comes first.
+/// Reads the token at the front, given that a letter comes first.
 #[tactic(auto, unfolding(crate::specs::Fronts::name_stands))]
 fn name(bytes: &[u8]) -> Stand
     requires { begins is_letter bytes.now ≡ true }
@@ -83,7 +83,7 @@ fn name(bytes: &[u8]) -> Stand
     }
 }
 
-/// What stands where a digit comes first.
+/// Reads the token at the front, given that a digit comes first.
 #[tactic(auto, unfolding(crate::specs::Fronts::number_stands))]
 fn digits(bytes: &[u8]) -> Stand
     requires { begins is_digit bytes.now ≡ true }
@@ -103,7 +103,7 @@ fn digits(bytes: &[u8]) -> Stand
     }
 }
 
-/// What stands at the front.
+/// Reads the token at the front.
 #[tactic(auto, unfolding(crate::specs::Fronts::stands))]
 pub(crate) fn front(bytes: &[u8]) -> Stand
     requires { 0 < length bytes.now }
@@ -119,7 +119,7 @@ pub(crate) fn front(bytes: &[u8]) -> Stand
     }
 }
 
-/// What stands at the front by its first byte.
+/// Reads the token at the front, given its first byte and the bytes after it.
 #[tactic(auto, unfolding(crate::specs::Fronts::stands))]
 fn front_by(b: u8, rest: &[u8], bytes: &[u8]) -> Stand
     requires { bytes.now ≡ b ∷ rest.now }

@@ -8,7 +8,8 @@ fn dash_at(bytes: &[u8], place: usize) -> bool
     place < bytes.len() && bytes[place] == b'-'
 }
 
-/// Whether the byte belongs to blanks and comments, and whether it is then in a comment.
+/// Returns `None` if the byte ends a gap of blanks and comments, and otherwise whether the gap is
+/// inside a comment after it. `dash` is whether a `-` follows.
 fn goes_on(comment: bool, b: u8, dash: bool) -> Option<bool>
     ensures { (bs : List ℕ) → dash ≡ dash_next bs → result ≡ goes_on comment b bs }
 {
@@ -23,7 +24,7 @@ fn goes_on(comment: bool, b: u8, dash: bool) -> Option<bool>
     }
 }
 
-/// How many bytes of blanks and comments stand at the front.
+/// Returns how many bytes of blanks and comments are at the front.
 pub(crate) fn gap_len(bytes: &[u8]) -> usize
     ensures value { result ≡ gap false bytes.now }
     ensures inside { result ≤ length bytes.now }

@@ -3,7 +3,7 @@ ghost use Rattle.std.specs.Prelude.{◌≡◌, ◌≢◌, MatchOption};
 ghost use Rattle.rpl_lexer.specs.Keywords.{word_of, keyword_named};
 ghost use Rattle.rpl_lexer.specs.declared.keyword.Keyword.{Keyword};
 
-/// A name that only the grammar may use.
+/// A word that is reserved for the grammar and cannot be a name.
 #[derive(Clone, Copy, Debug, PartialEq, Eq)]
 pub enum Keyword {
     Rpl,
@@ -18,7 +18,7 @@ pub enum Keyword {
 }
 
 impl Keyword {
-    /// The keyword that a name is, where it is one.
+    /// Returns the keyword that a name spells, if it is one.
     pub(crate) fn from_name(name: &[u8]) -> Option<Keyword>
         ensures { MatchOption result ((k : Keyword) →
             word_of k ≢ name.now) (λ k. word_of k ≡ name.now) }
@@ -38,7 +38,7 @@ impl Keyword {
     }
 }
 
-/// The keyword that a name is, where it is one.
+/// Returns the keyword that a name spells, if it is one.
 pub(crate) fn keyword_named(name: &[u8]) -> Option<Keyword>
     ensures { result ≡ keyword_named name.now }
 {

@@ -1,4 +1,4 @@
-// What holds of the definitions alone.
+// Laws of the definitions, independent of any code.
 ghost use Rattle.rpl_lexer.specs.Laws.{CutOrFault, CutComputes, FaultComputes, CutFound};
 ghost use Rattle.rpl_lexer.specs.Laws.{FaultFound, OneCut};
 ghost use Rattle.rpl_lexer.specs.Laws.{TokensStand, BetweenCharacters, LongestForm, NoForm};
@@ -9,51 +9,52 @@ ghost use Rattle.rpl_lexer.specs.Laws.{BracketsAreWritten, TextsAreWritten, Boun
 ghost use Rattle.rpl_lexer.specs.Laws.{BoundsStand};
 ghost use Rattle.rpl_lexer.specs.Laws.{WideBoundsFail, TextForm, BracketForm, BoundsForm};
 
-/// Each text has one cut: its tokens, or those before its first fault, and that fault. One of the
-/// two there always is.
+/// Each text has exactly one cut: either its tokens, or the tokens before its first fault and
+/// that fault.
 pub fn one_cut()
     ensures one { OneCut }
     ensures either { CutOrFault }
 {}
 
-/// Each token of a cut stands in the text where it says.
+/// Each token of a cut is at its span in the text.
 pub fn tokens_stand()
     ensures { TokensStand }
 {}
 
-/// A token begins and ends between characters.
+/// A token begins and ends on character boundaries.
 pub fn boundaries()
     ensures { BetweenCharacters }
 {}
 
-/// What stands at a place is the longest of all the forms that fit there, and of its kind alone.
+/// The token at any point is the longest of all forms that fit there, and only its kind fits that
+/// length.
 pub fn longest_form()
     ensures { LongestForm }
 {}
 
-/// Where a fault stands, no form fits, but for a number that is too wide.
+/// Where there is a fault, no form fits, except when the fault is a number that is too wide.
 pub fn no_form()
     ensures { NoForm }
 {}
 
-/// A Keyword is spelled as a keyword, and a Sign as a sign: what is said of them is never a
-/// default.
+/// A Keyword token always spells a keyword, and a Sign token a sign, so their values are never
+/// defaults.
 pub fn words_and_signs()
     ensures keywords { KeywordsTold }
     ensures signs { SignsTold }
 {}
 
-/// What is written between quotes, by characters and escapes, is one Text, whatever follows it, and
-/// is read as what it stands for. So are brackets one Bracket, and numbers between braces one
-/// Bounds.
+/// Characters and escapes between quotes are one Text, whatever follows it, and are read as the
+/// characters they mean. In the same way, brackets are one Bracket, and numbers between braces
+/// are one Bounds.
 pub fn written_reads_back()
     ensures texts { WrittenReadsBack }
     ensures brackets { BracketStands }
     ensures bounds { BoundsReadBack }
 {}
 
-/// What stands as a text, as a bracket, or as bounds, is written as one; what bounds say is what is
-/// written.
+/// Each Text, Bracket and Bounds token is written as its kind requires, and bounds have the
+/// numbers that are written.
 pub fn stood_as_written()
     ensures texts { TextsAreWritten }
     ensures brackets { BracketsAreWritten }
@@ -61,9 +62,10 @@ pub fn stood_as_written()
     ensures said { BoundsSay }
 {}
 
-/// What is written as a text, as a bracket, or as bounds, stands as one, whatever follows it, but
-/// for a number that is too wide, which is the fault. With `stood_as_written` that says of each of
-/// the three which texts it is, without a word of the scanner.
+/// Whatever is written as a text, as a bracket or as bounds is one token of that kind, whatever
+/// follows it, except that a number that is too wide is a fault. Together with
+/// `stood_as_written`, this defines which texts each of the three kinds has, without reference to
+/// the scanner.
 pub fn written_stands()
     ensures texts { TextStands }
     ensures brackets { BracketStands }
@@ -71,16 +73,16 @@ pub fn written_stands()
     ensures wide { WideBoundsFail }
 {}
 
-/// The forms among which the longest stands: just what is written as a text, as a bracket, or as
-/// bounds, has the form of one.
+/// The forms that compete for the longest token: bytes have the form of a text, a bracket or
+/// bounds exactly when they are written as one.
 pub fn forms_are_written()
     ensures texts { TextForm }
     ensures brackets { BracketForm }
     ensures bounds { BoundsForm }
 {}
 
-/// The cut of a text as a function gives its tokens exactly where it has a cut, and else its first
-/// fault.
+/// A function computes the cut of a text: it returns the tokens exactly when there is a cut, and
+/// otherwise the first fault.
 pub fn cut_computes()
     ensures cuts { CutComputes }
     ensures fails { FaultComputes }

@@ -1,10 +1,10 @@
-//! The tokens of RPL text: which they are, where each begins and ends, and what it spells.
+//! The tokens of RPL text: their kinds, where each begins and ends, and what it spells.
 //!
-//! For the parser, which goes over the tokens and never over the text. [`lex`] cuts a text whole,
-//! or tells its first fault with its place; the definition is a relation on spans, and there is one
-//! cut of each text. A token is its kind and its two byte places, which are boundaries of
-//! characters, and the other calls say what a token of the text spells. Besides, only memory can
-//! run out.
+//! The parser reads these tokens and never the text itself. [`lex`] splits a whole text into
+//! tokens, its *cut*, or returns its first fault with its byte offset. The cut is defined as a
+//! relation on spans, and each text has exactly one. A token is a kind and two byte offsets, both
+//! on character boundaries; the other functions return what a token of the text spells. The only
+//! other failure is running out of memory.
 #![tactic(auto)]
 
 mod bounds;

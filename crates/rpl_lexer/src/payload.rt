@@ -1,4 +1,4 @@
-// What tokens say.
+// The values of tokens.
 ghost use Rattle.std.specs.Prelude.{◌≡◌, ◌+◌, ◌<◌, ◌≤◌, ◌^◌, Some, IfOk, chars, string_bytes};
 ghost use Rattle.std.specs.Prelude.{length, slice_index};
 ghost use Rattle.std.specs.Prelude.{slice_range, drop};
@@ -23,7 +23,7 @@ use crate::token::{Token, TokenKind};
 use rpl_text::{Chars, Text, read_escape, value_of_digits};
 use std::alloc::Global;
 
-/// The text of a token, as it stands in the text that it is a token of.
+/// Returns the bytes of the text that a token spans.
 pub fn token_text(text: &str, token: Token) -> &str
     requires { IsToken text.now token }
     ensures { result.now ≡ span text.now token }
@@ -31,7 +31,7 @@ pub fn token_text(text: &str, token: Token) -> &str
     &text[token.start..token.end]
 }
 
-/// The text of a token after its first byte.
+/// Returns the text of a token after its first byte.
 fn inner(text: &str, token: Token) -> &str
     requires { IsToken text.now token }
     ensures { result.now ≡ inner text.now token }
@@ -39,7 +39,7 @@ fn inner(text: &str, token: Token) -> &str
     &text[token.start + 1..token.end]
 }
 
-/// The keyword that a Keyword is.
+/// Returns the keyword of a Keyword token.
 pub fn keyword_of(text: &str, token: Token) -> Keyword
     requires kind { token.kind ≡ TokenKind.Keyword }
     requires stands { IsToken text.now token }
@@ -48,7 +48,7 @@ pub fn keyword_of(text: &str, token: Token) -> Keyword
     keyword_named(token_text(text, token).as_bytes()).unwrap_or(Keyword::Rpl)
 }
 
-/// The byte at a place.
+/// Returns the byte at an offset.
 fn byte_at(text: &str, place: usize) -> u8
     requires { place < length text.now }
     ensures { result ≡ slice_index text.now place }
@@ -56,7 +56,7 @@ fn byte_at(text: &str, place: usize) -> u8
     text.as_bytes()[place]
 }
 
-/// The sign that a Sign is.
+/// Returns the sign of a Sign token.
 pub fn punct_of(text: &str, token: Token) -> Punct
     requires kind { token.kind ≡ TokenKind.Sign }
     requires stands { IsToken text.now token }
@@ -65,7 +65,7 @@ pub fn punct_of(text: &str, token: Token) -> Punct
     Punct::from_byte(byte_at(text, token.start)).unwrap_or(Punct::OpenBrace)
 }
 
-/// The number that a Number spells.
+/// Returns the number that a Number token spells.
 pub fn number_of(text: &str, token: Token) -> u64
     requires kind { token.kind ≡ TokenKind.Number }
     requires stands { IsToken text.now token }
@@ -74,7 +74,7 @@ pub fn number_of(text: &str, token: Token) -> u64
     value_of_digits(token_text(text, token).as_bytes()).unwrap_or(0)
 }
 
-/// The two names of a Qualified: the one before the dot, and the one after it.
+/// Returns the two names of a Qualified token: the one before the dot and the one after it.
 pub fn halves_of(text: &str, token: Token) -> (&str, &str)
     requires kind { token.kind ≡ TokenKind.Qualified }
     requires stands { IsToken text.now token }
@@ -86,7 +86,7 @@ pub fn halves_of(text: &str, token: Token) -> (&str, &str)
     (&whole[..dot], &whole[dot + 1..])
 }
 
-/// The bounds that a Bounds token spells.
+/// Returns the bounds that a Bounds token spells.
 pub fn bounds_of(text: &str, token: Token) -> Bounds
     requires kind { token.kind ≡ TokenKind.Bounds }
     requires stands { IsToken text.now token }
@@ -95,8 +95,8 @@ pub fn bounds_of(text: &str, token: Token) -> Bounds
     bounds_in(inner(text, token).as_bytes())
 }
 
-/// How many brackets are open at once in a Bracket: 1 in `[a]`, 2 in `[[a]]`. An escaped one
-/// doesn't count.
+/// Returns the greatest number of brackets open at once in a Bracket token: 1 in `[a]`, 2 in
+/// `[[a]]`. Escaped brackets do not count.
 pub fn nesting_of(text: &str, token: Token) -> usize
     requires kind { token.kind ≡ TokenKind.Bracket }
     requires stands { IsToken text.now token }
@@ -106,7 +106,7 @@ pub fn nesting_of(text: &str, token: Token) -> usize
     nesting(token_text(text, token).as_bytes())
 }
 
-/// The character at a place, and the next place.
+/// Returns the character at a byte offset and the offset after it.
 fn step_at(text: &str, place: usize) -> Option<(char, usize)>
     requires { IsPlace (chars text.now) place }
     ensures { result ≡ step_from (chars text.now) (index (chars text.now) place) }
@@ -114,8 +114,8 @@ fn step_at(text: &str, place: usize) -> Option<(char, usize)>
     Text::new(text).step(place)
 }
 
-/// The character at a place of a text after its opening quote, by an escape or as it stands, and
-/// the place after it; None at the closing quote.
+/// Reads the character at a byte offset, as an escape or literally. Returns it with the offset
+/// after it, or `None` at the closing quote. The text begins after the opening quote.
 fn next_char(text: &str, place: usize) -> Option<(char, usize)>
     requires { IsPlace (chars text.now) place }
     ensures { Decodes (chars text.now) place result }
@@ -130,7 +130,7 @@ fn next_char(text: &str, place: usize) -> Option<(char, usize)>
     Some((c, next))
 }
 
-/// The characters up to the closing quote, with their escapes read.
+/// Returns the characters up to the closing quote, with escapes decoded.
 fn decoded(alloc: Global, text: &str) -> Result<String, NoMemory>
     ensures { IfOk result (λ s. chars (string_bytes s) ≡ decoded 0 (chars text.now)) }
 {
@@ -143,7 +143,7 @@ fn decoded(alloc: Global, text: &str) -> Result<String, NoMemory>
     Ok(out)
 }
 
-/// The characters of a Text, with its escapes read.
+/// Returns the characters of a Text token, with escapes decoded.
 pub fn decode_text(alloc: Global, text: &str, token: Token) -> Result<Chars, NoMemory>
     requires kind { token.kind ≡ TokenKind.Text }
     requires stands { IsToken text.now token }

@@ -1,8 +1,8 @@
-// Tokens of one byte.
+// Signs: tokens of one byte.
 ghost use Rattle.std.specs.Prelude.{◌≡◌};
 ghost use Rattle.rpl_lexer.specs.Signs.{punct};
 
-/// A byte that is a token alone.
+/// A sign: a byte that is a token of its own.
 #[derive(Clone, Copy, Debug, PartialEq, Eq)]
 pub enum Punct {
     OpenBrace,
@@ -27,7 +27,7 @@ pub enum Punct {
 }
 
 impl Punct {
-    /// The sign that a byte is, where it is one.
+    /// Returns the sign that a byte is, if it is one.
     pub(crate) fn from_byte(b: u8) -> Option<Punct>
         ensures { result ≡ punct b }
     {

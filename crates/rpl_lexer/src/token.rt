@@ -1,20 +1,20 @@
-// Tokens, and the list of them.
+// Tokens and token lists.
 use rpl_list::List;
 
-/// What a token is.
+/// The kind of a token.
 #[derive(Clone, Copy, Debug, PartialEq, Eq)]
 pub enum TokenKind {
     /// A letter, then letters, digits and `_`.
     Name,
-    /// Two names with a dot between them, and no blanks.
+    /// Two names separated by a dot, without blanks.
     Qualified,
     /// A name that is a [`Keyword`](crate::Keyword).
     Keyword,
     /// Characters and escapes between quotes.
     Text,
-    /// A set of characters, from `[` to the `]` that matches.
+    /// A set of characters, from `[` to the matching `]`.
     Bracket,
-    /// How often something repeats: one or two numbers between braces.
+    /// The number of repetitions: one or two numbers between braces.
     Bounds,
     /// Decimal digits.
     Number,
@@ -25,11 +25,11 @@ pub enum TokenKind {
 /// A token: its kind and its span.
 #[derive(Clone, Copy, Debug, PartialEq, Eq)]
 pub struct Token {
-    /// What it is.
+    /// The kind of the token.
     pub kind: TokenKind,
-    /// The byte place where it begins.
+    /// The byte offset of the first byte.
     pub start: usize,
-    /// The byte place after it.
+    /// The byte offset after the last byte.
     pub end: usize,
 }
 

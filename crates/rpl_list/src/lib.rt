@@ -1,13 +1,13 @@
-//! The one list type of the house: a list that grows at its end.
+//! The list type of every crate: a growable array that is only ever extended at its end.
 //!
-//! For every crate whose public types hold several of a kind: instructions, sets, tokens, rules,
-//! paths. Contracts see a `List` as the list of its members, and where a name says more it is given
-//! one, as `pub type Tokens = List<Token>`. Each call says which members there are after it; where
-//! memory runs out, none has changed.
+//! Every crate whose public types hold a sequence uses it: instructions, sets, tokens, rules,
+//! paths. Contracts see a `List` as the list of its elements; a crate may give that list a name
+//! of its own, as in `pub type Tokens = List<Token>`. The contract of each method states the
+//! elements after the call. A method that returns an error has changed nothing.
 #![tactic(auto)]
 
 mod list;
 
 pub use list::List;
-/// Out of memory, which every call that takes memory may answer.
+/// The error of every method that allocates: out of memory.
 pub use std::alloc::AllocError as NoMemory;

@@ -1,4 +1,4 @@
-// The list, and its calls.
+// The list and its methods.
 ghost use Rattle.std.specs.Prelude.{◌≡◌, [], ◌∷◌, ◌++◌, ◌↔◌, length, slice_get, IsTrue, IfOk, OnOk};
 ghost use Rattle.std.specs.Prelude.{OnErr};
 ghost use Rattle.std.specs.Option.{option_copied};
@@ -7,7 +7,7 @@ use crate::NoMemory;
 use std::alloc::Global;
 use std::marker::Model;
 
-/// Members in order, numbered from 0. Contracts see the list of them.
+/// A sequence of elements, numbered from 0. Contracts see the list of them.
 #[derive(Debug, Drop)]
 pub struct List<T> {
     items: Vec<T>,
@@ -22,7 +22,7 @@ impl<T> Model for List<T> {
 }
 
 impl<T> List<T> {
-    /// No members. It takes no memory.
+    /// Returns an empty list. Does not allocate.
     pub fn new(alloc: Global) -> List<T>
         ensures { result ≡ [] }
     {
@@ -31,7 +31,7 @@ impl<T> List<T> {
         }
     }
 
-    /// A copy of these members.
+    /// Copies a slice into a new list.
     pub fn from_slice(alloc: Global, items: &[T]) -> Result<List<T>, NoMemory>
     where
         T: Copy,
@@ -42,21 +42,21 @@ impl<T> List<T> {
         })
     }
 
-    /// Takes over the members of a `Vec`, with no copy.
+    /// Takes over the elements of a `Vec` without copying them.
     pub fn from_vec(items: Vec<T>) -> List<T>
         ensures { result ≡ items.items }
     {
         List { items }
     }
 
-    /// Gives the members away as a `Vec`, with no copy.
+    /// Returns the elements as a `Vec` without copying them.
     pub fn into_vec(self) -> Vec<T>
         ensures { result.items ≡ self }
     {
         self.items
     }
 
-    /// Adds a member at the end. Where memory runs out, nothing changes.
+    /// Appends an element. If memory runs out, the list is unchanged.
     pub fn push(&mut self, item: T) -> Result<(), NoMemory>
     where
         T: Drop,
@@ -67,7 +67,7 @@ impl<T> List<T> {
         Ok(())
     }
 
-    /// Adds all members of another list after these. Where memory runs out, nothing changes.
+    /// Appends all elements of another list. If memory runs out, the list is unchanged.
     pub fn append(&mut self, others: List<T>) -> Result<(), NoMemory>
     where
         T: Drop,
@@ -78,7 +78,7 @@ impl<T> List<T> {
         self.items.append(&mut others.items)
     }
 
-    /// Adds copies of these members at the end. Where memory runs out, nothing changes.
+    /// Appends copies of the elements of a slice. If memory runs out, the list is unchanged.
     pub fn extend_from_slice(&mut self, items: &[T]) -> Result<(), NoMemory>
     where
         T: Copy,
@@ -88,28 +88,29 @@ impl<T> List<T> {
         self.items.extend_from_slice(items)
     }
 
-    /// The number of members.
+    /// Returns the number of elements.
     pub fn len(&self) -> usize
         ensures { result ≡ length self.now }
     {
         self.items.len()
     }
 
-    /// Whether there is no member.
+    /// Returns whether the list is empty.
     pub fn is_empty(&self) -> bool
         ensures { IsTrue result ↔ (self.now ≡ []) }
     {
         self.items.is_empty()
     }
 
-    /// The member with this number, from 0; None exactly where there are no more than that.
+    /// Returns the element at an index, counted from 0, or `None` if the index is not below the
+    /// length.
     pub fn get(&self, index: usize) -> Option<&T>
         ensures { option_copied result ≡ slice_get self.now index }
     {
         self.items.get(index)
     }
 
-    /// All of them.
+    /// Returns all elements as a slice.
     pub fn as_slice(&self) -> &[T]
         ensures { result.now ≡ self.now }
     {

@@ -1,21 +1,21 @@
-// How runs end.
+// The outcomes of runs.
 use thiserror::Error;
 
-/// How a run ended, and after how many steps.
+/// The outcome of a run, and the number of its steps.
 #[derive(Clone, Copy, Debug, PartialEq, Eq)]
 pub enum Answer {
-    /// With a match that ends at this place.
+    /// A match that ends at this place.
     At { place: usize, steps: u64 },
-    /// Without one.
+    /// No match.
     Fail { steps: u64 },
 }
 
-/// Why a run has no answer.
+/// The reason why a run has no answer.
 #[derive(Clone, Copy, Debug, PartialEq, Eq, Error)]
 pub enum RunFault {
     #[error("out of memory")]
     NoMemory,
-    /// The run needs more steps than its budget, all of which were made.
+    /// The run needs more steps than its budget. All steps of the budget were made.
     #[error("budget spent")]
     Budget,
 }

@@ -1,11 +1,11 @@
-// How many steps runs have made.
+// The number of steps that runs have made.
 ghost use Rattle.std.specs.Prelude.{◌≡◌, ◌+◌, ◌<◌};
 
 use std::marker::Model;
 use std::sync::ledger::{Blank, Book, Ledger, Share};
 
-/// How many steps the runs on this ledger have made. It takes no bytes, and nothing but `run`
-/// raises it: so a caller who was handed a `&mut Steps` shows by its count that the steps were
+/// The number of steps made by the runs on this ledger. It occupies no bytes, and only `run`
+/// increases it. So the count of a caller who was handed a `&mut Steps` shows that the steps were
 /// made.
 #[derive(Drop)]
 pub struct Steps<L: Ledger> {
@@ -24,7 +24,7 @@ impl<L: Ledger> Model for Steps<L> {
 }
 
 impl<L: Ledger> Steps<L> {
-    /// No steps yet, on a new ledger.
+    /// Returns a count of zero steps, on a new ledger.
     pub fn new(blank: Blank) -> Steps<L>
         requires name { blank.name ≡ L.name }
         requires parts { blank.parts ≡ L.parts }
@@ -35,14 +35,14 @@ impl<L: Ledger> Steps<L> {
         Steps { book, share }
     }
 
-    /// One step more.
+    /// Adds one step.
     pub(crate) fn tick(&mut self)
         ensures { self.new ≡ self.old + 1 }
     {
         self.book.add(&mut self.share, 1);
     }
 
-    /// So many steps more.
+    /// Adds this number of steps.
     pub(crate) fn add(&mut self, count: u64)
         ensures { self.new ≡ self.old + count }
     {
@@ -50,7 +50,7 @@ impl<L: Ledger> Steps<L> {
     }
 }
 
-/// Counts a step. Answers how many are left then.
+/// Counts a step. Returns how many are left.
 #[inline(always)]
 pub(crate) fn spend<L: Ledger>(left: u64, steps: &mut Steps<L>) -> u64
     requires { 0 < left }

@@ -1,7 +1,7 @@
-// What holds of the changes of case.
+// Laws of the changes of case.
 ghost use Rattle.rpl_macro.specs.Laws.{CiIsOnce, UciKeepsOthers};
 
-/// Applying `ci` twice is applying it once.
+/// Applying `ci` twice is the same as applying it once.
 pub fn ci_is_once()
     ensures { CiIsOnce }
 {}

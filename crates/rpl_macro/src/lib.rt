@@ -1,8 +1,8 @@
-//! The macros: what each makes of its argument.
+//! The macros, and the expression that each makes of its argument.
 //!
-//! For the loader, which asks by `check_use` whether a use is right, and for the expansion, which
-//! needs which macro a name means and what a change of case does to a set. `apply` is the equation
-//! of each macro (`specs/Macros.antt`). Only memory can run out.
+//! The loader calls `check_use` to validate each use. The expansion asks which macro a name
+//! means, and how a change of case affects a set. `apply` is the equation of each macro
+//! (`specs/Macros.antt`). The only failure is running out of memory.
 #![tactic(auto)]
 
 mod casing;

@@ -18,7 +18,7 @@ use rpl_syntax::{Expr, Exprs, wrap};
 use rpl_text::Chars;
 use std::alloc::Global;
 
-/// One character alone, as a text.
+/// Returns one character as a text.
 fn lone(alloc: Global, c: char) -> Result<Expr, NoMemory>
     ensures { IfOk result (λ e. expr_of e ≡ M.Text (c ∷ [])) }
 {
@@ -27,7 +27,7 @@ fn lone(alloc: Global, c: char) -> Result<Expr, NoMemory>
     Ok(Expr::Text(Chars::from_str(alloc, &text)?))
 }
 
-/// The class of two characters.
+/// Returns the class of two characters.
 fn pair(alloc: Global, first: u32, second: u32) -> Result<Expr, NoMemory>
     ensures { IfOk result (λ e. expr_of e ≡ M.Class (norm ((first, first) ∷ (second, second) ∷ []))
         false) }
@@ -39,7 +39,7 @@ fn pair(alloc: Global, first: u32, second: u32) -> Result<Expr, NoMemory>
     })
 }
 
-/// A letter in both cases, any other character as it is.
+/// Returns a letter in both cases, and any other character as it is.
 fn either(alloc: Global, c: char) -> Result<Expr, NoMemory>
     ensures { IfOk result (λ e. expr_of e ≡ either_case c) }
 {
@@ -53,7 +53,7 @@ fn either(alloc: Global, c: char) -> Result<Expr, NoMemory>
     }
 }
 
-/// It is an ASCII letter.
+/// Returns whether the character is an ASCII letter.
 fn is_letter(c: char) -> bool
     ensures { result ≡ is_letter c }
 {
@@ -61,7 +61,7 @@ fn is_letter(c: char) -> bool
     (0x41 <= number && number <= 0x5a) || (0x61 <= number && number <= 0x7a)
 }
 
-/// The class of one character in every case.
+/// Returns the class of one character in every case.
 fn every(alloc: Global, c: char) -> Result<Expr, NoMemory>
     ensures { IfOk result (λ e. expr_of e ≡ M.Class (folded (single c)) false) }
 {
@@ -73,7 +73,7 @@ fn every(alloc: Global, c: char) -> Result<Expr, NoMemory>
     })
 }
 
-/// The text in this casing.
+/// Returns the text in this casing.
 fn text_in(alloc: Global, casing: Casing, text: &str) -> Result<Expr, NoMemory>
     ensures { IfOk result (λ e. expr_of e ≡ S.text_in casing (chars text.now)) }
 {
@@ -86,7 +86,7 @@ fn text_in(alloc: Global, casing: Casing, text: &str) -> Result<Expr, NoMemory>
     }
 }
 
-/// A letter is in the text.
+/// Returns whether the text contains a letter.
 fn has_letter(text: &str) -> bool
     ensures { result ≡ has_letter (chars text.now) }
 {
@@ -97,7 +97,7 @@ fn has_letter(text: &str) -> bool
     found
 }
 
-/// Each character in either case.
+/// Returns each character in either case.
 fn either_cases(alloc: Global, text: &str) -> Result<Exprs, NoMemory>
     ensures { IfOk result (λ ps. shown ps ≡ either_cases (chars text.now)) }
 {
@@ -108,7 +108,7 @@ fn either_cases(alloc: Global, text: &str) -> Result<Exprs, NoMemory>
     Ok(parts)
 }
 
-/// Each character in every case.
+/// Returns each character in every case.
 fn every_case(alloc: Global, text: &str) -> Result<Exprs, NoMemory>
     ensures { IfOk result (λ ps. shown ps ≡ every_case (chars text.now)) }
 {
@@ -119,7 +119,7 @@ fn every_case(alloc: Global, text: &str) -> Result<Exprs, NoMemory>
     Ok(parts)
 }
 
-/// A box with the expression in this casing.
+/// Returns a box with the expression in this casing.
 #[cycle(recase)]
 fn boxed(alloc: Global, casing: Casing, body: &Expr) -> Result<Box<Expr>, NoMemory>
     ensures { IfOk result (λ b. expr_of b.value ≡ recased casing (expr_of body.now)) }
@@ -128,7 +128,7 @@ fn boxed(alloc: Global, casing: Casing, body: &Expr) -> Result<Box<Expr>, NoMemo
     Ok(Box::new(alloc, body)?)
 }
 
-/// Each expression in this casing.
+/// Returns each expression in this casing.
 #[cycle(recase)]
 fn recase_all(alloc: Global, casing: Casing, parts: &[Expr]) -> Result<Exprs, NoMemory>
     ensures { IfOk result (λ ps. shown ps ≡ recased_all casing (exprs_all parts.now)) }
@@ -140,7 +140,7 @@ fn recase_all(alloc: Global, casing: Casing, parts: &[Expr]) -> Result<Exprs, No
     Ok(others)
 }
 
-/// The argument of a macro in this casing, unless it is a text that the macro keeps.
+/// Returns the argument of a macro in this casing, or unchanged if the macro takes a text.
 #[cycle(recase)]
 fn argument(alloc: Global, casing: Casing, name: &str, arg: &Expr) -> Result<Box<Expr>, NoMemory>
     ensures { IfOk result (λ b. expr_of b.value ≡
@@ -154,7 +154,7 @@ fn argument(alloc: Global, casing: Casing, name: &str, arg: &Expr) -> Result<Box
     boxed(alloc, casing, arg)
 }
 
-/// The macro of this name takes a text, and nothing else.
+/// Returns whether the macro of this name takes a text and nothing else.
 fn keeps_text(name: &str) -> bool
     ensures { result ≡ keeps_text (kind_of (chars name.now)) }
 {
@@ -164,7 +164,7 @@ fn keeps_text(name: &str) -> bool
     }
 }
 
-/// The expression in this casing.
+/// Returns the expression in this casing.
 #[cycle(recase)]
 pub(crate) fn recase(alloc: Global, casing: Casing, e: &Expr) -> Result<Expr, NoMemory>
     ensures { IfOk result (λ o. expr_of o ≡ recased casing (expr_of e.now)) }
@@ -175,7 +175,7 @@ pub(crate) fn recase(alloc: Global, casing: Casing, e: &Expr) -> Result<Expr, No
             set: casing.set(alloc, set)?,
             negated: *negated,
         }),
-        // These say no characters of their own.
+        // These have no characters of their own.
         Expr::Any | Expr::Start | Expr::End | Expr::Boundary | Expr::Name(_) => e.copy(alloc),
         Expr::Cooked(items) => {
             let items = recase_all(alloc, casing, items.as_slice())?;

@@ -1,4 +1,4 @@
-// What a macro makes of its argument.
+// The expression that a macro makes of its argument.
 ghost use Rattle.std.specs.Prelude.{◌≡◌, [], ◌∷◌, IfOk, chars, None};
 ghost use Rattle.rpl_syntax.specs.Expression as M;
 ghost use Rattle.rpl_syntax.specs.View.{expr_of};
@@ -16,8 +16,8 @@ use rpl_syntax::{Expr, Exprs, Mark, QName, Sign, wrap};
 use rpl_text::Chars;
 use std::alloc::Global;
 
-/// What is wrong with the use of the macro of this name, if anything is: there is no such macro, or
-/// it takes a text, as `message` and `error` do, and the argument isn't one.
+/// Returns the fault in a use of the macro of this name, if there is one: no macro has the name,
+/// or it takes a text, as `message` and `error` do, and the argument is not one.
 pub fn check_use(name: &str, arg: &Expr) -> Option<MacroFault>
     ensures { result ≡ use_fault (kind_of (chars name.now)) (expr_of arg.now) }
 {
@@ -30,7 +30,7 @@ pub fn check_use(name: &str, arg: &Expr) -> Option<MacroFault>
     None
 }
 
-/// Two items in turn.
+/// Returns two items, one after the other.
 fn pair(alloc: Global, first: Expr, second: Expr) -> Result<Expr, NoMemory>
     ensures { IfOk result (λ e. expr_of e
         ≡ M.Raw (M.Cons (expr_of first) (M.one (expr_of second)))) }
@@ -41,7 +41,7 @@ fn pair(alloc: Global, first: Expr, second: Expr) -> Result<Expr, NoMemory>
     Ok(wrap(true, items))
 }
 
-/// Any characters where the argument doesn't match.
+/// Returns a repetition of any character at which the argument does not match.
 fn passed(alloc: Global, arg: &Expr) -> Result<Expr, NoMemory>
     ensures { IfOk result (λ e. expr_of e ≡ passed (expr_of arg.now)) }
 {
@@ -55,7 +55,7 @@ fn passed(alloc: Global, arg: &Expr) -> Result<Expr, NoMemory>
     })
 }
 
-/// The argument, marked as what was looked for, after what was passed over.
+/// Returns the skipped text followed by the argument, which is marked as the text searched for.
 fn hit(alloc: Global, before: Expr, arg: Expr) -> Result<Expr, NoMemory>
     ensures { IfOk result (λ e. expr_of e
         ≡ M.Raw (M.Cons (expr_of before) (M.one (M.Marked Hit (expr_of arg))))) }
@@ -64,7 +64,7 @@ fn hit(alloc: Global, before: Expr, arg: Expr) -> Result<Expr, NoMemory>
     pair(alloc, before, hit)
 }
 
-/// The first place where the argument matches.
+/// Returns a search for the first match of the argument.
 fn found(alloc: Global, arg: Expr) -> Result<Expr, NoMemory>
     ensures { IfOk result (λ e. expr_of e ≡ found (expr_of arg)) }
 {
@@ -72,7 +72,7 @@ fn found(alloc: Global, arg: Expr) -> Result<Expr, NoMemory>
     hit(alloc, before, arg)
 }
 
-/// What was passed over, marked as such.
+/// Returns the text to skip, marked as skipped.
 fn skipped(alloc: Global, arg: &Expr) -> Result<Expr, NoMemory>
     ensures { IfOk result (λ e. expr_of e ≡ M.Marked Skip (passed (expr_of arg.now))) }
 {
@@ -80,7 +80,7 @@ fn skipped(alloc: Global, arg: &Expr) -> Result<Expr, NoMemory>
     Ok(Expr::Marked(Mark::Skip, Box::new(alloc, before)?))
 }
 
-/// The first place, with what stands before it.
+/// Returns a search for the first match of the argument that keeps the text before it.
 fn kept(alloc: Global, arg: Expr) -> Result<Expr, NoMemory>
     ensures { IfOk result (λ e. expr_of e ≡ kept (expr_of arg)) }
 {
@@ -88,7 +88,7 @@ fn kept(alloc: Global, arg: Expr) -> Result<Expr, NoMemory>
     hit(alloc, before, arg)
 }
 
-/// All places, one after the other.
+/// Returns a search for one or more matches of the argument, one after the other.
 fn all_found(alloc: Global, arg: Expr) -> Result<Expr, NoMemory>
     ensures { IfOk result (λ e. expr_of e ≡ M.Repeat (M.Raw (M.one (found (expr_of arg)))) 1 None) }
 {
@@ -101,7 +101,7 @@ fn all_found(alloc: Global, arg: Expr) -> Result<Expr, NoMemory>
     })
 }
 
-/// The message that a text gives.
+/// Returns the message of a text.
 fn note(alloc: Global, arg: Expr) -> Result<Expr, NoMemory>
     ensures { IfOk result (λ e. expr_of e ≡ M.Note (text_of (expr_of arg))) }
 {
@@ -111,7 +111,7 @@ fn note(alloc: Global, arg: Expr) -> Result<Expr, NoMemory>
     }
 }
 
-/// The built-in rule `halt`, whatever is bound to that name.
+/// Returns the built-in rule `halt`, whatever is bound to that name.
 fn halt(alloc: Global) -> Result<Expr, NoMemory>
     ensures { IfOk result (λ e. expr_of e ≡ M.Name S.halt) }
 {
@@ -122,7 +122,7 @@ fn halt(alloc: Global) -> Result<Expr, NoMemory>
     }))
 }
 
-/// The message, and the end of the match.
+/// Returns the message followed by the end of the match.
 fn error(alloc: Global, arg: Expr) -> Result<Expr, NoMemory>
     ensures { IfOk result (λ e. expr_of e ≡ S.failed (text_of (expr_of arg))) }
 {
@@ -130,9 +130,11 @@ fn error(alloc: Global, arg: Expr) -> Result<Expr, NoMemory>
     pair(alloc, message, halt(alloc)?)
 }
 
-/// What the macro of this name makes of its argument: one step of its equation, which a macro in
-/// the argument is no part of. `find`, `findall` and `keepto` double their argument, so whoever
-/// would apply nested ones in turn counts first.
+/// Returns what the macro of this name makes of its argument.
+///
+/// This is one step of the macro's equation; macros inside the argument are left as they are.
+/// `find`, `findall` and `keepto` double their argument, so a caller that applies nested macros
+/// must limit their number first.
 pub fn apply(alloc: Global, name: &str, arg: Expr) -> Result<Expr, NoMemory>
     requires { use_fault (kind_of (chars name.now)) (expr_of arg) ≡ None }
     ensures { IfOk result (λ e. expr_of e ≡ applied_if (kind_of (chars name.now)) (expr_of arg)) }

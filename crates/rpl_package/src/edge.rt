@@ -1,4 +1,4 @@
-// Loading, for those who stand on this crate.
+// The functions that load, for other crates.
 ghost use Rattle.std.specs.Prelude.{◌≡◌, IfErr, IfOk, OnErr, false, length};
 ghost use Rattle.rosie_io.specs.Loading.{NotFewer};
 ghost use Rattle.rpl_syntax.specs.Expression.{Expr as ParsedExpr};
@@ -23,7 +23,7 @@ use rpl_syntax::Expr;
 use rpl_text::Chars;
 use std::alloc::Global;
 
-/// A stop as a fault. Out of memory has no file and no place.
+/// Returns a stop as a fault. Out of memory has no file and no byte offset.
 pub fn fault_of(alloc: Global, stop: Stop) -> LoadFault
     ensures { IsFault stop result }
 {
@@ -37,12 +37,13 @@ pub fn fault_of(alloc: Global, stop: Stop) -> LoadFault
     }
 }
 
-/// Loads the roots in order, each import once, found in the first of the folders that has its file.
+/// Loads the roots in order. Each import is loaded once, from the first of the folders that has
+/// its file.
 ///
-/// The roots without a package statement share one module, the top module; any other root is a
-/// module of its own, whose package name is then a prefix in the top module. The first fault of all
-/// is answered, in the order that `specs/Loading.antt` and `specs/Roots.antt` say, and `ReadFault`
-/// only where a read or an open failed. Every file is closed afterwards.
+/// The roots without a package statement share one module, the top module. Any other root is a
+/// module of its own, and its package name becomes a prefix in the top module. Returns the first
+/// fault in the order that `specs/Loading.antt` and `specs/Roots.antt` define; `ReadFault` occurs
+/// only if a read or an open failed. Every file is closed afterwards.
 ///
 /// # Examples
 ///
@@ -74,13 +75,13 @@ pub fn load<F: Files>(
     }
 }
 
-/// Reads the text of a pattern, imports what it names by a prefix that the top module hasn't, and
-/// sees that all its names are bound and all its macros are used as they may be: the pattern's
-/// expression.
+/// Parses the text of a pattern, imports the packages that it names by a prefix the top module
+/// lacks, and checks that all its names are bound and all its macros are used correctly. Returns
+/// the expression of the pattern.
 ///
-/// After a refusal the set is as it was. The first fault is answered, in the order that
-/// `specs/Patterns.antt` says, and `ReadFault` only where a read or an open failed. Every file is
-/// closed afterwards.
+/// If it returns an error, the set is as before. The error is the first fault in the order that
+/// `specs/Patterns.antt` defines; `ReadFault` occurs only if a read or an open failed. Every file
+/// is closed afterwards.
 ///
 /// # Examples
 ///

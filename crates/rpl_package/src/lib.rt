@@ -1,14 +1,15 @@
-//! Packages: a set of RPL texts, in which each import is loaded once, and what its names stand for.
+//! Packages: a set of RPL texts, each import loaded once, and the bindings of their names.
 //!
-//! For the expansion and the commands. `load` reads the roots and all that they import,
-//! `load_pattern` a pattern and the packages that it names; a `PackageSet` then tells what any name
-//! of any rule stands for, which names there are, and the rule table. The first fault of all is
-//! answered, with its file and place, in the one order that `specs/` says; a read fault only where
-//! a read or an open failed. Every file is closed on every way out, and time is linear in the bytes
-//! that are read.
+//! The expansion and the commands use it. `load` reads the roots and everything that they import;
+//! `load_pattern` reads a pattern and the packages that it names. A `PackageSet` then resolves
+//! any name of any rule, lists the names, and holds the rule table. An error is the first fault
+//! in the single order that `specs/` defines, with its file and byte offset; a read fault occurs
+//! only if a read or an open failed. Every file is closed on every path out, and the time is
+//! linear in the number of bytes read.
 //!
-//! A set knows of itself, whatever the files are, that it came, by the steps of loading, of texts
-//! that were read (`specs/Built.antt`): the laws of all sets stand on that.
+//! Every set records the fact that it was built from texts that were read, by the steps of
+//! loading, whatever the files contain (`specs/Built.antt`). The laws of all sets rest on that
+//! fact.
 #![tactic(auto)]
 
 mod edge;

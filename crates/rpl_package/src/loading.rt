@@ -18,7 +18,7 @@ use rpl_scope::{Module, Named, NoMemory, Stop};
 use rpl_text::Chars;
 use std::alloc::Global;
 
-/// Nothing loaded, and the top module at work.
+/// Returns the state with nothing loaded, in which the top module is the current one.
 fn begin(alloc: Global) -> Result<State, NoMemory>
     ensures state { IfOk result (λ s. state_seen s.stock s.own ≡ begun.state) }
     ensures held { IfOk result (λ s. s.stock.held.items ≡ top_head ∷ []) }
@@ -37,7 +37,7 @@ fn begin(alloc: Global) -> Result<State, NoMemory>
     Ok(State { stock, own })
 }
 
-/// The set of the modules that are loaded when the top module is finished.
+/// Returns the set of the loaded modules, after the top module is finished.
 fn finish_set(
     alloc: Global,
     stock: Stock,
@@ -63,7 +63,7 @@ fn finish_set(
     })
 }
 
-/// The set of these roots.
+/// Loads the roots as a set.
 pub fn load_set<F: Files>(
     alloc: Global,
     files: &mut F,

@@ -12,17 +12,17 @@ use rpl_scope::{LoadKind, NoMemory, Stop, fault_at};
 use rpl_text::Chars;
 use std::alloc::Global;
 
-/// The most bytes that a text may have.
+/// The largest number of bytes in a text.
 pub const MAX_TEXT_BYTES: usize = 1_048_576;
 
-/// A file that is there.
+/// A file that exists.
 #[derive(Drop)]
 pub struct Located {
     pub file: Chars,
     pub read: Read,
 }
 
-/// The path of an import's file in a folder.
+/// Returns the path of an import's file in a folder.
 fn file_in(alloc: Global, folder: &Chars, path: &Chars) -> Result<Chars, NoMemory>
     ensures { IfOk result (λ file. file ≡ file_in folder.now path.now) }
 {
@@ -33,7 +33,7 @@ fn file_in(alloc: Global, folder: &Chars, path: &Chars) -> Result<Chars, NoMemor
     Chars::from_str(alloc, &text)
 }
 
-/// What a file is read as, where it is there. It is closed afterwards.
+/// Reads a file, if it exists, and closes it.
 pub fn read_in<F: Files>(alloc: Global, files: &mut F, file: &Chars) -> Result<Option<Read>, Stop>
     ensures found { F.tells →
         IfOk result (λ r. ReadsFile r (file_of (encode_utf8_all file.now) (F.tree files.old))) }
@@ -52,7 +52,7 @@ pub fn read_in<F: Files>(alloc: Global, files: &mut F, file: &Chars) -> Result<O
     }
 }
 
-/// The file of an import in the first folder that has it. It is closed afterwards.
+/// Reads the file of an import from the first folder that has it, and closes it.
 #[inline(never)]
 pub fn locate<F: Files>(
     alloc: Global,

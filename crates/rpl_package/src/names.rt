@@ -1,4 +1,4 @@
-// What a pattern may name.
+// The names that a pattern may use.
 ghost use Rattle.std.specs.Prelude.{◌≡◌, ◌≢◌, ◌++◌, [], false, Some, chars, IfOk, IsTrue, OnOk};
 ghost use Rattle.rpl_package.specs.Names.{by_bytes};
 ghost use Rattle.rpl_package.specs.Targets.{binds};
@@ -16,13 +16,13 @@ use std::cmp::Ordering;
 /// A name that a pattern may use.
 #[derive(Debug, Drop)]
 pub struct Listed {
-    /// The name as it is written, after its prefix and a dot where it has one.
+    /// The name as written, after its prefix and a dot if it has one.
     pub name: Chars,
-    /// The type of its nodes; None where it makes none.
+    /// The type of its nodes, or `None` if it makes none.
     pub label: Option<Chars>,
 }
 
-/// Names in the order of their bytes.
+/// Names, sorted by their bytes.
 pub type Names = List<Listed>;
 
 fn by_bytes(a: &Listed, b: &Listed) -> Ordering
@@ -31,7 +31,7 @@ fn by_bytes(a: &Listed, b: &Listed) -> Ordering
     a.name.as_str().cmp(b.name.as_str())
 }
 
-/// A prefix once more.
+/// Copies a prefix.
 fn copied(alloc: Global, prefix: Option<&str>) -> Result<Option<Chars>, NoMemory>
     ensures { IfOk result (λ copy. copy ≡ text_found prefix.entry) }
 {
@@ -41,8 +41,8 @@ fn copied(alloc: Global, prefix: Option<&str>) -> Result<Option<Chars>, NoMemory
     }
 }
 
-/// Whether the module under this prefix has taken in what has this entry there, so that it isn't
-/// passed on. No text spells the empty prefix.
+/// Returns whether the module under this prefix imported the name of this entry, so that it is
+/// not passed on. No text can spell an empty prefix.
 fn is_taken_in(prefix: &str, entry: Entry) -> bool
     ensures full { IsTrue result → chars prefix.now ≢ [] }
     ensures foreign { IsTrue result → binds (Some entry) ≡ false }
@@ -60,7 +60,7 @@ impl PackageSet {
     ghost use Rattle.rpl_package.specs.Sets.{set_seen};
     ghost use Rattle.rpl_package.specs.inside.Listing.{named, IsUnder};
 
-    /// The type of the nodes of a rule, as the very text of the rule table.
+    /// Returns the type of a rule's nodes, with the same text as in the rule table.
     fn label(&self, alloc: Global, rule: u32) -> Result<Option<Chars>, NoMemory>
         ensures { IfOk result (λ text. text ≡ label (set_seen self.now) rule) }
     {
@@ -73,7 +73,7 @@ impl PackageSet {
         }
     }
 
-    /// A name with its label, where it stands for a rule.
+    /// Appends a name with its label, if it resolves to a rule.
     fn push_listed(
         &self,
         alloc: Global,
@@ -97,7 +97,7 @@ impl PackageSet {
         }
     }
 
-    /// A name after a prefix or without one, with its label, where it stands for a rule.
+    /// Appends a name, with or without a prefix, and its label, if it resolves to a rule.
     fn push_name(
         &self,
         alloc: Global,
@@ -116,7 +116,7 @@ impl PackageSet {
         self.push_listed(alloc, names, &name)
     }
 
-    /// The names of the top module.
+    /// Appends the names of the top module.
     fn push_own(&self, alloc: Global, names: &mut Vec<Listed>, own: &Module) -> Result<(), NoMemory>
         ensures { OnOk result (names.new.items ≡ names.old.items
             ++ flat_map (listed (set_seen self.now)) (names_of None (Some (module_seen own.now)))) }
@@ -130,8 +130,8 @@ impl PackageSet {
         Ok(())
     }
 
-    /// The names of the module under a prefix. Those that it has taken in aren't passed on, and
-    /// may be many: they are passed over.
+    /// Appends the names of the module under a prefix. Names that this module imported are not
+    /// passed on and may be many, so they are skipped.
     fn push_behind(
         &self,
         alloc: Global,
@@ -159,7 +159,7 @@ impl PackageSet {
         Ok(())
     }
 
-    /// The names of the top module, and those of the modules under its prefixes.
+    /// Appends the names of the top module and those of the modules under its prefixes.
     fn push_all(&self, alloc: Global, names: &mut Vec<Listed>, own: &Module) -> Result<(), NoMemory>
         requires { nth (set_seen self.now).stock.modules self.now.top ≡ Some (module_seen own.now) }
         ensures { OnOk result (names.new.items ≡ names.old.items
@@ -176,9 +176,9 @@ impl PackageSet {
         Ok(())
     }
 
-    /// All that a pattern may name, in the order of the names' bytes: the names of the top module
-    /// that count after its last statement, and after each of its prefixes the names that an
-    /// importer sees.
+    /// Returns every name that a pattern may use, sorted by bytes: the names of the top module
+    /// that are visible after its last statement, and after each of its prefixes the names that
+    /// an importer sees.
     pub fn names(&self, alloc: Global) -> Result<Names, NoMemory>
         ensures members { IfOk result (λ names. IsPermutation (all_listed (set_seen self.now))
             names) }

@@ -1,4 +1,4 @@
-// An import's text, read, and its module, before anything of that text.
+// Opening an import: its text is parsed and its module begun, before any statement is entered.
 ghost use Rattle.std.specs.Prelude.{◌≡◌, ◌≢◌, ◌+◌, ◌-◌, ◌++◌, ◌∷◌, [], ℕ, List, OnOk, IfErr, IfOk};
 ghost use Rattle.std.specs.Prelude.{None, Ok, Some, false, length, nat_lt, take, true};
 ghost use Rattle.rpl_syntax.specs.Modules.{said};
@@ -26,10 +26,10 @@ use rpl_syntax::{Import, Module as ParsedModule, QName};
 use rpl_text::Chars;
 use std::alloc::Global;
 
-/// The most modules that may be loaded, the top module among them.
+/// The largest number of modules that may be loaded, including the top module.
 pub const MAX_MODULES: usize = 1_024;
 
-/// A text that imports: its file, and the folders in which its imports are looked for.
+/// A text that imports: its file, and the folders that are searched for its imports.
 #[derive(Clone, Copy)]
 pub struct Importer<'a> {
     pub alloc: Global,
@@ -37,29 +37,29 @@ pub struct Importer<'a> {
     pub folders: &'a [Chars],
 }
 
-/// An importer, and how many files may be read for it, one inside the other.
+/// An importer, and how many further files may be nested inside it.
 #[derive(Clone, Copy)]
 pub struct Walker<'a> {
     pub importer: Importer<'a>,
     pub depth: usize,
 }
 
-/// An imported text: its file, and what it says.
+/// An imported text: its file and its content.
 #[derive(Drop)]
 pub struct ImportedText {
     pub file: Chars,
     pub text: ParsedModule,
 }
 
-/// An imported text, and its module, which has nothing of it yet. Both are on the heap, where they
-/// take no stack while the text's own imports are loaded.
+/// An imported text and its module, which is still empty. Both are on the heap, so they take no
+/// stack space while the text's own imports are loaded.
 #[derive(Drop)]
 pub struct Opened {
     pub read: Box<ImportedText>,
     pub own: Box<Module>,
 }
 
-/// The stop for an import of a module that is being loaded.
+/// Returns the stop for an import of a module that is still being loaded.
 #[inline(never)]
 pub fn cycle_stop(importer: Importer<'_>, import: &Import) -> Stop
     ensures { IsStop result (fault_at importer.entry.file.now import.now.at
@@ -74,7 +74,7 @@ pub fn cycle_stop(importer: Importer<'_>, import: &Import) -> Stop
     }
 }
 
-/// The file of an import, where there is one, and room for its module.
+/// Finds the file of an import, and checks that there is room for its module.
 #[tactic(auto, using(rpl_scope::proofs::Stops::told, crate::proofs::Outcomes::may))]
 fn find_import<F: Files>(
     files: &mut F,
@@ -112,7 +112,7 @@ fn find_import<F: Files>(
     Ok(found)
 }
 
-/// The package name of an imported text.
+/// Returns the package name of an imported text.
 fn label_of(alloc: Global, name: &Option<QName>, path: &Chars) -> Result<Chars, NoMemory>
     ensures { IfOk result (λ label. label ≡ label_of name.now path.now) }
 {
@@ -122,7 +122,7 @@ fn label_of(alloc: Global, name: &Option<QName>, path: &Chars) -> Result<Chars, 
     }
 }
 
-/// The place where the package name is given.
+/// Returns the byte offset of the package name.
 fn label_at(name: &Option<QName>) -> usize
     ensures { result ≡ label_at name.now }
 {
@@ -132,7 +132,7 @@ fn label_at(name: &Option<QName>) -> usize
     }
 }
 
-/// The path and the package name of an imported text.
+/// Returns the path and the package name of an imported text.
 fn imported_head(alloc: Global, name: &Option<QName>, path: &Chars) -> Result<Head, NoMemory>
     ensures { IfOk result (λ h. h ≡ imported_head name.now path.now) }
 {
@@ -144,7 +144,7 @@ fn imported_head(alloc: Global, name: &Option<QName>, path: &Chars) -> Result<He
     })
 }
 
-/// The module of a text of its own, before anything of the text: it is being loaded from now on.
+/// Begins the module of a text of its own. The module counts as being loaded from now on.
 #[tactic(auto, using(rpl_scope::proofs::Stops::told))]
 pub fn open_own(
     stock: &mut Stock,
@@ -168,7 +168,7 @@ pub fn open_own(
     Ok(empty_module(importer.alloc, path, label))
 }
 
-/// A text and its module on the heap.
+/// Moves a text and its module to the heap.
 fn boxed(alloc: Global, read: ImportedText, own: Module) -> Result<Opened, NoMemory>
     ensures { IfOk result (λ o. (o.read.value ≡ read) × (o.own.value ≡ own)) }
 {
@@ -177,7 +177,7 @@ fn boxed(alloc: Global, read: ImportedText, own: Module) -> Result<Opened, NoMem
     Ok(Opened { read, own })
 }
 
-/// The text of a file, and its module.
+/// Parses the text of a file and begins its module.
 #[tactic(auto, using(rpl_scope::proofs::Stops::told, crate::proofs::Causes::told_loud))]
 fn open_found(
     stock: &mut Stock,
@@ -213,7 +213,7 @@ fn open_found(
     Ok(opened)
 }
 
-/// The text of an import whose module isn't there yet, and that module.
+/// Parses the text of an import that is not loaded yet, and begins its module.
 #[inline(never)]
 pub fn open_import<F: Files>(
     files: &mut F,
@@ -241,7 +241,7 @@ pub fn open_import<F: Files>(
     open_found(stock, walker, &import.path, found)
 }
 
-/// The number of a module whose text is done, which is the last of those that were being loaded.
+/// Finishes the module that was begun last, and returns its number.
 #[inline(never)]
 pub fn close(alloc: Global, stock: &mut Stock, own: Box<Module>) -> Result<usize, Stop>
     ensures taken { IfOk result (λ n. (n, stock_seen stock.new)

@@ -1,4 +1,4 @@
-// What a set tells of its modules, of its roots, and of a name that a module binds itself.
+// The modules and roots of a set, and the names that a module itself binds.
 ghost use Rattle.std.specs.Prelude.{◌≡◌, ◌<◌, IfSome, length};
 ghost use Rattle.rpl_scope.specs.Seen.{modules_seen};
 ghost use Rattle.rpl_package.specs.Owned as O;
@@ -10,8 +10,8 @@ use crate::table::Table;
 use crate::targets::Target;
 use rpl_scope::{Entry, Module, Referent};
 
-/// The target of an entry of the module with this number, where a statement of it made it and it
-/// isn't hidden.
+/// Returns the target of an entry of a module, if one of the module's statements made it and it
+/// is not hidden.
 fn own_entry(modules: &[Module], table: &Table, number: usize, entry: Entry) -> Option<Target>
     requires { IsTable table.now (modules_seen modules.now) }
     ensures { result ≡ O.own_entry (modules_seen modules.now) number entry }
@@ -34,8 +34,7 @@ impl PackageSet {
     ghost use Rattle.rpl_package.specs.Sets.{set_seen};
     ghost use Rattle.rpl_package.specs.Views.{text_found};
 
-    /// The module into which the root with this number, from 0, was read; None exactly where there
-    /// is no such root.
+    /// Returns the module of a root, counted from 0, or `None` exactly if there is no such root.
     pub fn root_module(&self, root: usize) -> Option<usize>
         ensures gives { result ≡ O.root_module (set_seen self.now) root }
         ensures within { IfSome result (λ n. n < length (set_seen self.now).stock.modules) }
@@ -47,8 +46,8 @@ impl PackageSet {
         }
     }
 
-    /// The package name of a module, the empty text for the top module; None exactly where there is
-    /// no such module.
+    /// Returns the package name of a module, which is empty for the top module, or `None` exactly
+    /// if there is no such module.
     pub fn package(&self, number: usize) -> Option<&str>
         ensures { text_found result ≡ O.package_name (set_seen self.now) number }
     {
@@ -58,8 +57,9 @@ impl PackageSet {
         }
     }
 
-    /// The target of a name that a statement of this module binds, a `local` one too; None exactly
-    /// where no statement of it binds the name, or the name is a hidden rule.
+    /// Returns the target of a name that a statement of this module binds, even as `local`.
+    /// Returns `None` exactly if no statement of it binds the name, or if the name is a hidden
+    /// rule.
     pub fn own(&self, number: usize, name: &str) -> Option<Target>
         ensures { result ≡ O.own (set_seen self.now) number (chars name.now) }
     {

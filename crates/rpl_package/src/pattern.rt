@@ -36,17 +36,17 @@ use rpl_syntax::{Expr, Import, ImportAs, QName};
 use rpl_text::Chars;
 use std::alloc::Global;
 
-/// What is looked for: the text of a pattern.
+/// The text of a pattern, and how to read it.
 #[derive(Clone, Copy, Debug)]
 pub struct Goal<'a> {
     pub text: &'a str,
-    /// The text is a literal, and not RPL.
+    /// Whether the text is a literal instead of RPL.
     pub fixed: bool,
-    /// It is looked for wherever it stands.
+    /// Whether to search for the pattern anywhere, as with `findall`.
     pub find: bool,
 }
 
-/// What a pattern that is searched for is: it is found wherever it stands.
+/// Returns the expression, as the argument of `findall` if `find` is set.
 fn sought(alloc: Global, find: bool, e: Expr) -> Result<Expr, NoMemory>
     ensures { IfOk result (λ x. expr_of x ≡ sought find (expr_of e)) }
 {
@@ -62,7 +62,7 @@ fn sought(alloc: Global, find: bool, e: Expr) -> Result<Expr, NoMemory>
     Ok(Expr::Macro { name, arg })
 }
 
-/// A text that isn't too long, as RPL.
+/// Parses a text that is not too long as RPL.
 fn read_pattern(alloc: Global, file: &Chars, text: &str, find: bool) -> Result<Expr, Stop>
     requires { file.now ≡ pattern_file }
     ensures gives { (r : Or ParsedExpr) → ReadsText false find text.now r → Gives expr_of result r }
@@ -81,7 +81,7 @@ fn read_pattern(alloc: Global, file: &Chars, text: &str, find: bool) -> Result<E
     }
 }
 
-/// The expression of a pattern's text.
+/// Parses a pattern's text.
 #[tactic(auto, using(rpl_scope::proofs::Stops::told, crate::proofs::Causes::told_loud))]
 fn read_goal(alloc: Global, file: &Chars, text: &str, fixed: bool, find: bool) -> Result<Expr, Stop>
     requires { file.now ≡ pattern_file }
@@ -99,7 +99,8 @@ fn read_goal(alloc: Global, file: &Chars, text: &str, fixed: bool, find: bool) -
     read_pattern(alloc, file, text, find)
 }
 
-/// The import that a name asks for: none where it has no prefix, or the module has the prefix.
+/// Returns the import that a name requires, or `None` if it has no prefix or the module already
+/// has the prefix.
 fn needed_import(alloc: Global, own: &Module, name: &QName) -> Result<Option<Import>, NoMemory>
     ensures { IfOk result (λ i. i ≡ needed_import (module_seen own.now) name.now) }
 {
@@ -120,7 +121,7 @@ fn needed_import(alloc: Global, own: &Module, name: &QName) -> Result<Option<Imp
     }))
 }
 
-/// The import that a name asks for in the top module.
+/// Returns the import that a name requires in the top module.
 fn needed_at(
     alloc: Global,
     modules: &[Module],
@@ -135,7 +136,7 @@ fn needed_at(
     }
 }
 
-/// The prefix of an import in the top module, for the module with this number.
+/// Adds the prefix of an import to the top module, for a module.
 fn put(
     stock: &mut Stock,
     top: usize,
@@ -164,7 +165,7 @@ fn put(
     }
 }
 
-/// The package that a name of the pattern asks for.
+/// Loads the package that a name of the pattern requires.
 fn enter_name<F: Files>(
     files: &mut F,
     stock: &mut Stock,
@@ -195,7 +196,7 @@ fn enter_name<F: Files>(
     put(stock, top, importer, &import, number)
 }
 
-/// The packages that the names of a pattern ask for, in order.
+/// Loads the packages that the names of a pattern require, in order.
 fn enter_names<F: Files>(
     files: &mut F,
     stock: &mut Stock,
@@ -221,7 +222,7 @@ fn enter_names<F: Files>(
     Ok(())
 }
 
-/// The names of a pattern, and then its macros.
+/// Checks the names of a pattern, and then its macros.
 fn check_pattern(
     stock: &Stock,
     top: usize,
@@ -250,7 +251,7 @@ fn check_pattern(
     check_macros(alloc, file, &uses)
 }
 
-/// A pattern that is read: what it imports, and then its names and its macros.
+/// Loads the imports of a parsed pattern, and then checks its names and its macros.
 fn enter_expr<F: Files>(
     files: &mut F,
     stock: &mut Stock,
@@ -278,7 +279,7 @@ fn enter_expr<F: Files>(
     check_pattern(stock, top, importer, &all, e)
 }
 
-/// The expression of a pattern, with all that it imports.
+/// Parses a pattern, and loads everything that it imports.
 pub fn enter_pattern<F: Files>(
     files: &mut F,
     stock: &mut Stock,

@@ -1,4 +1,4 @@
-// The module that a text is read as.
+// Parsing a text as a module.
 ghost use Rattle.std.specs.Prelude.{◌≡◌, ◌≢◌, ◌≤◌, ℕ, List, length, IfErr, IfOk};
 ghost use Rattle.rpl_syntax.specs.Modules.{said};
 ghost use Rattle.rpl_lexer.specs.declared.fault.LexKind.TheVariants.{NoMemory as LexOut};
@@ -18,17 +18,17 @@ use rpl_syntax::Module as ParsedModule;
 use rpl_text::Chars;
 use std::alloc::Global;
 
-/// What a file was read as.
+/// The result of reading a file.
 #[derive(Drop)]
 pub enum Read {
     Text(String),
-    /// It has more than 1,048,576 bytes.
+    /// The file exceeds 1,048,576 bytes.
     TooLong,
-    /// It isn't too long, and isn't UTF-8.
+    /// The file is not too long, but is not UTF-8.
     NotText,
 }
 
-/// The stop for a text that has no tokens.
+/// Returns the stop for a text that cannot be split into tokens.
 #[tactic(auto, using(rpl_scope::proofs::Stops::told))]
 pub fn lex_stop(alloc: Global, file: &Chars, fault: LexFault) -> Stop
     ensures fault { fault.kind ≢ LexOut → IsStop result
@@ -41,7 +41,7 @@ pub fn lex_stop(alloc: Global, file: &Chars, fault: LexFault) -> Stop
     }
 }
 
-/// The stop for a text that isn't read.
+/// Returns the stop for a text that cannot be parsed.
 #[tactic(auto, using(rpl_scope::proofs::Stops::told))]
 pub fn parse_stop(alloc: Global, file: &Chars, fault: ParseFault) -> Stop
     ensures fault { fault.kind ≢ ParseOut → IsStop result
@@ -54,7 +54,7 @@ pub fn parse_stop(alloc: Global, file: &Chars, fault: ParseFault) -> Stop
     }
 }
 
-/// The module of a text that isn't too long.
+/// Parses a text that is not too long as a module.
 fn parse(alloc: Global, file: &Chars, text: &str) -> Result<ParsedModule, Stop>
     ensures { Gives said result (parsed file.now text.now) }
 {
@@ -70,7 +70,7 @@ fn parse(alloc: Global, file: &Chars, text: &str) -> Result<ParsedModule, Stop>
     }
 }
 
-/// The module of a text.
+/// Parses a text as a module.
 #[tactic(auto, using(rpl_scope::proofs::Stops::told))]
 pub fn read_text(alloc: Global, file: &Chars, text: &str) -> Result<ParsedModule, Stop>
     ensures gives { Gives said result (module_text file.now text.now) }
@@ -82,7 +82,7 @@ pub fn read_text(alloc: Global, file: &Chars, text: &str) -> Result<ParsedModule
     parse(alloc, file, text)
 }
 
-/// The module of a file.
+/// Parses the content of a file as a module.
 #[tactic(auto, using(rpl_scope::proofs::Stops::told, crate::proofs::Causes::told_loud))]
 #[inline(never)]
 pub fn read_module(alloc: Global, file: &Chars, read: Read) -> Result<ParsedModule, Stop>

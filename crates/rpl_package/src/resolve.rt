@@ -1,4 +1,4 @@
-// What the names of a set stand for.
+// The resolution of the names of a set.
 ghost use Rattle.std.specs.Prelude.{◌≡◌, ◌+◌};
 ghost use Rattle.rpl_scope.specs.Packages.{nth};
 ghost use Rattle.rpl_scope.specs.Seen.{modules_seen};
@@ -13,7 +13,7 @@ use rpl_scope::{Entry, Found, Module, Referent, Rule, Scope, find, find_plain};
 use rpl_syntax::{Expr, QName};
 use rpl_text::Chars;
 
-/// The k-th rule of the module with this number.
+/// Returns a rule of a module by its index there.
 fn rule_in(modules: &[Module], number: usize, place: usize) -> Option<&Rule>
     ensures { rule_found result ≡ T.rule_in (modules_seen modules.now) number place }
 {
@@ -23,7 +23,7 @@ fn rule_in(modules: &[Module], number: usize, place: usize) -> Option<&Rule>
     }
 }
 
-/// How many rules the module with this number has.
+/// Returns the number of rules of a module.
 fn rule_count(modules: &[Module], number: usize) -> usize
     ensures { result ≡ T.size_of (nth (modules_seen modules.now) number) }
 {
@@ -33,7 +33,7 @@ fn rule_count(modules: &[Module], number: usize) -> usize
     }
 }
 
-/// The target of a rule, which has this place in that module.
+/// Returns the target of the rule at an index of a module.
 pub(crate) fn target_in(
     modules: &[Module],
     table: &Table,
@@ -55,7 +55,7 @@ pub(crate) fn target_in(
     }
 }
 
-/// The target of what a name of the module with this number stands for.
+/// Returns the target of a referent of a module.
 fn target_of(
     modules: &[Module],
     table: &Table,
@@ -82,16 +82,16 @@ fn target_of(
     }
 }
 
-/// Where a statement, or the pattern, stands.
+/// The site of a statement or of the pattern.
 #[derive(Clone, Copy)]
 struct Site {
     /// The number of its module.
     owner: usize,
-    /// How many rules its module has before it.
+    /// The number of rules that its module has before it.
     start: usize,
 }
 
-/// Whether a statement of the module binds the name of an entry.
+/// Returns whether a statement of the module binds the name of an entry.
 pub(crate) fn binds(entry: Option<Entry>) -> bool
     ensures { result ≡ T.binds entry }
 {
@@ -110,21 +110,22 @@ impl PackageSet {
     ghost use Rattle.rpl_package.specs.Tables.{rows};
     ghost use Rattle.rpl_package.specs.Targets as T;
 
-    /// The number of the module of the roots and the pattern.
+    /// Returns the number of the module of the roots and the pattern.
     pub fn top(&self) -> usize
         ensures { result ≡ (set_seen self.now).top }
     {
         self.top
     }
 
-    /// How many rules the rule table has. The first two are the boundary and the built-in `halt`.
+    /// Returns the number of rules in the rule table. The first two are the boundary and the
+    /// built-in `halt`.
     pub fn rules(&self) -> u32
         ensures { result ≡ 2 + length (rows (set_seen self.now).stock.modules) }
     {
         2 + self.table.rows.len() as u32
     }
 
-    /// The row of a rule that a statement made.
+    /// Returns the row of a rule that a statement made.
     fn row(&self, rule: u32) -> Option<&Row>
         ensures { row_found result ≡ T.row_at (set_seen self.now) rule }
     {
@@ -134,7 +135,7 @@ impl PackageSet {
         self.table.rows.get((rule - 2) as usize)
     }
 
-    /// The rule of a row.
+    /// Returns the rule of a row.
     fn rule_of(&self, row: &Row) -> Option<&Rule>
         ensures { rule_found result ≡ T.rule_in (set_seen self.now).stock.modules row.now.from
             row.now.place }
@@ -142,7 +143,7 @@ impl PackageSet {
         rule_in(&self.stock.modules, row.from, row.place)
     }
 
-    /// Where the pattern stands.
+    /// Returns the site of the pattern.
     fn pattern_site(&self) -> Site
         ensures { site_seen result ≡ T.pattern_site (set_seen self.now) }
     {
@@ -152,7 +153,7 @@ impl PackageSet {
         }
     }
 
-    /// Where the statement of a rule stands.
+    /// Returns the site of a rule's statement.
     fn rule_site(&self, rule: u32) -> Option<Site>
         ensures { site_found result ≡ T.rule_site (set_seen self.now)
             (T.row_at (set_seen self.now) rule) }
@@ -165,7 +166,7 @@ impl PackageSet {
         })
     }
 
-    /// What a name stands for at a place.
+    /// Resolves a name at a site.
     fn resolve_at(&self, site: Site, name: &QName) -> Result<Target, NameFault>
         ensures { result ≡ T.resolved_at (set_seen self.now) name.now (Some (site_seen site)) }
     {
@@ -183,7 +184,7 @@ impl PackageSet {
         }
     }
 
-    /// The target of a name that stands in the statement of a rule, or, with None, in the pattern.
+    /// Resolves a name in the statement of a rule, or in the pattern if the rule is `None`.
     pub fn resolve(&self, rule: Option<u32>, name: &QName) -> Result<Target, NameFault>
         ensures { result ≡ T.resolved (set_seen self.now) rule name.now }
     {
@@ -196,8 +197,8 @@ impl PackageSet {
         }
     }
 
-    /// The expression of a rule's statement; None exactly where there is no such rule, or no
-    /// statement made it.
+    /// Returns the expression of a rule's statement, or `None` exactly if there is no such rule
+    /// or no statement made it.
     pub fn body(&self, rule: u32) -> Option<&Expr>
         ensures { expr_found result ≡ T.body (set_seen self.now) rule }
     {
@@ -206,8 +207,8 @@ impl PackageSet {
         Some(&made.body)
     }
 
-    /// The file and the byte place of a rule's statement; None exactly where there is no such rule,
-    /// or no statement made it.
+    /// Returns the file and the byte offset of a rule's statement, or `None` exactly if there is
+    /// no such rule or no statement made it.
     pub fn spot(&self, rule: u32) -> Option<(&str, usize)>
         ensures { spot_found result ≡ T.spot (set_seen self.now) rule }
     {
@@ -218,7 +219,7 @@ impl PackageSet {
         Some((file.as_str(), made.at))
     }
 
-    /// What the mark of a boundary stands for at a place.
+    /// Resolves the boundary mark at a site.
     fn mark_at(&self, site: Site) -> Result<Target, NameFault>
         ensures { result ≡ T.resolved_at (set_seen self.now) T.boundary_mark
             (Some (site_seen site)) }
@@ -232,7 +233,7 @@ impl PackageSet {
         }
     }
 
-    /// The boundary in force at a place.
+    /// Returns the boundary in force at a site.
     fn boundary_at(&self, site: Site) -> u32
         ensures { result ≡ T.or_first (T.resolved_at (set_seen self.now) T.boundary_mark
             (Some (site_seen site))) }
@@ -243,9 +244,10 @@ impl PackageSet {
         }
     }
 
-    /// The boundary in force at the statement of a rule, or, with None, for the pattern: that of
-    /// the last statement before it that gives its module one, or else the table's first rule. None
-    /// exactly where there is no such rule, or no statement made it.
+    /// Returns the boundary in force at the statement of a rule, or for the pattern if the rule
+    /// is `None`. That is the boundary which the last earlier statement gives its module, or else
+    /// the first rule of the table. Returns `None` exactly if there is no such rule or no
+    /// statement made it.
     pub fn boundary(&self, rule: Option<u32>) -> Option<u32>
         ensures { result ≡ T.boundary (set_seen self.now) rule }
     {
@@ -258,7 +260,7 @@ impl PackageSet {
         }
     }
 
-    /// Whether a statement of the top module binds the name `halt`.
+    /// Returns whether a statement of the top module binds the name `halt`.
     fn binds_halt(&self) -> bool
         ensures { result ≡ T.binds_halt (set_seen self.now) }
     {
@@ -268,7 +270,8 @@ impl PackageSet {
         }
     }
 
-    /// The full name of the built-in `halt`, which isn't that of a statement of the top module.
+    /// Returns the full name of the built-in `halt`, which differs from that of any statement of
+    /// the top module.
     fn halt_name(&self) -> &'static str
         ensures { chars result.now ≡ T.halt_name (set_seen self.now) }
     {
@@ -278,7 +281,7 @@ impl PackageSet {
         "halt"
     }
 
-    /// What is known of a rule that no statement made.
+    /// Returns the description of a rule that no statement made.
     fn built_in<'a>(&self, name: &'a str) -> RuleHead<'a>
         ensures { head_seen result ≡ record {
           name = chars name.now;
@@ -295,7 +298,7 @@ impl PackageSet {
         }
     }
 
-    /// What is known of a rule; None exactly where there is no such rule.
+    /// Returns the description of a rule, or `None` exactly if there is no such rule.
     pub fn rule(&self, rule: u32) -> Option<RuleHead<'_>>
         ensures { head_found result ≡ T.head (set_seen self.now) rule }
     {
@@ -315,7 +318,8 @@ impl PackageSet {
         })
     }
 
-    /// The full name of a rule that a statement made; None exactly where there is no such rule.
+    /// Returns the full name of a rule that a statement made, or `None` exactly if there is no
+    /// such rule.
     pub fn full_name(&self, rule: u32) -> Option<&Chars>
         ensures { name_found result ≡ T.full_name (set_seen self.now) rule }
     {

@@ -1,4 +1,4 @@
-// The pattern that is looked for, over a set.
+// Loading a pattern into a set, with rollback if it is refused.
 ghost use Rattle.std.specs.Prelude.{◌≡◌, [], IfOk, OnErr};
 ghost use Rattle.rpl_syntax.specs.Expression.{Expr as ParsedExpr};
 ghost use Rattle.rpl_syntax.specs.View.{expr_of};
@@ -26,7 +26,7 @@ use rpl_syntax::Expr;
 use rpl_text::Chars;
 use std::alloc::Global;
 
-/// How much a set held.
+/// The sizes of a set at some point.
 #[derive(Clone, Copy)]
 struct Marks {
     modules: usize,
@@ -35,7 +35,7 @@ struct Marks {
     prefixes: usize,
 }
 
-/// How many prefixes the top module has.
+/// Returns the number of prefixes of the top module.
 fn prefix_count(modules: &[Module], top: usize) -> usize
     ensures { result ≡ prefixes_of (nth (modules_seen modules.now) top) }
 {
@@ -45,7 +45,7 @@ fn prefix_count(modules: &[Module], top: usize) -> usize
     }
 }
 
-/// How much a set of modules holds.
+/// Returns the sizes of a set of modules.
 fn marks_of(stock: &Stock, top: usize) -> Marks
     ensures { result ≡ marks_of (stock_seen stock.now) top }
 {
@@ -57,7 +57,7 @@ fn marks_of(stock: &Stock, top: usize) -> Marks
     }
 }
 
-/// Keeps the first of the prefixes of the top module alone, as many as that.
+/// Keeps only the first `count` prefixes of the top module.
 fn shorten(modules: &mut Vec<Module>, top: usize, count: usize)
     ensures { modules_seen modules.new.items
         ≡ with_shortened top count (modules_seen modules.old.items) }
@@ -68,7 +68,7 @@ fn shorten(modules: &mut Vec<Module>, top: usize, count: usize)
     }
 }
 
-/// Lets go of all that it holds besides.
+/// Removes everything that was added since the marks.
 fn cut_back(stock: &mut Stock, top: usize, marks: Marks)
     ensures stock { stock_seen stock.new ≡ cut_back top marks (stock_seen stock.old) }
     ensures held { stock.new.held.items ≡ [] }
@@ -80,7 +80,7 @@ fn cut_back(stock: &mut Stock, top: usize, marks: Marks)
     shorten(&mut stock.modules, top, marks.prefixes);
 }
 
-/// The expression of a pattern, and what it imports.
+/// Parses a pattern, and loads everything that it imports.
 pub fn enter_goal<F: Files>(
     alloc: Global,
     files: &mut F,
@@ -109,7 +109,7 @@ pub fn enter_goal<F: Files>(
             cut_back(&mut set.stock, set.top, marks);
             Err(stop)
         }
-        // Where it brings no module, the table stays.
+        // If the pattern adds no module, the table stays valid.
         Ok(e) if set.stock.modules.len() == marks.modules => Ok(e),
         Ok(e) => match table_of(alloc, &set.stock.modules) {
             Err(stop) => {

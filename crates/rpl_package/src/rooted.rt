@@ -1,4 +1,4 @@
-// The roots of a command, one after the other.
+// The roots of a command, in order.
 ghost use Rattle.std.specs.Prelude.{◌≡◌, ◌<◌, ◌^◌, [], ◌∷◌, OnOk, IfOk, IfSome, Some, None};
 ghost use Rattle.std.specs.Prelude.{encode_utf8_all, length};
 ghost use Rattle.rpl_syntax.specs.Modules.{said};
@@ -26,7 +26,7 @@ use rpl_syntax::{Module as ParsedModule, QName};
 use rpl_text::Chars;
 use std::alloc::Global;
 
-/// Where RPL text comes from.
+/// A source of RPL text.
 #[derive(Debug, Drop)]
 pub enum Root {
     /// The file at this path.
@@ -38,11 +38,11 @@ pub enum Root {
 /// Roots in order.
 pub type Roots = List<Root>;
 
-/// The folders in which imports are looked for, the first one first.
+/// The folders that are searched for imports, in this order.
 pub type LibPath = List<Chars>;
 
-/// A root with a package statement: a module of its own, whose package name becomes a prefix of the
-/// top module.
+/// Enters a root with a package statement: a module of its own, whose package name becomes a
+/// prefix of the top module.
 #[tactic(auto, using(rpl_scope::proofs::Stops::told, crate::proofs::Outcomes::may))]
 fn enter_named<F: Files>(
     files: &mut F,
@@ -82,7 +82,7 @@ fn enter_named<F: Files>(
     Ok(Some(number))
 }
 
-/// A root that is read.
+/// Enters a root that is parsed.
 #[tactic(auto, using(rpl_scope::proofs::Stops::told, crate::proofs::Outcomes::may))]
 pub fn enter_root<F: Files>(
     files: &mut F,
@@ -120,7 +120,7 @@ pub fn enter_root<F: Files>(
     }
 }
 
-/// The text of a root that is given itself.
+/// Parses a root given as text.
 fn read_given(alloc: Global, file: &Chars, text: &Chars) -> Result<ParsedModule, Stop>
     ensures gives { Gives said result (module_text file.now (encode_utf8_all text.now)) }
     ensures said { IfOk result (λ t. IsSaid (said t)) }
@@ -129,7 +129,7 @@ fn read_given(alloc: Global, file: &Chars, text: &Chars) -> Result<ParsedModule,
     read_text(alloc, file, bytes)
 }
 
-/// A root that is given itself, under the name of its text.
+/// Enters a root given as text, under the name of that text.
 pub fn enter_given<F: Files>(
     files: &mut F,
     state: &mut State,
@@ -150,7 +150,7 @@ pub fn enter_given<F: Files>(
     enter_root(files, state, importer, &said)
 }
 
-/// A root that is the file at this path.
+/// Enters a root given as a file.
 #[tactic(auto, using(rpl_scope::proofs::Stops::told, crate::proofs::Outcomes::may))]
 pub fn enter_file<F: Files>(
     alloc: Global,
@@ -181,7 +181,7 @@ pub fn enter_file<F: Files>(
     enter_root(files, state, importer, &said)
 }
 
-/// How many roots are given themselves, up to this one.
+/// Returns the number of roots given as text up to and including this one.
 fn next(given: usize, root: &Root) -> usize
     requires { given < 2 ^ 63 }
     ensures { result ≡ next given root.now }
@@ -192,7 +192,7 @@ fn next(given: usize, root: &Root) -> usize
     }
 }
 
-/// The name of the text of a root that is given itself.
+/// Returns the name of the text of a root given as text, such as `(rpl 1)`.
 fn given_name(alloc: Global, given: usize) -> Result<Chars, NoMemory>
     ensures { IfOk result (λ name. name ≡ given_name given) }
 {
@@ -200,14 +200,14 @@ fn given_name(alloc: Global, given: usize) -> Result<Chars, NoMemory>
     Chars::from_str(alloc, &text)
 }
 
-/// A root, with the number of those so far that are given themselves.
+/// A root, and the number of roots given as text so far.
 #[derive(Clone, Copy)]
 struct Turn<'a> {
     given: usize,
     root: &'a Root,
 }
 
-/// A root whose turn it is.
+/// Enters a root.
 fn enter_one<F: Files>(
     alloc: Global,
     files: &mut F,
@@ -239,7 +239,7 @@ fn enter_one<F: Files>(
     }
 }
 
-/// The roots in order: the modules that they are read into, None standing for the top module.
+/// Enters the roots in order. Returns the module of each, where `None` means the top module.
 pub fn enter_roots<F: Files>(
     alloc: Global,
     files: &mut F,

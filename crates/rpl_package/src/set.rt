@@ -9,13 +9,13 @@ ghost use Rattle.rpl_package.specs.inside.Numbering.{IsTable};
 use crate::stock::Stock;
 use crate::table::Table;
 
-/// What the names of some texts and of all that they import stand for.
+/// The loaded texts, with everything that they import, and the bindings of their names.
 #[derive(Drop)]
 pub struct PackageSet {
     pub(crate) stock: Stock,
     /// The number of the module of the roots and the pattern.
     pub(crate) top: usize,
-    /// The number of the module of each root, where it isn't the top module.
+    /// The number of each root's module, or `None` if it is the top module.
     pub(crate) roots: Vec<Option<usize>>,
     pub(crate) table: Table,
     ghost idle: { stock.held.items ≡ [] },

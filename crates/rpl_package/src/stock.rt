@@ -13,15 +13,15 @@ use rpl_text::Chars;
 use std::alloc::Global;
 use std::cell::OnceCell;
 
-/// A module that is being loaded: its path, and its package name.
+/// A module that is being loaded: its path and its package name.
 #[derive(Debug, Drop)]
 pub struct Head {
     pub path: Option<Chars>,
     pub label: Chars,
 }
 
-/// The modules that are loaded, in the order in which their loading finished, and those that are
-/// being loaded.
+/// The loaded modules, in the order in which their loading finished, and those that are being
+/// loaded.
 #[derive(Drop)]
 pub struct Stock {
     pub modules: Vec<Module>,
@@ -32,14 +32,14 @@ pub struct Stock {
     pub held: Vec<Head>,
 }
 
-/// The modules, and the one at work, which isn't among them yet.
+/// The modules, and the current one, which is not among them yet.
 #[derive(Drop)]
 pub struct State {
     pub stock: Stock,
     pub own: Module,
 }
 
-/// What is known of a module that is being loaded.
+/// Returns the path and the package name of a module that is being loaded.
 pub fn head_of(alloc: Global, path: &Option<Chars>, label: &Chars) -> Result<Head, NoMemory>
     ensures { IfOk result (λ h. h ≡ record { path = path.now; label = label.now }) }
 {
@@ -53,7 +53,7 @@ pub fn head_of(alloc: Global, path: &Option<Chars>, label: &Chars) -> Result<Hea
     }
 }
 
-/// Whether a module of this path is being loaded.
+/// Returns whether a module with this path is being loaded.
 pub fn is_loading(held: &[Head], path: &Chars) -> bool
     ensures { result ≡ is_loading path.now held.now }
 {
@@ -67,7 +67,7 @@ pub fn is_loading(held: &[Head], path: &Chars) -> bool
     false
 }
 
-/// Whether a module of this package name is being loaded.
+/// Returns whether a module with this package name is being loaded.
 fn is_held(held: &[Head], label: &Chars) -> bool
     ensures { result ≡ is_held label.now held.now }
 {
@@ -79,14 +79,14 @@ fn is_held(held: &[Head], label: &Chars) -> bool
     false
 }
 
-/// Whether a module has this package name already.
+/// Returns whether a module already has this package name.
 pub fn is_taken(stock: &Stock, label: &Chars) -> bool
     ensures { result ≡ is_taken label.now stock.now.held.items (stock_seen stock.now) }
 {
     is_held(&stock.held, label) || stock.labels.get(label).is_some()
 }
 
-/// The number of the module with this path, where it has one.
+/// Stores the number of the module under its path, if it has one.
 fn note_path(
     alloc: Global,
     paths: &mut Named<usize>,
@@ -102,7 +102,7 @@ fn note_path(
     }
 }
 
-/// One module more.
+/// Appends a module.
 fn push_module(modules: &mut Vec<Module>, from: Module) -> Result<(), NoMemory>
     ensures ok { OnOk result (modules.new.items ≡ modules.old.items ++ from ∷ []) }
     ensures err { OnErr result (modules.new.items ≡ modules.old.items) }
@@ -111,7 +111,7 @@ fn push_module(modules: &mut Vec<Module>, from: Module) -> Result<(), NoMemory>
     Ok(())
 }
 
-/// The number of the next module, noted under its path and its package name.
+/// Stores the number of the next module under its path and its package name, and returns it.
 fn note(alloc: Global, stock: &mut Stock, from: &Module) -> Result<usize, NoMemory>
     ensures noted { OnOk result (stock_seen stock.new
         ≡ noted (stock_seen stock.old) (module_seen from.now)) }
@@ -126,7 +126,7 @@ fn note(alloc: Global, stock: &mut Stock, from: &Module) -> Result<usize, NoMemo
     Ok(number)
 }
 
-/// One module more, whose loading is finished: its number.
+/// Adds a module whose loading is finished, and returns its number.
 pub fn finish(alloc: Global, stock: &mut Stock, from: Module) -> Result<usize, Stop>
     ensures stock { OnOk result (stock_seen stock.new
         ≡ finished (stock_seen stock.old) (module_seen from)) }
@@ -140,7 +140,7 @@ pub fn finish(alloc: Global, stock: &mut Stock, from: Module) -> Result<usize, S
     Ok(number)
 }
 
-/// A module without statements.
+/// Returns a module without statements.
 pub fn empty_module(alloc: Global, path: Option<Chars>, label: Chars) -> Module
     ensures { module_seen result ≡ empty_module path label }
 {

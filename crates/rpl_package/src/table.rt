@@ -1,4 +1,4 @@
-// The rule table: which rule has which number.
+// The rule table, which numbers the rules.
 ghost use Rattle.std.specs.Prelude.{◌≡◌, ◌≤◌, ◌<◌, ◌+◌, ◌++◌, OnOk, IfOk, IfErr, length};
 ghost use Rattle.rpl_scope.specs.Seen.{module_seen, modules_seen, rule_seen, rules_seen};
 ghost use Rattle.rpl_scope.specs.declared.fault.Stop.TheVariants.{Memory as OutOfMemory};
@@ -10,24 +10,25 @@ use rpl_scope::{Module, NoMemory, Rule, Stop};
 use rpl_text::Chars;
 use std::alloc::Global;
 
-/// The most rules that statements may make: with the two built-in ones, all the numbers that a call
-/// can have. More are answered as out of memory, of which each has taken some.
+/// The largest number of rules that statements may make: with the two built-in rules, these are
+/// all the numbers that a call can have. More rules count as out of memory, since each of them
+/// has taken some.
 const MAX_ROWS: usize = 4_294_967_293;
 
 /// A rule of the table that a statement made.
 #[derive(Debug, Drop)]
 pub struct Row {
-    /// Its full name.
+    /// The full name of the rule.
     pub name: Chars,
     /// The number of its module.
     pub from: usize,
-    /// Its place among the rules of that module.
+    /// Its index among the rules of that module.
     pub place: usize,
-    /// The number of its block, where it stands in one.
+    /// The number of its block, if it is in one.
     pub block: Option<u32>,
 }
 
-/// The rules of modules in order, the first of them with the number 2.
+/// The rules of the modules in order. The first of them has the number 2.
 #[derive(Drop)]
 pub struct Table {
     pub rows: Vec<Row>,
@@ -35,7 +36,7 @@ pub struct Table {
     pub firsts: Vec<u32>,
 }
 
-/// The full name of a rule of the module with this package name.
+/// Returns the full name of a rule of the module with this package name.
 fn full_name(alloc: Global, label: &Chars, name: &Chars) -> Result<Chars, NoMemory>
     ensures { IfOk result (λ full. full ≡ full_name label.now name.now) }
 {
@@ -51,14 +52,14 @@ fn full_name(alloc: Global, label: &Chars, name: &Chars) -> Result<Chars, NoMemo
     Chars::from_str(alloc, &text)
 }
 
-/// Whether a rule stands in a block.
+/// Returns whether a rule is in a block.
 fn in_block(rule: &Rule) -> bool
     ensures { result ≡ in_block (rule_seen rule.now) }
 {
     rule.since == rule.start
 }
 
-/// How many blocks have begun up to the rule at this place of its module.
+/// Returns how many blocks have begun up to and including the rule at this index of its module.
 fn begun_at(blocks: u32, place: usize, rule: &Rule) -> u32
     requires { blocks < 4294967295 }
     ensures exact { result ≡ begun_at blocks place (rule_seen rule.now) }
@@ -71,14 +72,14 @@ fn begun_at(blocks: u32, place: usize, rule: &Rule) -> u32
     }
 }
 
-/// A module: its number, and its package name.
+/// A module: its number and its package name.
 #[derive(Clone, Copy)]
 struct Owner<'a> {
     number: usize,
     label: &'a Chars,
 }
 
-/// The row of a rule up to which so many blocks have begun.
+/// Returns the row of a rule, given how many blocks have begun up to it.
 fn row_of(
     alloc: Global,
     owner: Owner<'_>,
@@ -103,8 +104,8 @@ fn row_of(
     })
 }
 
-/// The rows of the rules of a module, where so many blocks have begun before; and how many have
-/// then.
+/// Appends the rows of a module's rules, given how many blocks have begun before. Returns how
+/// many have begun afterwards.
 fn push_rules(
     alloc: Global,
     rows: &mut Vec<Row>,
@@ -135,7 +136,7 @@ fn push_rules(
     Ok(begun)
 }
 
-/// The rule table of these modules.
+/// Returns the rule table of these modules.
 pub fn table_of(alloc: Global, modules: &[Module]) -> Result<Table, Stop>
     ensures ok { IfOk result (λ t. IsTable t (modules_seen modules.now)) }
     ensures memory { IfErr result (λ s. s ≡ OutOfMemory) }

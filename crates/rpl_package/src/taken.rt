@@ -1,4 +1,4 @@
-// What an import brings, where the names of some modules are all there already.
+// Imports from modules whose names may already all be there.
 ghost use Rattle.std.specs.Prelude.{◌≡◌, All, OnOk};
 ghost use Rattle.rpl_package.specs.inside.Taken.{is_plain};
 ghost use Rattle.rpl_scope.specs.Faults.{Gives};
@@ -10,15 +10,16 @@ use crate::opening::Importer;
 use rpl_scope::{Loaded, Module, Stop, take_in};
 use rpl_syntax::{Import, ImportAs};
 
-/// Whether an import brings names without a prefix.
+/// Returns whether an import brings names without a prefix.
 fn is_plain(import: &Import) -> bool
     ensures { result ≡ is_plain import.now.name }
 {
     matches!(import.name, ImportAs::Plain)
 }
 
-/// What an import brings of a loaded module. `taken` has the numbers of modules whose names are all
-/// there: what they bring without a prefix isn't gone through again.
+/// Adds what an import brings from a loaded module. `taken` holds the numbers of the modules
+/// whose names are all there already, so that they are not imported without a prefix a second
+/// time.
 pub fn bring(
     own: &mut Module,
     taken: &mut Vec<usize>,

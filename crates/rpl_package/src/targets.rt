@@ -1,35 +1,35 @@
-// What is told of a name.
+// The targets of names.
 use thiserror::Error;
 
-/// The rule that a name stands for.
+/// The rule that a name resolves to.
 #[derive(Clone, Copy, Debug, PartialEq, Eq)]
 pub struct Target {
     /// Its number in the rule table.
     pub rule: u32,
-    /// It is bound without `alias`, and so makes a node.
+    /// Whether it makes a node: it is bound without `alias`.
     pub captures: bool,
 }
 
-/// Why a name stands for no rule.
+/// The reason why a name resolves to no rule.
 #[derive(Clone, Copy, Debug, PartialEq, Eq, Error)]
 pub enum NameFault {
-    /// The name isn't bound there.
+    /// The name is not bound.
     #[error("unknown name")]
     Unknown,
-    /// The name is bound, and not to be seen there.
+    /// The name is bound, but not visible here.
     #[error("hidden name")]
     Hidden,
 }
 
-/// What is known of a rule.
+/// The description of a rule.
 #[derive(Clone, Copy, Debug)]
 pub struct RuleHead<'a> {
     /// Its full name, which is the type of its nodes.
     pub name: &'a str,
     /// The number of its module.
     pub module: usize,
-    /// The number of its block, where it stands in one.
+    /// The number of its block, if it is in one.
     pub block: Option<u32>,
-    /// It makes a node.
+    /// Whether it makes a node.
     pub captures: bool,
 }

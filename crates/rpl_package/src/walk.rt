@@ -1,4 +1,4 @@
-// The walk over a text and all that it imports.
+// The walk over a text and everything that it imports.
 ghost use Rattle.std.specs.Prelude.{◌≡◌, All, OnOk, IfOk, IfErr, length};
 ghost use Rattle.rpl_syntax.specs.Modules.{said};
 ghost use Rattle.rpl_package.specs.Asking.{IfTold, Walks};
@@ -21,7 +21,7 @@ use rpl_syntax::{Import, Module as ParsedModule};
 use rpl_text::Chars;
 use std::alloc::Global;
 
-/// One text more of a module.
+/// Adds a text to a module, and returns its number there.
 #[inline(never)]
 fn push_text(alloc: Global, own: &mut Module, file: &Chars) -> Result<usize, Stop>
     ensures text { OnOk result (module_seen own.new ≡ with_text (module_seen own.old) file.now) }
@@ -34,10 +34,10 @@ fn push_text(alloc: Global, own: &mut Module, file: &Chars) -> Result<usize, Sto
     Ok(number)
 }
 
-/// The number of the module that an import names, which is loaded now.
+/// Loads the module that an import names, and returns its number.
 ///
-/// Of what it holds while the imported text's own imports are loaded, only pointers stand on the
-/// stack: it calls itself as often as files are read one inside the other.
+/// The function calls itself once per nested file. While the imported text's own imports are
+/// loaded, its data is on the heap, and only pointers to it are on the stack.
 #[cycle(load)]
 #[tactic(auto, using(rpl_scope::proofs::Stops::told))]
 pub fn load_import<F: Files>(
@@ -75,7 +75,7 @@ pub fn load_import<F: Files>(
     close(walker.importer.alloc, stock, own)
 }
 
-/// A text of the module at work: its imports, and then its statements.
+/// Loads a text of the current module: its imports, and then its statements.
 #[cycle(load)]
 pub fn load_text<F: Files>(
     files: &mut F,
@@ -103,7 +103,7 @@ pub fn load_text<F: Files>(
     enter_items(alloc, &stock.modules, own, place, items)
 }
 
-/// Import entries in order.
+/// Loads and enters import entries, in order.
 #[cycle(load)]
 pub fn enter_imports<F: Files>(
     files: &mut F,
@@ -134,7 +134,8 @@ pub fn enter_imports<F: Files>(
     Ok(())
 }
 
-/// The number of the module of a text of its own, which is loaded now: its package name first.
+/// Loads the module of a text of its own, whose package name is checked first, and returns its
+/// number.
 pub fn load_own<F: Files>(
     files: &mut F,
     stock: &mut Stock,

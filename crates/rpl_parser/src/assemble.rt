@@ -1,4 +1,4 @@
-// What is put together of expressions that are read.
+// Expressions built from parts that are already parsed.
 ghost use Rattle.std.specs.Prelude.{◌≡◌, Some};
 ghost use Rattle.rpl_parser.specs.inside.Gives.{Gives};
 ghost use Rattle.rpl_syntax.specs.Expression as M;
@@ -13,7 +13,7 @@ use rpl_syntax::{Expr, Exprs, QName, Token, choose, wrap};
 use rpl_text::Chars;
 use std::alloc::Global;
 
-/// The name of a macro or of what a name without a prefix is bound to.
+/// Returns a name without a prefix: of a macro or of a binding.
 pub fn simple_name(alloc: Global, name: &Chars, at: usize) -> Result<QName, Refusal>
     ensures { Gives (λ q. q) result (Some (unprefixed name.now at)) }
 {
@@ -24,7 +24,7 @@ pub fn simple_name(alloc: Global, name: &Chars, at: usize) -> Result<QName, Refu
     })
 }
 
-/// A name with its prefix.
+/// Returns a name with its prefix.
 pub fn qualified_name(
     alloc: Global,
     prefix: &Chars,
@@ -68,7 +68,7 @@ pub fn both(alloc: Global, first: Expr, second: Expr) -> Result<Expr, Refusal>
     Ok(Expr::Both(first, Box::new(alloc, second)?))
 }
 
-/// A choice of these parts, alone.
+/// Returns a list with one element: a choice of these parts.
 pub fn alone(alloc: Global, parts: Exprs) -> Result<Exprs, Refusal>
     ensures { Gives shown result (Some (one (chosen (shown parts)))) }
 {
@@ -77,7 +77,7 @@ pub fn alone(alloc: Global, parts: Exprs) -> Result<Exprs, Refusal>
     Ok(whole)
 }
 
-/// The expression, with the quantifier after it if there is one.
+/// Applies the quantifier at the front of the tokens, if there is one, to an expression.
 pub fn quantify(alloc: Global, body: Expr, tokens: &[Token]) -> Result<(Expr, &[Token]), Refusal>
     ensures { Gives (λ x. (expr_of x.0, x.1.now)) result
         (Some (quantified (expr_of body) tokens.now)) }
@@ -95,7 +95,7 @@ pub fn quantify(alloc: Global, body: Expr, tokens: &[Token]) -> Result<(Expr, &[
     }
 }
 
-/// The group of these items, after which its closing sign stands, and then maybe a quantifier.
+/// Returns the group of these items. Its closing sign must come next; a quantifier may follow.
 pub fn close(
     alloc: Global,
     raw: bool,

@@ -1,4 +1,4 @@
-// The tokens of a text, as the grammar sees them, and the first of them that is bad.
+// Conversion of the tokens of a text into those of the grammar, and the first bad one.
 ghost use Rattle.std.specs.Prelude.{◌≡◌, IfOk, chars};
 ghost use Rattle.rpl_classes.specs.Brackets.{bracket_of};
 ghost use Rattle.rpl_lexer.specs.Cut.{IsToken};
@@ -21,7 +21,7 @@ use rpl_syntax::Token;
 use rpl_text::Chars;
 use std::alloc::{AllocError, Global};
 
-/// A number of bounds, or 256 where it is greater.
+/// Returns a number of bounds, or 256 if it is greater.
 fn cap(number: u64) -> u32
     ensures { result ≡ capped number }
 {
@@ -34,14 +34,14 @@ fn least(bounds: Bounds) -> u64
     bounds.least.unwrap_or(0)
 }
 
-/// The upper number, or the lower one once more.
+/// Returns the upper number, or the lower one if there is no upper one.
 fn top(bounds: Bounds) -> u64
     ensures { result ≡ top_of bounds }
 {
     bounds.most.unwrap_or(least(bounds))
 }
 
-/// How often at most, where there is a limit.
+/// Returns the largest number of repetitions, if there is a limit.
 fn upper(bounds: Bounds) -> Option<u32>
     ensures { result ≡ capped_most (most_of bounds) }
 {
@@ -54,14 +54,14 @@ fn upper(bounds: Bounds) -> Option<u32>
     }
 }
 
-/// The place so many bytes after another.
+/// Returns the offset `by` bytes after another.
 fn behind(at: usize, by: usize) -> usize
     ensures { result ≡ place_behind at by }
 {
     at.saturating_add(by)
 }
 
-/// The byte place of a fault in its bracket.
+/// Returns the byte offset of a fault within its bracket.
 fn place(fault: SetFault) -> usize
     ensures { result ≡ place_in fault }
 {
@@ -71,7 +71,8 @@ fn place(fault: SetFault) -> usize
     }
 }
 
-/// The set of a bracket at this place, or the empty one and what is bad about it.
+/// Reads the set of a bracket at a byte offset. If the bracket is bad, returns the empty set and
+/// the fault.
 fn class(alloc: Global, text: &str, at: usize) -> Result<(Token, Option<ParseFault>), AllocError>
     ensures token { IfOk result (λ x. x.0 ≡ class_token (bracket_of (chars text.now))) }
     ensures bad { IfOk result (λ x. x.1 ≡ class_fault at (bracket_of (chars text.now))) }
@@ -99,7 +100,7 @@ fn class(alloc: Global, text: &str, at: usize) -> Result<(Token, Option<ParseFau
     }
 }
 
-/// A name.
+/// Converts a Name token.
 fn name(alloc: Global, text: &str, lexeme: Lexeme) -> Result<Token, AllocError>
     requires stands { IsToken text.now lexeme }
     ensures { IfOk result (λ t. t ≡ token_by NameKind text.now lexeme) }
@@ -110,7 +111,7 @@ fn name(alloc: Global, text: &str, lexeme: Lexeme) -> Result<Token, AllocError>
     })
 }
 
-/// A name after a prefix.
+/// Converts a Qualified token.
 fn qualified(alloc: Global, text: &str, lexeme: Lexeme) -> Result<Token, AllocError>
     requires kind { lexeme.kind ≡ QualifiedKind }
     requires stands { IsToken text.now lexeme }
@@ -126,7 +127,7 @@ fn qualified(alloc: Global, text: &str, lexeme: Lexeme) -> Result<Token, AllocEr
     })
 }
 
-/// Bounds, with no number above 256.
+/// Converts bounds, with numbers capped at 256.
 fn bounds_token(bounds: Bounds) -> Token
     ensures { result ≡ bounds_token bounds }
 {
@@ -136,7 +137,7 @@ fn bounds_token(bounds: Bounds) -> Token
     }
 }
 
-/// What is bad about bounds at this place.
+/// Returns the fault of the bounds at a byte offset, if they have one.
 fn bounds_bad(at: usize, bounds: Bounds) -> Option<ParseFault>
     ensures { result ≡ bounds_fault at bounds }
 {
@@ -150,7 +151,7 @@ fn bounds_bad(at: usize, bounds: Bounds) -> Option<ParseFault>
     None
 }
 
-/// The token, as the grammar sees it, and what is bad about it.
+/// Converts a token, and returns its fault, if it has one.
 fn convert(
     alloc: Global,
     text: &str,
@@ -175,14 +176,15 @@ fn convert(
     }
 }
 
-/// Tokens as the grammar sees them, and the first bounds or bracket among them that is bad.
+/// The tokens as the grammar sees them, and the fault of the first bad bounds or bracket among
+/// them.
 #[derive(Drop)]
 pub struct Converted {
     pub tokens: Vec<Token>,
     pub bad: Option<ParseFault>,
 }
 
-/// Some tokens of a text, each read once.
+/// Converts tokens of a text, each of them once.
 pub fn convert_all(alloc: Global, text: &str, lexemes: &[Lexeme]) -> Result<Converted, AllocError>
     requires { AllStand text.now lexemes.now }
     ensures tokens { IfOk result (λ c. c.tokens.items ≡ tokens_of text.now lexemes.now) }

@@ -1,6 +1,6 @@
-// The descent: each function reads one nonterminal of the grammar with one token ahead. `depth` is
-// a bound on nesting that the number of tokens always meets; the level that is counted before keeps
-// calls from nesting deep.
+// Recursive descent: each function parses one nonterminal of the grammar with one token of
+// lookahead. `depth` is a bound on nesting that the number of tokens always satisfies; the level,
+// which is checked earlier, keeps calls from nesting deeply.
 ghost use Rattle.std.specs.Prelude.{◌≡◌, suc, ◌∷◌, length, Some};
 ghost use Rattle.rpl_parser.specs.inside.Gives.{Gives};
 ghost use Rattle.rpl_syntax.specs.Reading.{read, item_of, read_item, read_exp, seq_of, parts_of};
@@ -15,7 +15,7 @@ use rpl_lexer::Punct;
 use rpl_syntax::{Expr, Exprs, Sign, Token, join};
 use std::alloc::Global;
 
-/// An item.
+/// Parses an item.
 #[cycle(read)]
 fn item<'a>(
     alloc: Global,
@@ -33,7 +33,7 @@ fn item<'a>(
     }
 }
 
-/// The item that begins with this token.
+/// Parses the item whose first token is `first`.
 #[cycle(read)]
 fn item_from<'a>(
     alloc: Global,
@@ -76,7 +76,7 @@ fn item_from<'a>(
     }
 }
 
-/// The item that begins with this sign.
+/// Parses the item that begins with a sign.
 #[cycle(read)]
 fn item_signed<'a>(
     alloc: Global,
@@ -110,7 +110,7 @@ fn item_signed<'a>(
     }
 }
 
-/// The predicate of this sign, of which the item comes first.
+/// Parses the predicate of a sign, whose item comes next.
 #[cycle(read)]
 fn predicate<'a>(
     alloc: Global,
@@ -125,7 +125,7 @@ fn predicate<'a>(
     Ok((Expr::Prefix(sign, Box::new(alloc, inner)?), rest))
 }
 
-/// The group after its opening sign.
+/// Parses a group from after its opening sign.
 #[cycle(read)]
 fn group<'a>(
     alloc: Global,
@@ -140,7 +140,7 @@ fn group<'a>(
     close(alloc, raw, items, rest)
 }
 
-/// The items of a sequence.
+/// Parses the items of a sequence.
 #[cycle(read)]
 fn sequence<'a>(
     alloc: Global,
@@ -162,7 +162,7 @@ fn sequence<'a>(
     Err(Refusal::Syntax)
 }
 
-/// The parts of a choice, the first of which has these items.
+/// Parses the parts of a choice, given the items of its first part.
 #[cycle(read)]
 fn choice<'a>(
     alloc: Global,
@@ -202,7 +202,7 @@ fn choice<'a>(
     Err(Refusal::Syntax)
 }
 
-/// What stands in a group.
+/// Parses the content of a group.
 #[cycle(read)]
 fn content<'a>(
     alloc: Global,
@@ -223,7 +223,7 @@ fn content<'a>(
     Ok((alone(alloc, parts)?, rest))
 }
 
-/// The expression that the tokens spell.
+/// Parses the expression that the tokens spell.
 pub fn expression(alloc: Global, tokens: &[Token]) -> Result<Expr, Refusal>
     ensures { Gives expr_of result (read tokens.now) }
 {

@@ -1,4 +1,4 @@
-// Why a text is not read.
+// Faults of texts that cannot be parsed.
 ghost use Rattle.std.specs.Prelude.{◌≡◌};
 ghost use Rattle.rpl_parser.specs.declared.fault.ParseKind.TheVariants.{NoMemory as OutOfMemory};
 
@@ -6,21 +6,21 @@ use rpl_classes::SetFault;
 use std::alloc::{AllocError, AllocFailed};
 use thiserror::Error;
 
-/// What is wrong with a text that has tokens.
+/// The kind of a parse fault.
 #[derive(Clone, Copy, Debug, PartialEq, Eq, Error)]
 pub enum ParseKind {
     /// Memory ran out.
     #[error("out of memory")]
     NoMemory,
-    /// The level of nesting passes 100 at this token.
+    /// The nesting level exceeds 100 at this token.
     #[error("nested too deep")]
     TooDeep,
-    /// The statement that begins here, or the pattern, is none of the language, or stands where it
-    /// may not.
+    /// The pattern, or the statement that begins here, is not valid syntax, or the statement is
+    /// not allowed here.
     #[error("syntax")]
     Syntax,
-    /// The least number of these bounds is above the most, or one is above 255. Without an upper
-    /// number `most` is `least`.
+    /// The lower number of these bounds exceeds the upper one, or one of them exceeds 255. If
+    /// there is no upper number, `most` equals `least`.
     #[error("bad bounds")]
     BadBounds {
         /// The number before the comma, or 0.
@@ -28,10 +28,10 @@ pub enum ParseKind {
         /// The number after the comma.
         most: u64,
     },
-    /// A bracket has no set. The place in it is that in the bracket.
+    /// A bracket is not a valid set. The offset in `SetFault` is relative to the bracket.
     #[error("{0}")]
     Class(SetFault),
-    /// The version of the module is none that is read.
+    /// The version of the module is not supported.
     #[error("version")]
     Version,
 }
@@ -40,9 +40,9 @@ pub enum ParseKind {
 #[derive(Clone, Copy, Debug, PartialEq, Eq, Error)]
 #[error("{kind} at byte {at}")]
 pub struct ParseFault {
-    /// The byte place of the fault in the whole text; 0 where memory ran out.
+    /// The byte offset of the fault in the whole text; 0 if memory ran out.
     pub at: usize,
-    /// What is wrong there.
+    /// The kind of the fault.
     pub kind: ParseKind,
 }
 

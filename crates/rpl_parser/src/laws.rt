@@ -1,4 +1,4 @@
-// What holds of patterns, of the grammar of statements and of modules.
+// Laws of patterns, of the grammar of statements and of modules.
 ghost use Rattle.std.specs.Prelude.{◌≡◌, ◌⊎◌, ℕ, List, Some, None, Ok, Err, IsUtf8};
 ghost use Rattle.rpl_lexer.specs.Cut.{IsCut};
 ghost use Rattle.rpl_lexer.specs.declared.token.Token.{Token as Lexeme};
@@ -18,7 +18,7 @@ ghost use Rattle.rpl_parser.specs.Spelling.{Spells};
 ghost use Rattle.rpl_parser.specs.Walks.{module_of};
 ghost use Rattle.rpl_parser.specs.declared.fault.ParseFault.{ParseFault};
 
-/// The tokens of a text have one answer as a pattern: an expression, or a first fault.
+/// The tokens of a text have exactly one outcome as a pattern: an expression or a first fault.
 pub fn one_pattern()
     ensures either { (s : List ℕ) (ts : List Lexeme) →
         ((x : Expr) × IsPattern s ts x) ⊎ ((f : ParseFault) × IsPatternFault s ts f) }
@@ -30,8 +30,8 @@ pub fn one_pattern()
         IsPatternFault s ts f → IsPatternFault s ts g → f ≡ g }
 {}
 
-/// A pattern is what its text is read as; and a text that isn't nested too deep is the pattern that
-/// it is read as.
+/// A pattern is the expression that its text is read as. Conversely, if a text is read as an
+/// expression and is not nested too deeply, that expression is its pattern.
 pub fn patterns_are_readings()
     ensures read { (s : List ℕ) (ts : List Lexeme) (x : Expr) → IsCut s ts → IsPattern s ts x →
         IsReadAs s x }
@@ -39,30 +39,30 @@ pub fn patterns_are_readings()
         IsCut s ts → too_deep s ground_level ts ≡ None → IsReadAs s x → IsPattern s ts x }
 {}
 
-/// What is printed of a pattern is that pattern with the braces that printing adds, where it isn't
-/// nested too deep; but for the places of names, nothing else changes.
+/// The printed text of a pattern is that pattern with the braces that printing adds, unless it is
+/// nested too deeply. Nothing else changes except the byte offsets of names.
 pub fn printed_again()
     ensures { (s : List ℕ) (ts : List Lexeme) (x : Expr) →
         IsUtf8 s → IsCut s ts → IsPattern s ts x → HasFewTokens x → IsPrintedAgain x }
 {}
 
-/// The body of each rule of a module can be written, as what a whole text is read as.
+/// The body of each rule of a module can be written, just like an expression that a whole text is
+/// read as.
 pub fn bodies_can_be_written()
     ensures { (s : List ℕ) (ts : List Lexeme) (m : ParsedModule) →
         IsUtf8 s → IsCut s ts → IsModule s ts m → BodiesWritten m.items }
 {}
 
-/// No tokens are a spelling of two statements, and reading from left to right finds what they
-/// spell.
+/// No tokens spell two statements, and reading from left to right finds the one that they spell.
 pub fn one_line()
     ensures only { (p : List Token) (l m : S.Line) → Spells p l → Spells p m → l ≡ m }
     ensures read { (p : List Token) (l : S.Line) → Spells p l → line_of p ≡ Some l }
     ensures spelled { (p : List Token) (l : S.Line) → line_of p ≡ Some l → Spells p l }
 {}
 
-/// No tokens of a text are a spelling of two modules, and those of a text are a module or have a
-/// first fault. What is read statement by statement is just the module that they spell, where none
-/// of them is at fault, and what is refused just their first fault.
+/// No tokens of a text spell two modules, and the tokens of a text either are a module or have a
+/// first fault. Reading statement by statement returns exactly the module that the tokens spell,
+/// if no statement has a fault, and otherwise exactly their first fault.
 pub fn one_module()
     ensures either { (s : List ℕ) (ts : List Lexeme) →
         ((m : ParsedModule) × IsModule s ts m) ⊎ ((f : ParseFault) × IsModuleFault s ts f) }

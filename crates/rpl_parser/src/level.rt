@@ -1,4 +1,4 @@
-// How deep tokens are nested.
+// The nesting level of tokens.
 ghost use Rattle.std.specs.Prelude.{◌≡◌, ◌<◌, IfOk, OnOk, drop};
 ghost use Rattle.rpl_lexer.specs.Cut.{IsToken};
 ghost use Rattle.rpl_lexer.specs.declared.punct.Punct.TheVariants.{Slash, Bang, OpenParen};
@@ -13,10 +13,10 @@ use rpl_lexer::{Punct, Token, TokenKind, nesting_of, punct_of};
 use smallvec::SmallVec;
 use std::alloc::{AllocError, Global};
 
-/// The greatest level.
+/// The greatest level allowed.
 const MAX_LEVEL: u64 = 100;
 
-/// The level, the base to which it goes back, and the bases of the open groups.
+/// The current level, the base that it falls back to, and the bases of the open groups.
 #[derive(Drop)]
 pub struct Depth {
     base: u64,
@@ -64,7 +64,7 @@ impl Depth {
         self.level = self.base;
     }
 
-    /// After a sign.
+    /// Moves past a sign.
     fn sign(&mut self, sign: Punct) -> Result<(), AllocError>
         requires level { self.old.level < 1000 }
         requires base { self.old.base < 1000 }
@@ -84,7 +84,7 @@ impl Depth {
         Ok(())
     }
 
-    /// After a token.
+    /// Moves past a token. `colon` is whether a colon follows.
     fn past(&mut self, text: &str, token: Token, colon: bool) -> Result<(), AllocError>
         requires stands { IsToken text.now token }
         requires level { self.old.level < 1000 }
@@ -104,7 +104,7 @@ impl Depth {
     }
 }
 
-/// A colon is the token with this number.
+/// Returns whether the token at an index is a colon.
 fn colon_at(text: &str, tokens: &[Token], index: usize) -> bool
     requires { AllStand text.now tokens.now }
     ensures { result ≡ colon_next text.now (drop index tokens.now) }
@@ -125,7 +125,7 @@ fn is_colon_token(text: &str, token: Token) -> bool
     }
 }
 
-/// The level that a token reaches where it stands, of the levels before it and after it.
+/// Returns the level that a token reaches, given the levels before and after it.
 fn reach(text: &str, token: Token, before: u64, behind: u64) -> u64
     requires stands { IsToken text.now token }
     requires before { before < 1000 }
@@ -138,7 +138,7 @@ fn reach(text: &str, token: Token, before: u64, behind: u64) -> u64
     }
 }
 
-/// The place of the first token at which the level passes 100.
+/// Returns the byte offset of the first token at which the level exceeds 100.
 pub fn first_deep(alloc: Global, text: &str, tokens: &[Token]) -> Result<Option<usize>, AllocError>
     requires { AllStand text.now tokens.now }
     ensures { IfOk result (λ o. o ≡ too_deep text.now ground_level tokens.now) }

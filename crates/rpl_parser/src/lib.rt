@@ -1,10 +1,11 @@
-//! Reads RPL: a pattern as an expression, a file as a module.
+//! Parses RPL: a pattern into an expression, a file into a module.
 //!
-//! For the loader of packages and for the commands, which hand over a text and its tokens. A text
-//! is read exactly as the grammar says, which is stated in `rpl_syntax` for expressions and in
-//! `specs/` for statements (`Spelling`) and modules (`Order`), or refused with its first fault and
-//! the byte place of that fault; besides, only memory can run out. The time is linear in the
-//! tokens, and calls nest no deeper than the level that is counted first.
+//! The loader of packages and the commands call it with a text and its tokens. A text is parsed
+//! exactly as the grammar says, or refused with its first fault and the byte offset of that
+//! fault. The grammar of expressions is in `rpl_syntax`, that of statements and modules in
+//! `specs/` (`Spelling`, `Order`). The only other failure is running out of memory. The time is
+//! linear in the number of tokens. Nesting is limited before the descent starts, so calls nest no
+//! deeper than that limit.
 #![tactic(auto)]
 
 mod assemble;

@@ -1,4 +1,4 @@
-// Statements, one by one.
+// Statements.
 ghost use Rattle.std.specs.Prelude.{◌≡◌, ℕ, suc, ◌∷◌, length, Some, true, false, IfSome, IfNone};
 ghost use Rattle.rpl_parser.specs.inside.Gives.{Gives};
 ghost use Rattle.rpl_parser.specs.Lines.{path_of, as_of, entry_of, entries_of, all_of, binds};
@@ -16,7 +16,7 @@ use rpl_syntax::{Expr, Import, ImportAs, Imports, Printer, Token};
 use rpl_text::Chars;
 use std::alloc::Global;
 
-/// A statement. Its place is kept elsewhere.
+/// A statement. Its byte offset is kept elsewhere.
 #[derive(Drop)]
 pub enum Line {
     Version {
@@ -39,7 +39,8 @@ pub enum Line {
     Closes,
 }
 
-/// The names of a path with `/` between them, the first of which is read, and what follows them.
+/// Parses the rest of a path whose first name is given. Returns the names, separated by `/`, and
+/// the tokens after them.
 fn path<'a>(
     alloc: Global,
     first: &Chars,
@@ -58,7 +59,7 @@ fn path<'a>(
     Ok((text.finish(alloc)?, rest))
 }
 
-/// The name after a `/`, and what follows it.
+/// Parses a `/` and a name. Returns the name and the tokens after it.
 fn past_name(tokens: &[Token]) -> Option<(&Chars, &[Token])>
     ensures some { IfSome result (λ x. (at : ℕ) ×
         (tokens.now ≡ T.Sign Slash ∷ T.Name x.0.now at ∷ x.1.now)) }
@@ -74,7 +75,7 @@ fn past_name(tokens: &[Token]) -> Option<(&Chars, &[Token])>
     }
 }
 
-/// The prefix of an import.
+/// Parses the prefix of an import.
 fn import_as(alloc: Global, tokens: &[Token]) -> Result<(ImportAs, &[Token]), Refusal>
     ensures { Gives (λ x. (x.0, x.1.now)) result (as_of tokens.now) }
 {
@@ -94,7 +95,7 @@ fn import_as(alloc: Global, tokens: &[Token]) -> Result<(ImportAs, &[Token]), Re
     }
 }
 
-/// An entry of an import statement.
+/// Parses an entry of an import statement.
 fn entry(alloc: Global, tokens: &[Token]) -> Result<(Import, &[Token]), Refusal>
     ensures { Gives (λ x. (x.0, x.1.now)) result (entry_of tokens.now) }
 {
@@ -115,7 +116,7 @@ fn entry(alloc: Global, tokens: &[Token]) -> Result<(Import, &[Token]), Refusal>
     }
 }
 
-/// The name, the sign `=` and the expression of a binding.
+/// Parses the name, the `=` and the expression of a binding.
 fn binding(alloc: Global, local: bool, alias: bool, tokens: &[Token]) -> Result<Line, Refusal>
     ensures { Gives line_seen result (binds local alias tokens.now) }
 {
@@ -137,7 +138,7 @@ fn binding(alloc: Global, local: bool, alias: bool, tokens: &[Token]) -> Result<
     }
 }
 
-/// The entries of an import statement.
+/// Parses the entries of an import statement.
 fn entries(alloc: Global, tokens: &[Token]) -> Result<Imports, Refusal>
     ensures { Gives (λ x. x) result (entries_of (suc (length tokens.now)) tokens.now) }
 {
@@ -154,7 +155,7 @@ fn entries(alloc: Global, tokens: &[Token]) -> Result<Imports, Refusal>
     Err(Refusal::Syntax)
 }
 
-/// What follows a comma.
+/// Returns the tokens after a comma.
 fn past_comma(tokens: &[Token]) -> Option<&[Token]>
     ensures some { IfSome result (λ r. tokens.now ≡ T.Sign Comma ∷ r.now) }
     ensures none { IfNone result (comma tokens.now ≡ false) }
@@ -165,7 +166,7 @@ fn past_comma(tokens: &[Token]) -> Option<&[Token]>
     }
 }
 
-/// The entries, where nothing follows them.
+/// Returns the entries if no tokens are left.
 fn ended(entries: Imports, tokens: &[Token]) -> Result<Imports, Refusal>
     ensures { Gives (λ x. x) result (all_of entries tokens.now) }
 {
@@ -175,7 +176,7 @@ fn ended(entries: Imports, tokens: &[Token]) -> Result<Imports, Refusal>
     }
 }
 
-/// The statement that the tokens spell.
+/// Parses the statement that the tokens spell.
 pub fn read_line(alloc: Global, tokens: &[Token]) -> Result<Line, Refusal>
     ensures { Gives line_seen result (line_of tokens.now) }
 {
@@ -190,7 +191,7 @@ pub fn read_line(alloc: Global, tokens: &[Token]) -> Result<Line, Refusal>
     }
 }
 
-/// The statement that begins with this keyword.
+/// Parses the statement that begins with a keyword.
 fn line_from(alloc: Global, word: Keyword, tokens: &[Token]) -> Result<Line, Refusal>
     ensures { Gives line_seen result (line_of (T.Keyword word ∷ tokens.now)) }
 {
@@ -210,7 +211,7 @@ fn line_from(alloc: Global, word: Keyword, tokens: &[Token]) -> Result<Line, Ref
     }
 }
 
-/// The numbers of a version.
+/// Parses the numbers of a version.
 fn version(tokens: &[Token]) -> Result<Line, Refusal>
     ensures { Gives line_seen result (line_of (T.Keyword Rpl ∷ tokens.now)) }
 {
@@ -227,7 +228,7 @@ fn version(tokens: &[Token]) -> Result<Line, Refusal>
     }
 }
 
-/// The name of a package.
+/// Parses the name of a package.
 fn package(alloc: Global, tokens: &[Token]) -> Result<Line, Refusal>
     ensures { Gives line_seen result (line_of (T.Keyword Package ∷ tokens.now)) }
 {
@@ -237,7 +238,7 @@ fn package(alloc: Global, tokens: &[Token]) -> Result<Line, Refusal>
     }
 }
 
-/// The module's own boundary, after its `~` and `=`.
+/// Parses the module's own boundary, from after its `~` and `=`.
 fn boundary(alloc: Global, tokens: &[Token]) -> Result<Line, Refusal>
     ensures { Gives line_seen result (line_of (T.Sign Tilde ∷ T.Sign Equals ∷ tokens.now)) }
 {

@@ -16,7 +16,7 @@ use rpl_lexer::{Token as Lexeme, Tokens};
 use rpl_syntax::Expr;
 use std::alloc::Global;
 
-/// The place of the first token, or 0 where there is none.
+/// Returns the byte offset of the first token, or 0 if there is none.
 pub fn start_of(lexemes: &[Lexeme]) -> usize
     ensures { result ≡ first_place lexemes.now }
 {
@@ -26,7 +26,7 @@ pub fn start_of(lexemes: &[Lexeme]) -> usize
     }
 }
 
-/// What is read, unless something in it is bad.
+/// Returns the expression, unless a part of it is bad.
 fn unless_bad(read: Expr, bad: Option<ParseFault>) -> Result<Expr, ParseFault>
     ensures { result ≡ by_bad read bad }
 {
@@ -36,7 +36,7 @@ fn unless_bad(read: Expr, bad: Option<ParseFault>) -> Result<Expr, ParseFault>
     }
 }
 
-/// Reads tokens that are not nested too deep.
+/// Parses the tokens of a pattern that is not nested too deeply.
 fn read_shallow(alloc: Global, text: &str, lexemes: &[Lexeme]) -> Result<Expr, ParseFault>
     requires stands { AllStand text.now lexemes.now }
     requires shallow { too_deep text.now ground_level lexemes.now ≡ None }
@@ -51,7 +51,7 @@ fn read_shallow(alloc: Global, text: &str, lexemes: &[Lexeme]) -> Result<Expr, P
     }
 }
 
-/// Reads the tokens of a pattern.
+/// Parses the tokens of a pattern.
 fn read_pattern(alloc: Global, text: &str, lexemes: &[Lexeme]) -> Result<Expr, ParseFault>
     requires { AllStand text.now lexemes.now }
     ensures ok { IfOk result (λ x. IsPattern text.now lexemes.now (expr_of x)) }
@@ -67,9 +67,11 @@ fn read_pattern(alloc: Global, text: &str, lexemes: &[Lexeme]) -> Result<Expr, P
     }
 }
 
-/// Reads a text with its tokens as a pattern. The first fault is answered: TooDeep, where the level
-/// of nesting passes 100; else Syntax at the first token, or at 0 where there is none, where the
-/// tokens spell no expression; else the first by place of BadBounds and Class.
+/// Parses a text, given its tokens, as a pattern.
+///
+/// Returns the first fault that applies: `TooDeep`, if the nesting level exceeds 100; `Syntax`,
+/// at the first token or at 0 if there is none, if the tokens spell no expression; then whichever
+/// of `BadBounds` and `Class` comes first in the text.
 pub fn parse_pattern(alloc: Global, text: &str, tokens: &Tokens) -> Result<Expr, ParseFault>
     requires { IsCut text.now tokens.now }
     ensures ok { IfOk result (λ x. IsPattern text.now tokens.now (expr_of x)) }

@@ -1,5 +1,5 @@
-// The pieces of a module: each is a statement's tokens. They are told apart before any bracket is
-// read.
+// The pieces of a module: each holds the tokens of one statement. A module is split into pieces
+// before any bracket is read.
 ghost use Rattle.std.specs.Prelude.{◌≡◌, ◌<◌, ◌≤◌, length, drop};
 ghost use Rattle.rpl_lexer.specs.Cut.{IsToken};
 ghost use Rattle.rpl_parser.specs.Pieces.{front, piece_len, closes_later};
@@ -9,7 +9,7 @@ ghost use Rattle.rpl_parser.specs.inside.Roles.{is_end, begins_by};
 
 use rpl_lexer::{Keyword, Punct, Token, TokenKind, keyword_of, punct_of};
 
-/// What a token is where pieces are told apart.
+/// The role of a token in splitting a module into pieces.
 #[derive(Clone, Copy)]
 pub enum Role {
     Word(Keyword),
@@ -46,7 +46,7 @@ impl Role {
         }
     }
 
-    /// Of the token with this number, where there is one.
+    /// Returns the role of the token at an index, or `Other` if there is none.
     fn at(text: &str, tokens: &[Token], index: usize) -> Role
         requires { AllStand text.now tokens.now }
         ensures { result ≡ next_role (tokens_of text.now (drop index tokens.now)) }
@@ -63,7 +63,7 @@ impl Role {
         matches!(self, Role::Word(Keyword::Local))
     }
 
-    /// No piece begins with a name after it.
+    /// Returns whether a name after this token belongs to the same piece.
     fn leads(self) -> bool
         ensures { result ≡ leads self }
     {
@@ -76,7 +76,7 @@ impl Role {
         matches!(self, Role::Word(Keyword::End))
     }
 
-    /// A piece begins at this token, which has these neighbours.
+    /// Returns whether a piece begins at this token, given its neighbours.
     fn begins(self, before: Role, behind: Role) -> bool
         ensures { result ≡ begins_by before self behind }
     {
@@ -90,7 +90,7 @@ impl Role {
     }
 }
 
-/// How many tokens stand before the next piece, after the first one of this piece.
+/// Returns how many tokens the first piece has after its first token.
 fn front_len(text: &str, first: Token, tokens: &[Token]) -> usize
     requires first { IsToken text.now first }
     requires stands { AllStand text.now tokens.now }
@@ -109,7 +109,7 @@ fn front_len(text: &str, first: Token, tokens: &[Token]) -> usize
     tokens.len()
 }
 
-/// How many tokens the first piece has.
+/// Returns how many tokens the first piece has.
 pub fn first_piece(text: &str, tokens: &[Token]) -> usize
     requires { AllStand text.now tokens.now }
     ensures value { result ≡ piece_len (tokens_of text.now tokens.now) }
@@ -122,7 +122,7 @@ pub fn first_piece(text: &str, tokens: &[Token]) -> usize
     }
 }
 
-/// An `end` comes.
+/// Returns whether an `end` is among the tokens.
 pub fn closes(text: &str, tokens: &[Token]) -> bool
     requires { AllStand text.now tokens.now }
     ensures { result ≡ closes_later (tokens_of text.now tokens.now) }

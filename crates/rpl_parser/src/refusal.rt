@@ -1,4 +1,4 @@
-// Why tokens are not read.
+// Refusals of tokens.
 ghost use Rattle.std.specs.Prelude.{◌≡◌};
 ghost use Rattle.rpl_parser.specs.inside.Refusals.{fault_at};
 ghost use Rattle.rpl_parser.specs.declared.refusal.Refusal.TheVariants.{Memory};
@@ -6,17 +6,17 @@ ghost use Rattle.rpl_parser.specs.declared.refusal.Refusal.TheVariants.{Memory};
 use crate::fault::{ParseFault, ParseKind};
 use std::alloc::{AllocError, AllocFailed};
 
-/// Why a function of the descent has no answer.
+/// The error of a function of the descent.
 #[derive(Clone, Copy, Debug)]
 pub enum Refusal {
     /// Memory ran out.
     Memory,
-    /// The tokens are no spelling of what is looked for.
+    /// The tokens do not spell what is expected.
     Syntax,
 }
 
 impl Refusal {
-    /// The fault of a pattern or a statement that begins at this place.
+    /// Returns the fault for a pattern or a statement that begins at this byte offset.
     pub fn fault_at(self, place: usize) -> ParseFault
         ensures { result ≡ fault_at self place }
     {

@@ -28,7 +28,8 @@ use rpl_lexer::{Token as Lexeme, Tokens};
 use rpl_syntax::Module;
 use std::alloc::Global;
 
-/// After a statement that begins at this place and was placed, unless something in it is bad.
+/// Combines the outcome of placing a statement that begins at this byte offset with the fault of
+/// its content, if it has one.
 fn checked(
     at: usize,
     bad: Option<ParseFault>,
@@ -47,8 +48,8 @@ fn checked(
     }
 }
 
-/// The statement that a piece spells, and what is bad in it. Its level is counted before any of its
-/// brackets is read.
+/// Parses the statement of a piece, and returns the fault of its content, if it has one. The
+/// nesting level is checked before any bracket is read.
 fn read_piece(
     alloc: Global,
     text: &str,
@@ -71,7 +72,7 @@ fn read_piece(
     }
 }
 
-/// Takes one more piece, with those after it.
+/// Parses one more piece and adds it to the module. `rest` is the tokens after it.
 fn past(
     alloc: Global,
     text: &str,
@@ -90,7 +91,7 @@ fn past(
     checked(at, bad, walk.place(alloc, at, line, rest))
 }
 
-/// All pieces in turn.
+/// Parses all pieces in order.
 fn read_all(alloc: Global, text: &str, lexemes: &[Lexeme]) -> Result<Module, ParseFault>
     requires { AllStand text.now lexemes.now }
     ensures { Answers said result (module_of text.now lexemes.now) }
@@ -105,10 +106,12 @@ fn read_all(alloc: Global, text: &str, lexemes: &[Lexeme]) -> Result<Module, Par
     walk.finish()
 }
 
-/// Reads a text with its tokens as a module. Statements are taken in order, and the first with a
-/// fault decides: first TooDeep, where the level of nesting passes 100; else Syntax at its first
-/// token, where it is no statement or stands out of its place; else the first by place of BadBounds
-/// and Class. Version comes after all statements, where the version is not 1.0 to 1.4.
+/// Parses a text, given its tokens, as a module.
+///
+/// Statements are read in order, and the first one with a fault decides. Its fault is the first
+/// that applies: `TooDeep`, if the nesting level exceeds 100; `Syntax` at its first token, if it
+/// is not a statement or not allowed there; then whichever of `BadBounds` and `Class` comes first
+/// in the text. After all statements follows `Version`, if the version is not 1.0 to 1.4.
 pub fn parse_module(alloc: Global, text: &str, tokens: &Tokens) -> Result<Module, ParseFault>
     requires { IsCut text.now tokens.now }
     ensures ok { IfOk result (λ m. IsModule text.now tokens.now (said m)) }

@@ -1,4 +1,4 @@
-// One token ahead: what follows a sign, and what goes on.
+// One token of lookahead: the tokens after a sign, and whether a construct continues.
 ghost use Rattle.std.specs.Prelude.{◌≡◌, [], ◌∷◌, false, IfSome, IfNone};
 ghost use Rattle.rpl_syntax.specs.Reading.{begins, joins, colon, slash, ampersand};
 ghost use Rattle.rpl_lexer.specs.declared.punct.Punct.TheVariants.{Colon, Slash, Ampersand};
@@ -7,7 +7,7 @@ ghost use Rattle.rpl_syntax.specs.declared.token.Token.TheVariants as T;
 use rpl_lexer::Punct;
 use rpl_syntax::Token;
 
-/// The first token and those after it.
+/// Returns the first token and the tokens after it.
 pub fn next(tokens: &[Token]) -> Option<(&Token, &[Token])>
     ensures some { IfSome result (λ x. tokens.now ≡ x.0.now ∷ x.1.now) }
     ensures none { IfNone result (tokens.now ≡ []) }
@@ -18,7 +18,7 @@ pub fn next(tokens: &[Token]) -> Option<(&Token, &[Token])>
     }
 }
 
-/// What follows a `:`.
+/// Returns the tokens after a `:`.
 pub fn past_colon(tokens: &[Token]) -> Option<&[Token]>
     ensures some { IfSome result (λ r. tokens.now ≡ T.Sign Colon ∷ r.now) }
     ensures none { IfNone result (colon tokens.now ≡ false) }
@@ -29,7 +29,7 @@ pub fn past_colon(tokens: &[Token]) -> Option<&[Token]>
     }
 }
 
-/// What follows a `/`.
+/// Returns the tokens after a `/`.
 pub fn past_slash(tokens: &[Token]) -> Option<&[Token]>
     ensures some { IfSome result (λ r. tokens.now ≡ T.Sign Slash ∷ r.now) }
     ensures none { IfNone result (slash tokens.now ≡ false) }
@@ -40,7 +40,7 @@ pub fn past_slash(tokens: &[Token]) -> Option<&[Token]>
     }
 }
 
-/// What follows an `&`.
+/// Returns the tokens after an `&`.
 pub fn past_ampersand(tokens: &[Token]) -> Option<&[Token]>
     ensures some { IfSome result (λ r. tokens.now ≡ T.Sign Ampersand ∷ r.now) }
     ensures none { IfNone result (ampersand tokens.now ≡ false) }
@@ -51,7 +51,7 @@ pub fn past_ampersand(tokens: &[Token]) -> Option<&[Token]>
     }
 }
 
-/// The next token begins an item.
+/// Returns whether the next token begins an item.
 pub fn item_begins(tokens: &[Token]) -> bool
     ensures { result ≡ begins tokens.now }
 {
@@ -78,7 +78,7 @@ pub fn item_begins(tokens: &[Token]) -> bool
     }
 }
 
-/// A choice or an `&` goes on.
+/// Returns whether a choice or an `&` continues.
 pub fn goes_on(tokens: &[Token]) -> bool
     ensures { result ≡ joins tokens.now }
 {

@@ -1,4 +1,4 @@
-// The order of statements: what a module says so far, and which statement may come next.
+// The order of statements: the module so far, and which statement may come next.
 ghost use Rattle.std.specs.Prelude.{◌≡◌, Some};
 ghost use Rattle.rpl_parser.specs.inside.Gives.{Gives};
 ghost use Rattle.rpl_parser.specs.Pieces.{closes_later};
@@ -20,10 +20,10 @@ use rpl_syntax::{Binding, Bindings, Imports, Item, Items, Module, QName};
 use std::alloc::Global;
 use std::mem;
 
-/// What has come.
+/// The last kind of statement so far.
 #[derive(Clone, Copy)]
 pub enum Stage {
-    /// Nothing.
+    /// No statement yet.
     Begun,
     /// The version.
     Versioned,
@@ -31,13 +31,13 @@ pub enum Stage {
     Packaged,
     /// A binding or a block.
     Ruled,
-    /// A block is open, and no `in` has come in it.
+    /// A block is open, and has no `in` yet.
     InBlock,
     /// A block is open, after its `in`.
     BehindIn,
 }
 
-/// A version, and the place of its statement.
+/// A version, and the byte offset of its statement.
 #[derive(Clone, Copy)]
 pub struct Numbered {
     pub at: usize,
@@ -52,7 +52,7 @@ pub struct Rest<'a> {
     pub tokens: &'a [Token],
 }
 
-/// What a module says so far.
+/// The module so far.
 #[derive(Drop)]
 pub struct Walk {
     stage: Stage,
@@ -65,7 +65,7 @@ pub struct Walk {
 }
 
 impl Walk {
-    /// Nothing yet. It takes no memory.
+    /// Returns an empty module. Does not allocate.
     pub fn new(alloc: Global) -> Walk
         ensures { walk_of result ≡ begun }
     {
@@ -202,8 +202,8 @@ impl Walk {
         }
     }
 
-    /// Takes one more statement, which begins at this place. The tokens after it say whether a
-    /// block is closed.
+    /// Adds a statement that begins at this byte offset. The tokens after it show whether a block
+    /// is closed.
     pub fn place(
         &mut self,
         alloc: Global,
@@ -243,7 +243,7 @@ impl Walk {
         }
     }
 
-    /// The module, unless its version is unknown.
+    /// Returns the module, unless its version is not supported.
     pub fn finish(self) -> Result<Module, ParseFault>
         ensures { Answers said result (finish (walk_of self)) }
     {

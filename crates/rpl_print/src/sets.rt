@@ -7,7 +7,7 @@ use crate::words::push_hexadecimal;
 use rpl_classes::Set;
 use rpl_text::NoMemory;
 
-/// Adds a set: its ranges in hexadecimal, one space apart, or `none` where it has no character.
+/// Appends a set: its ranges in hexadecimal, separated by spaces, or `none` if it is empty.
 pub fn push_set(out: &mut String, set: &Set) -> Result<(), NoMemory>
     ensures ok { OnOk result (string_bytes out.new ≡ string_bytes out.old ++ set_text set.now) }
     ensures err { OnErr result (string_bytes out.new ≡ string_bytes out.old) }
@@ -22,7 +22,7 @@ pub fn push_set(out: &mut String, set: &Set) -> Result<(), NoMemory>
     }
 }
 
-/// Adds all ranges of a set, or that it has none.
+/// Appends all ranges of a set, or `none`.
 fn push_ranges(out: &mut String, ranges: &[(u32, u32)]) -> Result<(), NoMemory>
     ensures ok { OnOk result (string_bytes out.new ≡ string_bytes out.old ++ set_text ranges.now) }
     ensures stays { StandsBefore (string_bytes out.old) (string_bytes out.new) }
@@ -36,7 +36,7 @@ fn push_ranges(out: &mut String, ranges: &[(u32, u32)]) -> Result<(), NoMemory>
     }
 }
 
-/// Adds ranges, with a space before each.
+/// Appends ranges, each with a space before it.
 fn push_more(out: &mut String, ranges: &[(u32, u32)]) -> Result<(), NoMemory>
     ensures ok { OnOk result (string_bytes out.new ≡ string_bytes out.old
         ++ flat_map (λ r. 32 ∷ range_text r) ranges.now) }
@@ -49,7 +49,7 @@ fn push_more(out: &mut String, ranges: &[(u32, u32)]) -> Result<(), NoMemory>
     Ok(())
 }
 
-/// Adds a range by its first and its last character, or by its only one.
+/// Appends a range as its first and last character, or as its only one.
 fn push_range(out: &mut String, range: (u32, u32)) -> Result<(), NoMemory>
     ensures ok { OnOk result (string_bytes out.new ≡ string_bytes out.old ++ range_text range) }
     ensures stays { StandsBefore (string_bytes out.old) (string_bytes out.new) }

@@ -1,4 +1,4 @@
-// Texts as strings of JSON.
+// Texts as JSON strings.
 ghost use Rattle.std.specs.Prelude.{◌≡◌, ◌≤◌, ◌++◌, ◌∷◌, [], length, IsTrue, IfOk, OnOk, OnErr};
 ghost use Rattle.std.specs.Prelude.{string_bytes};
 ghost use Rattle.rpl_print.specs.Quoted as Q;
@@ -7,7 +7,7 @@ use json::Writer;
 use rpl_text::NoMemory;
 use std::alloc::Global;
 
-/// The text as a string of JSON, in memory of its own.
+/// Returns the text as a JSON string, newly allocated.
 fn quoted(alloc: Global, text: &str) -> Result<String, NoMemory>
     ensures { IfOk result (λ s. string_bytes s ≡ Q.quoted text.now) }
 {
@@ -19,13 +19,13 @@ fn quoted(alloc: Global, text: &str) -> Result<String, NoMemory>
     }
 }
 
-/// Adds the text as a string of JSON.
+/// Appends the text as a JSON string.
 pub fn push_quoted(out: &mut String, text: &str) -> Result<(), NoMemory>
     ensures ok { OnOk result (string_bytes out.new ≡ string_bytes out.old ++ Q.quoted text.now) }
     ensures err { OnErr result (string_bytes out.new ≡ string_bytes out.old) }
 {
     if is_plain(text.as_bytes()) {
-        // With room for all of it, no part is added where the next can't be.
+        // Room for all of it is reserved first, so that no part is appended if the next can't be.
         out.reserve(text.len() + 2)?;
         out.push('"')?;
         out.push_str(text)?;
@@ -35,11 +35,11 @@ pub fn push_quoted(out: &mut String, text: &str) -> Result<(), NoMemory>
     out.push_str(&string)
 }
 
-/// How many bytes are looked at together.
+/// The number of bytes tested together.
 const CHUNK: usize = 32;
 
-/// Whether no byte of a text needs an escape, so that it stands for itself between the quotes. It
-/// looks at all of them, many in one instruction.
+/// Returns whether no byte of a text needs an escape, so that it is unchanged between the quotes.
+/// It reads all bytes, many per instruction.
 pub fn is_plain(text: &[u8]) -> bool
     ensures exact { result ≡ Q.is_plain text.now }
     ensures itself { IsTrue result → Q.quoted text.now ≡ 34 ∷ (text.now ++ 34 ∷ []) }
@@ -54,8 +54,8 @@ pub fn is_plain(text: &[u8]) -> bool
     is_all & is_plain_short(rest)
 }
 
-/// Whether no byte of a short text needs an escape. Spaces are plain, and make it as long as a
-/// chunk.
+/// Returns whether no byte of a short text needs an escape. The text is padded to a chunk with
+/// spaces, which need none.
 #[inline]
 fn is_plain_short(text: &[u8]) -> bool
     requires { length text.now ≤ CHUNK }
@@ -66,8 +66,8 @@ fn is_plain_short(text: &[u8]) -> bool
     are_plain(&chunk)
 }
 
-/// Whether no byte needs an escape, byte by byte. Where the caller knows how many there are, this
-/// is a few instructions.
+/// Returns whether no byte needs an escape, byte by byte. If the caller knows the length, this
+/// compiles to a few instructions.
 #[inline(always)]
 fn are_plain(bytes: &[u8]) -> bool
     ensures { result ≡ Q.is_plain bytes.now }
@@ -79,7 +79,7 @@ fn are_plain(bytes: &[u8]) -> bool
     is_all
 }
 
-/// Whether the byte needs no escape.
+/// Returns whether the byte needs no escape.
 #[inline]
 fn is_plain_byte(byte: u8) -> bool
     ensures { result ≡ Q.is_plain_byte byte }

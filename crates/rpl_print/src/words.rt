@@ -1,4 +1,4 @@
-// Numbers, and texts as they are.
+// Numbers and unchanged texts.
 ghost use Rattle.std.specs.Prelude.{◌≡◌, ◌<◌, ◌≤◌, ◌++◌, OnErr, OnOk, decimal, drop, false};
 ghost use Rattle.std.specs.Prelude.{string_bytes};
 ghost use Rattle.std.specs.Fmt.{digit_glyph};
@@ -9,14 +9,14 @@ use itoa::Buffer;
 use rpl_text::{Chars, NoMemory};
 use std::str::from_utf8_unchecked;
 
-/// The bytes of a text.
+/// Returns the text as a `str`.
 pub fn text_of(text: &Chars) -> &str
     ensures { result.now ≡ encode_utf8_all text.now }
 {
     text.as_str()
 }
 
-/// Adds a text as it is.
+/// Appends a text unchanged.
 pub fn push_text(out: &mut String, text: &Chars) -> Result<(), NoMemory>
     ensures ok { OnOk result (string_bytes out.new ≡ string_bytes out.old
         ++ encode_utf8_all text.now) }
@@ -25,7 +25,7 @@ pub fn push_text(out: &mut String, text: &Chars) -> Result<(), NoMemory>
     out.push_str(text_of(text))
 }
 
-/// Adds a number in decimal digits.
+/// Appends a number in decimal digits.
 pub fn push_decimal(out: &mut String, number: u64) -> Result<(), NoMemory>
     ensures ok { OnOk result (string_bytes out.new ≡ string_bytes out.old ++ decimal number) }
     ensures err { OnErr result (string_bytes out.new ≡ string_bytes out.old) }
@@ -34,7 +34,7 @@ pub fn push_decimal(out: &mut String, number: u64) -> Result<(), NoMemory>
     out.push_str(buffer.format(number))
 }
 
-/// Adds a number in hexadecimal digits, with small letters.
+/// Appends a number in lowercase hexadecimal digits.
 pub fn push_hexadecimal(out: &mut String, number: u32) -> Result<(), NoMemory>
     ensures ok { OnOk result (string_bytes out.new ≡ string_bytes out.old ++ hexadecimal number) }
     ensures err { OnErr result (string_bytes out.new ≡ string_bytes out.old) }
@@ -42,14 +42,15 @@ pub fn push_hexadecimal(out: &mut String, number: u32) -> Result<(), NoMemory>
     let mut room = [0; ROOM];
     let start = put_digits(&mut room, number);
     let digits = &room[start..];
-    // Digits are ASCII, which is proved here, so they aren't looked at again.
+    // Digits are ASCII, as proved here, so they aren't checked again.
     out.push_str(unsafe { from_utf8_unchecked(digits) })
 }
 
-/// More bytes than a number has digits.
+/// A size that exceeds the number of digits.
 const ROOM: usize = 64;
 
-/// Puts the hexadecimal digits of a number at the end: the place where they begin.
+/// Writes the hexadecimal digits of a number to the end of `room`. Returns the index where they
+/// begin.
 fn put_digits(room: &mut [u8; ROOM], number: u32) -> usize
     ensures place { result ≤ ROOM }
     ensures digits { drop result room.new ≡ hexadecimal number }
@@ -67,7 +68,7 @@ fn put_digits(room: &mut [u8; ROOM], number: u32) -> usize
     start
 }
 
-/// The hexadecimal digit of a number below 16.
+/// Returns the hexadecimal digit of a number below 16.
 fn digit_of(number: u32) -> u8
     requires { number < 16 }
     ensures { result ≡ digit_glyph false number }

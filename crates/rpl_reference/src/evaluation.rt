@@ -15,9 +15,9 @@ use rpl_classes::Set;
 use rpl_core::{Peg, Rules};
 use std::alloc::{AllocError, Global};
 
-/// The outcome of a pattern at a place of the text, the number of a character, with the work that
-/// it takes; `depth` is how many further turns and calls may stand one in the other. Work counts to
-/// `u64::MAX` at most.
+/// Returns the outcome of a pattern at a place of the text, with the work that it takes. A place
+/// is a character number, counted from 0. `depth` limits how many further turns and calls may be
+/// nested. Work saturates at `u64::MAX`.
 pub fn evaluate(over: &Over<'_>, depth: u32, e: &Peg, place: usize) -> Result<Outcome, AllocError>
     ensures { IfOk result (IsOutcome (M.peg depth (bodies_in over.now.rules.now) over.now.text.now
         (core_of e.now) place)) }
@@ -25,7 +25,7 @@ pub fn evaluate(over: &Over<'_>, depth: u32, e: &Peg, place: usize) -> Result<Ou
     evaluate_core(over, depth, e, place)
 }
 
-/// What is evaluated over: the rules that are called, and the text.
+/// The context of an evaluation: the rules that may be called, and the text.
 #[derive(Clone, Copy)]
 pub struct Over<'a> {
     pub alloc: Global,
@@ -33,14 +33,14 @@ pub struct Over<'a> {
     pub text: &'a [char],
 }
 
-/// So many lengths, from this one on.
+/// Lengths of a look-behind: `count` of them, beginning with `first`.
 #[derive(Clone, Copy)]
 struct Lengths {
     count: usize,
     first: usize,
 }
 
-/// One character, if it is in the set.
+/// Matches one character, if it is in the set.
 fn one_char(set: &Set, text: &[char], place: usize) -> Outcome
     ensures { outcome_of result ≡ M.one_char (slice_get text.now place) set.now place }
 {
@@ -51,7 +51,7 @@ fn one_char(set: &Set, text: &[char], place: usize) -> Outcome
     }
 }
 
-/// One evaluation.
+/// Evaluates a pattern once.
 #[cycle(evaluate)]
 fn evaluate_core(over: &Over<'_>, depth: u32, e: &Peg, place: usize) -> Result<Outcome, AllocError>
     ensures { IfOk result
@@ -100,7 +100,7 @@ fn evaluate_core(over: &Over<'_>, depth: u32, e: &Peg, place: usize) -> Result<O
     }
 }
 
-/// Turns of a repeated body, each further turn one level deeper.
+/// Evaluates the turns of a repeated body, each further turn one level deeper.
 #[cycle(evaluate)]
 fn evaluate_turns(
     over: &Over<'_>,
@@ -134,7 +134,7 @@ fn evaluate_turns(
     }
 }
 
-/// The body of a rule, one level deeper.
+/// Evaluates the body of a rule, one level deeper.
 #[cycle(evaluate)]
 fn evaluate_call(
     over: &Over<'_>,
@@ -158,7 +158,7 @@ fn evaluate_call(
     }
 }
 
-/// The parts from the one with this number on, in turn.
+/// Evaluates the parts from an index on, one after the other.
 #[cycle(evaluate)]
 fn evaluate_all(
     over: &Over<'_>,
@@ -193,7 +193,7 @@ fn evaluate_all(
     }
 }
 
-/// The first that succeeds of the ways from the one with this number on.
+/// Returns the outcome of the first alternative, from an index on, that succeeds.
 #[cycle(evaluate)]
 fn evaluate_first(
     over: &Over<'_>,
@@ -232,7 +232,8 @@ fn evaluate_first(
     }
 }
 
-/// The body from the first length in characters back, and then from one more, as many as there are.
+/// Evaluates the body at the first length before the place, in characters, and then at each
+/// longer one, `count` lengths in all.
 #[cycle(evaluate)]
 fn evaluate_lengths(
     over: &Over<'_>,

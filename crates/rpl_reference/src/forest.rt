@@ -1,4 +1,4 @@
-// Trees side by side, as nested values.
+// Adjacent trees, as nested values.
 ghost use Rattle.std.specs.Prelude.{◌≡◌, IfOk};
 ghost use Rattle.rpl_core.specs.Forest as F;
 ghost use Rattle.rpl_reference.specs.Outcomes.{forest_of};
@@ -6,7 +6,7 @@ ghost use Rattle.rpl_reference.specs.Outcomes.{forest_of};
 use rpl_text::Chars;
 use std::alloc::{AllocError, Global};
 
-/// Trees side by side. Places count characters from 0.
+/// Adjacent trees. Places are character numbers, counted from 0.
 #[derive(Drop)]
 pub enum Forest {
     NoTree,
@@ -26,7 +26,7 @@ pub enum Forest {
     },
 }
 
-/// One tree.
+/// Returns one tree.
 pub fn tree(
     alloc: Global,
     label: &Chars,
@@ -46,7 +46,7 @@ pub fn tree(
     })
 }
 
-/// One note.
+/// Returns one note.
 pub fn noted(alloc: Global, text: &Chars, place: usize) -> Result<Forest, AllocError>
     ensures { IfOk result (λ f. forest_of f ≡ F.Noted text.now place F.NoTree) }
 {
@@ -57,7 +57,7 @@ pub fn noted(alloc: Global, text: &Chars, place: usize) -> Result<Forest, AllocE
     })
 }
 
-/// The trees of the first, then those of the second.
+/// Returns the trees of the first forest, followed by those of the second.
 pub fn joined(alloc: Global, first: Forest, second: Forest) -> Result<Forest, AllocError>
     ensures { IfOk result (λ f. forest_of f ≡ F.joined (forest_of first) (forest_of second)) }
 {

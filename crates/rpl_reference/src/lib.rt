@@ -1,6 +1,6 @@
 //! Plain programs that compute the definitions of `rpl_core`: what a pattern means, and what the
-//! machine does. They are slow and obvious. Tests compare the real programs with them; no command
-//! calls them.
+//! machine does. They are slow and obvious. The tests compare the real programs with them; no
+//! command calls them.
 #![tactic(auto)]
 
 mod evaluation;

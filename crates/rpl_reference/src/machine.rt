@@ -21,24 +21,24 @@ use std::alloc::{AllocError, Global};
 /// An entry of the stack.
 #[derive(Clone, Copy)]
 pub enum Entry {
-    /// Where a call goes on.
+    /// The address where execution continues after a call.
     ReturnTo(usize),
-    /// Where a failure goes on: the address, the place and the number of captures.
+    /// The state to restore after a failure: the address, the place and the number of captures.
     Retry(usize, usize, usize),
 }
 
-/// A capture, with its text in place. Places count characters from 0.
+/// A capture, with a copy of its text. Places are character numbers, counted from 0.
 #[derive(Drop)]
 pub enum Caught {
-    /// A tree of this type begins.
+    /// The start of a tree of this type.
     Begin { label: Chars, place: usize },
-    /// It ends.
+    /// The end of a tree.
     Finish { place: usize },
-    /// A note of this text.
+    /// A note with this text.
     Note { text: Chars, place: usize },
 }
 
-/// Where a run is.
+/// The stage of a run.
 #[derive(Clone, Copy)]
 pub enum Stage {
     Going { address: usize, place: usize },
@@ -54,7 +54,7 @@ pub struct Machine {
     caught: Vec<Caught>,
 }
 
-/// What a run goes over: the program and the text.
+/// The program and the text of a run.
 #[derive(Clone, Copy)]
 struct Over<'a> {
     alloc: Global,
@@ -62,7 +62,7 @@ struct Over<'a> {
     text: &'a [char],
 }
 
-/// How a run ended, after how many steps.
+/// The result of a run, with the number of its steps.
 #[derive(Drop)]
 pub enum Answer {
     At {
@@ -75,7 +75,7 @@ pub enum Answer {
     },
 }
 
-/// The set with this number holds the character.
+/// Returns whether a set of the program contains the character.
 fn holds(program: &Program, set: u32, c: char) -> bool
     ensures { result ≡ fits (Some c) (slice_index_or (sets_of program.now) set []) }
 {
@@ -85,7 +85,8 @@ fn holds(program: &Program, set: u32, c: char) -> bool
     }
 }
 
-/// The place after the character at the place, if that is in the set with this number.
+/// Returns the place after the character at a place, if a set of the program contains that
+/// character.
 fn next(program: &Program, set: u32, text: &[char], place: usize) -> Option<usize>
     ensures { result ≡
         (if fits (slice_get text.now place) (slice_index_or (sets_of program.now) set []) then Some
@@ -99,7 +100,7 @@ fn next(program: &Program, set: u32, text: &[char], place: usize) -> Option<usiz
     }
 }
 
-/// A copy of the text with this number.
+/// Returns a copy of a text of the program.
 fn text_of(alloc: Global, program: &Program, id: u32) -> Result<Chars, AllocError>
     ensures { IfOk result (λ t. t ≡ slice_index_or (labels_of program.now) id []) }
 {
@@ -109,7 +110,7 @@ fn text_of(alloc: Global, program: &Program, id: u32) -> Result<Chars, AllocErro
     }
 }
 
-/// One where a tree begins, else none.
+/// Returns 1 for the start of a tree, and 0 otherwise.
 fn begin_here(one: &Caught) -> usize
     ensures count { result ≡ begins (caught_of one.now ∷ []) }
     ensures small { result ≤ 1 }
@@ -121,7 +122,7 @@ fn begin_here(one: &Caught) -> usize
     }
 }
 
-/// How many trees begin.
+/// Returns how many trees begin.
 fn count_begins(caught: &[Caught]) -> usize
     ensures { result ≡ begins (map caught_of caught.now) }
 {
@@ -132,7 +133,7 @@ fn count_begins(caught: &[Caught]) -> usize
     count
 }
 
-/// One where a tree ends, else none.
+/// Returns 1 for the end of a tree, and 0 otherwise.
 fn finish_here(one: &Caught) -> usize
     ensures count { result ≡ finishes (caught_of one.now ∷ []) }
     ensures small { result ≤ 1 }
@@ -144,7 +145,7 @@ fn finish_here(one: &Caught) -> usize
     }
 }
 
-/// How many trees end.
+/// Returns how many trees end.
 fn count_finishes(caught: &[Caught]) -> usize
     ensures { result ≡ finishes (map caught_of caught.now) }
 {
@@ -156,7 +157,7 @@ fn count_finishes(caught: &[Caught]) -> usize
 }
 
 impl Machine {
-    /// A run that hasn't begun: at the first address and the first place.
+    /// Returns a run that has not begun, at the first address and the first place.
     fn new(alloc: Global) -> Machine
         ensures { state_of result ≡ M.start_state }
     {
@@ -170,7 +171,7 @@ impl Machine {
         }
     }
 
-    /// Goes on at the address and the place.
+    /// Continues at the address and the place.
     fn go(&mut self, address: usize, place: usize)
         ensures { state_of self.new ≡ M.Going address place (stack_of self.old)
             (captures_of self.old) }
@@ -178,14 +179,15 @@ impl Machine {
         self.stage = Stage::Going { address, place };
     }
 
-    /// Is failing.
+    /// Begins to fail.
     fn fail(&mut self)
         ensures { state_of self.new ≡ M.Failing (stack_of self.old) (captures_of self.old) }
     {
         self.stage = Stage::Failing;
     }
 
-    /// Goes on if the test holds, else is failing.
+    /// Continues at the address and the place if the condition is true, and otherwise begins to
+    /// fail.
     fn go_if(&mut self, holds: bool, address: usize, place: usize)
         ensures { state_of self.new ≡
             (if holds then M.Going address place (stack_of self.old) (captures_of self.old)
@@ -198,7 +200,7 @@ impl Machine {
         }
     }
 
-    /// Has failed for good.
+    /// Fails for good.
     fn stop(&mut self)
         ensures { state_of self.new ≡ M.Failing [] (captures_of self.old) }
     {
@@ -206,14 +208,14 @@ impl Machine {
         self.stage = Stage::Failing;
     }
 
-    /// Has ended with a match.
+    /// Ends with a match.
     fn end(&mut self, place: usize)
         ensures { state_of self.new ≡ M.Ended place (captures_of self.old) }
     {
         self.stage = Stage::Ended { place };
     }
 
-    /// Adds a capture and goes on at the address and the place.
+    /// Adds a capture, and continues at the address and the place.
     fn note(&mut self, one: Caught, address: usize, place: usize) -> Result<(), AllocError>
         ensures { OnOk result (state_of self.new ≡
             M.Going address place (stack_of self.old) (captures_of self.old
@@ -224,7 +226,7 @@ impl Machine {
         Ok(())
     }
 
-    /// Adds an entry and goes on at the address and the place.
+    /// Pushes an entry, and continues at the address and the place.
     fn enter(&mut self, entry: Entry, address: usize, place: usize) -> Result<(), AllocError>
         ensures { OnOk result (state_of self.new ≡
             M.Going address place (entry_of entry ∷ stack_of self.old) (captures_of self.old)) }
@@ -234,7 +236,7 @@ impl Machine {
         Ok(())
     }
 
-    /// Goes back to the first so many captures, and on at the address and the place.
+    /// Keeps only the first `captures` captures, and continues at the address and the place.
     fn back_to(&mut self, captures: usize, address: usize, place: usize)
         ensures { state_of self.new ≡ M.Going address place (stack_of self.old)
             (take captures (captures_of self.old)) }
@@ -243,7 +245,7 @@ impl Machine {
         self.stage = Stage::Going { address, place };
     }
 
-    /// One step of a failing state.
+    /// Takes one step of a failing run.
     fn resume(&mut self)
         ensures { state_of self.new ≡ M.resume (stack_of self.old) (captures_of self.old) }
     {
@@ -254,7 +256,7 @@ impl Machine {
         }
     }
 
-    /// The step of `commit`.
+    /// Takes the step of `commit`.
     fn commit(&mut self, to: usize, place: usize)
         ensures { state_of self.new ≡ M.on_retry (stack_of self.old) (captures_of self.old)
             (λ a j n rest. M.Going to place rest (captures_of self.old)) }
@@ -266,7 +268,7 @@ impl Machine {
         }
     }
 
-    /// The step of `failtwice`.
+    /// Takes the step of `failtwice`.
     fn fail_twice(&mut self)
         ensures { state_of self.new ≡ M.on_retry (stack_of self.old) (captures_of self.old)
             (λ a j n rest. M.Failing rest (captures_of self.old)) }
@@ -278,7 +280,7 @@ impl Machine {
         }
     }
 
-    /// The step of `backcommit`.
+    /// Takes the step of `backcommit`.
     fn back_commit(&mut self, to: usize)
         ensures { state_of self.new ≡ M.on_retry (stack_of self.old) (captures_of self.old)
             (λ a j n rest. M.Going to j rest (take n (captures_of self.old))) }
@@ -290,7 +292,7 @@ impl Machine {
         }
     }
 
-    /// The step of `partialcommit`.
+    /// Takes the step of `partialcommit`.
     fn partial_commit(&mut self, to: usize, place: usize) -> Result<(), AllocError>
         ensures { OnOk result (state_of self.new
             ≡ M.on_retry (stack_of self.old) (captures_of self.old)
@@ -314,7 +316,7 @@ impl Machine {
         }
     }
 
-    /// The step of `meet`.
+    /// Takes the step of `meet`.
     fn meet(&mut self, to: usize, place: usize)
         ensures { state_of self.new ≡ M.on_retry (stack_of self.old) (captures_of self.old)
             (λ a j n rest.
@@ -334,7 +336,7 @@ impl Machine {
         }
     }
 
-    /// The step of `return`.
+    /// Takes the step of `return`.
     fn go_back(&mut self, place: usize)
         ensures { state_of self.new ≡ M.on_return (stack_of self.old) (captures_of self.old)
             (λ a rest. M.Going a place rest (captures_of self.old)) }
@@ -346,7 +348,7 @@ impl Machine {
         }
     }
 
-    /// The step of `halt`, which stands at the address.
+    /// Takes the step of the `halt` at the address.
     fn halt(&mut self, address: usize, place: usize) -> Result<(), AllocError>
         ensures { let seen = captures_of self.old in OnOk result (state_of self.new ≡
             (if nat_lt (finishes seen) (begins seen)
@@ -361,7 +363,7 @@ impl Machine {
         }
     }
 
-    /// The step of `choice`: a failure goes on at `to`.
+    /// Takes the step of `choice`: a failure continues at `to`.
     fn choose(&mut self, to: usize, after: usize, place: usize) -> Result<(), AllocError>
         ensures { OnOk result (state_of self.new ≡
             M.Going after place
@@ -372,7 +374,7 @@ impl Machine {
         self.enter(entry, after, place)
     }
 
-    /// The step of `open`: a tree of the type with this number begins.
+    /// Takes the step of `open`: a tree begins, whose type is a text of the program.
     fn open(
         &mut self,
         over: &Over<'_>,
@@ -389,7 +391,7 @@ impl Machine {
         self.note(Caught::Begin { label, place }, after, place)
     }
 
-    /// One step of the instruction, which stands at the address.
+    /// Takes one step of the instruction at the address.
     fn act(
         &mut self,
         over: &Over<'_>,
@@ -445,7 +447,7 @@ impl Machine {
         Ok(())
     }
 
-    /// One step; a run that is over stays.
+    /// Takes one step. A run that is over does not change.
     fn step(&mut self, over: &Over<'_>) -> Result<(), AllocError>
         ensures { OnOk result (state_of self.new ≡
             M.step (instructions over.now.program.now) over.now.text.now (state_of self.old)) }
@@ -465,7 +467,7 @@ impl Machine {
         Ok(())
     }
 
-    /// The run has ended.
+    /// Returns whether the run is over.
     fn is_over(&self) -> bool
         ensures { result ≡ M.is_over (state_of self.now) }
     {
@@ -476,7 +478,7 @@ impl Machine {
         }
     }
 
-    /// How a run that is over has ended, after so many steps.
+    /// Returns the result of a run that is over, with this number of steps.
     fn answer(self, steps: u64) -> Answer
         requires { M.is_over (state_of self) ≡ true }
         ensures { answer_of result ≡ ended_as steps (state_of self) }
@@ -492,7 +494,8 @@ impl Machine {
     }
 }
 
-/// Runs the program on the text, in at most `budget` steps; None exactly where it needs more.
+/// Runs the program on the text, in at most `budget` steps. Returns `None` exactly when it needs
+/// more.
 pub fn run(
     alloc: Global,
     program: &Program,

@@ -1,4 +1,4 @@
-// Outcomes, and what is made of them.
+// Outcomes, and the functions that combine them.
 ghost use Rattle.std.specs.Prelude.{◌≡◌, ◌+◌, ◌-◌, ◌^◌, min, IfOk};
 ghost use Rattle.rpl_core.specs.Meaning as M;
 ghost use Rattle.rpl_core.specs.Forest.{NoTree};
@@ -8,8 +8,8 @@ use crate::forest::{Forest, joined, tree};
 use rpl_text::Chars;
 use std::alloc::{AllocError, Global};
 
-/// An outcome with its work. `At` and `HaltAt` have the place after the match and the trees; `Open`
-/// says that the depth didn't suffice.
+/// An outcome with its work. `At` and `HaltAt` have the place after the match and the trees;
+/// `Open` means that the depth did not suffice.
 #[derive(Drop)]
 pub enum Outcome {
     Open,
@@ -28,14 +28,14 @@ pub enum Outcome {
     },
 }
 
-/// Both works together; it stays at the greatest number.
+/// Returns the sum of two amounts of work, which saturates at the largest number.
 pub fn plus(a: u64, b: u64) -> u64
     ensures { result ≡ min (a + b) (2 ^ 64 - 1) }
 {
     a.saturating_add(b)
 }
 
-/// The outcome for more work.
+/// Returns the outcome with more work.
 pub fn more(work: u64, o: Outcome) -> Outcome
     ensures { outcome_of result ≡ capped (M.more work (outcome_of o)) }
 {
@@ -65,7 +65,7 @@ pub fn more(work: u64, o: Outcome) -> Outcome
     }
 }
 
-/// The outcome with trees before its own, for more work.
+/// Returns the outcome with more work, and with trees before its own.
 pub fn prefixed(alloc: Global, work: u64, before: Forest, o: Outcome) -> Result<Outcome, AllocError>
     ensures { IfOk result (λ r. outcome_of r
         ≡ capped (M.prefixed work (forest_of before) (outcome_of o))) }
@@ -96,7 +96,7 @@ pub fn prefixed(alloc: Global, work: u64, before: Forest, o: Outcome) -> Result<
     }
 }
 
-/// A match of one core that ends at the place, without trees.
+/// Returns a match of a single core that ends at the place, without trees.
 pub fn found(place: usize) -> Outcome
     ensures { outcome_of result ≡ M.At 1 place NoTree }
 {
@@ -107,7 +107,7 @@ pub fn found(place: usize) -> Outcome
     }
 }
 
-/// A match that stays at the place, for one more work.
+/// Returns a match that consumes nothing, with one more unit of work.
 pub fn stays(work: u64, place: usize) -> Outcome
     ensures { outcome_of result ≡ capped (M.At (1 + work) place NoTree) }
 {
@@ -118,7 +118,7 @@ pub fn stays(work: u64, place: usize) -> Outcome
     }
 }
 
-/// A match at the place if the test holds.
+/// Returns a match at the place if the condition is true.
 pub fn only_if(holds: bool, place: usize) -> Outcome
     ensures { outcome_of result ≡ M.only_if holds place }
 {
@@ -129,7 +129,7 @@ pub fn only_if(holds: bool, place: usize) -> Outcome
     }
 }
 
-/// A match at the place where the body fails.
+/// Returns a match at the place if the body fails.
 pub fn if_fails(o: Outcome, place: usize) -> Outcome
     ensures { outcome_of result ≡ capped (M.if_fails (outcome_of o) place) }
 {
@@ -142,7 +142,7 @@ pub fn if_fails(o: Outcome, place: usize) -> Outcome
     }
 }
 
-/// A match at the place where the body succeeds.
+/// Returns a match at the place if the body succeeds.
 pub fn if_matches(o: Outcome, place: usize) -> Outcome
     ensures { outcome_of result ≡ capped (M.if_matches (outcome_of o) place) }
 {
@@ -155,7 +155,7 @@ pub fn if_matches(o: Outcome, place: usize) -> Outcome
     }
 }
 
-/// The body's trees under one tree that starts at the place.
+/// Returns the outcome with its trees inside one tree that starts at the place.
 pub fn under(alloc: Global, label: &Chars, place: usize, o: Outcome) -> Result<Outcome, AllocError>
     ensures { IfOk result (λ r. outcome_of r ≡ capped (M.under label.now place (outcome_of o))) }
 {
@@ -185,7 +185,8 @@ pub fn under(alloc: Global, label: &Chars, place: usize, o: Outcome) -> Result<O
     }
 }
 
-/// A match at the place where the body ends just there, else what the other lengths give.
+/// Returns a match at the place if the body ends exactly there, and otherwise the outcome of the
+/// other lengths.
 pub fn ends_here(o: Outcome, place: usize, others: Outcome) -> Outcome
     ensures { outcome_of result ≡ capped (M.ends_here (outcome_of o) place (outcome_of others)) }
 {

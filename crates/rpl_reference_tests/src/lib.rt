@@ -1,7 +1,7 @@
-//! Tests of the check, the compiler and the machine on thousands of generated patterns and texts,
-//! on which the plain programs that compute the definitions answer the same. What was worked by
-//! hand stands in the tables that are asked of the built program (`tests/tables`). Nothing stands
-//! on this crate.
+//! Tests of the check, the compiler and the machine on thousands of generated patterns and
+//! texts. Plain programs that compute the definitions must give the same answers. The cases
+//! worked out by hand are in the tables that are tried on the built program (`tests/tables`).
+//! No other crate depends on this one.
 #![tactic(auto)]
 
 #[cfg(test)]

@@ -1,4 +1,4 @@
-// The search for the shape of each address that a run may come to.
+// The search for the shape of each address that a run may reach.
 ghost use Rattle.std.specs.Prelude.{◌<◌, ◌≤◌, length};
 ghost use Rattle.rpl_core.specs.Program.{code_of, instructions};
 ghost use Rattle.rpl_safe.specs.inside.Marks.{Puts, PutsAll, Searched, given_of};
@@ -8,7 +8,7 @@ use crate::steps::goes_on;
 use rpl_core::{NoMemory, Program};
 use std::alloc::Global;
 
-/// The marks found so far, and the addresses that weren't looked at.
+/// The marks found so far, and the addresses not visited yet.
 #[derive(Drop)]
 struct MarkSearch {
     marks: Vec<Option<Mark>>,
@@ -16,7 +16,8 @@ struct MarkSearch {
 }
 
 impl MarkSearch {
-    /// Marks the address; false where it has another mark, or there is no such address.
+    /// Marks the address. Returns false if it already has a different mark, or if there is no such
+    /// address.
     fn put(&mut self, address: u32, mark: Mark) -> Result<bool, NoMemory>
         ensures { Puts address mark self.old self.new result }
     {
@@ -34,8 +35,8 @@ impl MarkSearch {
         }
     }
 
-    /// Marks where a run goes on, the last address first, since the list of entries of the first
-    /// may be told by it; false where it can't.
+    /// Marks the addresses where a run continues. The last address goes first, since it may
+    /// determine the list of entries of the first one. Returns false if an address can't be marked.
     fn put_all(&mut self, next: Next) -> Result<bool, NoMemory>
         ensures { PutsAll (given_of next) self.old self.new result }
     {
@@ -53,9 +54,9 @@ impl MarkSearch {
     }
 }
 
-/// The mark of each address of the program that a run may come to; None where there is an address
-/// without an instruction or with two shapes, or an instruction that lacks what it needs, so that
-/// the code isn't safe. Each address is looked at once.
+/// Returns the mark of each address of the program that a run may reach. Returns `None` if the code
+/// isn't safe because an address has no instruction or two shapes, or because an instruction lacks
+/// what it needs. Each address is visited once.
 pub(crate) fn find_marks(
     alloc: Global,
     program: &Program,

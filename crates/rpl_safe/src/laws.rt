@@ -1,14 +1,14 @@
-// What holds of safe code, by the definitions alone.
+// Laws that hold for safe code, by the definitions alone.
 ghost use Rattle.rpl_safe.specs.Laws.{CodeIsSafeLaw, SafeMatchLaw, SafeRunLaw};
 
-/// No run of safe code, on whatever text, comes to an address without an instruction, or to an
-/// instruction that lacks the entry of the stack that it takes off; and where it ends with a match,
-/// its captures are those of exactly one tree.
+/// No run of safe code, on any text, reaches an address without an instruction, or an instruction
+/// that lacks the stack entry it pops. If the run ends with a match, its captures are those of
+/// exactly one tree.
 pub fn safe_run_law()
     ensures { SafeRunLaw }
 {}
 
-/// So each match that a run of safe code answers is one tree.
+/// Each match returned by a run of safe code is one tree.
 pub fn safe_match_law()
     ensures { SafeMatchLaw }
 {}

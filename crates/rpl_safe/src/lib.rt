@@ -1,11 +1,11 @@
-//! Safe code: code of which one can see, without any text, that a run never lacks what it needs,
-//! and that each of its matches is one tree.
+//! Safe code: code that can be seen, without any text, never to lack what it needs in a run, and to
+//! make each match one tree.
 //!
-//! It is for code that comes from elsewhere, as from a file of a stranger: `is_safe` tells in time
-//! and memory linear in the code, exactly, whether a program's code is safe. The laws say what this
-//! is worth on every text, and that the code of each goal that is a capture is safe. The definition
-//! (`specs/Safe.antt`) gives each address that a run may come to one shape of the stack, as the
-//! verifiers of other machines do (Lindholm and Yellin 1996, on the Java machine).
+//! For code from elsewhere, such as a file from a stranger. `is_safe` decides exactly whether a
+//! program's code is safe, in time and memory linear in the code. The laws state what this
+//! guarantees on every text, and that the code of each goal that is a capture is safe. The
+//! definition (`specs/Safe.antt`) gives each address that a run may reach one shape of the stack,
+//! as the verifiers of other machines do (Lindholm and Yellin 1996, on the Java machine).
 #![tactic(auto)]
 
 mod finding;

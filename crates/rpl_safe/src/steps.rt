@@ -1,4 +1,4 @@
-// How each instruction changes the shape of the stack.
+// The changes that each instruction makes to the shape of the stack.
 ghost use Rattle.std.specs.Prelude.{◌≡◌, ℕ, ◌<◌, ◌&&◌, nat_eq, List, [], ◌∷◌, Some};
 ghost use Rattle.regex_class.specs.Ranges.{Range};
 ghost use Rattle.rpl_core.specs.Numbers.{instr_of};
@@ -9,7 +9,7 @@ ghost use Rattle.rpl_safe.specs.inside.Marks.{to, with_last};
 use crate::marks::{Mark, Next, last_mark};
 use rpl_core::Instr;
 
-/// On at `target` without the last entry.
+/// Continues at `target` without the last entry.
 fn commit(marks: &[Option<Mark>], target: u32, mark: Mark) -> Next
     ensures { given_of result
         ≡ with_last (last_of (marks_at marks.now) mark.last)
@@ -21,7 +21,7 @@ fn commit(marks: &[Option<Mark>], target: u32, mark: Mark) -> Next
     }
 }
 
-/// On at `target` with the last entry, where as many trees are open as when it was left.
+/// Continues at `target` with the last entry, if as many trees are open as when it was left.
 fn commit_partly(marks: &[Option<Mark>], target: u32, mark: Mark) -> Next
     ensures { given_of result
         ≡ with_last (last_of (marks_at marks.now) mark.last)
@@ -39,7 +39,7 @@ fn commit_partly(marks: &[Option<Mark>], target: u32, mark: Mark) -> Next
     }
 }
 
-/// On at `target` as the stack was when the last entry was left.
+/// Continues at `target` with the stack as it was when the last entry was left.
 fn commit_back(marks: &[Option<Mark>], target: u32, mark: Mark) -> Next
     ensures { given_of result
         ≡ with_last (last_of (marks_at marks.now) mark.last)
@@ -57,7 +57,7 @@ fn commit_back(marks: &[Option<Mark>], target: u32, mark: Mark) -> Next
     }
 }
 
-/// Nowhere, where there is a last entry to fail over.
+/// Continues nowhere, if there is a last entry to pop before failing.
 fn fail_over(marks: &[Option<Mark>], mark: Mark) -> Next
     ensures { given_of result ≡ with_last (last_of (marks_at marks.now) mark.last) (λ k. Some []) }
 {
@@ -67,7 +67,7 @@ fn fail_over(marks: &[Option<Mark>], mark: Mark) -> Next
     }
 }
 
-/// Nowhere, where the frame is of the right kind and is done.
+/// Continues nowhere, if the frame is of the right kind and is done.
 fn end_frame(is_right: bool, mark: Mark) -> Next
     ensures { given_of result ≡ only (is_right && is_done_mark mark) [] }
 {
@@ -78,7 +78,7 @@ fn end_frame(is_right: bool, mark: Mark) -> Next
     }
 }
 
-/// On after the end of a tree, where one is open.
+/// Continues after the end of a tree, if one is open.
 fn close(behind: u32, mark: Mark) -> Next
     ensures { given_of result ≡ one_less mark.trees (λ c. to behind (record mark { trees = c })) }
 {
@@ -88,8 +88,8 @@ fn close(behind: u32, mark: Mark) -> Next
     Next::To(behind, mark.with_trees(mark.trees - 1))
 }
 
-/// Where the instruction at the address lets a run go on that comes to it with the shape of this
-/// mark.
+/// Returns where a run continues that reaches the instruction at this address with the shape of
+/// this mark.
 pub(crate) fn goes_on(marks: &[Option<Mark>], instr: Instr, address: u32, mark: Mark) -> Next
     requires low { address < 1048576 }
     requires trees { mark.trees < 1048576 }

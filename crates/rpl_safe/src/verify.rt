@@ -1,4 +1,4 @@
-// The verifier.
+// The verifier of code.
 ghost use Rattle.std.specs.Prelude.{◌↔◌, ◌≤◌, IfOk, IsTrue, length};
 ghost use Rattle.rpl_core.specs.Program.{code_of, instructions};
 ghost use Rattle.rpl_safe.specs.Safe.{IsSafe};
@@ -8,7 +8,8 @@ use crate::whole_tree::{all_pass, head};
 use rpl_core::{NoMemory, Program};
 use std::alloc::Global;
 
-/// The program's code is safe. Its time and memory are linear in the number of instructions.
+/// Returns whether the program's code is safe. Takes time and memory linear in the number of
+/// instructions.
 pub fn is_safe(alloc: Global, program: &Program) -> Result<bool, NoMemory>
     requires { length (code_of program.now) ≤ 1048576 }
     ensures { IfOk result (λ safe. IsTrue safe ↔ IsSafe (instructions program.now)) }

@@ -1,4 +1,4 @@
-// The last test: the first frame is one tree, or calls one.
+// The last check: the first frame is one tree, or calls one.
 ghost use Rattle.std.specs.Prelude.{◌≡◌, ℕ, ◌<◌, ◌≤◌, List, length, map, option_map, slice_get};
 ghost use Rattle.regex_class.specs.Ranges.{Range};
 ghost use Rattle.rpl_core.specs.Numbers.{instr_of};
@@ -13,7 +13,7 @@ use crate::marks::{Mark, Next, mark_at};
 use crate::steps::goes_on;
 use rpl_core::{Instr, Program};
 
-/// The instruction ends the frame.
+/// Returns whether the instruction ends the frame.
 fn ends(frame: u32, instr: Instr) -> bool
     ensures { (sets : List (List Range)) (texts : List (List ℕ))
         → result ≡ ends frame (instr_of sets texts instr) }
@@ -25,7 +25,7 @@ fn ends(frame: u32, instr: Instr) -> bool
     }
 }
 
-/// The instruction begins a tree.
+/// Returns whether the instruction begins a tree.
 fn is_open(instr: Instr) -> bool
     ensures { (sets : List (List Range)) (texts : List (List ℕ))
         → result ≡ is_open (instr_of sets texts instr) }
@@ -33,7 +33,7 @@ fn is_open(instr: Instr) -> bool
     matches!(instr, Instr::Open(_))
 }
 
-/// The instruction ends the run with a match.
+/// Returns whether the instruction ends the run with a match.
 fn is_finish(instr: Instr) -> bool
     ensures { (sets : List (List Range)) (texts : List (List ℕ))
         → result ≡ is_finish (instr_of sets texts instr) }
@@ -41,7 +41,7 @@ fn is_finish(instr: Instr) -> bool
     matches!(instr, Instr::Finish)
 }
 
-/// The instruction calls this address.
+/// Returns whether the instruction calls this address.
 fn is_call(called: u32, instr: Instr) -> bool
     ensures { (sets : List (List Range)) (texts : List (List ℕ))
         → result ≡ is_call called (instr_of sets texts instr) }
@@ -52,7 +52,8 @@ fn is_call(called: u32, instr: Instr) -> bool
     }
 }
 
-/// In this frame a tree is open, but at its first address and where it ends.
+/// Returns whether a tree is open at every address of this frame, except the first and those where
+/// the frame ends.
 fn is_inside(frame: u32, instr: Instr, address: u32, mark: Mark) -> bool
     ensures { (sets : List (List Range)) (texts : List (List ℕ))
         → result ≡ inside_test frame (instr_of sets texts instr) address mark }
@@ -60,7 +61,7 @@ fn is_inside(frame: u32, instr: Instr, address: u32, mark: Mark) -> bool
     mark.frame != frame || (mark.trees != 0 || (address == frame || ends(frame, instr)))
 }
 
-/// The run goes on elsewhere than at this address.
+/// Returns whether the run continues only at other addresses.
 fn avoids(called: u32, next: Next) -> bool
     ensures { result ≡ avoids called (given_of next) }
 {
@@ -71,9 +72,9 @@ fn avoids(called: u32, next: Next) -> bool
     }
 }
 
-/// The address is as the tree wants it: nothing but the tree is in the frame that is one, nothing
-/// but the call and the end in that which calls it, and no other way leads to the tree's first
-/// address.
+/// Returns whether the address meets the conditions for one tree: the frame that is the tree
+/// contains nothing else, the frame that calls it contains only the call and the end, and no other
+/// path leads to the tree's first address.
 fn passes(
     marks: &[Option<Mark>],
     called: Option<u32>,
@@ -97,7 +98,7 @@ fn passes(
     }
 }
 
-/// The instruction at the address.
+/// Returns the instruction at the address.
 fn instr_at(code: &[Instr], address: u32) -> Option<Instr>
     ensures { (sets : List (List Range)) (texts : List (List ℕ))
         → option_map (instr_of sets texts) result ≡ slice_get (map (instr_of sets texts) code.now)
@@ -109,7 +110,7 @@ fn instr_at(code: &[Instr], address: u32) -> Option<Instr>
     }
 }
 
-/// Each address that has a mark is as the tree wants it.
+/// Returns whether each marked address meets the conditions for one tree.
 pub(crate) fn all_pass(program: &Program, marks: &[Option<Mark>], called: Option<u32>) -> bool
     requires limit { length (code_of program.now) ≤ 1048576 }
     requires marks { Complete (instructions program.now) marks.now }
@@ -128,7 +129,7 @@ pub(crate) fn all_pass(program: &Program, marks: &[Option<Mark>], called: Option
     true
 }
 
-/// A tree begins at the address.
+/// Returns whether a tree begins at the address.
 fn opens_at(code: &[Instr], address: u32) -> bool
     ensures { (sets : List (List Range)) (texts : List (List ℕ))
         → result ≡ opens_in (map (instr_of sets texts) code.now) address }
@@ -139,7 +140,7 @@ fn opens_at(code: &[Instr], address: u32) -> bool
     }
 }
 
-/// The run ends at the address.
+/// Returns whether the run ends at the address.
 fn finishes_at(code: &[Instr], address: u32) -> bool
     ensures { (sets : List (List Range)) (texts : List (List ℕ))
         → result ≡ finishes_in (map (instr_of sets texts) code.now) address }
@@ -150,7 +151,7 @@ fn finishes_at(code: &[Instr], address: u32) -> bool
     }
 }
 
-/// What the first instruction calls.
+/// Returns the address that the first instruction calls.
 fn first_call(code: &[Instr]) -> Option<u32>
     ensures { (sets : List (List Range)) (texts : List (List ℕ))
         → result ≡ call_in (map (instr_of sets texts) code.now) }
@@ -161,7 +162,7 @@ fn first_call(code: &[Instr]) -> Option<u32>
     }
 }
 
-/// What the instruction calls, if it does.
+/// Returns the address that the instruction calls, if any.
 fn called_by(instr: Instr) -> Option<u32>
     ensures { (sets : List (List Range)) (texts : List (List ℕ))
         → result ≡ called_by (instr_of sets texts instr) }
@@ -172,8 +173,8 @@ fn called_by(instr: Instr) -> Option<u32>
     }
 }
 
-/// What the first frame does: it is a tree, or calls the address of one; None where it does
-/// neither.
+/// Returns the action of the first frame: `Some(None)` if it is a tree, `Some` with the address if
+/// it calls one, and `None` if it does neither.
 pub(crate) fn head(program: &Program) -> Option<Option<u32>>
     ensures { result ≡ head_of (instructions program.now) }
 {

@@ -14,7 +14,7 @@ pub struct Use<'a> {
     pub arg: &'a Expr,
 }
 
-/// Puts the names of an expression at the end, from left to right.
+/// Appends the names of an expression, from left to right.
 #[cycle(names)]
 pub fn push_names<'a>(e: &'a Expr, all: &mut Vec<&'a QName>) -> Result<(), NoMemory>
     ensures { OnOk result (map (λ q. q.now) all.new.items ≡ map (λ q. q.now) all.old.items
@@ -50,7 +50,7 @@ fn push_all_names<'a>(es: &'a [Expr], all: &mut Vec<&'a QName>) -> Result<(), No
     Ok(())
 }
 
-/// Puts the uses of macros in an expression at the end, from left to right.
+/// Appends the uses of macros in an expression, from left to right.
 #[cycle(uses)]
 pub fn push_uses<'a>(e: &'a Expr, all: &mut Vec<Use<'a>>) -> Result<(), NoMemory>
     ensures { OnOk result (map use_seen all.new.items ≡ map use_seen all.old.items

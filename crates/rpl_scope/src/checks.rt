@@ -1,4 +1,4 @@
-// The first fault of names, and of macros.
+// The first fault of names and of macros.
 ghost use Rattle.std.specs.Prelude.{◌≡◌, map};
 ghost use Rattle.rpl_scope.specs.Bodies.{named_fault, names_fault, macros_fault, used_fault};
 ghost use Rattle.rpl_scope.specs.Bodies.{written};
@@ -15,7 +15,7 @@ use rpl_syntax::QName;
 use rpl_text::Chars;
 use std::alloc::Global;
 
-/// A name as it is written, after its prefix and a dot where it has one.
+/// Returns a name as written, after its prefix and a dot if it has one.
 pub fn written(alloc: Global, name: &QName) -> Result<Chars, NoMemory>
     ensures { IfOk result (λ text. text ≡ written name.now.prefix name.now.name) }
 {
@@ -30,7 +30,7 @@ pub fn written(alloc: Global, name: &QName) -> Result<Chars, NoMemory>
     }
 }
 
-/// A name that is written there.
+/// Checks a name in a scope.
 #[tactic(auto, using(crate::proofs::Stops::told))]
 fn check_name(alloc: Global, file: &Chars, scope: Scope<'_>, name: &QName) -> Result<(), Stop>
     ensures { Checks result (named_fault file.now (modules_seen scope.entry.modules.now)
@@ -53,7 +53,7 @@ fn check_name(alloc: Global, file: &Chars, scope: Scope<'_>, name: &QName) -> Re
     }
 }
 
-/// Names that are written there: the first one that stands for nothing is a fault of the file.
+/// Checks names in a scope. The first name that refers to nothing is a fault of the file.
 pub fn check_names(
     alloc: Global,
     file: &Chars,
@@ -69,7 +69,7 @@ pub fn check_names(
     Ok(())
 }
 
-/// A use of a macro.
+/// Checks a use of a macro.
 #[tactic(auto, using(crate::proofs::Stops::told))]
 fn check_macro(alloc: Global, file: &Chars, used: Use<'_>) -> Result<(), Stop>
     ensures { Checks result (used_fault file.now (use_seen used.entry)) }
@@ -86,7 +86,7 @@ fn check_macro(alloc: Global, file: &Chars, used: Use<'_>) -> Result<(), Stop>
     }
 }
 
-/// Uses of macros.
+/// Checks uses of macros.
 pub fn check_macros(alloc: Global, file: &Chars, uses: &[Use<'_>]) -> Result<(), Stop>
     ensures { Checks result (macros_fault file.now (map use_seen uses.now)) }
 {

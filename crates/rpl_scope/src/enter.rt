@@ -1,4 +1,4 @@
-// Rules that enter a module.
+// Adding rules to a module.
 ghost use Rattle.std.specs.Prelude.{◌≡◌, ◌++◌, ◌∷◌, [], IfErr, IfOk, OnOk, length};
 ghost use Rattle.rpl_scope.specs.Faults.{Gives, IsStop, fault_at};
 ghost use Rattle.rpl_scope.specs.Seen.{module_seen, rule_seen};
@@ -12,7 +12,7 @@ use crate::module::{Entry, Module, Referent, Rule};
 use rpl_text::Chars;
 use std::alloc::Global;
 
-/// One rule more at the end.
+/// Appends a rule.
 fn push_rule(rules: &mut Vec<Rule>, rule: Rule) -> Result<(), NoMemory>
     ensures { OnOk result (rules.new.items ≡ rules.old.items ++ rule ∷ []) }
 {
@@ -20,14 +20,15 @@ fn push_rule(rules: &mut Vec<Rule>, rule: Rule) -> Result<(), NoMemory>
     Ok(())
 }
 
-/// How many rules the module has by now: just those after them see what is added next.
+/// Returns how many rules the module has so far. Only statements after these rules see what is
+/// added next.
 pub(crate) fn rules_so_far(own: &Module) -> usize
     ensures { result ≡ length (module_seen own.now).rules }
 {
     own.rules.len()
 }
 
-/// The fault of a rule whose name the module has already.
+/// Returns the fault of a rule whose name the module already has.
 fn duplicate(alloc: Global, file: &Chars, rule: Rule) -> Stop
     ensures { IsStop result (fault_at file.now rule.at (Duplicate rule.name)) }
 {
@@ -35,7 +36,7 @@ fn duplicate(alloc: Global, file: &Chars, rule: Rule) -> Stop
     fault_at(alloc, file, rule.at, kind)
 }
 
-/// The rule and its name at the end of the module, unless it has that name already.
+/// Appends a rule and its name to the module, unless the module already has that name.
 #[tactic(auto, using(crate::proofs::Stops::told))]
 pub fn enter(alloc: Global, own: &mut Module, file: &Chars, rule: Rule) -> Result<(), Stop>
     ensures { Gives (λ _. module_seen own.new) result

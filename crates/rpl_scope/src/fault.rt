@@ -1,4 +1,4 @@
-// Why nothing is loaded.
+// Load faults.
 ghost use Rattle.std.specs.Prelude.{◌≡◌};
 ghost use Rattle.rpl_scope.specs.Faults.{IsStop, fault_at};
 ghost use Rattle.rpl_scope.specs.declared.fault.Stop.TheVariants.{Memory as OutOfMemory};
@@ -10,35 +10,35 @@ use rpl_text::Chars;
 use std::alloc::{AllocError, AllocFailed, Global};
 use thiserror::Error;
 
-/// What is wrong with the roots, the files that they import, or the pattern.
+/// The kind of a fault in the roots, in the files that they import, or in the pattern.
 #[derive(Debug, Drop, Error)]
 pub enum LoadKind {
     #[error("out of memory")]
     NoMemory,
-    /// No folder holds the imported file.
+    /// No folder has the imported file.
     #[error("import not found")]
     ImportMissing { path: Chars },
     /// The import names a module that is still being loaded.
     #[error("import cycle")]
     ImportCycle { path: Chars },
-    /// The text has more than 1,048,576 bytes.
+    /// The text exceeds 1,048,576 bytes.
     #[error("text too long")]
     FileTooLong,
     #[error("not UTF-8")]
     NotText,
-    /// A name, prefix or package name is bound already.
+    /// A name, prefix or package name is already bound.
     #[error("duplicate name")]
     Duplicate { name: Chars },
-    /// The name isn't bound there.
+    /// The name is not bound.
     #[error("unknown name")]
     UnknownName { name: Chars },
-    /// The name is bound, and not to be seen there.
+    /// The name is bound, but not visible here.
     #[error("hidden name")]
     HiddenName { name: Chars },
-    /// A 1,025th module would be read.
+    /// The number of modules would exceed 1,024.
     #[error("too many packages")]
     TooManyPackages,
-    /// A file couldn't be read, and not for want of it.
+    /// A file could not be read, for another reason than that it is missing.
     #[error("read failed")]
     ReadFault,
     #[error("{0}")]
@@ -53,7 +53,7 @@ pub enum LoadKind {
     RootMissing,
 }
 
-/// The first fault: the text that holds it, its byte place there, and what it is.
+/// The first fault: its file, the byte offset in that file, and its kind.
 #[derive(Debug, Drop, Error)]
 #[error("{kind} at byte {at}")]
 pub struct LoadFault {
@@ -62,14 +62,14 @@ pub struct LoadFault {
     pub kind: LoadKind,
 }
 
-/// A place in a file: the byte place `at`.
+/// A position in a file: the byte offset `at`.
 #[derive(Clone, Copy)]
 pub struct Place<'a> {
     pub file: &'a Chars,
     pub at: usize,
 }
 
-/// Why a call of this crate stops.
+/// The error of a function of this crate.
 #[derive(Debug, Drop)]
 pub enum Stop {
     /// Memory ran out.
@@ -93,7 +93,7 @@ impl<T: Drop> From<AllocFailed<T>> for Stop {
     }
 }
 
-/// A fault at a place of a text.
+/// Returns a fault at a byte offset of a text.
 pub fn fault_at(alloc: Global, file: &Chars, at: usize, kind: LoadKind) -> Stop
     ensures { IsStop result (fault_at file.now at kind) }
 {

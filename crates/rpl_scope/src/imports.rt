@@ -1,4 +1,4 @@
-// What the imports of a text bring into its module.
+// The names and prefixes that imports add to a module.
 ghost use Rattle.std.specs.Prelude.{◌≡◌, ◌≤◌, ◌++◌, length, IfOk, OnErr, OnOk, IfErr, None, []};
 ghost use Rattle.std.specs.Prelude.{ℕ, List, Ok, IsTrue, IsFalse, chars};
 ghost use Rattle.std.specs.List.{IsDistinct};
@@ -22,14 +22,14 @@ use rpl_syntax::{Import, ImportAs};
 use rpl_text::Chars;
 use std::alloc::Global;
 
-/// A loaded module: the one with this number among these.
+/// A loaded module: the one at index `number` of `modules`.
 #[derive(Clone, Copy)]
 pub struct Loaded<'a> {
     pub modules: &'a [Module],
     pub number: usize,
 }
 
-/// A rule that a module takes in: the number of its module, its own number there, and itself.
+/// A rule that a module imports: the number of its module, its index there, and the rule.
 #[derive(Clone, Copy)]
 struct Foreign<'a> {
     owner: usize,
@@ -37,7 +37,8 @@ struct Foreign<'a> {
     rule: &'a Rule,
 }
 
-/// The last part of a path: what stands after its last `/`, the path itself where it has none.
+/// Returns the last part of a path: the text after its last `/`, or the whole path if it has
+/// none.
 pub fn last_part(alloc: Global, path: &Chars) -> Result<Chars, NoMemory>
     ensures { IfOk result (λ last. last ≡ last_part [] path.now) }
 {
@@ -52,7 +53,7 @@ pub fn last_part(alloc: Global, path: &Chars) -> Result<Chars, NoMemory>
     Chars::from_str(alloc, &last)
 }
 
-/// One prefix more, for the module with this number.
+/// Adds a prefix for a module. The prefix must be free.
 pub fn put_prefix(
     alloc: Global,
     own: &mut Module,
@@ -70,7 +71,7 @@ pub fn put_prefix(
     Ok(())
 }
 
-/// The prefix for the module with this number.
+/// Adds a prefix for a module, unless the prefix is taken by another.
 #[tactic(auto, using(crate::proofs::Stops::told))]
 pub fn add_prefix(
     alloc: Global,
@@ -101,7 +102,7 @@ pub fn add_prefix(
     }
 }
 
-/// Whether it is this rule of that module.
+/// Returns whether the referent is this rule of this module.
 fn is_same(referent: Referent, number: usize, rule: usize) -> bool
     ensures { result ≡ is_same referent number rule }
 {
@@ -114,7 +115,7 @@ fn is_same(referent: Referent, number: usize, rule: usize) -> bool
     }
 }
 
-/// The name of a rule of another module, where others see it.
+/// Adds the name of a rule of another module, if importers see it.
 #[tactic(auto, using(crate::proofs::Stops::told))]
 fn add_name(
     alloc: Global,
@@ -160,7 +161,7 @@ fn add_name(
     }
 }
 
-/// The names of the rules of the module with this number, where others see them.
+/// Adds the names of the rules of another module that importers see.
 fn add_names(
     alloc: Global,
     own: &mut Module,
@@ -185,8 +186,8 @@ fn add_names(
     Ok(())
 }
 
-/// Whether it is this name and entry that a module with so many rules has for a rule that it has
-/// taken in.
+/// Returns whether the name and entry are what a module with `since` rules has for an imported
+/// rule.
 fn is_taken_name(name: &str, entry: Entry, since: usize, foreign: Foreign<'_>) -> bool
     ensures name { IsTrue result → chars name.now ≡ foreign.entry.rule.now.name }
     ensures entry { IsTrue result → entry
@@ -199,8 +200,8 @@ fn is_taken_name(name: &str, entry: Entry, since: usize, foreign: Foreign<'_>) -
         && is_same(entry.referent, foreign.owner, foreign.number)
 }
 
-/// Whether these are just the names that a module with so many rules and no names takes in of the
-/// module with this number.
+/// Returns whether the names are exactly those that a module with `since` rules and no names
+/// imports from another module.
 fn are_taken_names(names: &Named<Entry>, since: usize, owner: usize, rules: &[Rule]) -> bool
     ensures taken { IsTrue result → names.now
         ≡ taken_names since owner (numbered 0 (rules_seen rules.now)) }
@@ -225,8 +226,8 @@ fn are_taken_names(names: &Named<Entry>, since: usize, owner: usize, rules: &[Ru
     next == count
 }
 
-/// Shares the names that other importers took in of this module, where the module can: they are
-/// then all that it takes in.
+/// Shares the table of names that other importers of this module took from it, if the module can.
+/// That table then holds everything that it imports.
 fn share_names(own: &mut Module, owner: usize, from: &Module) -> Result<bool, NoMemory>
     ensures all { IfOk result (λ shared. IsTrue shared → (file : List ℕ) (at : ℕ)
         → in_turn (add_name file at owner) (numbered 0 (module_seen from.now).rules) (module_seen own.old)
@@ -241,8 +242,8 @@ fn share_names(own: &mut Module, owner: usize, from: &Module) -> Result<bool, No
     Ok(false)
 }
 
-/// The names of the rules of another module, where others see them. Where the module has no names
-/// but shared ones, it shares these too, so that they stand in memory once.
+/// Adds the names of the rules of another module that importers see. A module that has no names
+/// except shared ones shares these too, so that they are in memory only once.
 fn add_all(
     alloc: Global,
     own: &mut Module,
@@ -263,7 +264,7 @@ fn add_all(
     let since = rules_so_far(own);
     add_names(alloc, own, place, owner, &from.rules)?;
     if let Some(names) = own.names.share(alloc)? {
-        // Others can share them where none was left out. Where some are there already, those stay.
+        // Others can share the names if none was left out. If a table is already there, it stays.
         if are_taken_names(&names, since, owner, &from.rules) {
             let _ = from.for_importers.set(names);
         }
@@ -271,7 +272,7 @@ fn add_all(
     Ok(())
 }
 
-/// What an import in this file brings of a loaded module.
+/// Adds what an import in this file brings from a loaded module.
 #[inline(never)]
 pub fn take_in(
     alloc: Global,

@@ -1,11 +1,11 @@
-//! Scopes: what the names of RPL texts stand for, statement by statement.
+//! Scopes: the bindings of names in RPL texts, statement by statement.
 //!
-//! For `rpl_package`, which reads the texts and finds the imports. A module is a list of rules with
-//! its names and its prefixes; what a name stands for where it is written is said once, by `bound`
-//! in `specs/Packages.antt`, and for a name without a prefix once more by the statements alone, in
-//! `specs/Laws.antt`. Statements and imports enter a module in the order of a text, or are refused
-//! for their first fault, at its place (`specs/Statements.antt`, `specs/Imports.antt`). No file is
-//! read, and besides only memory can run out.
+//! `rpl_package` uses it, and itself reads the texts and finds the imports. A module is a list of
+//! rules with its names and its prefixes. `bound` in `specs/Packages.antt` defines what a name
+//! refers to at any point; `specs/Laws.antt` defines it again for names without a prefix, in
+//! terms of the statements alone. Statements and imports are added to a module in the order of a
+//! text, or refused with their first fault and its byte offset (`specs/Statements.antt`,
+//! `specs/Imports.antt`). No file is read. The only other failure is running out of memory.
 #![tactic(auto)]
 
 mod bodies;

@@ -1,4 +1,4 @@
-// What stands under names, in the order in which they came.
+// A map from names to values that keeps the order of insertion.
 ghost use Rattle.std.specs.Prelude.{◌≡◌, ◌<◌, ◌-◌, ◌^◌, ℕ, List, Some, None, [], ◌∷◌, ◌++◌, OnErr, OnOk};
 ghost use Rattle.std.specs.Prelude.{IfSome, chars, length, take};
 ghost use Rattle.std.specs.List.{IsDistinct};
@@ -15,13 +15,13 @@ use std::collections::BTreeMap;
 use std::hash::{FoldHasher, Hasher};
 use std::marker::Model;
 
-/// Names with what stands under each. Contracts see it as the list of the pairs.
+/// Names with their values. Contracts see the list of pairs.
 #[derive(Drop)]
 pub struct Named<V: Copy> {
     pairs: Vec<(Chars, V)>,
 
-    // The number of a name stands under its hash, or under itself where another name has its hash.
-    // Both are found by their order, so no choice of names makes a look-up slow.
+    // A name's index is stored under its hash, or under the name itself if another name has the
+    // same hash. Both are ordered maps, so no choice of names makes a lookup slow.
     hashes: BTreeMap<u64, usize>,
     others: BTreeMap<String, usize>,
 }
@@ -38,7 +38,7 @@ impl<V: Copy> Model for Named<V> {
 }
 
 impl<V: Copy> Named<V> {
-    /// No names.
+    /// Returns an empty map.
     pub fn new(alloc: Global) -> Named<V>
         ensures { result ≡ [] }
     {
@@ -49,7 +49,7 @@ impl<V: Copy> Named<V> {
         }
     }
 
-    /// What stands under a name that is given as a text.
+    /// Returns the value of a name given as a string slice.
     pub fn get_text(&self, name: &str) -> Option<V>
         ensures { result ≡ first_of (chars name.now) self.now }
     {
@@ -61,14 +61,14 @@ impl<V: Copy> Named<V> {
         }
     }
 
-    /// What stands under a name.
+    /// Returns the value of a name.
     pub fn get(&self, name: &Chars) -> Option<V>
         ensures { result ≡ first_of name.now self.now }
     {
         self.get_text(name.as_str())
     }
 
-    /// Keeps the first of the names alone, as many as that.
+    /// Keeps only the first `count` names.
     pub fn truncate(&mut self, count: usize)
         ensures { self.new ≡ take count self.old }
     {
@@ -77,7 +77,7 @@ impl<V: Copy> Named<V> {
         }
     }
 
-    // Without the last of the names.
+    // Removes the last name.
     fn take_last(&mut self)
         ensures { self.new ≡ take (length self.old - 1) self.old }
     {
@@ -87,14 +87,14 @@ impl<V: Copy> Named<V> {
         }
     }
 
-    /// How many names there are.
+    /// Returns the number of names.
     pub fn len(&self) -> usize
         ensures { result ≡ length self.now }
     {
         self.pairs.len()
     }
 
-    /// How many names there are; and that none of them is there twice.
+    /// Returns the number of names, and states that no name occurs twice.
     pub(crate) fn count(&self) -> usize
         ensures is { result ≡ length self.now }
         ensures few { result < 2 ^ 63 }
@@ -103,8 +103,8 @@ impl<V: Copy> Named<V> {
         self.pairs.len()
     }
 
-    /// The name with this number, from 0, and what stands under it; None exactly where there are no
-    /// more than that.
+    /// Returns the name at an index, counted from 0, and its value, or `None` exactly if the
+    /// index is not below the number of names.
     pub fn at(&self, number: usize) -> Option<(&str, V)>
         ensures is { pair_found result ≡ nth self.now number }
         ensures first { IfSome result (λ p. first_of (chars p.0.now) self.now ≡ Some p.1) }
@@ -115,7 +115,7 @@ impl<V: Copy> Named<V> {
         }
     }
 
-    /// One more name at the end. Where memory runs out, nothing changes.
+    /// Appends a name. If memory runs out, the map is unchanged.
     pub fn put(&mut self, alloc: Global, name: &Chars, value: V) -> Result<(), NoMemory>
         requires { first_of name.now self.old ≡ None }
         ensures ok { OnOk result (self.new ≡ self.old ++ (name.now, value) ∷ []) }
@@ -135,7 +135,7 @@ impl<V: Copy> Named<V> {
         Ok(())
     }
 
-    /// A name at the end, unless it is there already. Where memory runs out, nothing changes.
+    /// Appends a name, unless it is already there. If memory runs out, the map is unchanged.
     pub fn add(&mut self, alloc: Global, name: &Chars, value: V) -> Result<(), NoMemory>
         ensures ok { OnOk result (self.new ≡ added name.now value self.old) }
         ensures err { OnErr result (self.new ≡ self.old) }
@@ -155,7 +155,7 @@ fn hash_of(text: &str) -> u64
     hasher.finish()
 }
 
-// What stands at the number, where it is that of the name.
+// Returns the value at an index, if the index is that of the name.
 fn value_at<V: Copy>(pairs: &[(Chars, V)], number: Option<usize>, name: &str) -> Option<V>
     ensures { result ≡ value_at (chars name.now) number pairs.now }
 {
@@ -168,7 +168,7 @@ fn value_at<V: Copy>(pairs: &[(Chars, V)], number: Option<usize>, name: &str) ->
     }
 }
 
-// Notes the number of a name. The numbers of other names stay, whether memory runs out or not.
+// Stores the index of a name. The indices of other names stay, even if memory runs out.
 fn note(
     alloc: Global,
     hashes: &mut BTreeMap<u64, usize>,
@@ -184,13 +184,13 @@ fn note(
     let Some(earlier) = hashes.insert(hash, number)? else {
         return Ok(());
     };
-    // Another name has the hash, and keeps it: this can't fail.
+    // Another name has this hash and keeps it. Putting it back cannot fail.
     let _ = hashes.insert(hash, earlier);
     others.insert(String::from_str(alloc, name)?, number)?;
     Ok(())
 }
 
-// Takes the number of a name away, where it is this one. Other numbers stay.
+// Removes the index of a name, if it is this one. Other indices stay.
 fn forget(
     hashes: &mut BTreeMap<u64, usize>,
     others: &mut BTreeMap<String, usize>,

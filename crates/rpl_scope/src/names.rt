@@ -1,4 +1,4 @@
-// The names of a module, of which it may share the first with other modules.
+// The names of a module, the first of which may be shared with other modules.
 ghost use Rattle.std.specs.Prelude.{◌≡◌, ◌++◌, ◌∷◌, ◌+◌, ◌≤◌, ◌^◌, Some, None, [], OnErr, OnOk};
 ghost use Rattle.std.specs.Prelude.{IfOk, IfSome, IsTrue, chars, if◌then◌else◌, length};
 ghost use Rattle.std.specs.List.{IsDistinct};
@@ -17,19 +17,20 @@ use std::marker::Model;
 use std::mem;
 use std::rc::Rc;
 
-// How many tables a module shares at most: a look-up asks each of them.
+// The largest number of tables that a module shares: a lookup searches each of them.
 const MOST_SHARED: usize = 8;
 
-// How many names the tables have at most, so that these and its own can be counted.
+// The largest number of names in the tables, so that the sum of these and the module's own names
+// does not overflow.
 const MOST_NAMES: usize = 1 << 62;
 
-/// Names that stand in memory once for all modules that share them.
+/// Names that are in memory once for all modules that share them.
 pub type SharedNames = Rc<Named<Entry>>;
 
-/// The names of a module with what stands under each. Contracts see it as the list of the pairs.
+/// The names of a module with their entries. Contracts see the list of pairs.
 ///
-/// No name is there twice. Modules that take in the names of other modules share tables of them:
-/// those come first.
+/// No name occurs twice. Modules that import the names of other modules share tables of them;
+/// these names come first.
 #[derive(Drop)]
 pub struct ModuleNames {
     shared: Vec<SharedNames>,
@@ -49,7 +50,7 @@ impl Model for ModuleNames {
 }
 
 impl ModuleNames {
-    /// No names.
+    /// Returns no names.
     pub fn new(alloc: Global) -> ModuleNames
         ensures { result ≡ [] }
     {
@@ -59,13 +60,14 @@ impl ModuleNames {
         }
     }
 
-    /// Whether it may share one more table: it has no names of its own yet, and not many tables.
+    /// Returns whether the module may share another table: it has no names of its own yet, and
+    /// fewer than the largest number of tables.
     pub(crate) fn may_share(&self) -> bool {
         self.own.len() == 0 && self.shared.len() < MOST_SHARED
     }
 
-    /// Shares these names as well, and says so, where it may and has none of them yet. Where memory
-    /// runs out, nothing changes.
+    /// Adds a shared table, if there is room and none of its names is present yet, and returns
+    /// whether it did. If memory runs out, nothing changes.
     pub(crate) fn join(&mut self, names: &SharedNames) -> Result<bool, NoMemory>
         ensures ok { IfOk result (λ joined. self.new
             ≡ (if joined then self.old ++ names.now.value else self.old)) }
@@ -81,8 +83,9 @@ impl ModuleNames {
         Ok(true)
     }
 
-    /// Its own names, for other modules to share; None where there are none, or it shares enough
-    /// already. They stay its names, also where memory runs out.
+    /// Turns the module's own names into a table for other modules to share. Returns `None` if
+    /// there are none, or if it already shares enough. The names stay the same, even if memory
+    /// runs out.
     pub(crate) fn share(&mut self, alloc: Global) -> Result<Option<SharedNames>, NoMemory>
         ensures { self.new ≡ self.old }
     {
@@ -104,7 +107,7 @@ impl ModuleNames {
         }
     }
 
-    /// What stands under a name that is given as a text.
+    /// Returns the entry of a name given as a string slice.
     pub fn get_text(&self, name: &str) -> Option<Entry>
         ensures { result ≡ first_of (chars name.now) self.now }
     {
@@ -114,22 +117,22 @@ impl ModuleNames {
         }
     }
 
-    /// What stands under a name.
+    /// Returns the entry of a name.
     pub fn get(&self, name: &Chars) -> Option<Entry>
         ensures { result ≡ first_of name.now self.now }
     {
         self.get_text(name.as_str())
     }
 
-    /// How many names there are.
+    /// Returns the number of names.
     pub fn len(&self) -> usize
         ensures { result ≡ length self.now }
     {
         count_in(self.shared.as_slice()) + self.own.count()
     }
 
-    /// The name with this number, from 0, and what stands under it; None exactly where there are no
-    /// more than that.
+    /// Returns the name at an index, counted from 0, and its entry, or `None` exactly if the
+    /// index is not below the number of names.
     pub fn at(&self, number: usize) -> Option<(&str, Entry)>
         ensures is { pair_found result ≡ nth self.now number }
         ensures first { IfSome result (λ p. first_of (chars p.0.now) self.now ≡ Some p.1) }
@@ -141,7 +144,7 @@ impl ModuleNames {
         }
     }
 
-    /// One more name at the end. Where memory runs out, nothing changes.
+    /// Appends a name. If memory runs out, nothing changes.
     pub fn put(&mut self, alloc: Global, name: &Chars, entry: Entry) -> Result<(), NoMemory>
         requires { first_of name.now self.old ≡ None }
         ensures ok { OnOk result (self.new ≡ self.old ++ (name.now, entry) ∷ []) }
@@ -151,7 +154,7 @@ impl ModuleNames {
     }
 }
 
-// What stands under a name in these tables.
+// Returns the entry of a name in these tables.
 fn get_in(tables: &[SharedNames], name: &str) -> Option<Entry>
     ensures { result ≡ first_of (chars name.now) (held tables.now) }
 {
@@ -163,7 +166,7 @@ fn get_in(tables: &[SharedNames], name: &str) -> Option<Entry>
     None
 }
 
-// How many names there are in these tables.
+// Returns the number of names in these tables.
 fn count_in(tables: &[SharedNames]) -> usize
     requires { length (held tables.now) ≤ 2 ^ 62 }
     ensures { result ≡ length (held tables.now) }
@@ -175,7 +178,7 @@ fn count_in(tables: &[SharedNames]) -> usize
     count
 }
 
-// The name with this number in these tables, and what stands under it.
+// Returns the name at an index in these tables, and its entry.
 fn at_in(tables: &[SharedNames], number: usize) -> Option<(&str, Entry)>
     ensures { pair_found result ≡ nth (held tables.now) number }
 {
@@ -189,7 +192,7 @@ fn at_in(tables: &[SharedNames], number: usize) -> Option<(&str, Entry)>
     None
 }
 
-// Whether these names may be one more table.
+// Returns whether these names can become another table.
 fn has_room(tables: &[SharedNames], names: &Named<Entry>) -> bool
     requires { length (held tables.now) ≤ 2 ^ 62 }
     ensures { IsTrue result → length (held tables.now) + length names.now ≤ 2 ^ 62 }
@@ -197,14 +200,14 @@ fn has_room(tables: &[SharedNames], names: &Named<Entry>) -> bool
     tables.len() < MOST_SHARED && count_in(tables) + names.count() <= MOST_NAMES
 }
 
-// Whether none of the names is in these tables; and that none of them is there twice.
+// Returns whether none of the names is in these tables, and states that no name occurs twice.
 fn have_none_of(tables: &[SharedNames], names: &Named<Entry>) -> bool
     ensures disjoint { IsTrue result → AreDisjoint (held tables.now) names.now }
     ensures apart { IsDistinct bytes_eq (keys_of names.now) }
 {
     let count = names.count();
     for table in tables {
-        // Each name of the fewer is looked up among the more.
+        // Look up each name of the smaller table in the larger one.
         let is_apart = if table.len() < count {
             has_none_of(names, table)
         } else {
@@ -217,7 +220,7 @@ fn have_none_of(tables: &[SharedNames], names: &Named<Entry>) -> bool
     true
 }
 
-// Whether none of the others is one of the names.
+// Returns whether the two tables have no name in common.
 fn has_none_of(names: &Named<Entry>, others: &Named<Entry>) -> bool
     ensures { IsTrue result → AreDisjoint names.now others.now }
 {

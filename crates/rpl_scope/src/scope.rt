@@ -1,4 +1,4 @@
-// What a name stands for where it is written.
+// The resolution of names.
 ghost use Rattle.std.specs.Prelude.{◌≡◌, chars};
 ghost use Rattle.rpl_scope.specs.Packages as P;
 ghost use Rattle.rpl_scope.specs.Packages.{bound, first_of, plain, halt_or, prefixed};
@@ -8,8 +8,8 @@ use crate::module::{Entry, Module, Prefix, Referent};
 use rpl_syntax::QName;
 use rpl_text::Chars;
 
-/// Where a name is written: the loaded modules, the module at work, and the start of the statement
-/// there.
+/// The scope at a point of a text: the loaded modules, the current module, and the start of the
+/// statement there.
 #[derive(Clone, Copy)]
 pub struct Scope<'a> {
     pub modules: &'a [Module],
@@ -17,16 +17,16 @@ pub struct Scope<'a> {
     pub start: usize,
 }
 
-/// What a name stands for.
+/// The result of resolving a name.
 #[derive(Clone, Copy, Debug, PartialEq, Eq)]
 pub enum Found {
     To(Referent),
     Unknown,
-    /// It is bound, and not to be seen there.
+    /// The name is bound, but not visible here.
     Hidden,
 }
 
-/// A name that nothing else has.
+/// Resolves a name that nothing binds: to `halt`, or to nothing.
 fn built_in(name: &str) -> Found
     ensures { result ≡ halt_or (chars name.now) Found.Unknown }
 {
@@ -36,7 +36,7 @@ fn built_in(name: &str) -> Found
     Found::Unknown
 }
 
-/// A name without a prefix, at a start.
+/// Resolves a name without a prefix, given its entry, in a statement with this start.
 fn plain(start: usize, name: &str, entry: Option<Entry>) -> Found
     ensures { result ≡ plain (chars name.now) start entry }
 {
@@ -54,7 +54,7 @@ fn plain(start: usize, name: &str, entry: Option<Entry>) -> Found
     }
 }
 
-/// What a name without a prefix stands for in a module, in a statement with this start.
+/// Resolves a name without a prefix in a module, in a statement with this start.
 pub fn find_plain(own: &Module, start: usize, name: &str) -> Found
     ensures { result ≡ plain (chars name.now) start
         (first_of (chars name.now) (module_seen own.now).names) }
@@ -62,7 +62,7 @@ pub fn find_plain(own: &Module, start: usize, name: &str) -> Found
     plain(start, name, own.names.get_text(name))
 }
 
-/// A name to those who import the module with this number.
+/// Resolves a name as the importers of a module see it.
 fn shared(from: &Module, number: usize, name: &Chars) -> Found
     ensures { result ≡ P.shared number (P.first_of name.now (module_seen from.now).names) }
 {
@@ -83,7 +83,7 @@ fn shared(from: &Module, number: usize, name: &Chars) -> Found
     }
 }
 
-/// A name after a prefix, at a start.
+/// Resolves a name after a prefix, in a statement with this start.
 fn prefixed(modules: &[Module], start: usize, name: &Chars, prefix: Option<Prefix>) -> Found
     ensures { result ≡ prefixed (modules_seen modules.now) start name.now prefix }
 {
@@ -101,7 +101,7 @@ fn prefixed(modules: &[Module], start: usize, name: &Chars, prefix: Option<Prefi
     }
 }
 
-/// What a name stands for where it is written.
+/// Resolves a name in a scope.
 pub fn find(scope: Scope<'_>, name: &QName) -> Found
     ensures { result ≡ bound (modules_seen scope.entry.modules.now)
         (module_seen scope.entry.own.now) scope.entry.start name.now }

@@ -20,16 +20,17 @@ use rpl_syntax::{Binding, Item, QName};
 use rpl_text::Chars;
 use std::alloc::Global;
 
-/// A part of a statement: a binding alone, or a half of a block.
+/// A part of a statement: a single binding, or one half of a block.
 #[derive(Clone, Copy)]
 struct Part {
-    /// How many rules the module has before the statement.
+    /// The number of rules that the module has before the statement.
     start: usize,
-    /// It is seen in its own block alone.
+    /// Whether only its own block sees it.
     hidden: bool,
 }
 
-/// The rule of a binding in the text with this number, whose name counts from that start on.
+/// Returns the rule of a binding in the text with this number. Statements that start at `since`
+/// or later see its name.
 fn rule_of(
     alloc: Global,
     text: usize,
@@ -53,7 +54,7 @@ fn rule_of(
     })
 }
 
-/// One half of a block: its names count in the whole block.
+/// Enters one half of a block: its names count in the whole block.
 fn enter_half(
     alloc: Global,
     own: &mut Module,
@@ -73,7 +74,7 @@ fn enter_half(
     Ok(())
 }
 
-/// Puts the names of bindings at the end, from left to right.
+/// Appends the names of bindings, from left to right.
 fn gather_names<'a>(bindings: &'a [Binding], all: &mut Vec<&'a QName>) -> Result<(), NoMemory>
     ensures { OnOk result (map (λ q. q.now) all.new.items ≡ map (λ q. q.now) all.old.items
         ++ names_of (S.rules_of bindings.now)) }
@@ -84,7 +85,7 @@ fn gather_names<'a>(bindings: &'a [Binding], all: &mut Vec<&'a QName>) -> Result
     Ok(())
 }
 
-/// Puts the uses of macros in bindings at the end, from left to right.
+/// Appends the uses of macros in bindings, from left to right.
 fn gather_uses<'a>(bindings: &'a [Binding], all: &mut Vec<Use<'a>>) -> Result<(), NoMemory>
     ensures { OnOk result (map use_seen all.new.items ≡ map use_seen all.old.items
         ++ uses_of (S.rules_of bindings.now)) }
@@ -95,7 +96,7 @@ fn gather_uses<'a>(bindings: &'a [Binding], all: &mut Vec<Use<'a>>) -> Result<()
     Ok(())
 }
 
-/// The names, and then the macros, of bindings in two halves.
+/// Checks the names and then the macros of the bindings in two halves.
 fn check_bodies(
     alloc: Global,
     file: &Chars,
@@ -117,7 +118,7 @@ fn check_bodies(
     check_macros(alloc, file, &uses)
 }
 
-/// The rules of a statement that starts where the module has so many rules.
+/// Enters the rules of a statement, given the number of rules before it.
 fn enter_rules(
     alloc: Global,
     own: &mut Module,
@@ -150,7 +151,7 @@ fn enter_rules(
     }
 }
 
-/// The names, and then the macros, of a statement.
+/// Checks the names and then the macros of a statement.
 fn check_item(alloc: Global, file: &Chars, scope: Scope<'_>, item: &Item) -> Result<(), Stop>
     ensures { Checks result (bodies_fault file.now (modules_seen scope.entry.modules.now)
         scope.entry.start (bindings_of (S.entry_of item.now)) (module_seen scope.entry.own.now)) }
@@ -166,7 +167,7 @@ fn check_item(alloc: Global, file: &Chars, scope: Scope<'_>, item: &Item) -> Res
     }
 }
 
-/// A statement of a text: its rules are entered; then come its names, and then its macros.
+/// Enters a statement of a text: first its rules, then a check of its names, then of its macros.
 fn enter_item(
     alloc: Global,
     modules: &[Module],
@@ -188,7 +189,7 @@ fn enter_item(
     check_item(alloc, text.file, scope, item)
 }
 
-/// The statements of a text, in order.
+/// Enters the statements of a text, in order.
 #[inline(never)]
 pub fn enter_items(
     alloc: Global,

@@ -5,7 +5,7 @@ ghost use Rattle.rpl_syntax.specs.View.{shown, expr_of};
 
 use crate::expr::{Expr, Exprs};
 
-/// The items as one group, raw or cooked.
+/// Returns the items as one group, raw or cooked.
 pub fn wrap(raw: bool, items: Exprs) -> Expr
     ensures { expr_of result ≡ wrapped raw (shown items) }
 {
@@ -16,7 +16,7 @@ pub fn wrap(raw: bool, items: Exprs) -> Expr
     }
 }
 
-/// A sequence of these items: of one item, that item.
+/// Returns a sequence of the items, or the item itself if there is only one.
 pub fn join(raw: bool, items: Exprs) -> Expr
     ensures { expr_of result ≡ joined raw (shown items) }
 {
@@ -27,7 +27,7 @@ pub fn join(raw: bool, items: Exprs) -> Expr
     wrap(raw, items)
 }
 
-/// A choice of these parts: of one part, that part.
+/// Returns a choice of the parts, or the part itself if there is only one.
 pub fn choose(parts: Exprs) -> Expr
     ensures { expr_of result ≡ chosen (shown parts) }
 {

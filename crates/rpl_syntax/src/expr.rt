@@ -1,4 +1,4 @@
-// Expressions as they are written, with their names.
+// Expressions as written, with their names.
 ghost use Rattle.std.specs.Option.{option_copied};
 ghost use Rattle.std.specs.Prelude.{◌≡◌, List, [], ◌∷◌, ◌++◌, length, slice_get, OnOk, OnErr, IfOk};
 ghost use Rattle.rpl_syntax.specs.View.{expr_of, exprs_all, listed};
@@ -12,37 +12,37 @@ use std::alloc::Global;
 /// The sign of a predicate.
 #[derive(Clone, Copy, Debug)]
 pub enum Sign {
-    /// `!`: the item doesn't follow.
+    /// `!`: the item does not match here.
     Not,
-    /// `>`: the item follows.
+    /// `>`: the item matches here.
     Ahead,
-    /// `<`: the item ends here.
+    /// `<`: a match of the item ends here.
     Behind,
 }
 
-/// What a search makes of a stretch of text.
+/// The role of a stretch of text in a search.
 #[derive(Clone, Copy, Debug)]
 pub enum Mark {
-    /// What was looked for.
+    /// The text that was searched for.
     Hit,
-    /// What was passed over.
+    /// The text that was skipped.
     Skip,
 }
 
-/// Expressions in order, as the items of a group or the parts of a choice.
+/// A list of expressions: the items of a group or the parts of a choice.
 #[cycle(expr)]
 #[derive(Debug, Drop)]
 pub struct Exprs {
     pub(crate) items: Vec<Expr>,
 }
 
-/// An expression as it is written: what `specs/Expression.antt` defines.
+/// An expression as written, as defined in `specs/Expression.antt`.
 #[cycle(expr)]
 #[derive(Debug, Drop)]
 pub enum Expr {
-    /// The characters in turn.
+    /// These characters, one after the other.
     Text(Chars),
-    /// One character of the set, or one that is not in it.
+    /// One character that is in the set, or one that is not.
     Class {
         set: Set,
         negated: bool,
@@ -55,37 +55,38 @@ pub enum Expr {
     End,
     /// The boundary between two words: `~`.
     Boundary,
-    /// What the name is bound to.
+    /// The expression that the name is bound to.
     Name(QName),
-    /// The items in turn, with the boundary between them: `( )`.
+    /// The items one after the other, with the boundary between them: `( )`.
     Cooked(Exprs),
-    /// The items in turn: `{ }`.
+    /// The items one after the other: `{ }`.
     Raw(Exprs),
     /// The first of two or more parts that matches: `/`.
     Choice(Exprs),
-    /// The second, where the first matches too: `&`.
+    /// The second expression, if the first matches here too: `&`.
     Both(Box<Expr>, Box<Expr>),
-    /// A predicate, which takes nothing.
+    /// A predicate, which consumes nothing.
     Prefix(Sign, Box<Expr>),
-    /// The body from `least` to `most` times, or `least` times and more.
+    /// The body repeated from `least` to `most` times, or `least` or more times if there is no
+    /// `most`.
     Repeat {
         body: Box<Expr>,
         least: u32,
         most: Option<u32>,
     },
-    /// What the macro makes of its argument.
+    /// A macro applied to its argument.
     Macro {
         name: QName,
         arg: Box<Expr>,
     },
     /// A stretch of a search. Only macros make it.
     Marked(Mark, Box<Expr>),
-    /// A message at this place. Only macros make it.
+    /// A message at this point. Only macros make it.
     Note(Chars),
 }
 
 impl Exprs {
-    /// No expressions. It takes no memory.
+    /// Returns an empty list. Does not allocate.
     pub fn new(alloc: Global) -> Exprs
         ensures { listed result ≡ [] }
     {
@@ -94,7 +95,7 @@ impl Exprs {
         }
     }
 
-    /// Adds an expression at the end. Where memory runs out, nothing changes.
+    /// Appends an expression. If memory runs out, the list is unchanged.
     pub fn push(&mut self, item: Expr) -> Result<(), NoMemory>
         ensures ok { OnOk result (listed self.new ≡ listed self.old ++ item ∷ []) }
         ensures err { OnErr result (listed self.new ≡ listed self.old) }
@@ -103,35 +104,35 @@ impl Exprs {
         Ok(())
     }
 
-    /// Gives the expressions away as a `Vec`, with no copy.
+    /// Returns the expressions as a `Vec` without copying them.
     pub fn into_vec(self) -> Vec<Expr>
         ensures { result.items ≡ listed self }
     {
         self.items
     }
 
-    /// The number of expressions.
+    /// Returns the number of expressions.
     pub fn len(&self) -> usize
         ensures { result ≡ length (listed self.now) }
     {
         self.items.len()
     }
 
-    /// The expression with this number, from 0.
+    /// Returns the expression at an index, counted from 0.
     pub fn get(&self, index: usize) -> Option<&Expr>
         ensures { option_copied result ≡ slice_get (listed self.now) index }
     {
         self.items.get(index)
     }
 
-    /// All of them.
+    /// Returns all expressions as a slice.
     pub fn as_slice(&self) -> &[Expr]
         ensures { result.now ≡ listed self.now }
     {
         &self.items
     }
 
-    /// Equal expressions.
+    /// Returns a list of equal expressions.
     #[cycle(copy)]
     pub fn copy(&self, alloc: Global) -> Result<Exprs, NoMemory>
         ensures { IfOk result (λ ps. exprs_all (listed ps) ≡ exprs_all (listed self.now)) }
@@ -144,7 +145,7 @@ impl Exprs {
     }
 }
 
-/// A box with a copy of the expression.
+/// Returns a box with a copy of the expression.
 #[cycle(copy)]
 fn boxed(alloc: Global, body: &Expr) -> Result<Box<Expr>, NoMemory>
     ensures { IfOk result (λ b. expr_of b.value ≡ expr_of body.now) }
@@ -154,7 +155,7 @@ fn boxed(alloc: Global, body: &Expr) -> Result<Box<Expr>, NoMemory>
 }
 
 impl Expr {
-    /// An equal expression.
+    /// Returns an equal expression.
     #[cycle(copy)]
     pub fn copy(&self, alloc: Global) -> Result<Expr, NoMemory>
         ensures { IfOk result (λ e. expr_of e ≡ expr_of self.now) }

@@ -1,4 +1,4 @@
-// What holds of the grammar, of texts and of printing.
+// Laws of the grammar, of texts and of printing.
 ghost use Rattle.std.specs.Prelude.{◌≡◌, ℕ, List, [], Some, IsUtf8};
 ghost use Rattle.rpl_syntax.specs.Expression as M;
 ghost use Rattle.rpl_syntax.specs.Grammar.{Reads, spell_exp};
@@ -12,43 +12,43 @@ ghost use Rattle.rpl_syntax.specs.Texts.{Writable};
 ghost use Rattle.rpl_syntax.specs.Writing.{write_exp};
 ghost use Rattle.rpl_syntax.specs.declared.token.Token.{Token};
 
-/// No tokens are a spelling of two expressions, and reading from left to right finds what they
-/// spell.
+/// No tokens spell two expressions, and reading from left to right finds the one that they spell.
 pub fn one_reading()
     ensures only { (p : List Token) (x y : M.Expr) → Reads p x → Reads p y → x ≡ y }
     ensures read { (p : List Token) (x : M.Expr) → Reads p x → read p ≡ Some x }
     ensures spelled { (p : List Token) (x : M.Expr) → read p ≡ Some x → Reads p x }
 {}
 
-/// The tokens of the printed text of what some tokens spell are a spelling of it with the braces
-/// that printing adds: a choice or an `&` that stands as an item, and what a quantifier can't stand
-/// after, is then a raw group of one item. But for the places of names, nothing else changes.
+/// Printing the expression that some tokens spell gives tokens that spell it with added braces: a
+/// choice or an `&` that is an item, and any body that a quantifier cannot follow directly,
+/// becomes a raw group of one item. Apart from the byte offsets of names, nothing else changes.
 pub fn reads_back()
     ensures { (p : List Token) (x : M.Expr) → Reads p x →
         (y : M.Expr) × Reads (spell_exp (exp_tree x) []) y × (plain y ≡ plain (again x)) }
 {}
 
-/// The printed text of an expression is its tree as it is written: the text of each token in turn,
-/// with spaces between.
+/// The printed text of an expression is its tree as written: the text of each token, separated by
+/// spaces.
 pub fn prints_tree()
     ensures { (x : M.Expr) → Good x → printed x ≡ write_exp (exp_tree x) [] }
 {}
 
-/// A text is read as one expression, and what a text is read as can be written.
+/// A text is read as at most one expression, and any expression that a text is read as can be
+/// written.
 pub fn readings_of_texts()
     ensures only { (s : List ℕ) (x y : M.Expr) → IsReadAs s x → IsReadAs s y → x ≡ y }
     ensures writable { (s : List ℕ) (x : M.Expr) → IsUtf8 s → IsReadAs s x → Good x × Writable x }
 {}
 
-/// The printed text of an expression is read as that expression with the braces that printing adds,
-/// and nothing else changes but the places of names.
+/// The printed text of an expression is read as that expression with the braces that printing
+/// adds. Nothing else changes except the byte offsets of names.
 pub fn printed_reads_back()
     ensures { (x : M.Expr) → Good x → Writable x → HasFewTokens x → ReadsBack x }
 {}
 
-/// What a text is read as is printed, and the printed text is read as the same expression, up to
-/// the places of names and up to taking a raw group of one item as that item. So is what is printed
-/// of anything that can be written.
+/// Printing the expression that a text is read as gives a text that is read as the same
+/// expression, apart from the byte offsets of names, and treating a raw group of one item as that
+/// item. The same is true of any expression that can be written.
 pub fn printed_reads_as_itself()
     ensures read { (s : List ℕ) (x : M.Expr) → IsUtf8 s → IsReadAs s x → HasFewTokens x →
         ReadsAsItself x }

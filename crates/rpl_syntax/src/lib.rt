@@ -1,11 +1,10 @@
-//! The syntax of RPL: tokens with what they stand for, expressions, modules, the grammar, and
-//! printing.
+//! The syntax of RPL: tokens with their values, expressions, modules, the grammar, and printing.
 //!
-//! For the parser, which makes expressions and modules of tokens, and for all that walk over them.
-//! The grammar (`specs/Grammar.antt`) is a relation with one case for each of its lines; the laws
-//! promise that no tokens are a spelling of two expressions, and that the printed text of an
-//! expression is cut into tokens that are read as that expression (`specs/Texts.antt`). Besides,
-//! only memory can run out.
+//! The parser builds expressions and modules from tokens; every later stage walks over them. The
+//! grammar (`specs/Grammar.antt`) is a relation with one case for each of its lines. The laws
+//! promise that no sequence of tokens spells two expressions, and that the printed text of an
+//! expression is read back as that expression (`specs/Texts.antt`). The only failure is running
+//! out of memory.
 #![tactic(auto)]
 
 mod build;

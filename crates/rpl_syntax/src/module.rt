@@ -1,4 +1,4 @@
-// Modules: what the statements of a file say.
+// Modules: the statements of a file.
 use crate::expr::Expr;
 use crate::name::QName;
 use rpl_list::List;
@@ -7,37 +7,37 @@ use rpl_text::Chars;
 /// A rule: a name and its expression.
 #[derive(Debug, Drop)]
 pub struct Binding {
-    /// The name; `~` for the module's own boundary.
+    /// The name, or `~` for the module's own boundary.
     pub name: Chars,
-    /// The byte place of the statement's first token.
+    /// The byte offset of the statement's first token.
     pub at: usize,
-    /// Importers don't see it.
+    /// Whether importers cannot see the rule.
     pub local: bool,
-    /// It makes no node.
+    /// Whether the rule makes no node.
     pub alias: bool,
-    /// What it stands for.
+    /// The expression that the name is bound to.
     pub body: Expr,
 }
 
-/// Under which prefix the names of an import are seen.
+/// The prefix under which the names of an import are visible.
 #[derive(Debug, Drop)]
 pub enum ImportAs {
     /// The last name of the path.
     Last,
     /// The name after `as`.
     Named(Chars),
-    /// None: `as .`.
+    /// No prefix: `as .`.
     Plain,
 }
 
 /// An entry of an import statement.
 #[derive(Debug, Drop)]
 pub struct Import {
-    /// The names of the path, with `/` between them.
+    /// The names of the path, separated by `/`.
     pub path: Chars,
-    /// The byte place of the entry's first token.
+    /// The byte offset of the entry's first token.
     pub at: usize,
-    /// Its prefix.
+    /// The prefix of the imported names.
     pub name: ImportAs,
 }
 
@@ -52,7 +52,7 @@ pub type Imports = List<Import>;
 pub enum Item {
     Binding(Binding),
     Block {
-        /// Those before `in`, which only the block sees.
+        /// The rules before `in`, which only the block sees.
         hidden: Bindings,
         visible: Bindings,
     },
@@ -61,10 +61,10 @@ pub enum Item {
 /// Rules and blocks in order.
 pub type Items = List<Item>;
 
-/// What a file says.
+/// The content of a file.
 #[derive(Debug, Drop)]
 pub struct Module {
-    /// The name of the package statement, at the place of that statement's first token.
+    /// The name in the package statement; its offset is that of the statement's first token.
     pub package: Option<QName>,
     pub imports: Imports,
     pub items: Items,

@@ -1,23 +1,23 @@
-// Names as they are written.
+// Names as written.
 ghost use Rattle.std.specs.Prelude.{◌≡◌, Option, IfOk};
 
 use crate::NoMemory;
 use rpl_text::Chars;
 use std::alloc::Global;
 
-/// A name, with or without a prefix, and the byte place of its token.
+/// A name, with or without a prefix, and the byte offset of its token.
 #[derive(Debug, Drop)]
 pub struct QName {
-    /// What stands before the dot.
+    /// The part before the dot, if there is a dot.
     pub prefix: Option<Chars>,
-    /// The name, or what stands after the dot.
+    /// The name, or the part after the dot.
     pub name: Chars,
-    /// The byte place of its first character.
+    /// The byte offset of the first character.
     pub at: usize,
 }
 
 impl QName {
-    /// The same name once more.
+    /// Returns an equal name.
     pub fn copy(&self, alloc: Global) -> Result<QName, NoMemory>
         ensures { IfOk result (λ q. q ≡ self.now) }
     {

@@ -13,14 +13,14 @@ use crate::printer::Printer;
 use rpl_text::Chars;
 use std::alloc::Global;
 
-/// A choice or an `&`.
+/// Returns whether the expression is a choice or an `&`.
 fn is_choice_or_both(e: &Expr) -> bool
     ensures { result ≡ is_joined (expr_of e.now) }
 {
     matches!(e, Expr::Choice(_) | Expr::Both(..))
 }
 
-/// What a quantifier needs braces for.
+/// Returns whether the expression needs braces before a quantifier.
 fn needs_braces(e: &Expr) -> bool
     ensures { result ≡ is_compound (expr_of e.now) }
 {
@@ -35,7 +35,7 @@ fn needs_braces(e: &Expr) -> bool
 }
 
 impl Printer {
-    /// The sign of a predicate.
+    /// Prints the sign of a predicate.
     fn sign(&mut self, sign: Sign) -> Result<(), NoMemory>
         ensures { OnOk result (self.new ≡ self.old ++ sign_char sign ∷ []) }
     {
@@ -46,7 +46,7 @@ impl Printer {
         }
     }
 
-    /// A sign with a space on each side.
+    /// Prints a sign with a space on each side.
     fn between_parts(&mut self, sign: char) -> Result<(), NoMemory>
         ensures { OnOk result (self.new ≡ self.old ++ 32 ∷ sign ∷ 32 ∷ []) }
     {
@@ -55,7 +55,7 @@ impl Printer {
         self.put(' ')
     }
 
-    /// Where it stands alone, or as the last part of a choice or of an `&`.
+    /// Prints an expression that stands alone, or is the last part of a choice or of an `&`.
     #[cycle(print)]
     fn expression(&mut self, e: &Expr) -> Result<(), NoMemory>
         ensures { OnOk result (self.new ≡ self.old ++ printed (expr_of e.now)) }
@@ -93,7 +93,7 @@ impl Printer {
         }
     }
 
-    /// Where it stands as an item: a choice or an `&` in braces.
+    /// Prints an expression that is an item, with braces around a choice or an `&`.
     #[cycle(print)]
     fn item(&mut self, e: &Expr) -> Result<(), NoMemory>
         ensures { OnOk result (self.new ≡ self.old ++ item_printed (expr_of e.now)) }
@@ -101,7 +101,7 @@ impl Printer {
         self.braced(e, is_choice_or_both(e))
     }
 
-    /// Where it stands under a quantifier: in braces, unless it is an atom.
+    /// Prints the body of a quantifier, with braces unless it is an atom.
     #[cycle(print)]
     fn body(&mut self, e: &Expr) -> Result<(), NoMemory>
         ensures { OnOk result (self.new ≡ self.old ++ body_printed (expr_of e.now)) }
@@ -109,7 +109,7 @@ impl Printer {
         self.braced(e, needs_braces(e))
     }
 
-    /// In braces, where it needs them.
+    /// Prints an expression, in braces if `braces` is set.
     #[cycle(print)]
     fn braced(&mut self, e: &Expr, braces: bool) -> Result<(), NoMemory>
         ensures { OnOk result (self.new ≡ self.old ++ in_braces braces (printed (expr_of e.now))) }
@@ -123,7 +123,7 @@ impl Printer {
         }
     }
 
-    /// The items between these signs.
+    /// Prints the items between an opening and a closing sign.
     #[cycle(print)]
     fn group(&mut self, opening: char, items: &Exprs, closing: char) -> Result<(), NoMemory>
         ensures { OnOk result (self.new ≡ self.old
@@ -134,7 +134,7 @@ impl Printer {
         self.put(closing)
     }
 
-    /// The items of a group.
+    /// Prints the items of a group.
     #[cycle(print)]
     fn items(&mut self, items: &Exprs) -> Result<(), NoMemory>
         ensures { OnOk result (self.new ≡ self.old ++ items_printed (shown items.now)) }
@@ -146,7 +146,7 @@ impl Printer {
         Ok(())
     }
 
-    /// An item of a group, with a space after it where another follows.
+    /// Prints an item of a group, and a space if another follows.
     #[cycle(print)]
     fn item_of_group(&mut self, item: &Expr, more: bool) -> Result<(), NoMemory>
         ensures { OnOk result (self.new ≡ self.old ++ item_of_group more (expr_of item.now)) }
@@ -155,7 +155,7 @@ impl Printer {
         if more { self.put(' ') } else { Ok(()) }
     }
 
-    /// The parts of a choice.
+    /// Prints the parts of a choice.
     #[cycle(print)]
     fn parts(&mut self, parts: &Exprs) -> Result<(), NoMemory>
         ensures { OnOk result (self.new ≡ self.old ++ parts_printed (shown parts.now)) }
@@ -167,7 +167,7 @@ impl Printer {
         Ok(())
     }
 
-    /// A part of a choice, with the slash after it where another follows.
+    /// Prints a part of a choice, and the slash if another follows.
     #[cycle(print)]
     fn part_of_choice(&mut self, part: &Expr, more: bool) -> Result<(), NoMemory>
         ensures { OnOk result (self.new ≡ self.old ++ part_of_choice more (expr_of part.now)) }
@@ -181,8 +181,8 @@ impl Printer {
     }
 }
 
-/// The text of an expression, as `specs/Printed.antt` defines it. What only macros make has no
-/// spelling: of `Marked` the body is printed, of `Note` the text.
+/// Returns the text of an expression, as defined in `specs/Printed.antt`. Expressions that only
+/// macros make have no spelling: `Marked` prints as its body, `Note` as its text.
 pub fn print_expr(alloc: Global, e: &Expr) -> Result<Chars, NoMemory>
     ensures { IfOk result (λ text. text ≡ printed (expr_of e.now)) }
 {

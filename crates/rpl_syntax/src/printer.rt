@@ -1,4 +1,4 @@
-// A text that grows by what an expression is made of.
+// A text that is built from the parts of an expression.
 ghost use Rattle.std.specs.Fmt.{decimal};
 ghost use Rattle.std.specs.Prelude.{◌≡◌, ◌<◌, ◌+◌, ◌/◌, ◌%◌, None, [], ◌∷◌, ◌++◌, chars, OnOk};
 ghost use Rattle.std.specs.Prelude.{IfOk};
@@ -30,7 +30,7 @@ impl Model for Printer {
 }
 
 impl Printer {
-    /// Nothing yet.
+    /// Returns an empty text.
     pub fn new(alloc: Global) -> Printer
         ensures { result ≡ [] }
     {
@@ -39,14 +39,14 @@ impl Printer {
         }
     }
 
-    /// The text so far.
+    /// Returns the text so far.
     pub fn finish(&self, alloc: Global) -> Result<Chars, NoMemory>
         ensures { IfOk result (λ c. c ≡ self.now) }
     {
         Chars::from_str(alloc, &self.text)
     }
 
-    /// A character.
+    /// Appends a character.
     pub fn put(&mut self, c: char) -> Result<(), NoMemory>
         ensures { OnOk result (self.new ≡ self.old ++ c ∷ []) }
     {
@@ -54,7 +54,7 @@ impl Printer {
         Ok(())
     }
 
-    /// A text as it is.
+    /// Appends a text as it is.
     pub fn word(&mut self, text: &Chars) -> Result<(), NoMemory>
         ensures { OnOk result (self.new ≡ self.old ++ text.now) }
     {
@@ -62,7 +62,7 @@ impl Printer {
         Ok(())
     }
 
-    /// A number in decimal digits.
+    /// Appends a number in decimal digits.
     pub fn decimal(&mut self, number: u32) -> Result<(), NoMemory>
         ensures { OnOk result (self.new ≡ self.old ++ decimal number) }
     {
@@ -70,7 +70,7 @@ impl Printer {
         Ok(())
     }
 
-    /// A hexadecimal digit, where ten is this letter.
+    /// Appends a hexadecimal digit; `letter` is the letter for ten.
     fn digit(&mut self, letter: u8, value: u32) -> Result<(), NoMemory>
         requires value { value < 16 }
         requires letter { letter < 100 }
@@ -85,7 +85,7 @@ impl Printer {
         self.put(char::from(byte))
     }
 
-    /// A backslash and a character.
+    /// Appends a backslash and a character.
     fn escape(&mut self, c: char) -> Result<(), NoMemory>
         ensures { OnOk result (self.new ≡ self.old ++ 92 ∷ c ∷ []) }
     {
@@ -93,7 +93,7 @@ impl Printer {
         self.put(c)
     }
 
-    /// A control as `\xHH`.
+    /// Appends a control character as `\xHH`.
     fn control(&mut self, c: u32) -> Result<(), NoMemory>
         requires { c < 128 }
         ensures { OnOk result (self.new ≡ self.old ++ 92 ∷ 120 ∷ digit_char 97 (c / 16) ∷ digit_char
@@ -104,7 +104,7 @@ impl Printer {
         self.digit(b'a', c % 16)
     }
 
-    /// A character between quotes.
+    /// Appends a character as written between quotes.
     fn quoted(&mut self, c: char) -> Result<(), NoMemory>
         ensures { OnOk result (self.new ≡ self.old ++ quoted_char c) }
     {
@@ -119,7 +119,7 @@ impl Printer {
         }
     }
 
-    /// A text between quotes.
+    /// Appends a text between quotes.
     pub fn literal(&mut self, text: &Chars) -> Result<(), NoMemory>
         ensures { OnOk result (self.new ≡ self.old ++ literal_text text.now) }
     {
@@ -128,7 +128,7 @@ impl Printer {
         self.put('"')
     }
 
-    /// The characters of a text, between quotes that are not written here.
+    /// Appends the characters of a text as written between quotes, but not the quotes.
     fn inside(&mut self, text: &str) -> Result<(), NoMemory>
         ensures { OnOk result (self.new ≡ self.old ++ quoted (chars text.now)) }
     {
@@ -138,7 +138,7 @@ impl Printer {
         Ok(())
     }
 
-    /// Four upper-case hexadecimal digits.
+    /// Appends a number as four upper-case hexadecimal digits.
     fn four_digits(&mut self, number: u32) -> Result<(), NoMemory>
         requires { number < 65536 }
         ensures { OnOk result (self.new ≡ self.old ++ four_digits number) }
@@ -149,7 +149,7 @@ impl Printer {
         self.digit(b'A', number % 16)
     }
 
-    /// A character by its number: `\UXXXXXXXX`.
+    /// Appends a character by its number: `\UXXXXXXXX`.
     #[tactic(auto, unfolding(crate::specs::Printed::point_text))]
     fn point(&mut self, c: u32) -> Result<(), NoMemory>
         ensures { OnOk result (self.new ≡ self.old ++ point_text c) }
@@ -159,7 +159,7 @@ impl Printer {
         self.four_digits(c % 65536)
     }
 
-    /// A range as a bracket of its own.
+    /// Appends a range as a bracket of its own.
     #[tactic(auto, unfolding(crate::specs::Printed::range_text))]
     fn range(&mut self, low: u32, high: u32) -> Result<(), NoMemory>
         ensures { OnOk result (self.new ≡ self.old ++ range_text low high) }
@@ -180,7 +180,7 @@ impl Printer {
         Ok(())
     }
 
-    /// What stands for no character: the complement of all.
+    /// Appends a bracket that matches no character: the complement of all characters.
     fn nothing(&mut self) -> Result<(), NoMemory>
         ensures { OnOk result (self.new ≡ self.old ++ members_text []) }
     {
@@ -207,7 +207,7 @@ impl Printer {
         if negated { self.put('^') } else { Ok(()) }
     }
 
-    /// A set as a bracket of ranges.
+    /// Appends a set as a bracket of ranges.
     pub fn class(&mut self, set: &Set, negated: bool) -> Result<(), NoMemory>
         ensures { OnOk result (self.new ≡ self.old ++ class_text set.now negated) }
     {
@@ -217,7 +217,7 @@ impl Printer {
         self.put(']')
     }
 
-    /// A name, after its prefix and a dot where it has one.
+    /// Appends a name, after its prefix and a dot if it has one.
     pub fn name(&mut self, name: &QName) -> Result<(), NoMemory>
         ensures { OnOk result (self.new ≡ self.old ++ name_text name.now) }
     {
@@ -228,7 +228,7 @@ impl Printer {
         self.word(&name.name)
     }
 
-    /// Bounds of two numbers: `{n,m}`.
+    /// Appends bounds of two numbers: `{n,m}`.
     fn between(&mut self, least: u32, most: u32) -> Result<(), NoMemory>
         ensures { OnOk result (self.new ≡ self.old ++ 123 ∷ decimal least ++ 44 ∷ decimal most
             ++ 125 ∷ []) }
@@ -240,7 +240,7 @@ impl Printer {
         self.put('}')
     }
 
-    /// Bounds of one number: `{n}`.
+    /// Appends bounds of one number: `{n}`.
     fn exactly(&mut self, count: u32) -> Result<(), NoMemory>
         ensures { OnOk result (self.new ≡ self.old ++ 123 ∷ decimal count ++ 125 ∷ []) }
     {
@@ -249,7 +249,7 @@ impl Printer {
         self.put('}')
     }
 
-    /// Bounds without an upper number: `{n,}`.
+    /// Appends bounds without an upper number: `{n,}`.
     fn at_least(&mut self, least: u32) -> Result<(), NoMemory>
         ensures { OnOk result (self.new ≡ self.old ++ bounds_text least None) }
     {
@@ -259,7 +259,7 @@ impl Printer {
         self.put('}')
     }
 
-    /// A quantifier.
+    /// Appends a quantifier.
     pub fn quantifier(&mut self, least: u32, most: Option<u32>) -> Result<(), NoMemory>
         ensures { OnOk result (self.new ≡ self.old ++ quant_text least most) }
     {

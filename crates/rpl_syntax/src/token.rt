@@ -1,10 +1,10 @@
-// Tokens with what they stand for, as the grammar sees them.
+// Tokens with their values, as the grammar sees them.
 use rpl_classes::Set;
 use rpl_lexer::{Keyword, Punct};
 use rpl_text::Chars;
 
-/// A token with what it stands for: the characters of a text with its escapes read, the set of a
-/// bracket, the numbers of bounds. A name keeps its byte place, which an expression keeps too.
+/// A token with its value: the characters of a text with escapes decoded, the set of a bracket,
+/// the numbers of bounds. A name keeps its byte offset, so that an expression can keep it too.
 #[derive(Debug, Drop)]
 pub enum Token {
     Name {
@@ -22,7 +22,7 @@ pub enum Token {
         set: Set,
         negated: bool,
     },
-    /// From `least` to `most` times, or `least` times and more.
+    /// From `least` to `most` times, or `least` or more times if there is no `most`.
     Bounds {
         least: u32,
         most: Option<u32>,

@@ -1,4 +1,4 @@
-// A text of its own, whose copies share one string.
+// An owned text whose copies share one string.
 ghost use Rattle.std.specs.Prelude.{◌≡◌, [], IfOk, chars};
 
 use crate::NoMemory;
@@ -6,18 +6,18 @@ use std::alloc::Global;
 use std::marker::Model;
 use std::rc::Rc;
 
-/// What holds the characters.
+/// The storage of the characters.
 #[derive(Debug, Drop)]
 enum Held {
     /// The empty text, which takes no memory.
     Nothing,
-    /// What the text and its copies share.
+    /// The string that the text shares with its copies.
     Shared(Rc<String>),
 }
 
-/// A text of its own. Contracts see it as the list of its characters.
+/// An owned text. Contracts see it as the list of its characters.
 ///
-/// The characters of a text and of its copies stand in memory once.
+/// A text and its copies share one string in memory.
 #[derive(Debug, Drop)]
 pub struct Chars {
     text: Held,
@@ -33,7 +33,7 @@ impl Model for Chars {
 }
 
 impl Chars {
-    /// The empty text. It takes no memory.
+    /// Returns the empty text. Does not allocate.
     pub fn empty(_alloc: Global) -> Chars
         ensures { result ≡ [] }
     {
@@ -42,7 +42,7 @@ impl Chars {
         }
     }
 
-    /// A copy of the text.
+    /// Copies a string into a new text.
     pub fn from_str(alloc: Global, text: &str) -> Result<Chars, NoMemory>
         ensures { IfOk result (λ c. c ≡ chars text.now) }
     {
@@ -55,7 +55,7 @@ impl Chars {
         }
     }
 
-    /// The text as a borrowed one.
+    /// Returns the text as a string slice.
     #[inline]
     pub fn as_str(&self) -> &str
         ensures { chars result.now ≡ self.now }
@@ -66,8 +66,8 @@ impl Chars {
         }
     }
 
-    /// The same text once more. It takes no memory but where the string has too many copies to
-    /// count.
+    /// Returns another handle to the same text. Allocates only if the string already has too many
+    /// copies to count.
     pub fn copy(&self, alloc: Global) -> Result<Chars, NoMemory>
         ensures { IfOk result (λ c. c ≡ self.now) }
     {

@@ -1,10 +1,10 @@
-// Escapes of quoted texts and brackets.
+// Escapes in quoted texts and brackets.
 ghost use Rattle.std.specs.Prelude.{◌≡◌, ◌+◌, ◌<◌, ◌≤◌, Some, IfSome, OnSome, slice_get, drop};
 ghost use Rattle.std.specs.Prelude.{length, chars};
 ghost use Rattle.rpl_text.specs.Escapes.{hex, numbered, escape, shifted, escape_from};
 ghost use Rattle.rpl_text.specs.Places.{index};
 
-/// The number that stands at the front in so many hexadecimal digits.
+/// Parses the first `digits` bytes as a hexadecimal number.
 fn hex_number(bytes: &[u8], digits: usize) -> Option<u32>
     requires { digits ≤ 8 }
     ensures value { result ≡ hex digits 0 bytes.now }
@@ -18,7 +18,8 @@ fn hex_number(bytes: &[u8], digits: usize) -> Option<u32>
     Some(number)
 }
 
-/// The character of a number after a letter.
+/// Returns the character whose number follows an escape's letter, in exactly `digits` hexadecimal
+/// digits, if the number is at most `last`.
 fn numbered_char(bytes: &[u8], digits: usize, last: u32) -> Option<(char, usize)>
     requires { digits ≤ 8 }
     ensures value { result ≡ numbered digits last (hex digits 0 bytes.now) }
@@ -31,10 +32,11 @@ fn numbered_char(bytes: &[u8], digits: usize, last: u32) -> Option<(char, usize)
     Some((char::from_u32(number)?, 1 + digits))
 }
 
-/// The character that the bytes after a backslash mean, and how many of them mean it.
+/// Returns the character that the bytes after a backslash mean, and how many bytes the escape has
+/// after the backslash.
 ///
-/// The escapes are `\\ \" \n \r \t \[ \] \- \^ \:`, `\xHH` up to 7F, `\uHHHH` and `\UHHHHHHHH` with
-/// digits in either case; None exactly where none of them begins.
+/// The escapes are `\\ \" \n \r \t \[ \] \- \^ \:`, `\xHH` up to 7F, `\uHHHH` and `\UHHHHHHHH`
+/// with digits in either case. Returns `None` exactly when the bytes begin with none of these.
 #[tactic(auto, unfolding(crate::specs::Escapes::escape))]
 pub fn escape(rest: &[u8]) -> Option<(char, usize)>
     ensures value { result ≡ escape rest.now }
@@ -55,7 +57,7 @@ pub fn escape(rest: &[u8]) -> Option<(char, usize)>
     }
 }
 
-/// The bytes after the one at a place.
+/// Returns the bytes after the byte at an offset.
 fn bytes_behind(text: &str, place: usize) -> &[u8]
     requires { place < length text.now }
     ensures { result.now ≡ drop (place + 1) text.now }
@@ -63,7 +65,7 @@ fn bytes_behind(text: &str, place: usize) -> &[u8]
     &text.as_bytes()[place + 1..]
 }
 
-/// The escape whose backslash stands at a byte place, by its bytes.
+/// Reads the escape whose backslash is at a byte offset.
 fn escape_at(text: &str, place: usize) -> Option<(char, usize)>
     requires { slice_get text.now place ≡ Some 92 }
     ensures { result ≡ shifted (place + 1) (escape (drop (place + 1) text.now)) }
@@ -75,8 +77,8 @@ fn escape_at(text: &str, place: usize) -> Option<(char, usize)>
     }
 }
 
-/// The character of the escape whose backslash stands at a byte place of the text, and the place
-/// after the escape; None exactly where no escape stands there.
+/// Returns the character of the escape whose backslash is at a byte offset of the text, and the
+/// offset after the escape. Returns `None` exactly when no escape begins there.
 pub fn read_escape(text: &str, place: usize) -> Option<(char, usize)>
     requires { slice_get text.now place ≡ Some 92 }
     ensures chars { result ≡ escape_from (chars text.now) (index (chars text.now) place) }

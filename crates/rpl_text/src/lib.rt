@@ -1,10 +1,10 @@
-//! Text by characters and by byte places.
+//! Text as characters and byte offsets.
 //!
-//! For the readers of patterns and for the machine, which walk over a line character by character,
-//! and for all that read escapes or numbers. A text is seen as the list of its characters, and a
-//! place in it is the number of bytes before a character. Each call promises which character, place
-//! or number it answers, and exactly where it answers none. Only the calls of `Chars` that copy
-//! take memory.
+//! The readers of patterns, escapes and numbers use it, and so does the machine, which walks over
+//! a line character by character. Contracts see a text as the list of its characters. A place in
+//! a text is the byte offset of a character, or that of the end. Each function promises which
+//! character, place or number it returns, and exactly when it returns `None`. Only the copying
+//! functions of `Chars` allocate.
 #![tactic(auto)]
 
 mod chars;

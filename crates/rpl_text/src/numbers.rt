@@ -1,25 +1,26 @@
-// Numbers in decimal digits.
+// Decimal numbers.
 ghost use Rattle.std.specs.Prelude.{◌≡◌};
 ghost use Rattle.std.specs.List.{list_all};
 ghost use Rattle.std.specs.Char.{is_ascii_digit};
 ghost use Rattle.rpl_text.specs.Numbers.{value, are_digits, narrow, number_of};
 
-/// Whether each byte is a digit.
+/// Returns whether every byte is a digit.
 fn all_digits(word: &[u8]) -> bool
     ensures { result ≡ list_all is_ascii_digit word.now }
 {
     word.iter().all(|byte| byte.is_ascii_digit())
 }
 
-/// Whether there is a digit, and nothing but digits.
+/// Returns whether the word is one or more digits and nothing else.
 fn are_digits(word: &[u8]) -> bool
     ensures { result ≡ are_digits word.now }
 {
     !word.is_empty() && all_digits(word)
 }
 
-/// The number that digits spell, where 64 bits hold it. Each byte counts as its distance from `0`,
-/// and one before `0` as 0: that all are digits is the caller's to see.
+/// Returns the number that the digits spell, or `None` if it exceeds 64 bits. Each byte counts as
+/// its distance from `0`, and a byte below `0` counts as 0: the caller checks that all bytes are
+/// digits.
 pub fn value_of_digits(digits: &[u8]) -> Option<u64>
     ensures { result ≡ narrow (value 0 digits.now) }
 {
@@ -31,8 +32,8 @@ pub fn value_of_digits(digits: &[u8]) -> Option<u64>
     Some(number)
 }
 
-/// The number that a word spells in decimal digits, with any leading zeros; None exactly where the
-/// word is empty, has another byte than a digit, or spells a number that 64 bits don't hold.
+/// Parses a word as a decimal number, with any leading zeros. Returns `None` exactly when the
+/// word is empty, contains a byte that is not a digit, or spells a number that exceeds 64 bits.
 pub fn read_number(word: &[u8]) -> Option<u64>
     ensures { result ≡ number_of word.now }
 {

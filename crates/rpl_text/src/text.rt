@@ -6,17 +6,17 @@ ghost use Rattle.rpl_text.specs.Seen.{text_of};
 
 use crate::line::{back_in, is_place_in, line_len, pass_in, place_in, slice_in, step_in};
 
-/// A borrowed line, walked over by byte places.
+/// A borrowed line, walked over by place.
 ///
-/// A place is a number of bytes after which a character begins, or the line ends. Contracts see
-/// the line as the list of its characters, by `text_of`.
+/// A place is the byte offset of a character, or that of the end of the line. Contracts see the
+/// line as the list of its characters, by `text_of`.
 #[derive(Clone, Copy)]
 pub struct Text<'a> {
     line: &'a str,
 }
 
 impl<'a> Text<'a> {
-    /// The text of a line, which it borrows.
+    /// Borrows a line as a text.
     #[inline]
     pub fn new(line: &'a str) -> Text<'a>
         ensures { text_of result ≡ chars line.now }
@@ -24,7 +24,7 @@ impl<'a> Text<'a> {
         Text { line }
     }
 
-    /// The length in bytes, which is the last place.
+    /// Returns the length in bytes, which is the last place.
     #[inline]
     pub fn len(self) -> usize
         ensures { result ≡ at (text_of self.entry) (length (text_of self.entry)) }
@@ -32,7 +32,7 @@ impl<'a> Text<'a> {
         line_len(self.line)
     }
 
-    /// Whether the number of bytes is a place.
+    /// Returns whether the byte offset is a place.
     #[inline]
     pub fn is_place(self, place: usize) -> bool
         ensures { IsTrue result ↔ IsPlace (text_of self.entry) place }
@@ -40,7 +40,7 @@ impl<'a> Text<'a> {
         is_place_in(self.line, place)
     }
 
-    /// The character at a place, and the next place; None exactly at the end.
+    /// Returns the character at a place and the next place, or `None` exactly at the end.
     #[inline]
     pub fn step(self, place: usize) -> Option<(char, usize)>
         requires { IsPlace (text_of self) place }
@@ -49,10 +49,10 @@ impl<'a> Text<'a> {
         step_in(self.line, place)
     }
 
-    /// The place after the marked characters that stand here, `most` at most: it is that of the
-    /// first character that isn't marked, or the end. Marked are the ASCII characters whose bits in
-    /// the mask are set: the first word has the bits of those from 0 to 63, the second of those
-    /// from 64 to 127.
+    /// Returns the place after the run of marked characters that begins here, at most `most`
+    /// bytes on: that of the first unmarked character, or the end. An ASCII character is marked
+    /// if its bit in the mask is set: the first word has the bits of characters 0 to 63, the
+    /// second those of 64 to 127. Characters outside ASCII are unmarked.
     #[inline(never)]
     pub fn pass(self, place: usize, most: usize, mask: [u64; 2]) -> usize
         requires { IsPlace (text_of self) place }
@@ -69,7 +69,8 @@ impl<'a> Text<'a> {
         pass_in(self.line, place, most, mask)
     }
 
-    /// The place `count` characters before a place; None exactly where fewer stand before it.
+    /// Returns the place `count` characters before a place, or `None` exactly when fewer
+    /// characters precede it.
     #[inline]
     pub fn back(self, place: usize, count: u32) -> Option<usize>
         requires { IsPlace (text_of self) place }
@@ -78,15 +79,16 @@ impl<'a> Text<'a> {
         back_in(self.line, place, count)
     }
 
-    /// The place of the character with a number, from 0, or the end after the last one; None
-    /// exactly where the number is above that of the end.
+    /// Returns the place of the character with this number, counted from 0; the number after the
+    /// last character gives the end. Returns `None` exactly when the number exceeds that of the
+    /// end.
     pub fn place_of(self, number: usize) -> Option<usize>
         ensures { result ≡ place_from (text_of self.entry) number }
     {
         place_in(self.line, number)
     }
 
-    /// The characters between two places.
+    /// Returns the characters between two places.
     #[inline]
     pub fn slice(self, from: usize, to: usize) -> &'a str
         requires from { IsPlace (text_of self) from }

@@ -1,25 +1,25 @@
-// What a trace answers.
+// The outcome of a trace.
 ghost use Rattle.std.specs.Prelude.{◌≡◌};
 
 use rpl_text::Chars;
 use std::alloc::AllocError;
 use thiserror::Error;
 
-/// The text of a trace, a line for each evaluation, and the place in bytes where the match ends, if
-/// there is one.
+/// The text of a trace, with one line per evaluation, and the byte offset where the match ends,
+/// if there is one.
 #[derive(Drop)]
 pub struct Trace {
     pub printed: Chars,
     pub end: Option<usize>,
 }
 
-/// Why there is no trace.
+/// The reason why there is no trace.
 #[derive(Clone, Copy, Debug, PartialEq, Eq, Error)]
 pub enum TraceFault {
-    /// There was not enough memory.
+    /// Memory ran out.
     #[error("out of memory")]
     NoMemory,
-    /// There are more evaluations than the limit.
+    /// The number of evaluations exceeds the limit.
     #[error("trace too long")]
     TraceTooLong,
 }

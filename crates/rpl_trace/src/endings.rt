@@ -1,4 +1,5 @@
-// How evaluations end that make no others, and what predicates make of their bodies' ends.
+// The ends of evaluations that have none inside them, and of predicates, given the ends of their
+// bodies.
 ghost use Rattle.std.specs.Prelude.{◌≡◌, ℕ, List, slice_get};
 ghost use Rattle.rpl_core.specs.Meaning as M;
 ghost use Rattle.rpl_text.specs.Places.{index, IsPlace};
@@ -12,7 +13,7 @@ use crate::event::End;
 use rpl_classes::Set;
 use rpl_text::Text;
 
-/// One character, if it is in the set.
+/// Matches one character, if it is in the set.
 pub(crate) fn one_char(set: &Set, text: Text<'_>, place: usize) -> End
     requires { IsPlace (text_of text) place }
     ensures end { let t = text_of text.entry in let i = index t place in
@@ -31,7 +32,7 @@ pub(crate) fn one_char(set: &Set, text: Text<'_>, place: usize) -> End
     }
 }
 
-/// Here, if the test holds.
+/// Matches at this place, if the condition is true.
 pub(crate) fn only_if(holds: bool, place: usize) -> End
     ensures end { (t : List ℕ) → end_seen t result ≡ ending (M.only_if holds (index t place)) }
     ensures stands { (t : List ℕ) → IsPlace t place → EndStands t result }
@@ -39,7 +40,7 @@ pub(crate) fn only_if(holds: bool, place: usize) -> End
     if holds { End::At(place) } else { End::Fails }
 }
 
-/// What a `Not` at the place makes of its body's end.
+/// Returns the end of a `Not` at the place, given that of its body.
 pub(crate) fn if_failed(end: End, place: usize) -> End
     ensures end { (t : List ℕ) → end_seen t result ≡ S.if_failed (end_seen t end) (index t place) }
     ensures stands { (t : List ℕ) → IsPlace t place → EndStands t result }
@@ -51,7 +52,7 @@ pub(crate) fn if_failed(end: End, place: usize) -> End
     }
 }
 
-/// What an `And` at the place makes of its body's end.
+/// Returns the end of an `And` at the place, given that of its body.
 pub(crate) fn if_matched(end: End, place: usize) -> End
     ensures end { (t : List ℕ) → end_seen t result ≡ S.if_matched (end_seen t end) (index t place) }
     ensures stands { (t : List ℕ) → IsPlace t place → EndStands t result }
@@ -63,7 +64,7 @@ pub(crate) fn if_matched(end: End, place: usize) -> End
     }
 }
 
-/// What a length of a look-behind at the place makes of its body's end.
+/// Returns the end of one length of a look-behind at the place, given that of its body.
 pub(crate) fn if_met(end: End, place: usize) -> End
     ensures end { (t : List ℕ) → IsPlace t place → EndStands t end
         → end_seen t result ≡ S.if_met (end_seen t end) (index t place) }
@@ -76,7 +77,7 @@ pub(crate) fn if_met(end: End, place: usize) -> End
     }
 }
 
-/// The place after a match, in bytes.
+/// Returns the byte offset after a match.
 pub(crate) fn place_of(end: End) -> Option<usize>
     ensures { (t : List ℕ) → EndStands t end → result ≡ ending_place t (end_seen t end) }
 {

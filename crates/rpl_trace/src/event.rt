@@ -1,20 +1,20 @@
-// What happens while a goal is evaluated.
+// The events of an evaluation.
 use rpl_core::Peg;
 
-/// What an evaluation is of.
+/// The kind of an evaluation.
 #[derive(Clone, Copy)]
 pub(crate) enum Kind<'a> {
-    /// A pattern.
+    /// The evaluation of a pattern.
     Of(&'a Peg),
-    /// What is left of a choice.
+    /// The remaining alternatives of a choice.
     Choice,
     /// A turn that succeeds.
     Turn,
-    /// A length of a look-behind, in characters.
+    /// One length of a look-behind, in characters.
     Length(usize),
 }
 
-/// How an evaluation ends. Places are numbers of bytes.
+/// The end of an evaluation. Places are byte offsets.
 #[derive(Clone, Copy)]
 pub(crate) enum End {
     Fails,
@@ -22,14 +22,14 @@ pub(crate) enum End {
     Halts(usize),
 }
 
-/// One thing that happens.
+/// An event of a trace.
 #[derive(Clone, Copy)]
 pub(crate) enum Event<'a> {
     /// An evaluation begins at a place.
     Begins { kind: Kind<'a>, start: usize },
-    /// The innermost evaluation under way ends.
+    /// The innermost open evaluation ends.
     Ends(End),
-    /// The innermost one was to be a turn, and its body doesn't succeed: it is none, and what it
-    /// made stands in its place.
+    /// The innermost open evaluation is not a turn after all, because its body does not succeed.
+    /// It is removed, and the evaluations inside it take its place.
     Vanishes,
 }

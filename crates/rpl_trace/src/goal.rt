@@ -23,12 +23,12 @@ use rpl_check::{Checked, CheckedPeg};
 use rpl_text::{Chars, Text};
 use std::alloc::Global;
 
-/// The trace of a checked goal on a text: the evaluations that its outcome makes, printed.
+/// Returns the trace of a checked goal on a text: the evaluations of its outcome, printed.
 ///
-/// It is refused exactly where the outcome takes more work than `limit`, and no more evaluations
-/// than that are made. It takes time and memory for each of them and for what is printed, and no
-/// stack. It needs that the goal means something on every text, as each goal does that
-/// `check_pattern` lets pass.
+/// The trace is refused exactly when the outcome takes more work than `limit`; no more
+/// evaluations than that are made. Each of them and the printed text take time and memory, but no
+/// stack. The goal must have a meaning on every text, which is true of every goal that
+/// `check_pattern` accepts.
 pub fn trace(
     alloc: Global,
     checked: &Checked,

@@ -1,4 +1,4 @@
-// The lines of a trace, of what happened in it.
+// The lines of a trace, made from its events.
 ghost use Rattle.std.specs.Prelude.{◌≡◌, ◌+◌, ◌-◌, ◌<◌, ◌≤◌, ◌^◌, ℕ, List, [], ◌∷◌, ◌++◌, reverse};
 ghost use Rattle.std.specs.Prelude.{OnOk, IfOk, map};
 ghost use Rattle.rpl_trace.specs.Evaluations.{Evaluations};
@@ -10,7 +10,7 @@ ghost use Rattle.rpl_trace.specs.inside.Lines.{ends_in, row_seen, rows, rows_in}
 use crate::event::{End, Event, Kind};
 use std::alloc::{AllocError, Global};
 
-/// A line of a trace: an evaluation, and how many it stands inside.
+/// A line of a trace: an evaluation, and how many evaluations enclose it.
 #[derive(Clone, Copy)]
 pub(crate) struct Line<'a> {
     pub(crate) depth: usize,
@@ -19,19 +19,21 @@ pub(crate) struct Line<'a> {
     pub(crate) end: End,
 }
 
-/// What happened, read from its end, since only there it is known how an evaluation ends.
+/// Reads the events from the last to the first, because only the last event of an evaluation
+/// shows how it ends.
 #[derive(Drop)]
 struct Backwards<'a> {
-    /// How the evaluations end that are under way, the innermost last; nothing where one is none.
+    /// The ends of the open evaluations, the innermost last. `None` is an evaluation that was
+    /// removed.
     ends: Vec<Option<End>>,
-    /// How many of them are some.
+    /// The number of ends that are not `None`.
     depth: usize,
-    /// The lines, the first last.
+    /// The lines, in reverse order.
     lines: Vec<Line<'a>>,
 }
 
 impl<'a> Backwards<'a> {
-    /// Nothing was read, of so many events.
+    /// Returns the state before anything is read, with room for `count` events.
     fn new(alloc: Global, count: usize) -> Result<Backwards<'a>, AllocError>
         ensures ends { (t : List ℕ) → IfOk result (λ b. ends_in t b ≡ []) }
         ensures rows { (t : List ℕ) → IfOk result (λ b. rows_in t b ≡ []) }
@@ -45,7 +47,7 @@ impl<'a> Backwards<'a> {
         })
     }
 
-    /// One event before those that were read.
+    /// Reads the event before those already read.
     fn read(&mut self, event: Event<'a>) -> Result<(), AllocError>
         requires { self.old.depth + 1 < 2 ^ 64 }
         ensures reads { (t : List ℕ) (s : Standing) → IsRead t self.old → EventStands t event.entry
@@ -71,7 +73,7 @@ impl<'a> Backwards<'a> {
         }
     }
 
-    /// A line, whose evaluation is no longer under way.
+    /// Adds the line of an evaluation, which is then no longer open.
     fn add(&mut self, kind: Kind<'a>, start: usize, end: End) -> Result<(), AllocError>
         ensures ends { self.new.ends ≡ self.old.ends }
         ensures depth { self.new.depth ≡ self.old.depth - 1 }
@@ -91,7 +93,7 @@ impl<'a> Backwards<'a> {
     }
 }
 
-/// The lines of what happened, the last first.
+/// Returns the lines of the events, in reverse order.
 pub(crate) fn lines<'a>(
     alloc: Global,
     mut events: Vec<Event<'a>>,

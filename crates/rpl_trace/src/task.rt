@@ -1,32 +1,32 @@
-// What is still to be done in a trace.
+// The remaining tasks of a trace.
 use rpl_core::Peg;
 
-/// What is to be done once the evaluation before it has ended, by how that ended. Places are
-/// numbers of bytes, lengths numbers of characters.
+/// A task that follows the end of the evaluation before it. Places are byte offsets, lengths are
+/// numbers of characters.
 #[derive(Clone, Copy)]
 pub(crate) enum Task<'a> {
-    /// Evaluate the pattern, where the one before it matched up to a place.
+    /// Evaluate the pattern at the place where the evaluation before it matched.
     Evaluate(&'a Peg),
-    /// The parts in turn, from there.
+    /// Evaluate the parts one after the other, from that place.
     Parts(&'a [Peg]),
-    /// The ways that are left of a choice, where the one before them failed.
+    /// Try the remaining alternatives of a choice, if the one before them failed.
     Ways { parts: &'a [Peg], place: usize },
-    /// The turns after one of the body, which began at the place.
+    /// Evaluate further turns after one of the body, which began at the place.
     Turns { body: &'a Peg, place: usize },
-    /// What a `Not` makes of its body.
+    /// End a `Not`, given the end of its body.
     Not(usize),
-    /// What an `And` makes of its body.
+    /// End an `And`, given the end of its body.
     And(usize),
-    /// What a length of a look-behind makes of its body: it matches where that ends just at the
-    /// place.
+    /// End one length of a look-behind, given the end of its body: it matches if the body ends
+    /// exactly at the place.
     Meets(usize),
-    /// The lengths that are left of a look-behind, where the one before them failed.
+    /// Try the remaining lengths of a look-behind, if the one before them failed.
     Lengths(Lengths<'a>),
-    /// The innermost evaluation under way ends as the one before it did.
+    /// End the innermost open evaluation in the same way as the one before it.
     Close,
 }
 
-/// Lengths of a look-behind at a place, in characters: so many from the first on.
+/// Lengths of a look-behind at a place, in characters: `count` lengths, beginning with `length`.
 #[derive(Clone, Copy)]
 pub(crate) struct Lengths<'a> {
     pub(crate) body: &'a Peg,

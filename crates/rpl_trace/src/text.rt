@@ -19,7 +19,7 @@ use rpl_core::{NoMemory, Peg, Rules};
 use rpl_print::{push_decimal, push_quoted, push_set, push_text, text_of};
 use std::alloc::Global;
 
-/// Adds a place, which counts from 1.
+/// Appends a place, counted from 1.
 fn push_place(out: &mut String, place: usize) -> Result<(), NoMemory>
     ensures { (t : List ℕ) → IsPlace t place
         → OnOk result (string_bytes out.new ≡ string_bytes out.old
@@ -29,7 +29,7 @@ fn push_place(out: &mut String, place: usize) -> Result<(), NoMemory>
     out.push_str(buffer.format(place as u128 + 1))
 }
 
-/// Adds how an evaluation ends.
+/// Appends how an evaluation ends.
 fn push_end(out: &mut String, end: End) -> Result<(), NoMemory>
     ensures { (t : List ℕ) → EndStands t end
         → OnOk result (string_bytes out.new ≡ string_bytes out.old
@@ -42,7 +42,7 @@ fn push_end(out: &mut String, end: End) -> Result<(), NoMemory>
     }
 }
 
-/// Adds the full name of a rule.
+/// Appends the full name of a rule.
 fn push_name(out: &mut String, rules: &Rules, rule: u32) -> Result<(), NoMemory>
     ensures { OnOk result (string_bytes out.new
         ≡ string_bytes out.old ++ encode_utf8_all
@@ -54,7 +54,7 @@ fn push_name(out: &mut String, rules: &Rules, rule: u32) -> Result<(), NoMemory>
     }
 }
 
-/// Adds what a pattern is.
+/// Appends the kind of a pattern.
 fn push_peg(out: &mut String, rules: &Rules, peg: &Peg) -> Result<(), NoMemory>
     ensures { OnOk result (string_bytes out.new
         ≡ string_bytes out.old ++ P.kind_text (names_of (rules_of rules.now))
@@ -94,7 +94,7 @@ fn push_peg(out: &mut String, rules: &Rules, peg: &Peg) -> Result<(), NoMemory>
     }
 }
 
-/// Adds what an evaluation is of.
+/// Appends the kind of an evaluation.
 fn push_kind(out: &mut String, rules: &Rules, kind: Kind<'_>) -> Result<(), NoMemory>
     ensures { OnOk result (string_bytes out.new
         ≡ string_bytes out.old ++ P.kind_text (names_of (rules_of rules.now))
@@ -111,7 +111,7 @@ fn push_kind(out: &mut String, rules: &Rules, kind: Kind<'_>) -> Result<(), NoMe
     }
 }
 
-/// Adds a line.
+/// Appends a line.
 fn push_line(out: &mut String, rules: &Rules, line: Line<'_>) -> Result<(), NoMemory>
     ensures { (t : List ℕ) → LineStands t line.entry
         → OnOk result (string_bytes out.new
@@ -128,7 +128,7 @@ fn push_line(out: &mut String, rules: &Rules, line: Line<'_>) -> Result<(), NoMe
     out.push_str("\n")
 }
 
-/// The text of lines, the first of which is the last of the list.
+/// Returns the text of lines that are given in reverse order.
 pub(crate) fn printed(
     alloc: Global,
     rules: &Rules,

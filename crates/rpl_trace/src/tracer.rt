@@ -1,5 +1,5 @@
-// A goal evaluated step by step: what is still to be done stands on a stack, what happened in a
-// list.
+// The step-by-step evaluation of a goal: the remaining tasks are on a stack, and the events are
+// in a list.
 ghost use Rattle.std.specs.Prelude.{◌≡◌, ◌+◌, ◌-◌, ◌^◌, ◌<◌, ◌≤◌, ℕ, List, [], slice_get, false};
 ghost use Rattle.std.specs.Prelude.{MatchOption, OnOk, IfOk, IfErr};
 ghost use Rattle.rpl_core.specs.Core.{Core, Choice, NoMore, Then};
@@ -29,18 +29,18 @@ use rpl_core::{NoMemory, Peg, Rules};
 use rpl_text::Text;
 use std::alloc::Global;
 
-/// A trace under way.
+/// A trace in progress.
 #[derive(Drop)]
 pub(crate) struct Tracer<'a> {
-    /// How many evaluations there were, and how many there may be.
+    /// The number of evaluations so far, and the largest number allowed.
     pub(crate) spent: u32,
     pub(crate) limit: u32,
     pub(crate) events: Vec<Event<'a>>,
-    /// The next one last.
+    /// The next task is the last element.
     pub(crate) tasks: Vec<Task<'a>>,
 }
 
-/// The part of a choice of one part.
+/// Returns the part of a choice that has only one.
 fn only_part(peg: &Peg) -> Option<&Peg>
     ensures { MatchOption result (is_alone (core_of peg.now) ≡ false)
         (λ p. core_of peg.now ≡ Choice (Then (core_of p.now) NoMore)) }
@@ -53,7 +53,7 @@ fn only_part(peg: &Peg) -> Option<&Peg>
     }
 }
 
-/// The pattern; but of a choice of one part, that part.
+/// Returns the pattern, or its part if it is a choice with only one.
 fn alone(peg: &Peg) -> &Peg
     ensures alike { AreAlike (core_of peg.now) (core_of result.now) }
     ensures more { is_alone (core_of result.now) ≡ false }
@@ -65,7 +65,7 @@ fn alone(peg: &Peg) -> &Peg
     part
 }
 
-/// The lengths of a look-behind at a place.
+/// Returns the lengths of a look-behind at a place.
 fn lengths_of<'a>(least: u32, most: u32, body: &'a Peg, place: usize) -> Lengths<'a>
     ensures body { result.body ≡ body.entry }
     ensures length { result.length ≡ least }
@@ -84,7 +84,7 @@ fn lengths_of<'a>(least: u32, most: u32, body: &'a Peg, place: usize) -> Lengths
 }
 
 impl<'a> Tracer<'a> {
-    /// Nothing has happened, and nothing is to be done.
+    /// Returns a trace without events or tasks.
     pub(crate) fn new(alloc: Global, limit: u32) -> Tracer<'a>
         ensures { state_of result ≡ record { tasks = []; events = []; spent = 0; limit = limit } }
     {
@@ -96,7 +96,7 @@ impl<'a> Tracer<'a> {
         }
     }
 
-    /// One more task, which is the next.
+    /// Adds a task, which is the next one.
     pub(crate) fn push(&mut self, task: Task<'a>) -> Result<(), NoMemory>
         ensures { OnOk result (state_of self.new ≡ due task.entry (state_of self.old)) }
     {
@@ -104,7 +104,7 @@ impl<'a> Tracer<'a> {
         Ok(())
     }
 
-    /// One more event.
+    /// Adds an event.
     fn note(&mut self, event: Event<'a>) -> Result<(), NoMemory>
         ensures { OnOk result (state_of self.new ≡ happened event.entry (state_of self.old)) }
     {
@@ -112,7 +112,7 @@ impl<'a> Tracer<'a> {
         Ok(())
     }
 
-    /// One more evaluation, if the limit allows it.
+    /// Counts an evaluation, if the limit allows it.
     fn spend(&mut self) -> Result<(), TraceFault>
         ensures ok { OnOk result (state_of self.new ≡ counted (state_of self.old)) }
         ensures room { OnOk result (self.old.spent < self.old.limit) }
@@ -125,7 +125,7 @@ impl<'a> Tracer<'a> {
         Ok(())
     }
 
-    /// An evaluation begins.
+    /// Begins an evaluation.
     fn begin(&mut self, kind: Kind<'a>, start: usize) -> Result<(), TraceFault>
         ensures ok { OnOk result (state_of self.new
             ≡ happened (V.Begins kind.entry start) (counted (state_of self.old))) }
@@ -137,7 +137,7 @@ impl<'a> Tracer<'a> {
         Ok(())
     }
 
-    /// The innermost evaluation under way ends.
+    /// Ends the innermost open evaluation.
     fn close(&mut self, end: End) -> Result<End, NoMemory>
         ensures { IfOk result (λ e. (e ≡ end) ×
             (state_of self.new ≡ happened (V.Ends end) (state_of self.old))) }
@@ -146,7 +146,7 @@ impl<'a> Tracer<'a> {
         Ok(end)
     }
 
-    /// What is inside the innermost evaluation under way is one task, which begins with this end.
+    /// Schedules one task inside the innermost open evaluation. The task begins with this end.
     fn within(&mut self, task: Task<'a>, end: End) -> Result<End, NoMemory>
         ensures { IfOk result (λ e. (e ≡ end)
             × (state_of self.new ≡ due task.entry (due T.Close (state_of self.old)))) }
@@ -156,7 +156,8 @@ impl<'a> Tracer<'a> {
         Ok(end)
     }
 
-    /// What is inside it is an evaluation of the body at the place, and a task after that.
+    /// Schedules the evaluation of the body at the place, and a task after it, inside the
+    /// innermost open evaluation.
     fn nest(&mut self, task: Task<'a>, body: &'a Peg, place: usize) -> Result<End, NoMemory>
         ensures { IfOk result (λ e. (e ≡ E.At place)
             × (state_of self.new ≡ due (T.Evaluate body.entry)
@@ -168,7 +169,7 @@ impl<'a> Tracer<'a> {
         Ok(End::At(place))
     }
 
-    /// A turn of the body at the place, and those after it.
+    /// Schedules a turn of the body at the place, and further turns after it.
     fn turn(&mut self, body: &'a Peg, place: usize) -> Result<End, NoMemory>
         ensures { IfOk result (λ e. (e ≡ E.At place)
             × (state_of self.new ≡ due (T.Evaluate body.entry)
@@ -184,7 +185,7 @@ impl<'a> Tracer<'a> {
         Ok(End::At(place))
     }
 
-    /// Inside the innermost evaluation under way are the ways of a choice at the place.
+    /// Schedules the alternatives of a choice at the place inside the innermost open evaluation.
     fn choose(&mut self, parts: &'a [Peg], place: usize) -> Result<End, NoMemory>
         ensures { IfOk result (λ e. Chooses parts.now place (state_of self.old) e
             (state_of self.new)) }
@@ -195,7 +196,7 @@ impl<'a> Tracer<'a> {
         }
     }
 
-    /// Inside it is the body of the rule with this number.
+    /// Schedules the body of a rule inside the innermost open evaluation.
     fn call(&mut self, rules: &'a Rules, rule: u32, place: usize) -> Result<End, NoMemory>
         ensures { IfOk result (λ e. Calls (slice_get (bodies_of (rules_of rules.now)) rule) place
             (state_of self.old) e (state_of self.new)) }
@@ -206,8 +207,8 @@ impl<'a> Tracer<'a> {
         }
     }
 
-    /// What is inside an evaluation of a pattern at a place, which has just begun, up to the first
-    /// evaluation in it.
+    /// Continues the evaluation of a pattern at a place, which has just begun, as far as the
+    /// first evaluation inside it.
     fn enter(
         &mut self,
         rules: &'a Rules,
@@ -244,7 +245,8 @@ impl<'a> Tracer<'a> {
         }
     }
 
-    /// An evaluation of a pattern at a place: its own, up to the first inside it.
+    /// Begins the evaluation of a pattern at a place, and continues as far as the first
+    /// evaluation inside it.
     fn evaluate(
         &mut self,
         rules: &'a Rules,
@@ -264,7 +266,7 @@ impl<'a> Tracer<'a> {
         Ok(self.enter(rules, text, peg, place)?)
     }
 
-    /// Parts in turn, from a place on.
+    /// Evaluates parts one after the other, from a place on.
     fn go_on(
         &mut self,
         rules: &'a Rules,
@@ -288,7 +290,7 @@ impl<'a> Tracer<'a> {
         }
     }
 
-    /// The ways that are left of a choice at a place.
+    /// Tries the remaining alternatives of a choice at a place.
     fn try_next(
         &mut self,
         rules: &'a Rules,
@@ -309,7 +311,8 @@ impl<'a> Tracer<'a> {
         Ok(self.choose(ways, place)?)
     }
 
-    /// A turn that began at the place has ended: it is one if it matched, and then comes the next.
+    /// Ends a turn that began at the place: it counts if it matched, and then the next one
+    /// begins.
     fn end_turn(&mut self, body: &'a Peg, place: usize, end: End) -> Result<End, TraceFault>
         ensures goes { (R : List Core) (t : List ℕ) → IsPlace t place → EndStands t end →
             Stands t (state_of self.old)
@@ -334,7 +337,7 @@ impl<'a> Tracer<'a> {
         }
     }
 
-    /// The lengths that are left of a look-behind.
+    /// Tries the remaining lengths of a look-behind.
     fn try_length(&mut self, text: Text<'_>, lengths: Lengths<'a>) -> Result<End, TraceFault>
         requires lengths { TaskStands (text_of text) (T.Lengths lengths) }
         requires stands { Stands (text_of text) (state_of self.old) }
@@ -364,7 +367,7 @@ impl<'a> Tracer<'a> {
         }
     }
 
-    /// One task, with how the evaluation before it ended.
+    /// Runs one task, given the end of the evaluation before it.
     fn step(
         &mut self,
         rules: &'a Rules,
@@ -408,7 +411,7 @@ impl<'a> Tracer<'a> {
         }
     }
 
-    /// All tasks; how the last evaluation ends.
+    /// Runs all tasks, and returns the end of the last evaluation.
     pub(crate) fn finish(
         &mut self,
         rules: &'a Rules,

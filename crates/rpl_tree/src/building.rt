@@ -1,4 +1,4 @@
-// The nodes so far, and those of them that are open.
+// The nodes so far, and the open ones among them.
 ghost use Rattle.std.specs.Prelude.{◌≡◌, [], OnOk, slice_get};
 ghost use Rattle.rpl_tree.specs.Trees.{BuildsEach};
 ghost use Rattle.rpl_tree.specs.inside.Building.{close_node};
@@ -7,11 +7,11 @@ use crate::node::Node;
 use rpl_core::{Caught, NoMemory};
 use std::alloc::Global;
 
-/// The nodes so far, and which of them are open.
+/// The nodes so far, and the open ones among them.
 #[derive(Drop)]
 pub struct Building {
     pub nodes: Vec<Node>,
-    /// The places in `nodes` of those that are open, the innermost last.
+    /// The indices in `nodes` of the open nodes, the innermost last.
     pub open: Vec<usize>,
 }
 
@@ -78,7 +78,7 @@ impl Building {
     }
 }
 
-/// Ends the node at `at`, and counts the nodes below it: all that came since.
+/// Ends the node at `at`, and counts the nodes below it: all that were added since.
 fn close(nodes: &mut [Node], at: usize, place: usize)
     ensures { nodes.new ≡ close_node at place (slice_get nodes.old at) nodes.old }
 {

@@ -8,7 +8,7 @@ use rpl_core::{Caught, NoMemory};
 use std::alloc::Global;
 use std::marker::Model;
 
-/// Match trees as a flat list of nodes, each before those below it.
+/// Match trees as a flat list of nodes, each before the nodes below it.
 #[derive(Drop)]
 pub struct Forest {
     building: Building,
@@ -24,7 +24,7 @@ impl Model for Forest {
 }
 
 impl Forest {
-    /// No trees. Takes no memory.
+    /// Returns an empty forest. Allocates no memory.
     pub fn new(alloc: Global) -> Forest
         ensures { result ≡ [] }
     {
@@ -33,22 +33,22 @@ impl Forest {
         }
     }
 
-    /// The number of nodes.
+    /// Returns the number of nodes.
     pub fn len(&self) -> usize
         ensures { result ≡ length self.now }
     {
         self.building.nodes.len()
     }
 
-    /// The node numbered `index` from 0, or nothing past the last.
+    /// Returns the node with this index from 0, or `None` past the last.
     pub fn get(&self, index: usize) -> Option<Node>
         ensures { result ≡ slice_get self.now index }
     {
         self.building.nodes.get(index).copied()
     }
 
-    /// Becomes the trees of these captures, in the memory that it has where that is enough. After a
-    /// refusal it has no trees: those that it had are gone.
+    /// Replaces the trees with those of these captures, reusing its memory if that is enough. If
+    /// memory runs out, the forest is left empty and the old trees are gone.
     pub fn fill(&mut self, caught: &[Caught]) -> Result<(), NoMemory>
         ensures built { OnOk result (BuildsEach caught.now self.new) }
         ensures err { OnErr result (self.new ≡ []) }
@@ -63,7 +63,7 @@ impl Forest {
     }
 }
 
-/// The trees of these captures.
+/// Builds the trees of these captures.
 ///
 /// # Examples
 ///

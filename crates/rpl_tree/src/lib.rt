@@ -1,8 +1,9 @@
-//! Match trees, made of the captures of a run, for whoever prints an answer.
+//! Match trees, made of the captures of a run, for code that prints an answer.
 //!
-//! [`build`] of the capture list of some trees gives these very trees: a flat list of nodes, each
-//! before those below it, which write out just these captures with their numbers. A note has
-//! nothing below it. [`Forest::fill`] is the same in memory that is kept from line to line.
+//! Given the capture list of some trees, [`build`] returns exactly these trees: a flat list of
+//! nodes, each before those below it, which represents exactly these captures with their numbers. A
+//! note has nothing below it. [`Forest::fill`] does the same in memory that is reused from line to
+//! line.
 #![tactic(auto)]
 
 mod building;

@@ -1,24 +1,24 @@
-// A node, and how it begins.
+// A node, and the forms in which it begins.
 ghost use Rattle.std.specs.Prelude.{◌≡◌};
 ghost use Rattle.rpl_tree.specs.inside.Building.{noted, opened};
 
 /// A node of a match tree.
 #[derive(Clone, Copy, Debug, PartialEq, Eq)]
 pub struct Node {
-    /// The number of its type among the program's texts; of a note, that of its text.
+    /// The number of its type among the program's texts; for a note, the number of its text.
     pub label: u32,
-    /// Of a note the number of its text, and else nothing.
+    /// The number of the text if the node is a note, otherwise `None`.
     pub note: Option<u32>,
-    /// The place where it starts, in bytes from 0.
+    /// The byte offset, from 0, where it starts.
     pub start: usize,
-    /// The place where it ends.
+    /// The byte offset where it ends.
     pub end: usize,
-    /// How many nodes are below it; they come directly after it.
+    /// The number of nodes below it, which follow it directly.
     pub below: usize,
 }
 
 impl Node {
-    /// A tree that begins here, so far with nothing below it.
+    /// Returns a node for a tree that begins here, with nothing below it so far.
     pub(crate) fn opened(label: u32, start: usize) -> Node
         ensures { result ≡ opened label start }
     {
@@ -31,7 +31,7 @@ impl Node {
         }
     }
 
-    /// A note.
+    /// Returns a node for a note.
     pub(crate) fn noted(text: u32, place: usize) -> Node
         ensures { result ≡ noted text place }
     {

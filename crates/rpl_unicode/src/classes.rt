@@ -1,4 +1,4 @@
-// Sets by their names.
+// Sets by name.
 ghost use Rattle.std.specs.Prelude.{◌≡◌, chars, IfOk};
 ghost use Rattle.rpl_unicode.specs.Named.{members};
 ghost use Rattle.rpl_unicode.specs.Faults.{IsClass};
@@ -9,17 +9,17 @@ use crate::ranges::{RangeList, characters};
 use std::alloc::Global;
 use unicode::sets::{by_name, normalize};
 
-/// The characters of a name, each by itself.
+/// Returns the characters of a name.
 fn letters(alloc: Global, name: &str) -> Result<Vec<char>, NoMemory>
     ensures { IfOk result (λ v. v.items ≡ chars name.now) }
 {
     name.chars().collect(alloc)
 }
 
-/// The characters that a name stands for: a binary property, a general category or a script of
-/// Unicode, by its long or short name in any case, where spaces, `_`, `-` and a leading `is` don't
-/// count. The ranges rise, don't touch and hold no surrogates. UnknownClass exactly where the name
-/// stands for no set.
+/// Returns the characters of the binary property, general category or script of Unicode with this
+/// name. The name may be long or short and in any case; spaces, `_`, `-` and a leading `is` are
+/// ignored. The ranges are sorted, don't touch and contain no surrogates. Returns `UnknownClass`
+/// exactly when no set has the name.
 pub fn class_ranges(alloc: Global, name: &str) -> Result<RangeList, ClassFault>
     ensures { IsClass (members (chars name.now)) result }
 {

@@ -1,11 +1,11 @@
-// Why a name has no set.
+// The reasons why a name has no set.
 ghost use Rattle.std.specs.Prelude.{◌≡◌};
 ghost use Rattle.rpl_unicode.specs.declared.fault.ClassFault.TheVariants.{NoMemory as OutOfMemory};
 
 use crate::NoMemory;
 use thiserror::Error;
 
-/// Why a name has no set.
+/// The reason why a name has no set.
 #[derive(Clone, Copy, Debug, PartialEq, Eq, Error)]
 pub enum ClassFault {
     /// Memory ran out.

@@ -1,4 +1,4 @@
-// Characters that are the same but for case.
+// Case folding.
 ghost use Rattle.std.specs.Prelude.{◌≡◌, ◌≤◌, ◌&&◌, nat_le, IfOk};
 ghost use Rattle.regex_class.specs.Ranges.{in_ranges};
 ghost use Rattle.rpl_unicode.specs.Ranges.{IsListOf};
@@ -10,9 +10,9 @@ use regex_class::ClassRange;
 use std::alloc::Global;
 use unicode::case::fold_pairs;
 
-/// All characters that share a simple folding with a character of the ranges, which come in any
-/// order. The characters of the ranges themselves are among them. It goes over the pairs that fold
-/// alike between the least and the greatest of them, and not over each character.
+/// Returns all characters that share a simple case folding with a character of the ranges, those of
+/// the ranges included. The ranges may come in any order. The call visits the pairs that fold alike
+/// between the least and the greatest character, not each character.
 pub fn folds_of(alloc: Global, ranges: &[ClassRange]) -> Result<RangeList, NoMemory>
     ensures { IfOk result (IsListOf (folds_with (in_ranges ranges.now))) }
 {
@@ -22,8 +22,8 @@ pub fn folds_of(alloc: Global, ranges: &[ClassRange]) -> Result<RangeList, NoMem
     characters(alloc, &all)
 }
 
-/// All characters that share a simple folding with a character from `low` to `high`, those
-/// included.
+/// Returns all characters that share a simple case folding with a character from `low` to `high`,
+/// these included.
 pub fn folds(alloc: Global, low: u32, high: u32) -> Result<RangeList, NoMemory>
     requires { low ≤ high }
     ensures { IfOk result (IsListOf (folds_with (λ c. nat_le low c && nat_le c high))) }

@@ -1,10 +1,11 @@
-//! Unicode's sets of characters by their names, and which characters are the same but for case.
+//! Unicode's sets of characters by name, and the characters that differ only in case.
 //!
-//! For the sets of `rpl_classes`, which the parser and the macros stand on. `class_ranges` promises
-//! just the characters of the property, general category or script with the name, and the unknown
-//! name exactly where there is none; `folds` just the characters that share a simple folding with
-//! one of a range. Ranges are answered in their one order, without surrogates. The tables are those
-//! of the crate `unicode`; nothing is read from them before a call.
+//! The sets of `rpl_classes` are built on this crate, and the parser and the macros use those.
+//! `class_ranges` promises exactly the characters of the named property, general category or
+//! script, and `UnknownClass` exactly when there is none. `folds` promises exactly the characters
+//! that share a simple case folding with a character of a range. Returned ranges are sorted, don't
+//! touch and contain no surrogates. The tables are those of the crate `unicode`; nothing is read
+//! from them before a call.
 #![tactic(auto)]
 
 mod classes;
@@ -16,5 +17,5 @@ pub use classes::class_ranges;
 pub use fault::ClassFault;
 pub use folding::{folds, folds_of};
 pub use ranges::{RangeList, characters};
-/// Out of memory, which every call here may answer.
+/// Out of memory, which every call here may return.
 pub use std::alloc::AllocError as NoMemory;

@@ -1,4 +1,4 @@
-// Ranges of characters in their one order.
+// Ranges of characters in canonical order.
 ghost use Rattle.std.specs.Prelude.{◌≡◌, ℕ, ◌≤◌, ◌+◌, ◌&&◌, ◌||◌, IfOk, IsTrue, OnOk};
 ghost use Rattle.regex_class.specs.Ranges.{in_range, in_ranges, HasExactly, IsCanonical};
 ghost use Rattle.rpl_text.specs.Characters.{is_char};
@@ -9,18 +9,18 @@ use regex_class::{Class, ClassRange, MAX};
 use rpl_list::List;
 use std::alloc::Global;
 
-/// Ranges of characters, in numbers of characters with both ends. Contracts see the list of them.
+/// Ranges of character numbers, each with both ends included. Contracts see them as a list.
 pub type RangeList = List<ClassRange>;
 
-/// Whether a range that starts there begins in another or just behind it.
+/// Returns whether `low` lies in the range or directly after it.
 fn meets(range: ClassRange, low: u32) -> bool
     ensures { IsTrue result → (range.0 ≤ low) × (low ≤ range.1 + 1) }
 {
     range.0 <= low && (low <= range.1 || low - 1 == range.1)
 }
 
-/// Adds the numbers from one to another, where there are any: to the last range, where they begin
-/// in it or just behind it.
+/// Adds the numbers from `low` to `high`, if there are any. They extend the last range if they
+/// begin in it or directly after it.
 fn push_range(ranges: &mut Vec<ClassRange>, low: u32, high: u32) -> Result<(), NoMemory>
     ensures { OnOk result ((c : ℕ) →
         in_ranges ranges.new.items c ≡ (in_ranges ranges.old.items c || in_range (low, high) c)) }
@@ -40,8 +40,8 @@ fn push_range(ranges: &mut Vec<ClassRange>, low: u32, high: u32) -> Result<(), N
     Ok(())
 }
 
-/// The ranges without their surrogates. Those that rise stay so, and none is left that touches
-/// another: most tables have such.
+/// Returns the ranges without surrogates. Sorted ranges stay sorted, and those that touch are
+/// joined: most tables contain such ranges.
 fn cut(alloc: Global, ranges: &[ClassRange]) -> Result<Vec<ClassRange>, NoMemory>
     ensures { IfOk result (λ v. HasExactly v.items (λ c. is_char c && in_ranges ranges.now c)) }
 {
@@ -53,7 +53,7 @@ fn cut(alloc: Global, ranges: &[ClassRange]) -> Result<Vec<ClassRange>, NoMemory
     Ok(parts)
 }
 
-/// Whether the ranges have members, rise and don't touch.
+/// Returns whether the ranges are nonempty, sorted and don't touch.
 fn are_canonical(ranges: &[ClassRange]) -> bool
     ensures { IsTrue result → IsCanonical ranges.now }
 {
@@ -67,8 +67,8 @@ fn are_canonical(ranges: &[ClassRange]) -> bool
     true
 }
 
-/// The characters of the ranges, as a class. Most ranges are in order already, above all a single
-/// one, and aren't copied then.
+/// Returns the characters of the ranges as a class. Most ranges are sorted already, single ones
+/// above all, and are then not copied again.
 pub(crate) fn class_of(alloc: Global, ranges: &[ClassRange]) -> Result<Class, NoMemory>
     ensures { IfOk result (λ k. IsListOf (in_ranges ranges.now) k.ranges.items) }
 {
@@ -79,8 +79,9 @@ pub(crate) fn class_of(alloc: Global, ranges: &[ClassRange]) -> Result<Class, No
     Class::new(parts)
 }
 
-/// The characters of the ranges, which come in any order and may overlap, in their one order: the
-/// ranges rise, don't touch and hold no surrogates. A range whose start is above its end is empty.
+/// Returns the characters of the ranges, which may come in any order and overlap. The result is
+/// sorted, its ranges don't touch, and it contains no surrogates. A range whose start is above its
+/// end is empty.
 pub fn characters(alloc: Global, ranges: &[ClassRange]) -> Result<RangeList, NoMemory>
     ensures { IfOk result (IsListOf (in_ranges ranges.now)) }
 {

@@ -1,10 +1,10 @@
-// Which lines are test comments.
+// The lines that are test comments.
 ghost use Rattle.std.specs.Prelude.{◌≡◌, ◌≤◌, length, drop};
 ghost use Rattle.std.specs.Option.{option_copied};
 ghost use Rattle.rpl_lexer.specs.Bytes.{is_space, run};
 ghost use Rattle.rpl_unittest.specs.Comments.{behind, trimmed, goes_on, if_test, comment_of};
 
-/// How many spaces and tabs stand at the front.
+/// Returns the number of spaces and tabs at the front.
 fn spaces(bytes: &[u8]) -> usize
     ensures value { result ≡ run is_space bytes.now }
     ensures inside { result ≤ length bytes.now }
@@ -19,14 +19,14 @@ fn spaces(bytes: &[u8]) -> usize
     count
 }
 
-/// Without the spaces and tabs at the front.
+/// Returns the bytes without the spaces and tabs at the front.
 fn past_spaces(bytes: &[u8]) -> &[u8]
     ensures { result.now ≡ trimmed bytes.now }
 {
     &bytes[spaces(bytes)..]
 }
 
-/// What stands after a front, if the bytes begin with it.
+/// Returns the bytes after a front, if the bytes begin with it.
 fn past<'a>(front: &[u8], bytes: &'a [u8]) -> Option<&'a [u8]>
     ensures { option_copied result ≡ behind front.now bytes.now }
 {
@@ -45,14 +45,14 @@ fn past<'a>(front: &[u8], bytes: &'a [u8]) -> Option<&'a [u8]>
     }
 }
 
-/// There are bytes, and they begin with a space or a tab.
+/// Returns whether there are bytes, and they begin with a space or a tab.
 fn goes_on(rest: Option<&[u8]>) -> bool
     ensures { result ≡ goes_on (option_copied rest.entry) }
 {
     matches!(rest, Some([b' ' | b'\t', ..]))
 }
 
-/// What stands after the dashes of a test comment.
+/// Returns the bytes after the dashes of a test comment, if the line is one.
 fn comment_of(line: &[u8]) -> Option<&[u8]>
     ensures { option_copied result ≡ comment_of line.now }
 {
@@ -68,7 +68,7 @@ fn comment_of(line: &[u8]) -> Option<&[u8]>
     }
 }
 
-/// What stands after the dashes of a test comment, of the text of a line.
+/// Returns the text after the dashes of a test comment, if the line is one.
 pub(crate) fn comment_in(line: &str) -> Option<&str>
     ensures { option_copied result ≡ comment_of line.now }
 {

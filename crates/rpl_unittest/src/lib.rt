@@ -1,10 +1,10 @@
 //! Unit tests in the comments of a file, and their verdicts.
 //!
-//! For the command `test`. [`read_tests`] gives just the tests that a file's test comments say, one
-//! for each text, or the line of the first test comment that says none. [`judge`] tells from what
-//! was found on a test's text whether the test is met, and [`failed_line`] and [`counts_line`] are
-//! what is printed of tests. No pattern is looked at here: whoever calls finds the rule with the
-//! test's name and runs it.
+//! The crate serves the command `test`. [`read_tests`] returns exactly the tests in the test
+//! comments of a file, one for each text, or the line of the first malformed test comment.
+//! [`judge`] decides from the match of a test's text whether the test passes, and
+//! [`failed_line`] and [`counts_line`] return the lines that are printed for tests. The crate
+//! looks at no pattern: the caller finds the rule with the test's name and runs it.
 #![tactic(auto)]
 
 mod comment;

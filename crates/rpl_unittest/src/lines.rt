@@ -1,4 +1,4 @@
-// The lines that tell of tests.
+// The lines that report tests.
 ghost use Rattle.std.specs.Prelude.{◌≡◌, ◌++◌, IfOk, OnOk, string_bytes};
 ghost use Rattle.rpl_unittest.specs.Lines as L;
 
@@ -8,7 +8,7 @@ use rpl_print::{push_decimal, push_quoted, push_text, text_of};
 use rpl_text::Chars;
 use std::alloc::Global;
 
-/// What is asked, in a word.
+/// Returns the word of a verb.
 fn word_of(verb: Verb) -> &'static str
     ensures { result.now ≡ L.word_of verb }
 {
@@ -20,7 +20,7 @@ fn word_of(verb: Verb) -> &'static str
     }
 }
 
-/// Adds the part that is asked for, and a space.
+/// Appends the part that the test names, and a space.
 fn push_part(line: &mut String, part: &Option<Chars>) -> Result<(), NoMemory>
     ensures { OnOk result (string_bytes line.new ≡ string_bytes line.old ++ L.part_text part.now) }
 {
@@ -33,8 +33,8 @@ fn push_part(line: &mut String, part: &Option<Chars>) -> Result<(), NoMemory>
     }
 }
 
-/// The line of a test that isn't met, as `rosie test` writes it: `FILE:LINE: NAME VERB PART TEXT`,
-/// without PART where none is asked for, and with TEXT as a string of JSON.
+/// Returns the line of a test that fails, as `rosie test` writes it: `FILE:LINE: NAME VERB PART
+/// TEXT`, without PART if the test names none, and with TEXT as a string of JSON.
 pub fn failed_line(alloc: Global, file: &str, test: &Test) -> Result<String, NoMemory>
     ensures { IfOk result (λ line. string_bytes line ≡ L.failed_line file.now test.now) }
 {
@@ -53,7 +53,8 @@ pub fn failed_line(alloc: Global, file: &str, test: &Test) -> Result<String, NoM
     Ok(line)
 }
 
-/// The last line of `rosie test`: how many tests the file has, and how many of them aren't met.
+/// Returns the last line of `rosie test`: how many tests the file has, and how many of them
+/// fail.
 pub fn counts_line(alloc: Global, file: &str, tests: u64, failed: u64) -> Result<String, NoMemory>
     ensures { IfOk result (λ line. string_bytes line ≡ L.counts_line file.now tests failed) }
 {

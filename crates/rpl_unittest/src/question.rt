@@ -1,4 +1,4 @@
-// What a test comment asks.
+// The parsing of a test comment.
 ghost use Rattle.std.specs.Prelude.{◌≡◌, true, option_and_then};
 ghost use Rattle.std.specs.Option.{option_copied};
 ghost use Rattle.rpl_unittest.specs.Comments as S;
@@ -10,7 +10,7 @@ use crate::test::Verb;
 use crate::word::Word;
 use rpl_text::Chars;
 
-/// What a test comment asks, and its texts as they stand.
+/// The assertion of a test comment, with its texts as they are written.
 #[derive(Drop)]
 pub(crate) struct Question<'a, 'b> {
     pub(crate) name: &'a str,
@@ -19,7 +19,7 @@ pub(crate) struct Question<'a, 'b> {
     pub(crate) texts: &'b [Word<'a>],
 }
 
-/// A name at the front, and what is after it.
+/// Returns the name at the front and the words after it.
 fn name_first<'a, 'b>(words: &'b [Word<'a>]) -> Option<(&'a str, &'b [Word<'a>])>
     ensures { first_seen result ≡ S.name_first (words_seen words.now) }
 {
@@ -36,7 +36,7 @@ fn name_first<'a, 'b>(words: &'b [Word<'a>]) -> Option<(&'a str, &'b [Word<'a>])
     }
 }
 
-/// A part at the front, and what is after it.
+/// Returns the part at the front and the words after it.
 fn part_first<'a, 'b>(words: &'b [Word<'a>]) -> Option<(&'a str, &'b [Word<'a>])>
     ensures { first_seen result ≡ S.part_first (words_seen words.now) }
 {
@@ -53,7 +53,7 @@ fn part_first<'a, 'b>(words: &'b [Word<'a>]) -> Option<(&'a str, &'b [Word<'a>])
     }
 }
 
-/// What is after a `local`, if one stands at the front.
+/// Returns the words after a `local`, if there is one at the front, or else all words.
 fn past_local<'a, 'b>(words: &'b [Word<'a>]) -> &'b [Word<'a>]
     ensures { words_seen result.now ≡ S.past_local (words_seen words.now) }
 {
@@ -70,7 +70,7 @@ fn past_local<'a, 'b>(words: &'b [Word<'a>]) -> &'b [Word<'a>]
     }
 }
 
-/// What is asked, by its word.
+/// Returns the verb that a word names.
 fn verb_of(word: &str) -> Option<Verb>
     ensures { result ≡ S.verb_of word.now }
 {
@@ -87,7 +87,7 @@ fn verb_of(word: &str) -> Option<Verb>
     }
 }
 
-/// The part that is asked for, if any is, and what is after it.
+/// Returns the part, if the verb takes one, and the words after it.
 fn part_for<'a, 'b>(verb: Verb, words: &'b [Word<'a>]) -> Option<(Option<&'a str>, &'b [Word<'a>])>
     ensures { part_seen result ≡ S.part_for verb (words_seen words.now) }
 {
@@ -100,7 +100,7 @@ fn part_for<'a, 'b>(verb: Verb, words: &'b [Word<'a>]) -> Option<(Option<&'a str
     }
 }
 
-/// The question of words that begin with the pattern's name.
+/// Parses words that begin with the pattern's name.
 fn of_name<'a, 'b>(words: &'b [Word<'a>]) -> Option<Question<'a, 'b>>
     ensures { reading_by result ≡ option_and_then S.of_name (S.name_first (words_seen words.now)) }
 {
@@ -124,7 +124,7 @@ fn of_name<'a, 'b>(words: &'b [Word<'a>]) -> Option<Question<'a, 'b>>
     })
 }
 
-/// The question of the words of a test comment.
+/// Parses the words of a test comment.
 pub(crate) fn read_question<'a, 'b>(words: &'b [Word<'a>]) -> Option<Question<'a, 'b>>
     ensures { reading_by result ≡ S.reading_of (words_seen words.now) }
 {
@@ -138,7 +138,7 @@ pub(crate) fn read_question<'a, 'b>(words: &'b [Word<'a>]) -> Option<Question<'a
     }
 }
 
-/// The text, if the word is one.
+/// Returns the text, if the word is one.
 pub(crate) fn text_in<'a>(word: &'a Word<'_>) -> Option<&'a Chars>
     ensures { option_copied result ≡ text_in (word_seen word.now) }
 {
@@ -152,7 +152,7 @@ pub(crate) fn text_in<'a>(word: &'a Word<'_>) -> Option<&'a Chars>
     }
 }
 
-/// The word may come next: a text, or a comma.
+/// Returns whether the word may come next: a text, or a comma.
 fn fits(wants_text: bool, word: &Word<'_>) -> bool
     ensures { result ≡ fits wants_text (word_seen word.now) }
 {
@@ -166,7 +166,7 @@ fn fits(wants_text: bool, word: &Word<'_>) -> bool
     }
 }
 
-/// The words are one text or more, with commas between them.
+/// Returns whether the words are one text or more, separated by commas.
 pub(crate) fn are_texts(words: &[Word<'_>]) -> bool
     ensures { result ≡ are_texts true (words_seen words.now) }
 {

@@ -11,13 +11,13 @@ use rpl_lexer::NoMemory;
 use std::alloc::Global;
 use thiserror::Error;
 
-/// Why a text has no tests.
+/// The reason why a text has no tests.
 #[derive(Clone, Copy, Debug, PartialEq, Eq, Error)]
 pub enum TestFault {
-    /// Memory ran out.
+    /// There is not enough memory.
     #[error("out of memory")]
     NoMemory,
-    /// A test comment says no test.
+    /// A test comment is malformed.
     #[error("bad comment of tests in line {line}")]
     BadTest {
         /// The line of the comment, from 1.
@@ -35,12 +35,13 @@ impl From<NoMemory> for TestFault {
     }
 }
 
-/// The tests of a text, or the first line whose test comment says none.
+/// Reads the tests of a text. Returns the first line with a malformed test comment, if there is
+/// one.
 ///
-/// A line is a test comment where its first characters but spaces and tabs are `--`, and the next
-/// word is `test`, with a space or a tab after it. What follows the dashes is `test`, perhaps
-/// `local`, a name, then `accepts` or `rejects`, or `includes` or `excludes` with a part, and one
-/// quoted text or more with commas between them.
+/// A line is a test comment if its first characters, apart from spaces and tabs, are `--`, and
+/// the next word is `test`, with a space or a tab after it. The dashes are followed by `test`,
+/// an optional `local`, a name, then `accepts` or `rejects`, or `includes` or `excludes` with a
+/// part, and one or more quoted texts, separated by commas.
 pub fn read_tests(alloc: Global, text: &str) -> Result<Tests, TestFault>
     ensures tests { IfOk result (HasTests text.now) }
     ensures short { IfOk result (λ tests. All (λ t. length (encode_utf8_all t.text)

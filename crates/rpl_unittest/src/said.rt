@@ -1,4 +1,4 @@
-// The tests that the words of a test comment give.
+// The tests of a test comment, made from its words.
 ghost use Rattle.std.specs.Prelude.{◌≡◌, ◌++◌, map, IfOk, OnOk, option_map, chars};
 ghost use Rattle.rpl_unittest.specs.Comments as S;
 ghost use Rattle.rpl_unittest.specs.inside.Words.{words_seen, bytes_of, tests_said, test_for};
@@ -11,7 +11,7 @@ use rpl_lexer::{LexKind, NoMemory, lex};
 use rpl_text::Chars;
 use std::alloc::Global;
 
-/// A part's characters.
+/// Returns the characters of a part.
 fn part_chars(alloc: Global, part: Option<&str>) -> Result<Option<Chars>, NoMemory>
     ensures { IfOk result (λ p. p ≡ option_map chars (bytes_of part.entry)) }
 {
@@ -21,7 +21,7 @@ fn part_chars(alloc: Global, part: Option<&str>) -> Result<Option<Chars>, NoMemo
     }
 }
 
-/// The test of one text.
+/// Returns the test of one text.
 fn make_test(
     alloc: Global,
     line: u64,
@@ -57,7 +57,7 @@ fn push_tests(
     Ok(())
 }
 
-/// Adds the tests that the words of a test comment say, if they say any.
+/// Adds the tests in the words of a test comment. Returns whether the comment is well formed.
 fn push_words(
     alloc: Global,
     tests: &mut Tests,
@@ -79,7 +79,7 @@ fn push_words(
     }
 }
 
-/// Adds the tests of a test comment, if it says any.
+/// Adds the tests of a test comment. Returns whether the comment is well formed.
 pub(crate) fn push_comment(
     alloc: Global,
     tests: &mut Tests,

@@ -2,16 +2,16 @@
 use rpl_list::List;
 use rpl_text::Chars;
 
-/// What a test asks of a text.
+/// The claim of a test about its text.
 #[derive(Clone, Copy, Debug, PartialEq, Eq)]
 pub enum Verb {
-    /// It is matched to its end.
+    /// The text is matched to its end.
     Accepts,
-    /// It is not matched to its end.
+    /// The text is not matched to its end.
     Rejects,
-    /// It is matched, with a node of the part's type below the root.
+    /// The text is matched, with a node of the part's type below the root.
     Includes,
-    /// It is matched, without such a node.
+    /// The text is matched, without such a node.
     Excludes,
 }
 
@@ -22,9 +22,9 @@ pub struct Test {
     pub line: u64,
     /// The name of the pattern.
     pub name: Chars,
-    /// What it asks.
+    /// The claim about the text.
     pub verb: Verb,
-    /// The part, of `Includes` and `Excludes` alone.
+    /// The part, for `Includes` and `Excludes` alone.
     pub part: Option<Chars>,
     /// The text.
     pub text: Chars,

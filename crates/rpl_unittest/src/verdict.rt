@@ -1,4 +1,4 @@
-// Verdicts: what was found, beside what a test asks.
+// Verdicts: whether a match of the text fulfils the claim of a test.
 ghost use Rattle.std.specs.Prelude.{◌≡◌, ◌≤◌, ◌∷◌, ◌++◌, ℕ, List, [], Some, drop, length};
 ghost use Rattle.std.specs.Prelude.{option_map, slice_get};
 ghost use Rattle.std.specs.Prelude.{IfSome};
@@ -16,7 +16,7 @@ use rpl_print::text_of;
 use rpl_text::Chars;
 use rpl_tree::{Forest, Node};
 
-/// There is no dot.
+/// Returns whether the part has no dot.
 fn is_plain(part: &str) -> bool
     ensures { result ≡ is_plain part.now }
 {
@@ -28,7 +28,7 @@ fn is_plain(part: &str) -> bool
     true
 }
 
-/// The bytes are a package, a dot and a part.
+/// Returns whether the label is a package, a dot and a part.
 fn is_joined(label: &[u8], prefix: &[u8], part: &[u8]) -> bool
     ensures { result ≡ bytes_eq label.now (prefix.now ++ 46 ∷ part.now) }
 {
@@ -45,7 +45,7 @@ fn is_joined(label: &[u8], prefix: &[u8], part: &[u8]) -> bool
     &label[len + 1..] == part
 }
 
-/// The type of a node is the part, or the part of this package.
+/// Returns whether the type of a node is the part, or the part in this package.
 fn is_type(prefix: &str, part: &str, label: &str) -> bool
     ensures { result ≡ is_type prefix.now part.now label.now }
 {
@@ -53,14 +53,14 @@ fn is_type(prefix: &str, part: &str, label: &str) -> bool
         || (is_plain(part) && is_joined(label.as_bytes(), prefix.as_bytes(), part.as_bytes()))
 }
 
-/// The text with this number.
+/// Returns the text with this number.
 fn label_of(program: &Program, number: u32) -> &str
     ensures { result.now ≡ encode_utf8_all (label_in (labels_of program.now) number) }
 {
     program.label(number).unwrap_or("")
 }
 
-/// The type of a node.
+/// Returns the type of a node.
 fn type_of(node: Node, program: &Program) -> &str
     ensures { result.now ≡ type_at (labels_of program.now) node }
 {
@@ -70,14 +70,14 @@ fn type_of(node: Node, program: &Program) -> &str
     }
 }
 
-/// The type that a test asks for: a name, and that of the file's package.
+/// The type that a test names: a part, and the name of the file's package.
 #[derive(Clone, Copy)]
 struct Asked<'a> {
     prefix: &'a str,
     part: &'a str,
 }
 
-/// There is such a node, and it has the type.
+/// Returns whether there is a node with this index, and it has the type.
 fn is_here(forest: &Forest, index: usize, asked: Asked<'_>, program: &Program) -> bool
     ensures { result ≡ passes
         (has_part program.now asked.entry.prefix.now asked.entry.part.now)
@@ -89,7 +89,7 @@ fn is_here(forest: &Forest, index: usize, asked: Asked<'_>, program: &Program) -
     }
 }
 
-/// Some node after the first has the type.
+/// Returns whether some node after the first has the type.
 fn has_type(forest: &Forest, asked: Asked<'_>, program: &Program) -> bool
     ensures { result ≡ list_any
         (has_part program.now asked.entry.prefix.now asked.entry.part.now) (drop 1 forest.now) }
@@ -103,7 +103,7 @@ fn has_type(forest: &Forest, asked: Asked<'_>, program: &Program) -> bool
     false
 }
 
-/// The text is matched to its end.
+/// Returns whether the text is matched to its end.
 fn is_whole(forest: &Forest, text: &str, program: &Program) -> bool
     requires { AreOneTree forest.now }
     ensures { result ≡ is_whole text.now (Some (trees_in program.now forest.now)) }
@@ -114,7 +114,7 @@ fn is_whole(forest: &Forest, text: &str, program: &Program) -> bool
     }
 }
 
-/// The bytes of a part, or none.
+/// Returns the bytes of a part, which are none if there is no part.
 fn part_of(part: &Option<Chars>) -> &str
     ensures { result.now ≡ part_of part.now }
 {
@@ -124,7 +124,7 @@ fn part_of(part: &Option<Chars>) -> &str
     }
 }
 
-/// The verdict over a match.
+/// Returns whether a test passes whose text matches.
 fn judge_match(verb: Verb, asked: Asked<'_>, text: &str, forest: &Forest, program: &Program) -> bool
     requires { AreOneTree forest.now }
     ensures { result ≡ is_met verb asked.entry.prefix.now asked.entry.part.now text.now
@@ -138,10 +138,10 @@ fn judge_match(verb: Verb, asked: Asked<'_>, text: &str, forest: &Forest, progra
     }
 }
 
-/// Whether the test is met, by what was found on its text: the match tree, or nothing where the
-/// text isn't matched. The forest is that of one tree, whose labels are the program's; `prefix` is
-/// the name of the file's package, empty where it has none. A part without a dot stands for the
-/// node of that type and for that of the file's package.
+/// Returns whether the test passes. `found` is the match tree of its text, or `None` if the
+/// text isn't matched. The forest is that of one tree, whose labels are the program's; `prefix`
+/// is the name of the file's package, empty if it has none. A part without a dot names the node
+/// of that type and the one of that type in the file's package.
 pub fn judge(test: &Test, prefix: &str, found: Option<&Forest>, program: &Program) -> bool
     requires { IfSome (option_copied found) AreOneTree }
     ensures { let trees = option_map (trees_in program.now) (option_copied found.entry) in

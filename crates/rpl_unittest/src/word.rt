@@ -1,4 +1,4 @@
-// Tokens as test comments see them.
+// Tokens as the words of a test comment.
 ghost use Rattle.std.specs.Prelude.{◌≡◌, IfOk, map};
 ghost use Rattle.rpl_lexer.specs.Cut.{IsCut, IsToken};
 ghost use Rattle.rpl_lexer.specs.declared.token.TokenKind.TheVariants as K;
@@ -12,7 +12,7 @@ use rpl_lexer::{
 use rpl_text::Chars;
 use std::alloc::Global;
 
-/// A token as test comments see it.
+/// A token as a word of a test comment.
 #[derive(Drop)]
 pub(crate) enum Word<'a> {
     /// A name, as it is written.
@@ -20,14 +20,14 @@ pub(crate) enum Word<'a> {
     /// A name with a prefix, as it is written.
     Qualified(&'a str),
     Local,
-    /// A quoted text's characters.
+    /// The characters of a quoted text.
     Text(Chars),
     Comma,
-    /// A token that no test comment has.
+    /// A token that can't occur in a test comment.
     Other,
 }
 
-/// The word of a keyword.
+/// Returns the word of a keyword.
 fn of_keyword<'a>(keyword: Keyword) -> Word<'a>
     ensures { word_seen result ≡ S.of_keyword keyword }
 {
@@ -38,7 +38,7 @@ fn of_keyword<'a>(keyword: Keyword) -> Word<'a>
     }
 }
 
-/// The word of a sign.
+/// Returns the word of a sign.
 fn of_sign<'a>(sign: Punct) -> Word<'a>
     ensures { word_seen result ≡ S.of_sign sign }
 {
@@ -52,7 +52,7 @@ fn of_sign<'a>(sign: Punct) -> Word<'a>
     }
 }
 
-/// The word of a token.
+/// Returns the word of a token.
 fn make_word<'a>(alloc: Global, text: &'a str, token: Token) -> Result<Word<'a>, NoMemory>
     requires { IsToken text.now token }
     ensures { IfOk result (λ w. word_seen w ≡ S.word_by token.kind text.now token) }
@@ -67,7 +67,7 @@ fn make_word<'a>(alloc: Global, text: &'a str, token: Token) -> Result<Word<'a>,
     }
 }
 
-/// The words of a text.
+/// Returns the words of a text.
 pub(crate) fn words<'a>(
     alloc: Global,
     text: &'a str,

@@ -1,4 +1,4 @@
-// What comes of a goal: what the check and the compiler make of it, and how it ends on a line by
+// The result of a goal: the verdict of the check and the compiler, and its ending on a line by
 // its meaning and by both machines.
 ghost use Rattle.std.specs.Prelude.{◌≡◌, ◌<◌};
 
@@ -13,27 +13,27 @@ use std::alloc::{AllocError, Global};
 use std::marker::Brand;
 use std::sync::ledger::{Blank, Ledger};
 
-/// The steps that a run may make.
+/// The most steps that a run may make.
 const BUDGET: u64 = 100_000;
 
-/// The turns and calls that may stand one in the other.
+/// The most turns and calls that may be nested.
 const DEPTH: u32 = 40;
 
-/// An answer as text, and how much it took: work, or steps. Where it isn't found within the depth
-/// or the budget, it is `open`.
+/// An answer as text, and its cost: work, or steps. It is `open` if it isn't found within the
+/// depth or the budget.
 #[derive(Drop)]
 pub(crate) struct Ending {
     pub(crate) shown: String,
     pub(crate) cost: u64,
 }
 
-/// An answer that wasn't found.
+/// Returns an answer that wasn't found.
 fn open(alloc: Global) -> Result<Ending, AllocError> {
     let shown = String::from_str(alloc, "open")?;
     Ok(Ending { shown, cost: 0 })
 }
 
-/// The line's characters.
+/// Returns the characters of the line.
 fn characters(alloc: Global, line: &str) -> Result<Vec<char>, AllocError> {
     let mut chars = Vec::new(alloc);
     for c in line.chars() {
@@ -42,7 +42,7 @@ fn characters(alloc: Global, line: &str) -> Result<Vec<char>, AllocError> {
     Ok(chars)
 }
 
-/// The ending that the goal means, with its work.
+/// Returns the ending that the goal means, with its work.
 pub(crate) fn meant(
     alloc: Global,
     rules: &Rules,
@@ -64,8 +64,8 @@ pub(crate) fn meant(
     Ok(Ending { shown, cost })
 }
 
-/// What comes of a goal over a table: code, or that calls or blocks are out of order, or the first
-/// fault, or nothing where memory runs out or the code is too long.
+/// The result for a goal over a table: code, or that calls or blocks are out of order, or the
+/// first fault, or nothing if memory runs out or the code is too long.
 #[derive(Drop)]
 pub(crate) enum Judged {
     Code(Program),
@@ -74,7 +74,7 @@ pub(crate) enum Judged {
     NoCode,
 }
 
-/// What the check and the compiler make of a goal.
+/// Returns the verdict of the check and the compiler on a goal.
 pub(crate) fn judge(alloc: Global, rules: Rules, goal: Peg) -> Judged {
     if !is_in_order(&rules) {
         return Judged::Unordered;
@@ -96,7 +96,7 @@ pub(crate) fn judge(alloc: Global, rules: Rules, goal: Peg) -> Judged {
     }
 }
 
-/// The ending of the plain machine, with its steps.
+/// Returns the ending of the plain machine, with its steps.
 pub(crate) fn plain(alloc: Global, program: &Program, line: &str) -> Result<Ending, AllocError> {
     let chars = characters(alloc, line)?;
     let Some(answer) = rpl_reference::run(alloc, program, &chars, BUDGET)? else {
@@ -109,7 +109,7 @@ pub(crate) fn plain(alloc: Global, program: &Program, line: &str) -> Result<Endi
     Ok(Ending { shown, cost })
 }
 
-/// The answer of the machine, where it has one. Its steps are counted on this ledger.
+/// Returns the answer of the machine, if it has one. Its steps are counted on this ledger.
 fn answer_on<L: Ledger>(
     program: &Program,
     line: Text<'_>,
@@ -124,7 +124,8 @@ fn answer_on<L: Ledger>(
     run(program, line, BUDGET, scratch, &mut steps).ok()
 }
 
-/// The ending of the machine, with its steps. Where it has no answer, that is `open` too.
+/// Returns the ending of the machine, with its steps. If it has no answer, the ending is `open`
+/// too.
 pub(crate) fn real(
     alloc: Global,
     program: &Program,

@@ -6,7 +6,7 @@ use rpl_check::CheckFault;
 use std::alloc::{AllocError, Global};
 use std::test::Fail;
 
-/// The verdict that a fault is.
+/// Returns the verdict that names a fault.
 fn told(fault: &CheckFault) -> Verdict {
     match fault {
         CheckFault::NoMemory => Verdict::NoCode,
@@ -25,7 +25,8 @@ fn told(fault: &CheckFault) -> Verdict {
     }
 }
 
-/// The verdict of both checks on what was made up; none where they differ.
+/// Returns the verdict of both checks on a generated goal and its rules, or `None` if they
+/// differ.
 fn agreed(alloc: Global, made: Made) -> Result<Option<Verdict>, AllocError> {
     let due = verdict_on(alloc, &made.rules, &made.goal)?;
     let found = match judge(alloc, made.rules, made.goal) {
@@ -37,7 +38,7 @@ fn agreed(alloc: Global, made: Made) -> Result<Option<Verdict>, AllocError> {
     Ok(if found == due { Some(due) } else { None })
 }
 
-/// How many verdicts there were of each kind.
+/// The number of verdicts of each kind.
 #[derive(Drop)]
 struct Verdicts {
     behind: u32,
@@ -62,8 +63,8 @@ impl Verdicts {
     }
 }
 
-/// On four thousand made-up tables and patterns the check finds what the plain check finds, which
-/// tries all sets of rules.
+/// On four thousand generated tables and patterns the check finds the same as the plain check,
+/// which tries all sets of rules.
 #[test]
 fn faults_are_those_of_the_plain_check(rt: HostRuntime) -> Result<(), Fail> {
     let mut random = generator();

@@ -1,5 +1,5 @@
-// Two thousand generated patterns and texts, by their meaning, by the plain machine and by the
-// machine.
+// Two thousand generated patterns and texts, tried by their meaning, by the plain machine and
+// by the machine.
 use crate::tests::endings::{Judged, judge, meant, plain, real};
 use crate::tests::made::{Made, generator, make};
 use rpl_machine::Scratch;
@@ -8,8 +8,8 @@ use std::test::Fail;
 
 const COUNT: u32 = 2_000;
 
-/// The ending that is meant, where both machines answer it in as many steps, and these are no more
-/// than four times the work and two; empty where they don't.
+/// Returns the ending that is meant, if both machines answer it in the same number of steps,
+/// and that number is at most four times the work plus two. Returns an empty text if not.
 fn agreed(alloc: Global, made: Made, scratch: &mut Scratch) -> Result<String, AllocError> {
     let Made { rules, goal, text } = made;
     let meant = meant(alloc, &rules, &goal, text.as_str())?;
@@ -28,7 +28,7 @@ fn agreed(alloc: Global, made: Made, scratch: &mut Scratch) -> Result<String, Al
     Ok(String::new(alloc))
 }
 
-/// How many endings there were of each kind.
+/// The number of endings of each kind.
 #[derive(Drop)]
 struct Endings {
     failed: u32,

@@ -1,11 +1,11 @@
-// Made-up goals, rules and texts. A pattern is made of templates, whose words stand after their
-// parts: `S` stands for a set, `P` for the pattern made last, and `C` for a call of a rule. What
-// stands twice in a table is taken more often.
+// Generated goals, rules and texts. A pattern is made from templates, whose words stand after
+// their parts: `S` is a set, `P` the pattern made last, and `C` a call of a rule. An entry that
+// is twice in a table is taken more often.
 //
-// What `make` makes has a meaning on every text: a repeated body begins with a set, so that each
-// turn takes a character, and so does a rule, so that calls end; no halt stands under a predicate,
-// since where there are halts, all predicates are leaves. In what `make_wild` makes anything may be
-// wrong, the order of the table too.
+// A goal of `make` has a meaning on every text. A repeated body begins with a set, so each turn
+// takes a character. A rule does too, so calls end. No halt is inside a predicate, since all
+// predicates are leaves if there are halts. In a goal of `make_wild` anything may be wrong,
+// even the order of the table.
 use crate::tests::names::is_new;
 use rand::RngExt;
 use rand::seq::IndexedRandom;
@@ -15,7 +15,7 @@ use rpl_core::{Peg, Pegs, Rule, Rules};
 use rpl_text::Chars;
 use std::alloc::{AllocError, Global};
 
-/// The sets: the first character of each, and the last.
+/// The sets, each by its first and its last character.
 static SETS: [[char; 2]; 9] = [
     ['a', 'a'],
     ['a', 'a'],
@@ -31,7 +31,7 @@ static SETS: [[char; 2]; 9] = [
 /// The letters of the texts.
 static LETTERS: [&str; 5] = ["a", "a", "b", "c", "\u{e9}"];
 
-/// Patterns without parts made before.
+/// Patterns without parts.
 static LEAVES: [&str; 16] = [
     "S",
     "S",
@@ -51,7 +51,7 @@ static LEAVES: [&str; 16] = [
     "S S seq2 behind:0:3",
 ];
 
-/// Patterns around one.
+/// Patterns around one part.
 static WRAPS: [&str; 9] = [
     "P cap:x",
     "P cap:y",
@@ -64,7 +64,7 @@ static WRAPS: [&str; 9] = [
     "P seq0 choice2",
 ];
 
-/// Patterns of two.
+/// Patterns of two parts.
 static JOINS: [&str; 6] = [
     "P P seq2",
     "P P seq2",
@@ -85,13 +85,13 @@ static HALTS: [&str; 4] = [
     "S halt seq2 P choice2",
 ];
 
-/// The whole of a rule.
+/// Templates for the body of a rule.
 static RULES: [&str; 3] = ["S P seq2", "S P seq2 S choice2", "S P seq2 cap:r"];
 
-/// The whole of a goal.
+/// Templates for a goal.
 static GOALS: [&str; 4] = ["P", "P cap:*", "C P choice2 cap:*", "P C seq2 cap:*"];
 
-/// Patterns of which the check may refuse what is made.
+/// Patterns that the check may refuse.
 static WILD: [&str; 14] = [
     "P many",
     "S P seq2 many",
@@ -109,8 +109,8 @@ static WILD: [&str; 14] = [
     "S P seq2 cap:x",
 ];
 
-/// The block of each of three rules, from 1, or 0 outside blocks. In the last two rows the rules of
-/// one block don't stand side by side.
+/// The block of each of three rules, from 1, or 0 outside blocks. In the last two rows the
+/// rules of one block are not next to each other.
 static BLOCKS: [[u32; 3]; 8] = [
     [0, 0, 0],
     [1, 1, 1],
@@ -122,18 +122,17 @@ static BLOCKS: [[u32; 3]; 8] = [
     [1, 2, 1],
 ];
 
-/// The generator of the made-up goals: begun with a made-up number, so that each run makes the
-/// same.
+/// Returns the generator of goals. Its seed is fixed, so each run makes the same goals.
 pub(crate) fn generator() -> Pcg32 {
     Pcg32::new(20_261_127, 0)
 }
 
-/// One of the words; none where there are none.
+/// Returns one of the words, or an empty one if there are none.
 fn pick(random: &mut Pcg32, words: &[&'static str]) -> &'static str {
     words.choose(random).copied().unwrap_or("")
 }
 
-/// What a goal may use: how many rules there are, and whether it and they may halt.
+/// The limits of a goal: how many rules there are, and whether the goal and the rules may halt.
 #[derive(Clone, Copy)]
 struct Limits {
     rules: u32,
@@ -148,7 +147,7 @@ pub(crate) struct Made {
     pub(crate) text: String,
 }
 
-/// One of the sets.
+/// Returns one of the sets.
 fn set(alloc: Global, random: &mut Pcg32) -> Result<Peg, AllocError> {
     let ends = SETS.choose(random).unwrap_or(&SETS[0]);
     let low = ends[0];
@@ -159,7 +158,7 @@ fn set(alloc: Global, random: &mut Pcg32) -> Result<Peg, AllocError> {
     Ok(Peg::Set(Set::range(alloc, low, high)?))
 }
 
-/// A call of a rule, or a set where there is none.
+/// Returns a call of a rule, or a set if there is no rule.
 fn call(alloc: Global, random: &mut Pcg32, limits: Limits) -> Result<Peg, AllocError> {
     if limits.rules == 0 {
         return set(alloc, random);
@@ -167,7 +166,7 @@ fn call(alloc: Global, random: &mut Pcg32, limits: Limits) -> Result<Peg, AllocE
     Ok(Peg::Call(random.random_range(0..limits.rules)))
 }
 
-/// The last pattern, or the empty one where none is left.
+/// Returns the last pattern, or the empty one if none is left.
 fn last(alloc: Global, stack: &mut Vec<Peg>) -> Peg {
     match stack.pop() {
         Some(peg) => peg,
@@ -175,7 +174,7 @@ fn last(alloc: Global, stack: &mut Vec<Peg>) -> Peg {
     }
 }
 
-/// The last so many patterns, in order.
+/// Returns the last `count` patterns, in order.
 fn last_of(alloc: Global, stack: &mut Vec<Peg>, count: u32) -> Result<Pegs, AllocError> {
     let mut taken = Vec::new(alloc);
     for _ in 0..count {
@@ -188,7 +187,7 @@ fn last_of(alloc: Global, stack: &mut Vec<Peg>, count: u32) -> Result<Pegs, Allo
     Ok(parts)
 }
 
-/// The pattern of a word around the last one.
+/// Returns the pattern of a word around the last one.
 fn around(alloc: Global, stack: &mut Vec<Peg>, word: &str) -> Result<Peg, AllocError> {
     let body = Box::new(alloc, last(alloc, stack))?;
     if let Some(label) = word.strip_prefix("cap:") {
@@ -206,7 +205,7 @@ fn around(alloc: Global, stack: &mut Vec<Peg>, word: &str) -> Result<Peg, AllocE
     Ok(Peg::Behind { least, most, body })
 }
 
-/// The pattern of a word, made of those before it.
+/// Returns the pattern of a word, made from the patterns before it.
 fn join(alloc: Global, stack: &mut Vec<Peg>, word: &str) -> Result<Peg, AllocError> {
     match word {
         "start" => Ok(Peg::Start),
@@ -222,7 +221,7 @@ fn join(alloc: Global, stack: &mut Vec<Peg>, word: &str) -> Result<Peg, AllocErr
     }
 }
 
-/// The template's pattern. Where no pattern is left for a `P`, it is a set.
+/// Returns the pattern of a template. If no pattern is left for a `P`, it is a set.
 fn fill(
     alloc: Global,
     random: &mut Pcg32,
@@ -246,7 +245,7 @@ fn fill(
     Ok(last(alloc, &mut stack))
 }
 
-/// A template for the next part.
+/// Returns a template for the next part.
 fn template(random: &mut Pcg32, limits: Limits) -> &'static str {
     match random.random_range(0..10) {
         0..=3 => pick(random, &LEAVES),
@@ -262,7 +261,7 @@ fn template(random: &mut Pcg32, limits: Limits) -> &'static str {
     }
 }
 
-/// A pattern: some parts, and the last template over them.
+/// Returns a pattern: some parts, and the last template over them.
 fn pattern(
     alloc: Global,
     random: &mut Pcg32,
@@ -283,7 +282,7 @@ fn pattern(
     fill(alloc, random, limits, last, &mut parts)
 }
 
-/// Adds a rule, unless there is one of its name.
+/// Adds a rule, unless there is one with its name.
 fn push_rule(
     alloc: Global,
     rules: &mut Rules,
@@ -299,7 +298,7 @@ fn push_rule(
     rules.push(Rule { name, block, body })
 }
 
-/// The table of the rules, which stand in one block, so that each may call all.
+/// Returns the table of the rules, which are in one block, so that each may call all of them.
 fn rules(alloc: Global, random: &mut Pcg32, limits: Limits) -> Result<Rules, AllocError> {
     let mut rules = Rules::new(alloc);
     for _ in 0..limits.rules {
@@ -310,7 +309,7 @@ fn rules(alloc: Global, random: &mut Pcg32, limits: Limits) -> Result<Rules, All
     Ok(rules)
 }
 
-/// A text of up to six letters.
+/// Returns a text of at most six letters.
 fn text(alloc: Global, random: &mut Pcg32) -> Result<String, AllocError> {
     let mut text = String::new(alloc);
     for _ in 0..random.random_range(0..7) {
@@ -319,7 +318,7 @@ fn text(alloc: Global, random: &mut Pcg32) -> Result<String, AllocError> {
     Ok(text)
 }
 
-/// The next goal, with its rules and a text.
+/// Returns the next goal, with its rules and a text.
 pub(crate) fn make(alloc: Global, random: &mut Pcg32) -> Result<Made, AllocError> {
     let limits = Limits {
         rules: random.random_range(0..3),
@@ -332,7 +331,7 @@ pub(crate) fn make(alloc: Global, random: &mut Pcg32) -> Result<Made, AllocError
     Ok(Made { rules, goal, text })
 }
 
-/// A pattern of which anything may be wrong.
+/// Returns a pattern in which anything may be wrong.
 fn wild_pattern(alloc: Global, random: &mut Pcg32, limits: Limits) -> Result<Peg, AllocError> {
     let mut parts = Vec::new(alloc);
     for _ in 0..random.random_range(0..4) {
@@ -344,7 +343,8 @@ fn wild_pattern(alloc: Global, random: &mut Pcg32, limits: Limits) -> Result<Peg
     fill(alloc, random, limits, last, &mut parts)
 }
 
-/// The next goal of which anything may be wrong, over up to three rules, which may be out of order.
+/// Returns the next goal in which anything may be wrong, over up to three rules, which may be
+/// out of order.
 pub(crate) fn make_wild(alloc: Global, random: &mut Pcg32) -> Result<Made, AllocError> {
     let limits = Limits {
         rules: random.random_range(0..4),

@@ -6,14 +6,14 @@ ghost use Rattle.rpl_core.specs.Table.{IsNew, names_of};
 use rpl_core::Rules;
 use rpl_text::Chars;
 
-/// Whether the two are the same text.
+/// Returns whether the two texts are the same.
 fn same_text(one: &Chars, other: &Chars) -> bool
     ensures { IsTrue result ↔ (one.now ≡ other.now) }
 {
     one.as_str() == other.as_str()
 }
 
-/// The rule with this number has the name.
+/// Returns whether the rule with this number has the name.
 fn has_name(rules: &Rules, number: u32, name: &Chars) -> bool
     ensures { result ≡ true ↔ (slice_get (names_of (rules_of rules.now)) number ≡ Some name.now) }
 {
@@ -23,7 +23,7 @@ fn has_name(rules: &Rules, number: u32, name: &Chars) -> bool
     }
 }
 
-/// No rule has the name.
+/// Returns whether no rule has the name.
 pub(crate) fn is_new(rules: &Rules, name: &Chars) -> bool
     ensures { result ≡ true → IsNew name.now (names_of (rules_of rules.now)) }
 {

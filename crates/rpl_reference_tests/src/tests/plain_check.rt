@@ -1,17 +1,17 @@
-// The check once more, slow and plain. Which rules may be empty, and which may halt, is the least
-// set of rules, that is, what all closed sets share: every set is tried.
+// A second check, slow and plain. The rules that may be empty, and those that may halt, are the
+// least set of rules: what all closed sets have in common. So every set is tried.
 use rpl_check::BehindCause;
 use rpl_core::{Peg, Rules};
 use std::alloc::{AllocError, Global};
 
-/// The most rules that a table may have here.
+/// The most rules of a table here.
 const MOST: u32 = 3;
 
-/// Which rules of a table are in a set.
+/// A set of rules of a table: which rules are in it.
 type Marks = [bool; 3];
 
-/// What is wrong with a table or a pattern, if anything is. A rule is its number, or none for the
-/// pattern.
+/// The fault of a table or a pattern, if it has one. A rule is given by its number, the pattern
+/// by `None`.
 #[derive(Clone, Copy, PartialEq, Eq)]
 pub(crate) enum Verdict {
     Unordered,
@@ -46,7 +46,7 @@ fn both(one: &Marks, other: &Marks) -> Marks {
     [one[0] && other[0], one[1] && other[1], one[2] && other[2]]
 }
 
-/// A pattern and all in it, in the order of reading.
+/// Adds a pattern and all patterns in it, in the order of reading.
 #[cycle(all)]
 fn push_all<'a>(peg: &'a Peg, all: &mut Vec<&'a Peg>) -> Result<(), AllocError> {
     all.push(peg)?;
@@ -72,7 +72,8 @@ fn all_in<'a>(alloc: Global, peg: &'a Peg) -> Result<Vec<&'a Peg>, AllocError> {
     Ok(all)
 }
 
-/// May it succeed and take nothing, where just the marked rules may?
+/// Returns whether the pattern may succeed without taking a character, if only the marked rules
+/// may.
 #[cycle(empty)]
 fn may_be_empty(peg: &Peg, empties: &Marks) -> bool {
     match peg {
@@ -86,7 +87,7 @@ fn may_be_empty(peg: &Peg, empties: &Marks) -> bool {
     }
 }
 
-/// How many of the parts may.
+/// Returns how many of the parts may be empty.
 #[cycle(empty)]
 fn empty_parts(parts: &[Peg], empties: &Marks) -> usize {
     let mut count = 0usize;
@@ -98,7 +99,7 @@ fn empty_parts(parts: &[Peg], empties: &Marks) -> usize {
     count
 }
 
-/// Marks the rules that it may call before it has taken a character.
+/// Marks the rules that the pattern may call before it has taken a character.
 #[cycle(here)]
 fn mark_called_here(peg: &Peg, empties: &Marks, called: &mut Marks) {
     match peg {
@@ -134,14 +135,14 @@ fn mark_in_each(parts: &[Peg], empties: &Marks, called: &mut Marks) {
     }
 }
 
-/// A fact of a pattern that hangs on which rules have it too.
+/// A fact of a pattern that depends on which rules have it too.
 #[derive(Clone, Copy)]
 enum Fact {
     MayBeEmpty,
     MayHalt,
 }
 
-/// Has the pattern the fact, where just the marked rules have it?
+/// Returns whether the pattern has the fact, if only the marked rules have it.
 fn has_fact(alloc: Global, fact: Fact, peg: &Peg, marks: &Marks) -> Result<bool, AllocError> {
     match fact {
         Fact::MayBeEmpty => Ok(may_be_empty(peg, marks)),
@@ -162,7 +163,8 @@ fn has_fact(alloc: Global, fact: Fact, peg: &Peg, marks: &Marks) -> Result<bool,
     }
 }
 
-/// Has the set each rule whose body has the fact, where just the rules of the set have it?
+/// Returns whether the set contains each rule whose body has the fact, if only the rules of the
+/// set have it.
 fn is_closed(alloc: Global, fact: Fact, rules: &Rules, marks: &Marks) -> Result<bool, AllocError> {
     for number in 0..MOST {
         if let Some(rule) = rules.get(number) {
@@ -174,7 +176,7 @@ fn is_closed(alloc: Global, fact: Fact, rules: &Rules, marks: &Marks) -> Result<
     Ok(true)
 }
 
-/// The rules that have the fact: the least closed set.
+/// Returns the rules that have the fact: the least closed set.
 fn rules_with(alloc: Global, fact: Fact, rules: &Rules) -> Result<Marks, AllocError> {
     let mut least = [true; 3];
     for marks in &SETS {
@@ -185,8 +187,8 @@ fn rules_with(alloc: Global, fact: Fact, rules: &Rules) -> Result<Marks, AllocEr
     Ok(least)
 }
 
-/// Does the rule reach itself before it has taken a character? What the rules that it reaches call
-/// so is marked too, three times over, which is enough for three rules.
+/// Returns whether the rule reaches itself before it has taken a character. The rules that a
+/// reached rule calls so are marked too, three times over, which is enough for three rules.
 fn reaches_itself(rules: &Rules, empties: &Marks, number: u32) -> bool {
     let mut reached = [false; 3];
     if let Some(rule) = rules.get(number) {
@@ -204,7 +206,7 @@ fn reaches_itself(rules: &Rules, empties: &Marks, number: u32) -> bool {
     has(&reached, number)
 }
 
-/// What is wrong with the body of a look-behind. None that is made up is longer than 255
+/// Returns the fault of the body of a look-behind. No generated body is longer than 255
 /// characters.
 fn cause_of(alloc: Global, body: &Peg) -> Result<Option<BehindCause>, AllocError> {
     let mut repeats = false;
@@ -222,7 +224,7 @@ fn cause_of(alloc: Global, body: &Peg) -> Result<Option<BehindCause>, AllocError
     })
 }
 
-/// What is wrong with the first bad look-behind.
+/// Returns the fault of the first invalid look-behind.
 fn first_cause(alloc: Global, peg: &Peg) -> Result<Option<BehindCause>, AllocError> {
     for part in &all_in(alloc, peg)? {
         if let Peg::Behind { body, .. } = part {
@@ -234,7 +236,7 @@ fn first_cause(alloc: Global, peg: &Peg) -> Result<Option<BehindCause>, AllocErr
     Ok(None)
 }
 
-/// Is something repeated that may be empty?
+/// Returns whether something is repeated that may be empty.
 fn has_empty_loop(alloc: Global, peg: &Peg, empties: &Marks) -> Result<bool, AllocError> {
     for part in &all_in(alloc, peg)? {
         if let Peg::Many(body) = part {
@@ -246,7 +248,7 @@ fn has_empty_loop(alloc: Global, peg: &Peg, empties: &Marks) -> Result<bool, All
     Ok(false)
 }
 
-/// May a predicate halt?
+/// Returns whether a predicate may halt.
 fn has_halt_inside(alloc: Global, peg: &Peg, halting: &Marks) -> Result<bool, AllocError> {
     for part in &all_in(alloc, peg)? {
         let halts = match part {
@@ -269,7 +271,7 @@ struct Known<'a> {
     halting: Marks,
 }
 
-/// A fault that a rule or a pattern may have by itself.
+/// A kind of fault that a rule or a pattern has on its own.
 #[derive(Clone, Copy)]
 enum Kind {
     Behind,
@@ -277,7 +279,7 @@ enum Kind {
     Halt,
 }
 
-/// The pattern's fault of this kind, if it has one.
+/// Returns the pattern's fault of this kind, if it has one.
 fn own_fault(
     alloc: Global,
     known: &Known<'_>,
@@ -304,7 +306,8 @@ fn own_fault(
     Ok(if is_bad { Some(fault) } else { None })
 }
 
-/// The first fault of this kind of the rules from `first` on and before `end`.
+/// Returns the first fault of this kind among the rules from `first` up to, but not including,
+/// `end`.
 fn first_own(
     alloc: Global,
     known: &Known<'_>,
@@ -323,7 +326,8 @@ fn first_own(
     Ok(None)
 }
 
-/// Those of the rules that reach themselves before a character, if there are any.
+/// Returns the rules that reach themselves before they take a character, as a fault if there
+/// are any.
 fn left_fault(known: &Known<'_>, first: u32, end: u32) -> Option<Verdict> {
     let mut marks = [false; 3];
     for number in first..end {
@@ -337,7 +341,7 @@ fn left_fault(known: &Known<'_>, first: u32, end: u32) -> Option<Verdict> {
     Some(Verdict::Left(marks))
 }
 
-/// The first fault of the rules of a block, or of a rule outside blocks.
+/// Returns the first fault of the rules of a block, or of a rule outside blocks.
 fn group_fault(
     alloc: Global,
     known: &Known<'_>,
@@ -373,7 +377,7 @@ fn share_block(rules: &Rules, one: u32, other: u32) -> bool {
     }
 }
 
-/// Does the rule call only earlier rules, and those of its block?
+/// Returns whether the rule calls only earlier rules, and those of its block.
 fn calls_back(alloc: Global, rules: &Rules, number: u32) -> Result<bool, AllocError> {
     let Some(rule) = rules.get(number) else {
         return Ok(true);
@@ -388,8 +392,8 @@ fn calls_back(alloc: Global, rules: &Rules, number: u32) -> Result<bool, AllocEr
     Ok(true)
 }
 
-/// Do the rules of each block stand side by side, and call only earlier rules and those of their
-/// block?
+/// Returns whether the rules of each block are next to each other, and call only earlier rules
+/// and those of their block.
 fn is_in_order(alloc: Global, rules: &Rules) -> Result<bool, AllocError> {
     for number in 0..MOST {
         if !calls_back(alloc, rules, number)? {
@@ -399,7 +403,7 @@ fn is_in_order(alloc: Global, rules: &Rules) -> Result<bool, AllocError> {
     Ok(!share_block(rules, 0, 2) || share_block(rules, 0, 1))
 }
 
-/// The first fault of the table.
+/// Returns the first fault of the table.
 fn table_fault(alloc: Global, known: &Known<'_>) -> Result<Option<Verdict>, AllocError> {
     let mut first = 0;
     for end in 1..MOST + 1 {
@@ -414,7 +418,7 @@ fn table_fault(alloc: Global, known: &Known<'_>) -> Result<Option<Verdict>, Allo
     Ok(None)
 }
 
-/// What is due of the table, or else of the pattern.
+/// Returns the verdict on the table, or, if it has no fault, on the pattern.
 pub(crate) fn verdict_on(alloc: Global, rules: &Rules, goal: &Peg) -> Result<Verdict, AllocError> {
     if !is_in_order(alloc, rules)? {
         return Ok(Verdict::Unordered);

@@ -1,10 +1,10 @@
-// Answers as text: the captures, and then the place. `<` begins a tree, `>` ends one, `!` is a
-// note. Places are numbers of characters.
+// Answers as text: the captures, and then the position of the end. `<` begins a tree, `>` ends
+// one, and `!` is a note. Positions are numbers of characters.
 use rpl_core::{Caught, Program};
 use rpl_reference::{Forest, Outcome};
 use std::alloc::{AllocError, Global};
 
-/// Adds one capture, or `@` and the place where a match ends.
+/// Appends one capture, or `@` and the position at which a match ends.
 fn push_capture(
     alloc: Global,
     shown: &mut String,
@@ -16,7 +16,7 @@ fn push_capture(
     shown.push_str(part.as_str())
 }
 
-/// Adds the captures of trees.
+/// Appends the captures of trees.
 fn show_trees(alloc: Global, shown: &mut String, trees: &Forest) -> Result<(), AllocError> {
     match trees {
         Forest::NoTree => Ok(()),
@@ -39,7 +39,7 @@ fn show_trees(alloc: Global, shown: &mut String, trees: &Forest) -> Result<(), A
     }
 }
 
-/// What a pattern means.
+/// Returns the outcome that a pattern means, as text.
 pub(crate) fn show_outcome(alloc: Global, outcome: &Outcome) -> Result<String, AllocError> {
     match outcome {
         Outcome::Open => String::from_str(alloc, "open"),
@@ -53,7 +53,7 @@ pub(crate) fn show_outcome(alloc: Global, outcome: &Outcome) -> Result<String, A
     }
 }
 
-/// What the plain machine answers.
+/// Returns the answer of the plain machine, as text.
 pub(crate) fn show_plain(
     alloc: Global,
     answer: &rpl_reference::Answer,
@@ -76,7 +76,7 @@ pub(crate) fn show_plain(
     }
 }
 
-/// How many characters stand before a place of the line, which is a number of bytes.
+/// Returns the number of characters before a byte offset of the line.
 fn number_of(line: &str, place: usize) -> usize {
     let mut number = 0usize;
     for (start, _) in line.char_indices() {
@@ -87,7 +87,7 @@ fn number_of(line: &str, place: usize) -> usize {
     number
 }
 
-/// A match of the machine: its captures, and the place where it ends.
+/// Returns a match of the machine as text: its captures, and the position at which it ends.
 pub(crate) fn show_match(
     alloc: Global,
     program: &Program,
