@@ -1,7 +1,7 @@
 -- From a plan to its run, and to what is told of it.
 use Rattle.std.proofs.Common.{ℕ, ◌≡◌, inl, inr, ◌-◌, ◌^◌, ◌<◌, ◌≤◌, Bool, true, false, cond, List, [], ◌∷◌, ◌++◌}
 use Rattle.std.proofs.Common.{length, refl, sym, ◌∙◌, ap, subst, arith}
-use Rattle.std.specs.Prelude.{Result, Ok, Err, IfOk, codes}
+use Rattle.std.specs.Prelude.{Result, Ok, Err, codes}
 use Rattle.std.specs.List.{Contains}
 use Rattle.std.proofs.lemmas.Bool.{false≢true}
 use Rattle.rosie_io.specs.Counts.{Rose}
@@ -38,13 +38,8 @@ use Rattle.rosie_session.specs.Loading.{Loading}
 use Rattle.rosie_session.specs.Replay.{replay}
 use Rattle.rosie_session.specs.Where.{InSession, in_lines, in_load}
 use Rattle.rosie_cli.specs.Report.{IsAnswer}
-use Rattle.rosie_cli.specs.Words.{Asked, Refuse, Do, IsIdle, IsRefused, is_idle}
+use Rattle.rosie_cli.specs.Words.{Asked, Refuse, Do, IsRefused}
 use Rattle.rosie_cli.specs.inside.Planning.{IsSaid}
-
--- a run that a piece ended doesn't go on
-pub goes-stop : (s : Result Tally Ended) (P : Type 0) → IfOk s (λ t. t.stop ≡ true) → GoesOn s P
-goes-stop (Ok tally) P h = λ goes. absurd (false≢true (sym goes ∙ h))
-goes-stop (Err e) P h = tt
 
 -- the counts before, and over more
 inputs_later : (names : List (List ℕ)) (before : List (List ℕ) → ℕ) (tree : List (List ℕ × List ℕ)) (whole : Bool) (i0 i1 f0 f f1 : Moment) (why : ReadStop) (file : List ℕ) (k : ℕ) → f.faults ≡ f0.faults → f.opens ≡ f0.opens → (f.taken < 2 ^ 64 - 1 → f0.taken ≤ f.taken) → InInputs names before tree whole i0 i1 f f1 why file k → InInputs names before tree whole i0 i1 f0 f1 why file k
@@ -243,9 +238,6 @@ refused-plan a text tree p e is =
 pub do-planned : (a : Asked) (c : Command) (tree : List (List ℕ × List ℕ)) (p : Planned) → Do c ≡ a
     → IsPlanned a tree p → IsPlannedAs c c.what tree p
 do-planned a c tree p e is = subst (λ (x : Asked). IsPlanned x tree p) (sym e) is
-
-pub do-idle : (a : Asked) (c : Command) → Do c ≡ a → IsIdle a → is_idle c.what ≡ true
-do-idle a c e idle = subst IsIdle (sym e) idle
 
 pub do-goes-on : (a : Asked) (c : Command) → Do c ≡ a → IsRefused a → ⊥
 do-goes-on a c e refused = subst IsRefused (sym e) refused

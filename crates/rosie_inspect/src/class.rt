@@ -1,5 +1,5 @@
 // The text of a class of characters.
-ghost use Rattle.std.specs.Prelude.{◌≡◌, ◌++◌, ◌∷◌, [], OnOk, flat_map, string_bytes};
+ghost use Rattle.std.specs.Prelude.{◌≡◌, ◌++◌, [], OnOk, flat_map, string_bytes};
 ghost use Rattle.rosie_inspect.specs.Classes.{class_text, line_of};
 ghost use Rattle.rpl_print.specs.Sets.{range_text};
 

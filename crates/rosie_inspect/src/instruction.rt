@@ -1,10 +1,9 @@
 // The text of one instruction.
-ghost use Rattle.std.specs.Prelude.{◌≡◌, ◌∷◌, ◌++◌, [], OnOk, decimal, slice_index_or};
+ghost use Rattle.std.specs.Prelude.{◌≡◌, ◌++◌, [], OnOk, decimal, slice_index_or};
 ghost use Rattle.std.specs.Prelude.{string_bytes};
 ghost use Rattle.std.specs.Str.{encode_utf8_all};
 ghost use Rattle.rpl_core.specs.Numbers.{instr_of};
 ghost use Rattle.rpl_core.specs.Program.{labels_of, sets_of};
-ghost use Rattle.rpl_print.specs.Quoted.{quoted};
 ghost use Rattle.rpl_print.specs.Sets.{set_text};
 ghost use Rattle.rosie_inspect.specs.Listing.{instr_text};
 

@@ -1,10 +1,10 @@
 -- The piece of one line, case by case.
-use Rattle.std.proofs.Common.{ℕ, ◌≡◌, ◌+◌, ◌≤◌, Bool, true, false, cond, List, [], ◌∷◌, ◌++◌, length, refl, sym, ◌∙◌, ap, subst, arith}
+use Rattle.std.proofs.Common.{ℕ, ◌≡◌, ◌+◌, Bool, true, false, cond, List, [], ◌∷◌, ◌++◌, length, refl, sym, ◌∙◌, ap, subst, arith}
 use Rattle.std.specs.Prelude.{Option, Result, Ok, Err, IfOk, OnOk, not, nat_lt, map, Some, None, chars, codes, encode_utf8_all, slice_index_or}
 use Rattle.std.specs.Str.{IsUtf8, all_scalars}
 use Rattle.std.proofs.lemmas.Bool.{false≢true}
 use Rattle.std.proofs.lemmas.List.{map-append}
-use Rattle.std.proofs.lemmas.Str.{chars-encodes, length-le-encodes}
+use Rattle.std.proofs.lemmas.Str.{chars-encodes}
 use Rattle.rpl_core.specs.Captures.{named, all_named, moved}
 use Rattle.rpl_core.specs.Forest.{Forest, NoTree, Tree, Noted, flat}
 use Rattle.rpl_core.specs.Forest as F
@@ -59,10 +59,6 @@ flat_placed place_of (Noted text place behind) = ap (λ xs. moved place_of (F.Ma
 
 pub trees_same : (t : List ℕ) (texts : List (List ℕ)) (cs : List Caught) (f : Forest) → CapturesIn t cs → captures_of t texts cs ≡ flat f → all_named (label_in texts) cs ≡ flat (placed (at t) f)
 trees_same t texts cs f inside e = all_same t texts cs inside ∙ ap (map (moved (at t))) e ∙ sym (flat_placed (at t) f)
-
--- a text has no more characters than bytes
-pub chars-fit : (bs : List ℕ) → IsUtf8 bs → length (chars bs) ≤ length bs
-chars-fit bs u = let e = ap length (spelled bs u) in omega (arith, length-le-encodes (chars bs))
 
 -- what the answers of the machine tell of the line
 ran_same : (code code' : List Instr) (t t' : List ℕ) (b b' : ℕ) (a : Answer) → code ≡ code' → t ≡ t' → b ≡ b' → run code t b ≡ a → run code' t' b' ≡ a

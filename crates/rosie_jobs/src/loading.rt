@@ -1,7 +1,6 @@
 // The loading of a program from a code file.
-ghost use Rattle.std.specs.Prelude.{◌≡◌, ◌≢◌, ◌<◌, ◌≤◌, ◌-◌, ◌^◌, ℕ, Some, false, codes, length};
+ghost use Rattle.std.specs.Prelude.{◌≡◌, ◌≢◌, ◌<◌, ◌≤◌, ◌-◌, ◌^◌, false};
 ghost use Rattle.std.specs.Prelude.{IfOk};
-ghost use Rattle.rosie_jobs.specs.Loaded.{IsRead};
 ghost use Rattle.rosie_jobs.specs.Answers.{HasCause, Loads};
 ghost use Rattle.rosie_jobs.specs.inside.Telling.{IsToldOfFile, Reads, Refuses};
 ghost use Rattle.rosie_io.specs.Opening.{file_of};

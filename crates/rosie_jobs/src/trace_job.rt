@@ -1,6 +1,6 @@
 //! The tracing of lines.
 
-ghost use Rattle.std.specs.Prelude.{⊤, ◌≡◌, ◌++◌, ◌≤◌, ◌^◌, codes, length, string_bytes, IfOk};
+ghost use Rattle.std.specs.Prelude.{⊤, ◌≡◌, ◌++◌, codes, string_bytes, IfOk};
 ghost use Rattle.std.specs.Prelude.{if◌then◌else◌, is_some};
 ghost use Rattle.std.specs.Fmt.{decimal};
 ghost use Rattle.std.specs.Str.{encode_utf8_all};

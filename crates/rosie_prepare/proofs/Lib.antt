@@ -1,7 +1,6 @@
 pub mod Loads
 pub mod Passing
 pub mod OneAnswer
-pub mod Roots
 pub mod SomeAnswer
 pub mod Characters
 pub mod Told

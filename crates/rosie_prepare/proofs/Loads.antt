@@ -1,19 +1,19 @@
 -- What a loading leaves, and what a set, or a pattern over it, then comes to.
-use Rattle.std.proofs.Common.{◌≡◌, ◌≢◌, inl, inr, ℕ, List, [], ◌∷◌, length, refl, sym, ◌∙◌, ap, subst, ◌<◌}
-use Rattle.std.specs.Prelude.{map, IfErr, IfOk, IsErrAnd, Some, Result, Ok, Err, encode_utf8_all}
+use Rattle.std.proofs.Common.{◌≡◌, inl, inr, ℕ, List, [], ◌∷◌, length, refl, sym, ◌∙◌, ap, subst, ◌<◌}
+use Rattle.std.specs.Prelude.{map, IfErr, IfOk, IsErrAnd, Result, Ok, Err, encode_utf8_all}
 use Rattle.std.specs.Prelude.{string_bytes}
 use Rattle.std.specs.List.{Contains}
 use Rattle.std.proofs.lemmas.List.{get_or-map, length-map}
 use Rattle.std.proofs.lemmas.List.Elements.{Contains-append_left}
 use Rattle.rosie_prepare.specs.Lines.{Line, load_line}
 use Rattle.rosie_prepare.specs.Answers.{IsAsked, IsDue, Prepares}
-use Rattle.rosie_prepare.specs.Prepared.{Comes, IsPrepared, OrLine, Ready, TableComes, Tree, PatternRequest, loaded}
+use Rattle.rosie_prepare.specs.Prepared.{Comes, IsPrepared, OrLine, Ready, Tree, PatternRequest, loaded}
 use Rattle.rosie_prepare.specs.declared.prepared.Prepared.{Prepared}
 use Rattle.rosie_prepare.specs.declared.unready.Unready.{Unready}
 use Rattle.rosie_prepare.specs.declared.unready.Unready.TheVariants.{NoMemory, Refused, ReadFault}
-use Rattle.rosie_prepare.specs.inside.Steps.{StopsWith, Tells, TellsKind}
+use Rattle.rosie_prepare.specs.inside.Steps.{StopsWith}
 use Rattle.rpl_package.proofs.Outcomes.{Follows, same, then_follows, told_lead, told_then, trail}
-use Rattle.rpl_package.specs.Asking.{Explains, IsTold, Outcome, and_then, asked_then}
+use Rattle.rpl_package.specs.Asking.{IsTold, Outcome, and_then, asked_then}
 use Rattle.rpl_package.specs.Loading.{world}
 use Rattle.rpl_package.specs.Patterns.{load_pattern}
 use Rattle.rpl_load_laws.specs.Laws.{Resolves}
@@ -21,34 +21,10 @@ use Rattle.rpl_package.specs.Roots.{Packages, load}
 use Rattle.rpl_package.specs.Sets.{set_seen}
 use Rattle.rpl_scope.specs.Faults.{Or, ◌>>=◌}
 use Rattle.rpl_scope.specs.declared.fault.LoadFault.{LoadFault}
-use Rattle.rpl_scope.specs.declared.fault.LoadKind.{LoadKind}
-use Rattle.rpl_scope.specs.declared.fault.LoadKind.TheVariants as K
 use Rattle.rpl_syntax.specs.Expression.{Expr}
 use Rattle.rpl_syntax.specs.View.{expr_of}
 
 -- ---- a fault of loading
-
-pub told_kind :
-    (k : LoadKind) (f : LoadFault) (u : Unready) → k ≢ K.NoMemory → k ≢ K.ReadFault → Tells (Some (load_line f)) u
-    → TellsKind k f u
-told_kind K.NoMemory f u memory reading h = absurd (memory refl)
-told_kind K.ReadFault f u memory reading h = absurd (reading refl)
-told_kind _ f u memory reading h = h
-
-stops_as :
-    {A : Type 0} (f : LoadFault) (u : Unready) (o : Outcome A) → o.answer ≡ Err f → Tells (Some (load_line f)) u
-    → StopsWith u o
-stops_as f NoMemory o e h = tt
-stops_as f (Refused line) o e h = let same : load_line f ≡ string_bytes line = cc in (f, e, same)
-stops_as f (ReadFault path) o e h = absurd h
-
--- what stops the loading with a fault that may come of it
-pub stops_kind :
-    {A : Type 0} (k : LoadKind) (f : LoadFault) (u : Unready) (o : Outcome A) → Explains k f o → TellsKind k f u
-    → StopsWith u o
-stops_kind K.NoMemory f u o e h = subst (λ v. StopsWith v o) (sym h) tt
-stops_kind K.ReadFault f u o e h = subst (λ v. StopsWith v o) (sym h) e
-stops_kind _ f u o e h = stops_as f u o e h
 
 -- ---- the paths that are asked for
 
@@ -123,18 +99,6 @@ module _ (T : Type 0) (tree near : Tree) (w : PatternRequest) (asked : List (Lis
     pattern_comes x e = sym pattern_leads.0 ∙ e pattern_told
 
 -- ---- what it comes to
-
--- roots alone
-table_refused :
-    (x : Or Packages) (f : LoadFault) (line : Line) (r : OrLine Packages) → x ≡ Err f → load_line f ≡ line
-    → TableComes x r → r ≡ Err line
-table_refused x f line r e l h = subst (λ y. TableComes y r) e h ∙ ap Err l
-
-pub due_table :
-    (u : Unready) (o : Outcome Packages) (r : OrLine Packages) → StopsWith u o → TableComes o.answer r → IsDue u r
-due_table NoMemory o r h c = tt
-due_table (Refused line) o r h c = table_refused o.answer h.0 (string_bytes line) r h.1 h.2 c
-due_table (ReadFault path) o r h c = tt
 
 -- roots and a pattern
 goal_refused :

@@ -18,7 +18,6 @@ use Rattle.rpl_core.specs.Core.{Core}
 use Rattle.rpl_core.specs.Table.{blocks_of, bodies_of}
 use Rattle.rpl_core.specs.View.{core_of}
 use Rattle.rpl_core.specs.declared.rules.Rule.{Rule}
-use Rattle.rpl_expand.specs.Answers as N
 use Rattle.rpl_expand.specs.Faults as E
 use Rattle.rpl_expand.specs.Sets.{table_of}
 use Rattle.rpl_forms.specs.Rows.{Row, rows_of}
@@ -54,13 +53,6 @@ pub own_through :
     → IfErr result IsOwn
 own_through (Ok x) u h k = tt
 own_through (Err e) u h k = subst IsOwn (sym h) k
-
--- the line of the fault that is named is that of the one that is due
-pub large_line :
-    (line : E.Fault → Line) (due named : Option E.Fault) (text : Line) → N.IsDue due named
-    → option_map line named ≡ Some text → option_map line due ≡ Some text
-large_line line due None text h e = cc
-large_line line due (Some f) text h e = ap (option_map line) h ∙ e
 
 pub unsound_line :
     (line : C.Fault → Line) (due named : Option C.Fault) (text : Line) → CA.IsDue due named

@@ -1,5 +1,5 @@
 // The second and the third pass: expansion and check.
-ghost use Rattle.std.specs.Prelude.{◌≡◌, ◌<◌, ℕ, List, IfErr, IfOk, None, Ok, Some, length, true};
+ghost use Rattle.std.specs.Prelude.{◌≡◌, ◌<◌, ℕ, List, IfErr, IfOk, None, Ok, length, true};
 ghost use Rattle.std.specs.Option.{option_map};
 ghost use Rattle.rosie_prepare.specs.Lines as L;
 ghost use Rattle.rosie_prepare.specs.Prepared.{Comes, OrLine, Ready, TableComes};

@@ -1,7 +1,7 @@
 // The commands of a session.
 ghost use Rattle.std.specs.Prelude.{◌≡◌};
 ghost use Rattle.rosie_repl.specs.Edits as S;
-ghost use Rattle.rosie_repl.specs.Seen.{edit_seen, some_seen};
+ghost use Rattle.rosie_repl.specs.Seen.{some_seen};
 
 use rpl_text::read_number;
 

@@ -3,7 +3,6 @@ use Rattle.std.proofs.Common.{ℕ, ◌≡◌, ◌+◌, false, true, List, [], �
 use Rattle.std.specs.Prelude.{IsErrAnd, codes}
 use Rattle.rosie_io.specs.Answering.{HasCause, Numbers, Passes, Stops}
 use Rattle.rosie_io.specs.Gathering.{Reads, Splits, left}
-use Rattle.rosie_io.specs.Held.{Held}
 use Rattle.rosie_io.specs.Lines.{lines}
 use Rattle.rosie_io.specs.Reader.{Reader}
 use Rattle.rosie_io.specs.declared.outside.Source.{Ghosts}
@@ -16,7 +15,6 @@ use Rattle.rosie_run.specs.Lines.{Makes, line_message, line_piece, pieces_from}
 use Rattle.rosie_run.specs.Report.{Piece, fault_piece}
 use Rattle.rosie_run.specs.declared.ended.Ended.{Ended}
 use Rattle.rosie_run.specs.declared.ended.Ended.TheVariants as E
-use Rattle.rosie_run.specs.declared.ended.ReadStop.{ReadStop}
 use Rattle.rosie_run.specs.declared.ended.ReadStop.TheVariants as Y
 use Rattle.rosie_run.specs.declared.lines.Reading.{Reading}
 use Rattle.rosie_run.specs.declared.mark.Mark.{Mark}

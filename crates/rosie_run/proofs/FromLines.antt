@@ -3,7 +3,7 @@ use Rattle.std.proofs.Common.{ℕ, ◌≡◌, inl, ◌+◌, ◌^◌, ◌≤◌, 
 use Rattle.rosie_io.specs.Counts.{Rose}
 use Rattle.rosie_io.specs.Gathering.{NoFeed, Reads, Splits, left}
 use Rattle.rosie_io.specs.Held.{Held}
-use Rattle.rosie_io.specs.Lines.{feeds, lines}
+use Rattle.rosie_io.specs.Lines.{feeds}
 use Rattle.rosie_io.specs.Reader.{Reader}
 use Rattle.rosie_io.specs.declared.outside.Source.{Ghosts}
 use Rattle.rosie_io.proofs.Steps.{behind-more}

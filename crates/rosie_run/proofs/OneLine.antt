@@ -1,5 +1,5 @@
 -- The piece of one line, case by case.
-use Rattle.std.proofs.Common.{ℕ, ◌≡◌, ◌+◌, ◌<◌, ◌≤◌, true, false, cond, List, [], length, refl, sym, ◌∙◌, ap, subst, arith}
+use Rattle.std.proofs.Common.{ℕ, ◌≡◌, ◌<◌, ◌≤◌, true, false, cond, List, length, ◌∙◌, ap, arith}
 use Rattle.std.specs.Prelude.{Bool, nat_lt, codes}
 use Rattle.std.specs.Str.{is_utf8}
 use Rattle.rosie_run.specs.Lines.{Makes, line_message, line_piece}

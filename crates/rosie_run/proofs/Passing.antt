@@ -1,26 +1,14 @@
 -- A run over the lines of an input goes past a line.
-use Rattle.std.proofs.Common.{ℕ, ◌≡◌, ◌+◌, ◌-◌, ◌^◌, ◌≤◌, cond, List, [], ◌∷◌, ◌++◌, length, refl, sym, ◌∙◌, ap, subst, arith}
+use Rattle.std.proofs.Common.{ℕ, ◌≡◌, ◌+◌, ◌-◌, ◌^◌, ◌≤◌, List, [], ◌∷◌, ◌++◌, length, sym, ◌∙◌, ap, subst, arith}
 use Rattle.std.proofs.lemmas.List.{append-nil}
 use Rattle.rosie_io.specs.Counts.{capped}
 use Rattle.rosie_run.specs.Lines.{Makes, line_piece, pieces_from}
 use Rattle.rosie_run.specs.Made.{IsMade}
 use Rattle.rosie_run.specs.Outputs.{Telling, Texts, Wrote, IsFront, Fronts}
-use Rattle.rosie_run.specs.Report.{Piece, outs, errs, is_stop, up_to_stop}
+use Rattle.rosie_run.specs.Report.{Piece, outs, errs}
 use Rattle.rosie_run.specs.declared.lines.Reading.{Reading}
 use Rattle.rosie_run.specs.declared.mark.Mark.{Mark}
 use Rattle.rosie_run.proofs.Pieces.{outs-one, errs-one, costs-one, outs-nil, errs-nil, costs-nil, front_none}
-
-up_next : (p : Piece) (ps : List Piece) → up_to_stop (p ∷ ps) ≡ p ∷ cond (is_stop p.mark) [] (up_to_stop ps)
-unfolding up_to_stop
-up_next p ps = refl
-
-pub outs_cons : (p : Piece) (ps : List Piece) → outs (p ∷ ps) ≡ p.out ++ outs ps
-unfolding outs
-outs_cons p ps = refl
-
-pub errs_cons : (p : Piece) (ps : List Piece) → errs (p ∷ ps) ≡ p.err ++ errs ps
-unfolding errs
-errs_cons p ps = refl
 
 pub pieces_next : (makes : Makes) (r : Reading) (file : List ℕ) (n : ℕ) (line : List ℕ) (more ls : List (List ℕ)) → ls ≡ line ∷ more → pieces_from makes r file n ls ≡ line_piece makes r file (n + 1) line ∷ pieces_from makes r file (n + 1) more
 unfolding pieces_from

@@ -1,5 +1,5 @@
 // The end of a run.
-ghost use Rattle.std.specs.Prelude.{ℕ, ◌≡◌};
+ghost use Rattle.std.specs.Prelude.{ℕ};
 ghost use Rattle.rosie_run.specs.Causes.{Flushes};
 ghost use Rattle.rosie_run.specs.Outputs.{shown, telling};
 ghost use Rattle.rosie_run.specs.declared.tool.Tool.{Tool};

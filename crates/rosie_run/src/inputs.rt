@@ -1,8 +1,6 @@
 // The run over the inputs, one after the other.
-ghost use Rattle.std.specs.Prelude.{◌≡◌, ◌+◌, ◌-◌, ◌^◌, ◌<◌, ◌≤◌, ℕ, List, [], Err, true, false};
-ghost use Rattle.std.specs.Prelude.{length, codes};
+ghost use Rattle.std.specs.Prelude.{◌≡◌, ◌-◌, ◌^◌, ◌<◌, ◌≤◌, [], Err, true, false};
 ghost use Rattle.std.specs.Prelude.{encode_utf8_all, IfOk};
-ghost use Rattle.std.specs.Str.{bytes_eq};
 ghost use Rattle.rosie_io.specs.Answering.{Keeps};
 ghost use Rattle.rosie_run.specs.Devices.{InputsCause, OutputsCause, RunsInputs, SameInputs};
 ghost use Rattle.rosie_run.specs.Devices.{SameOutputs, course};

@@ -1,5 +1,5 @@
 // The loop that writes the pieces of a run, one after the other. Nothing else writes.
-ghost use Rattle.std.specs.Prelude.{◌≡◌, ◌+◌, [], IfOk, List, OnOk, false, length, ℕ};
+ghost use Rattle.std.specs.Prelude.{◌≡◌, ◌+◌, [], IfOk, List, OnOk, false, length};
 ghost use Rattle.rosie_io.specs.Appending.{Appends};
 ghost use Rattle.rosie_io.specs.Counts.{capped};
 ghost use Rattle.rosie_run.specs.Closing.{OutFirst};

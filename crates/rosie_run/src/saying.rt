@@ -1,5 +1,5 @@
 // A piece that is made without reading any input.
-ghost use Rattle.std.specs.Prelude.{ℕ, ◌≡◌, [], ◌∷◌, string_bytes, IfErr, IfOk};
+ghost use Rattle.std.specs.Prelude.{ℕ, ◌≡◌, [], ◌∷◌, IfErr, IfOk};
 ghost use Rattle.rosie_run.specs.Runs.{WritesCause, Runs, IsCutOf, IsNoCut};
 ghost use Rattle.rosie_run.specs.Outputs.{shown, telling};
 ghost use Rattle.rosie_run.specs.Report.{is_stop};

@@ -1,7 +1,6 @@
 // The line of a number.
 ghost use Rattle.std.specs.Prelude.{◌≡◌, ◌++◌, ◌<◌, [], OnOk, nat_lt, if◌then◌else◌, codes};
 ghost use Rattle.std.specs.Prelude.{string_bytes};
-ghost use Rattle.std.specs.Fmt.{decimal};
 ghost use Rattle.rosie_sample.specs.Lines.{two_digits, level, date, dated, undated, line_of};
 
 use crate::NoMemory;

@@ -1,5 +1,5 @@
 // The lines of a sample, one after the other.
-ghost use Rattle.std.specs.Prelude.{◌≡◌, ◌≤◌, ◌<◌, ◌^◌, [], OnOk, length};
+ghost use Rattle.std.specs.Prelude.{◌≡◌, ◌≤◌, [], OnOk, length};
 ghost use Rattle.rosie_sample.specs.Lines.{next, drawn, line_of};
 
 use crate::NoMemory;

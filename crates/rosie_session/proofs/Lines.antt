@@ -4,7 +4,7 @@ use Rattle.std.proofs.Common.{subst, arith, Result, Ok, Err, Option, Some, None}
 use Rattle.std.specs.Prelude.{IsErrAnd, codes, nat_lt}
 use Rattle.std.specs.Str.{is_utf8}
 use Rattle.rosie_io.specs.Answering.{Numbers, Passes}
-use Rattle.rosie_io.specs.Gathering.{Splits, left}
+use Rattle.rosie_io.specs.Gathering.{Splits}
 use Rattle.rosie_io.specs.Lines.{lines}
 use Rattle.rosie_io.specs.Reader.{Reader}
 use Rattle.rosie_io.specs.declared.reader.Line.{Line}

@@ -1,5 +1,5 @@
 -- What a run over the lines of a session leaves, line by line and at its end.
-use Rattle.std.proofs.Common.{ℕ, ◌≡◌, ◌⊎◌, inl, inr, ◌+◌, ◌≤◌, Bool, true, false, List, [], ◌∷◌, ◌++◌, length, length-append}
+use Rattle.std.proofs.Common.{ℕ, ◌≡◌, ◌⊎◌, inl, inr, ◌+◌, Bool, true, false, List, [], ◌∷◌, ◌++◌, length-append}
 use Rattle.std.proofs.Common.{refl, sym, ◌∙◌, ap, subst, append_assoc, arith, Result, Ok, Err, Option, Some, None}
 use Rattle.std.specs.Prelude.{codes, slice_get}
 use Rattle.std.specs.List.{Contains}
@@ -33,10 +33,10 @@ use Rattle.rosie_run.proofs.Coming.{goes-of, leaves-of}
 use Rattle.rosie_run.proofs.FromLines.{since-next}
 use Rattle.rpl_package.specs.Asking.{IsTold}
 use Rattle.rosie_session.specs.Loading.{IsLoading, Loading}
-use Rattle.rosie_session.specs.Replay.{Turn, asked_by, edit_turn, pieces_of, turns, turns_from}
+use Rattle.rosie_session.specs.Replay.{Turn, asked_by, edit_turn, turns, turns_from}
 use Rattle.rosie_session.specs.Where.{InSession, in_lines, in_load}
 use Rattle.rosie_session.specs.declared.run.SessionLines.{SessionLines}
-use Rattle.rosie_session.specs.inside.Passing.{ComesFrom, FilesOf, GoesOnFrom, InLoad, IsOver, LeavesHow, LeavesSession, MakesOf, Onward}
+use Rattle.rosie_session.specs.inside.Passing.{ComesFrom, FilesOf, GoesOnFrom, IsOver, LeavesHow, LeavesSession, MakesOf, Onward}
 use Rattle.rosie_session.specs.inside.Passing.{TextFiles, name_of, turns_left}
 use Rattle.rosie_session.proofs.Lines.{OneTurn, gives-turn, one-turn, text-is, text-splits, turn-first, turn-told}
 use Rattle.rosie_session.proofs.Onward.{get_there}
@@ -229,11 +229,6 @@ module _ {F I : Type 0} (G : Ghosts F) (H : Ghosts I) (y z : SessionLines F I) (
   goes-next (Err fault) result n m =
       goes-of (λ file n line. fault_piece []) Rosie (codes "(session)") y.kept.now.reader z.kept.now.reader [] [] out err steps0
       steps1 (Err fault) result m.0 n
-
-pub on-both : (r : Result (Option Mark) Ended) (P Q R : Type 0) → OnPiece r P → OnPiece r Q → (P → Q → R) → OnPiece r R
-on-both (Ok (Some mark)) P Q R p q f = f p q
-on-both (Ok None) P Q R p q f = tt
-on-both (Err e) P Q R p q f = tt
 
 -- ---- at its end
 

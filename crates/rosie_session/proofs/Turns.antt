@@ -1,6 +1,6 @@
 -- What loading says of a line, and what is said then.
-use Rattle.std.proofs.Common.{ℕ, ◌≡◌, ◌≢◌, ◌+◌, ◌-◌, ◌^◌, ◌<◌, ◌≤◌, Bool, true, false, cond, List, [], ◌∷◌, length}
-use Rattle.std.proofs.Common.{◌++◌, get_or, length-drop, take, refl, sym, ◌∙◌, ap, subst, inl, inr, arith}
+use Rattle.std.proofs.Common.{ℕ, ◌≡◌, ◌≢◌, ◌+◌, ◌-◌, ◌<◌, ◌≤◌, Bool, true, false, cond, List, [], ◌∷◌, length}
+use Rattle.std.proofs.Common.{◌++◌, get_or, length-drop, take, refl, sym, ◌∙◌, ap, subst, arith}
 use Rattle.std.specs.Prelude.{Option, Some, None, Result, Ok, Err, IfErr, IfOk, IsErrAnd, chars, codes, encode_utf8_all, map}
 use Rattle.std.specs.Borrow.{Bor}
 use Rattle.std.specs.List.{Contains, after_first, before_first, list_any, position_or_len, slice_get}
@@ -9,7 +9,6 @@ use Rattle.std.specs.Str.{IsUtf8, bytes_eq}
 use Rattle.std.proofs.lemmas.Bool.{false≢true}
 use Rattle.std.proofs.lemmas.List.{map-append, take_more}
 use Rattle.std.proofs.lemmas.Option.{get_or_from_slice_get, slice_get-get_or, slice_get_within}
-use Rattle.rosie_io.specs.Counts.{Rose}
 use Rattle.rosie_io.specs.Loading.{NotFewer}
 use Rattle.rosie_io.specs.declared.outside.Source.{Ghosts}
 use Rattle.rosie_jobs.specs.Lines.{Job, match_makes}
@@ -29,7 +28,7 @@ use Rattle.rosie_repl.specs.declared.edit.Edit.{Edit as Command}
 use Rattle.rosie_repl.specs.declared.edit.Edit.TheVariants as C
 use Rattle.rosie_run.specs.Made.{IsMade}
 use Rattle.rosie_run.specs.Report.{Piece, fault_piece}
-use Rattle.rosie_run.specs.Sources.{Moment, NoFewer, RoseIn, Still, moment_of}
+use Rattle.rosie_run.specs.Sources.{Moment, NoFewer, Still, moment_of}
 use Rattle.rosie_run.specs.declared.mark.Mark.{Mark}
 use Rattle.rosie_run.specs.declared.mark.Mark.TheVariants.{Hit, Miss, Fault, Stop}
 use Rattle.rpl_package.specs.Asking.{IsTold}
@@ -40,7 +39,7 @@ use Rattle.rpl_package.specs.declared.rooted.Root.TheVariants.{Given}
 use Rattle.rpl_text.specs.Numbers.{number_of}
 use Rattle.rosie_session.specs.Loading.{Compiles, IsGoalLoad, IsLoad, Load, Loading, given, request}
 use Rattle.rosie_session.specs.Replay.{Turn, change_turn, job_piece, judged, judged_by, loaded, ok_piece, session_fault}
-use Rattle.rosie_session.specs.Replay.{edit_turn, or_no, pieces_of, plain, tried, try_turn, turns, undo_turn}
+use Rattle.rosie_session.specs.Replay.{edit_turn, or_no, plain, tried, try_turn, undo_turn}
 use Rattle.rosie_session.specs.declared.session_end.SessionEnd.{SessionEnd}
 use Rattle.rosie_session.specs.declared.session_end.SessionEnd.TheVariants as H
 use Rattle.rosie_session.specs.declared.reply.Reply.{Reply}

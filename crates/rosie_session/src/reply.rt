@@ -1,5 +1,5 @@
 // The reply to a command.
-ghost use Rattle.std.specs.Prelude.{◌≡◌, IfOk, string_bytes};
+ghost use Rattle.std.specs.Prelude.{IfOk, string_bytes};
 ghost use Rattle.rosie_repl.specs.States.{session_of};
 ghost use Rattle.rosie_run.specs.Report.{fault_piece};
 ghost use Rattle.rosie_session.specs.Replay.{ok_piece, session_fault};

@@ -1,5 +1,5 @@
 // The reply to a line of text.
-ghost use Rattle.std.specs.Prelude.{◌≡◌, ◌+◌, ◌≤◌, ◌^◌, ℕ, List, Some, IfErr, IfOk, OnOk, chars};
+ghost use Rattle.std.specs.Prelude.{◌≡◌, ◌+◌, ◌≤◌, ◌^◌, ℕ, List, Some, IfOk, OnOk, chars};
 ghost use Rattle.std.specs.Prelude.{length};
 ghost use Rattle.rosie_io.specs.Loading.{NotFewer};
 ghost use Rattle.rosie_jobs.specs.Jobs.{matcher_of};

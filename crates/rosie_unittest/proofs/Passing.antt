@@ -1,22 +1,18 @@
 -- From test to test of a suite, and to the counts at the end.
-use Rattle.std.proofs.Common.{ℕ, ◌≡◌, ◌+◌, ◌<◌, ◌≤◌, true, false, Bool, List, [], ◌∷◌, ◌++◌, get_or, drop, length}
-use Rattle.std.proofs.Common.{refl, sym, ◌∙◌, ap, subst, arith}
+use Rattle.std.proofs.Common.{ℕ, ◌≡◌, ◌+◌, ◌<◌, ◌≤◌, false, [], ◌∷◌, ◌++◌, get_or, drop, length}
+use Rattle.std.proofs.Common.{sym, ◌∙◌, ap, subst, arith}
 use Rattle.std.specs.Prelude.{map}
-use Rattle.std.proofs.lemmas.List.{drop_all, drop_more, length-map}
-use Rattle.rosie_run.specs.Going.{GivesPiece}
-use Rattle.rosie_run.specs.Made.{IsMade}
-use Rattle.rosie_run.specs.Report.{Piece}
-use Rattle.rosie_run.specs.declared.mark.Mark.{Mark}
+use Rattle.std.proofs.lemmas.List.{drop_all, drop_more}
 use Rattle.rpl_core.specs.Table.{bodies_of}
 use Rattle.rosie_unittest.specs.Seen.{bench_of, trials_of}
-use Rattle.rosie_unittest.specs.Trials.{counts_piece, one_if_unmet, suite_pieces, trial_piece, unmet, verdict_in}
+use Rattle.rosie_unittest.specs.Trials.{one_if_unmet, suite_pieces, trial_piece, unmet, verdict_in}
 use Rattle.rosie_unittest.specs.Tried.{trial_of}
 use Rattle.rosie_unittest.specs.declared.run.SuiteRun.{SuiteRun}
 use Rattle.rosie_unittest.specs.declared.suite.Suite.{Suite}
 use Rattle.rosie_unittest.specs.declared.trial.Trial.{Trial}
 use Rattle.rosie_unittest.specs.declared.verdict.Verdict.{Verdict}
 use Rattle.rosie_unittest.specs.declared.verdict.Verdict.TheVariants as V
-use Rattle.rosie_unittest.specs.inside.Running.{ComesBy, IsUnderWay, last_piece, pieces_from, trials_from}
+use Rattle.rosie_unittest.specs.inside.Running.{ComesBy, last_piece, pieces_from, trials_from}
 
 pub one-fits : (v : Verdict) → one_if_unmet v ≤ 1
 one-fits V.Met = omega arith
@@ -54,42 +50,6 @@ module _ (s : Suite) (i : ℕ) (past : length s.trials.items ≤ i) where
       let none : unmet (bench_of s) (trials_from s i) ≡ 0 =
       ap (λ ys. unmet (bench_of s) (map (trial_of (bodies_of s.rules)) ys)) (drop_all i s.trials.items past) in
       omega arith
-
--- the pieces to come, where the counts aren't said yet
-pub comes-open : (done : Bool) (r : SuiteRun) (ps : List Piece) → done ≡ false → ComesBy done r ps
-    → ps ≡ pieces_from r.suite.now r.passed
-comes-open done r ps e h = subst (λ b. ComesBy b r ps) e h
-
--- the next test gives its piece
-pub gives-test : (z : SuiteRun) (s : Suite) (i : ℕ) (ps : List Piece) (mark : Mark) (out err : List ℕ) (steps0 steps1 : ℕ)
-    → z.is_done ≡ false → z.suite.now ≡ s → z.passed ≡ i + 1 → ps ≡ pieces_from s i
-    → GivesPiece (pieces_from s i) (λ qs. qs ≡ pieces_from s (i + 1)) mark out err steps0 steps1
-    → GivesPiece ps (ComesBy z.is_done z) mark out err steps0 steps1
-gives-test z s i ps mark out err steps0 steps1 going suite passed is h = record {
-  piece = h.piece;
-  more = h.more;
-  is = is ∙ h.is;
-  made = h.made;
-  steps = h.steps;
-  comes = subst (λ b. ComesBy b z h.more) (sym going)
-      (h.comes ∙ ap (λ x. pieces_from x (i + 1)) (sym suite) ∙ ap (pieces_from z.suite.now) (sym passed));
-}
-
--- and the counts give the last one
-pub gives-counts : (z : SuiteRun) (s : Suite) (i k : ℕ) (ps : List Piece) (mark : Mark) (out err : List ℕ) (steps : ℕ)
-    → z.is_done ≡ true → length s.trials.items ≤ i → ps ≡ pieces_from s i
-    → k + unmet (bench_of s) (trials_from s i) ≡ unmet (bench_of s) (trials_of s)
-    → IsMade mark out err (counts_piece (bench_of s).file (length (trials_of s)) k)
-    → GivesPiece ps (ComesBy z.is_done z) mark out err steps steps
-gives-counts z s i k ps mark out err steps done past is counted m = record {
-  piece = last_piece s;
-  more = [];
-  is = is ∙ pieces-last s i past;
-  made = subst (λ n. IsMade mark out err (counts_piece (bench_of s).file (length (trials_of s)) n))
-      (unmet-last s i past k (unmet (bench_of s) (trials_of s)) counted) m;
-  steps = omega arith;
-  comes = subst (λ b. ComesBy b z []) (sym done) refl;
-}
 
 -- where no test was tried, all pieces are to come
 pub comes-begun : (r : SuiteRun) (s : Suite) → r.suite.now ≡ s → r.passed ≡ 0 → r.is_done ≡ false

@@ -1,6 +1,6 @@
 -- What tests are tried with.
 use Rattle.std.proofs.Common.{ℕ, ◌≡◌, ◌<◌, ◌≤◌, Bool, true, false, cond, List, [], ◌∷◌, ◌++◌, length, refl, sym, ◌∙◌, ap, subst, arith}
-use Rattle.std.proofs.Common.{append_assoc, append-nil, get_or}
+use Rattle.std.proofs.Common.{append_assoc, get_or}
 use Rattle.std.specs.Prelude.{Option, Some, None, map, nat_lt}
 use Rattle.std.proofs.Math.Logic.{∥∥₁_elim, ∥∥₁_map, ∥∥₁_map₂}
 use Rattle.std.proofs.Props.{props}
@@ -88,9 +88,6 @@ pub record Passed (R : List Core) (target : List ℕ → Option Target) (due so_
   pub split : due ≡ so_far ++ more
   pub others : AreTrials R target rest more
 
-pub all-first : (R : List Core) (target : List ℕ → Option Target) (due : List Trial) (tests : List Test) → AreTrials R target tests due → Passed R target due [] tests
-all-first R target due tests h = record { more = due; split = refl; others = h }
-
 pub all-next :
     (R : List Core) (target : List ℕ → Option Target) (due so_far : List Trial) (t : Test) (tests rest : List Test) (s : Subject)
     → tests ≡ t ∷ rest → Passed R target due so_far tests → ((x : Subject) → IsSubject R (target t.name) x → x ≡ s)
@@ -105,21 +102,10 @@ all-next R target due so_far t tests rest s e h same =
       others = k.3;
     }
 
-pub all-last : (R : List Core) (target : List ℕ → Option Target) (due so_far : List Trial) (tests : List Test) → tests ≡ [] → Passed R target due so_far tests → due ≡ so_far
-all-last R target due so_far tests e h =
-    h.split ∙ ap (λ xs. so_far ++ xs) (subst (λ ts. AreTrials R target ts h.more) e h.others) ∙ append-nil so_far
-
 -- ---- and each of them is ready
-
-pub ready-none : ∥ AreReady [] ∥₁
-ready-none = merely (λ k d lt. absurd (omega arith))
 
 pub ready-next : (ts : List Trial) (t : Trial) → ∥ AreReady ts ∥₁ → IsText t.test.text → ∥ IsReady t.subject ∥₁ → ∥ AreReady (ts ++ t ∷ []) ∥₁
 ready-next ts t h text s = ∥∥₁_map₂ h s (λ r k. All-push IsReadyTrial ts t r (text, k))
-
-pub nothing-left : {X : Type 0} (xs : List X) → length xs ≡ 0 → xs ≡ []
-nothing-left [] h = refl
-nothing-left (x ∷ xs) h = absurd (omega arith)
 
 -- one of them
 pub ready-at : {X : Type 0} (f : X → Trial) (xs : List X) (i : ℕ) (x : X) → i < length xs → x ≡ get_or xs i x → ∥ AreReady (map f xs) ∥₁ → ∥ IsReadyTrial (f x) ∥₁
@@ -127,9 +113,6 @@ ready-at f xs i x lt e h =
     ∥∥₁_map h (λ r. subst IsReadyTrial (get_or-map f xs i x (f x) lt ∙ ap f (sym e)) (r i (f x) (let l = length-map xs f in omega arith)))
 
 -- ---- and its target a rule
-
-pub bound-none : (R : List Core) → ∥ AreBound R [] ∥₁
-bound-none R = merely (λ k d lt. absurd (omega arith))
 
 pub bound-next : (R : List Core) (ts : List D.Trial) (t : D.Trial) → ∥ AreBound R ts ∥₁ → IsBound R t.target
     → ∥ AreBound R (ts ++ t ∷ []) ∥₁

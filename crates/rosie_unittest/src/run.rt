@@ -1,5 +1,5 @@
 // The run of the tests, piece by piece.
-ghost use Rattle.std.specs.Prelude.{◌≡◌, ◌+◌, ◌-◌, ◌<◌, [], List, false, length, string_bytes, true};
+ghost use Rattle.std.specs.Prelude.{◌≡◌, ◌+◌, ◌-◌, ◌<◌, [], false, length, string_bytes, true};
 ghost use Rattle.std.specs.Prelude.{IfErr, IfOk, OnOk};
 ghost use Rattle.rosie_run.specs.Devices.{OutputsCause, SameOutputs};
 ghost use Rattle.rosie_run.specs.Going.{GivesPiece};

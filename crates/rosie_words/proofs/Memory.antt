@@ -12,7 +12,7 @@ use Rattle.rosie_words.specs.declared.table.OptionName.TheVariants as O
 use Rattle.rosie_words.specs.Table.{Word, row, command_named}
 use Rattle.rosie_words.specs.Values.{accepts, number_in}
 use Rattle.rosie_words.specs.Roles as roles
-use Rattle.rosie_words.specs.Roles.{Front, Free, Role, Given, role, next, fault, end_fault, value_fault}
+use Rattle.rosie_words.specs.Roles.{Front, Free, Role, Given, role, next, fault, end_fault}
 use Rattle.rosie_words.specs.Options.{is_given, stray}
 use Rattle.rosie_words.specs.Arguments.{none, only, pattern_inputs_of, sample, sampled, made, what}
 use Rattle.rosie_words.specs.Reading.{first_fault, options, arguments, with_options, by_stray, by_name, chosen, unless, reading}

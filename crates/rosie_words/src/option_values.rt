@@ -1,7 +1,6 @@
 //! The values that options set.
 
-ghost use Rattle.std.specs.Prelude.{◌≡◌, ◌≢◌, [], true, OnOk, IfOk, IfErr, None, chars};
-ghost use Rattle.rosie_words.specs.Table.{row};
+ghost use Rattle.std.specs.Prelude.{◌≡◌, ◌≢◌, [], true, OnOk, IfOk, IfErr, None};
 ghost use Rattle.rosie_words.specs.Values.{path_of};
 ghost use Rattle.rosie_words.specs.Roles.{value_fault};
 ghost use Rattle.rosie_words.specs.Options.{values_of, command_from};

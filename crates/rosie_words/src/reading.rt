@@ -1,6 +1,6 @@
 //! The parsing of the command line.
 
-ghost use Rattle.std.specs.Prelude.{◌≡◌, ◌≢◌, ◌++◌, [], ◌∷◌, List, map, OnOk, IfOk, IfErr, Some};
+ghost use Rattle.std.specs.Prelude.{◌≡◌, ◌≢◌, [], ◌∷◌, List, map, OnOk, IfOk, IfErr, Some};
 ghost use Rattle.std.specs.Prelude.{None, Ok, Err};
 ghost use Rattle.rosie_words.specs.Table.{Word};
 ghost use Rattle.rosie_words.specs.Roles.{role, fault, value_fault, given, option_in, argument_in};

@@ -1,6 +1,6 @@
 //! The values of options.
 
-ghost use Rattle.std.specs.Prelude.{◌≡◌, ◌<◌, ◌≤◌, ◌^◌, OnOk};
+ghost use Rattle.std.specs.Prelude.{◌≡◌, ◌<◌, ◌≤◌, ◌^◌};
 ghost use Rattle.std.specs.Prelude.{◌≢◌, chars};
 ghost use Rattle.rosie_words.specs.declared.fault.UsageFault.TheVariants as E;
 ghost use Rattle.rosie_words.specs.Values.{style_named, number_in};

@@ -1,7 +1,6 @@
 -- The calls of a rule all of whose calls before a character are in a set.
-use Rattle.std.proofs.Common.{◌≡◌, ℕ, ◌+◌, ◌-◌, ◌<◌, ◌≤◌, List, length, Option, Some, None, refl, sym, ap, ◌∙◌, subst, ⊎_elim, inl, inr, arith}
+use Rattle.std.proofs.Common.{◌≡◌, ℕ, ◌-◌, ◌<◌, ◌≤◌, List, length, Option, Some, None, refl, sym, ap, ◌∙◌, subst, ⊎_elim, inl, inr, arith}
 use Rattle.std.proofs.lemmas.Option.{slice_get-map}
-use Rattle.std.proofs.lemmas.List.{get_or-set_other}
 use Rattle.std.specs.Prelude.{Bool, true, false, ◌||◌, ◌&&◌, not, ◌⊎◌, ◌≢◌, is_some, slice_get, slice_set, option_map}
 use Rattle.rpl_core.specs.Core.{Core, Set, Seq, Choice, Many, Not, And, Behind, Call, Capture, Note, Start, End, Halt, Cores, NoMore, Then}
 use Rattle.rpl_core.specs.Table.{bodies_of}
@@ -77,10 +76,6 @@ clean_more R m a n clean early le fit off calls old reach all r ar on = ⊎_elim
 
     same : r ≡ n → reach r r ≡ false
     same z = subst (λ x. reach x x ≡ false) (sym z) (no_self R m reach all a n early le away)
-
--- and those before it are still open
-pub open_still : (a n i : ℕ) (clean : List Bool) → i < n - a → ((j : ℕ) → j < n + 1 - a → marked clean j ≡ false) → marked (slice_set clean (n - a) true) i ≡ false
-open_still a n i clean lt off = get_or-set_other clean (n - a) i true false (λ z. absurd (omega arith)) ∙ off i (omega arith)
 
 -- where a front isn't within, a call is outside
 outside : (a b : Bool) → (a && b) ≡ false → (a ≡ false) ⊎ ((a ≡ true) × (b ≡ false))

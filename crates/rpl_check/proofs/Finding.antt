@@ -1,5 +1,5 @@
 -- How rules are found, one after the other.
-use Rattle.std.proofs.Common.{◌≡◌, ℕ, ◌-◌, ◌<◌, ◌≤◌, [], ◌∷◌, ◌++◌, length, get_or, set, refl, sym, ap, ◌∙◌, ⊎_elim, subst, arith, length-append, length-set, eq-eqb, get_or-set_same, get_or-set_other}
+use Rattle.std.proofs.Common.{◌≡◌, ℕ, ◌-◌, ◌<◌, ◌≤◌, [], ◌∷◌, ◌++◌, length, get_or, set, refl, sym, ap, ◌∙◌, ⊎_elim, arith, length-append, length-set, eq-eqb, get_or-set_same, get_or-set_other}
 use Rattle.std.proofs.lemmas.Bool.{cases_eq, ne_eqb}
 use Rattle.std.proofs.lemmas.Bool.Decides.{nat_tests}
 use Rattle.std.specs.Prelude.{Bool, true, false, ◌||◌, ◌&&◌, ◌⊎◌, not, nat_eq, nat_lt, nat_le}
@@ -97,19 +97,3 @@ module _ (s s1 : BlockSearch) (k : ℕ) (le : s.start ≤ k) (lt : k - s.start <
         let a = unmarked_less s.marks.items (k - s.start) lt unset in
         omega (arith, ap length f, length-append s.waiting.items (k ∷ []), ap unmarked e);
   }
-
--- a rule outside the block, or one that is found already
-outside_or : (m b f : Bool) → (f ≡ true → b ≡ false ⊎ m ≡ true) → m ≡ (m || (b && f))
-outside_or true b f h = refl
-outside_or false false f h = refl
-outside_or false true false h = refl
-outside_or false true true h = ⊎_elim (λ e. absurd (let u : true ≡ false = e in cc)) (λ e. absurd (let u : false ≡ true = e in cc)) (h refl)
-
-pub finds_no_other : (s : BlockSearch) (k : ℕ) → in_block s k ≡ false ⊎ found s k ≡ true → Finds (λ r. nat_eq k r) s s
-finds_no_other s k h = record {
-  start = refl;
-  long = refl;
-  marks = λ r. outside_or (found s r) (in_block s r) (nat_eq k r) (λ e. let z : k ≡ r = grind arith in subst (λ x. in_block s x ≡ false ⊎ found s x ≡ true) z h);
-  waiting = λ r. not_new (waits s.waiting.items r) (found s r);
-  left = refl;
-}

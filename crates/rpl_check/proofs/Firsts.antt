@@ -7,7 +7,7 @@ use Rattle.rpl_core.specs.Core.{Core}
 use Rattle.rpl_check.specs.Answers.{IsDue}
 use Rattle.rpl_check.specs.Facts.{calls_at, calls_here}
 use Rattle.rpl_core.specs.Order.{joins_next}
-use Rattle.rpl_check.specs.Faults.{Fault, LeftRecursion, first_from}
+use Rattle.rpl_check.specs.Faults.{Fault, first_from}
 use Rattle.rpl_check.specs.Blocks.{selves, recursion_of, fault_from}
 use Rattle.rpl_core.specs.Order.{IsInOrder, block_at}
 use Rattle.rpl_check.specs.inside.Groups.{IsGroup}
@@ -29,9 +29,6 @@ first_step f k e lt = ap (first_from f k) (minus_step k e lt)
 
 pub first_miss : (f : ℕ → Option Fault) (k e : ℕ) → k < e → f k ≡ None → first_from f k (e - k) ≡ first_from f (k + 1) (e - (k + 1))
 first_miss f k e lt none = first_step f k e lt ∙ ap (λ o. option_or o (first_from f (k + 1) (e - (k + 1)))) none
-
-pub first_over : (f : ℕ → Option Fault) (k e : ℕ) → e ≤ k → first_from f k (e - k) ≡ None
-first_over f k e le = let z : e - k ≡ 0 = omega arith in ap (first_from f k) z
 
 -- what is due first is due
 pub due_first : (whole a b x : Option Fault) → whole ≡ option_or a b → IsDue a x → IsDue whole x
@@ -71,15 +68,6 @@ alone R blocks m reach r e o early out one all = ap (λ n. recursion_of (selves 
 
     off : reach r r ≡ false
     off = no_self R m reach all r r early (omega arith) (λ t c. inl (before t c))
-
--- a list that isn't empty
-pub some_recursion : (l : List ℕ) → 0 < length l → recursion_of l ≡ Some (LeftRecursion l)
-some_recursion [] lt = absurd (omega arith)
-some_recursion (r ∷ l) lt = refl
-
-pub no_recursion : (l : List ℕ) → length l ≡ 0 → recursion_of l ≡ None
-no_recursion [] e = refl
-no_recursion (r ∷ l) e = absurd (omega arith)
 
 -- blocks, and rules outside them
 pub group_joins : (f : ℕ → ℕ → Option Fault) (bs : List (Option ℕ)) (a k e : ℕ) → k < e → joins_next bs k ≡ true → fault_from f bs a k (e - k) ≡ fault_from f bs a (k + 1) (e - (k + 1))

@@ -30,9 +30,6 @@ lt_on a b l = grind (arith, nat_tests)
 lt_off : (a b : ℕ) → b ≤ a → nat_lt a b ≡ false
 lt_off a b l = grind (arith, nat_tests)
 
-le_of : (a b : ℕ) → nat_le a b ≡ true → a ≤ b
-le_of a b e = grind (arith, nat_tests)
-
 le_on : (a b : ℕ) → a ≤ b → nat_le a b ≡ true
 le_on a b l = grind (arith, nat_tests)
 

@@ -34,9 +34,6 @@ last_ends bs k le = ap (λ x. same_block (block_at (slice_get bs k)) (block_at x
     none_after None = refl
     none_after (Some b) = refl
 
-pub calls_none : (R : List Core) → CallsBefore R 0
-calls_none R r s p lt is c = absurd (omega arith)
-
 -- when all rules are known
 pub known_all : (fact : F.Fact) (rules : List Rule) (k : ℕ) (marks : List Bool) → length rules ≤ k → AreKnown (test_of fact) (bodies_of rules) marks k → IsLeast (Solves (test_of fact) (bodies_of rules)) (marked marks)
 known_all fact rules k marks le h = record { solution = λ r e. solved r e; least = λ j s r e. h.under j s r e }

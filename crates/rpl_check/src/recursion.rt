@@ -1,9 +1,9 @@
 // The rules of a block that reach themselves before a character is taken (left recursion).
-ghost use Rattle.std.specs.Prelude.{◌≡◌, ℕ, ◌-◌, ◌<◌, ◌≤◌, ◌^◌, Bool, false, true, nat_eq, length};
+ghost use Rattle.std.specs.Prelude.{◌≡◌, ℕ, ◌-◌, ◌<◌, ◌≤◌, Bool, false, true, nat_eq, length};
 ghost use Rattle.std.specs.Prelude.{IfOk, OnOk, ◌+◌};
 ghost use Rattle.rpl_core.specs.View.{core_of, cores};
 ghost use Rattle.rpl_compile_laws.specs.Static as E;
-ghost use Rattle.rpl_check.specs.Facts.{Follows, IsLeast, any_calls_here, calls_at, calls_here};
+ghost use Rattle.rpl_check.specs.Facts.{any_calls_here, calls_at, calls_here};
 ghost use Rattle.rpl_check.specs.Facts.{front_calls_here};
 ghost use Rattle.rpl_check.specs.Blocks as B;
 ghost use Rattle.rpl_core.specs.inside.Marks.{marked};

@@ -3,7 +3,7 @@ ghost use Rattle.std.specs.Prelude.{◌≡◌, ℕ, ◌<◌, false, true, length
 ghost use Rattle.rpl_core.specs.Listed.{blocks_in, bodies_in, rules_of};
 ghost use Rattle.rpl_check.specs.Facts.{IsLeast, Solves, passes};
 ghost use Rattle.rpl_core.specs.inside.Marks.{count, marked};
-ghost use Rattle.rpl_core.specs.Order.{IsInOrder, block_at};
+ghost use Rattle.rpl_core.specs.Order.{IsInOrder};
 ghost use Rattle.rpl_check.specs.inside.Groups.{Adds, AreSome, IsWithin};
 ghost use Rattle.rpl_check.specs.inside.Rounds.{AreKnown, CallsBefore, IsSettled, test_of};
 

@@ -1,10 +1,9 @@
 -- Classes by their names.
 use Rattle.std.proofs.Common.{◌≡◌, ℕ, zero, suc, List, [], ◌∷◌, Option, Some, None, refl, subst, sym, ap, ◌∙◌, arith, inl, inr}
-use Rattle.std.specs.Prelude.{Bool, true, false, ◌≢◌, nat_lt, ◌||◌, ◌&&◌, if◌then◌else◌, MatchOption, Result, Ok, Err}
-use Rattle.std.specs.Result.{IsErrAnd}
+use Rattle.std.specs.Prelude.{Bool, true, false, ◌≢◌, nat_lt, ◌||◌, ◌&&◌, if◌then◌else◌, Result, Ok, Err}
 use Rattle.rpl_classes.specs.Faults.{IsNamed}
 use Rattle.rpl_classes.specs.declared.fault.SetFault.{SetFault}
-use Rattle.rpl_classes.specs.declared.fault.SetFault.TheVariants.{NoMemory, UnknownClass}
+use Rattle.rpl_classes.specs.declared.fault.SetFault.TheVariants.{UnknownClass}
 use Rattle.std.specs.Str.{bytes_eq}
 use Rattle.std.specs.Option.{option_map, option_or}
 use Rattle.std.specs.Str.{IsAscii, IsUtf8, chars}
@@ -51,10 +50,6 @@ own_name Xdigit = refl
 own_name Cntrl = refl
 own_name Graph = refl
 own_name Print = refl
-
-pub named_class : (o : Option NamedClass) (name : List ℕ) → MatchOption o ((k : NamedClass) → name_of k ≢ name) (λ k. name_of k ≡ name) → o ≡ class_named name
-named_class None name h = no_class name h
-named_class (Some k) name h = sym (own_name k) ∙ ap class_named h
 
 singles-zero : (p : ℕ → Bool) → singles p 0 ≡ []
 unfolding singles
@@ -150,16 +145,6 @@ named_as o q r e h = subst (λ x. IsNamed (option_map set_of x) r) (sym e) h
 pub named_test : (p : ℕ → Bool) (q : Option (ℕ → Bool)) (s : List Range) → q ≡ Some p → IsNormal s → HasJust s p → IsNamed (option_map set_of q) (Ok s)
 named_test p q s e n h = named_as (Some p) q (Ok s) e (set_only p s n h)
 
-pub named_memory : (p : ℕ → Bool) (q : Option (ℕ → Bool)) (r : Result (List Range) SetFault) → q ≡ Some p → IsErrAnd r (λ e. e ≡ NoMemory) → IsNamed (option_map set_of q) r
-named_memory p q (Ok s) e h = absurd h
-named_memory p q (Err f) e h = named_as (Some p) q (Err f) e h
-
-pub named_normal : (o : Option (ℕ → Bool)) (r : Result (List Range) SetFault) → IsNamed (option_map set_of o) r → IfOk r IsNormal
-named_normal (Some p) (Ok s) h = subst IsNormal (sym h) (set_normal p)
-named_normal None (Ok s) h = absurd h
-named_normal (Some p) (Err e) h = tt
-named_normal None (Err e) h = tt
-
 pub named_members : (o : Option (ℕ → Bool)) (r : Result (List Range) SetFault) → IsNamed (option_map set_of o) r → IfOk r (λ s. IfSome o (HasJust s))
 named_members (Some p) (Ok s) h = subst (λ l. HasJust l p) (sym h) (set_just p)
 named_members None (Ok s) h = absurd h
@@ -174,10 +159,6 @@ class_normal None s h = absurd h
 pub class_named_so : (o : Option (ℕ → Bool)) (s t : List Range) → t ≡ s → IsClass o (Ok s) → IsNamed (option_map set_of o) (Ok t)
 class_named_so (Some p) s t e h = e ∙ set_only p s h.normal h.members
 class_named_so None s t e h = absurd h
-
-pub class_memory : (o : Option (ℕ → Bool)) → IsNamed (option_map set_of o) (Err NoMemory)
-class_memory (Some p) = refl
-class_memory None = λ n. absurd (n refl)
 
 pub class_unknown : (o : Option (ℕ → Bool)) → IsClass o (Err U.UnknownClass) → IsNamed (option_map set_of o) (Err (UnknownClass 0))
 class_unknown (Some p) h = absurd (cc h)

@@ -1,5 +1,5 @@
 -- Brackets, as the reader finds them.
-use Rattle.std.proofs.Common.{◌≡◌, ℕ, ◌<◌, ◌≤◌, List, [], ◌∷◌, Some, refl, sym, ap, subst, ◌∙◌, arith}
+use Rattle.std.proofs.Common.{◌≡◌, ℕ, ◌<◌, ◌≤◌, List, [], ◌∷◌, Some, refl, sym, ap, ◌∙◌, arith}
 use Rattle.std.specs.Prelude.{Bool, true, false, ◌≢◌, if◌then◌else◌, Result, Ok, Err}
 use Rattle.std.specs.Result.{IsErrAnd}
 use Rattle.std.proofs.lemmas.Bool.{cond-true, cond-false}
@@ -7,15 +7,13 @@ use Rattle.regex_class.specs.Ranges.{Range}
 use Rattle.rpl_text.specs.Places.{index, IsPlace}
 use Rattle.rpl_text.proofs.Walks.{at_le}
 use Rattle.rpl_classes.specs.Algebra.{others}
-use Rattle.rpl_classes.specs.Symbols.{Placed, symbols_from, size, place, rest, begins, past_blanks}
-use Rattle.rpl_classes.specs.Lists.{Reading, and_then, changed, list}
+use Rattle.rpl_classes.specs.Symbols.{Placed, symbols_from, size, place, rest, begins}
+use Rattle.rpl_classes.specs.Lists.{Reading, changed}
 use Rattle.rpl_classes.specs.Brackets.{is_class, class, marked, bracket_of}
-use Rattle.rpl_classes.specs.Laws.{reading, further, side, joins, content}
-use Rattle.rpl_classes.specs.inside.Stack.{opened}
+use Rattle.rpl_classes.specs.Laws.{reading, content}
 use Rattle.rpl_classes.proofs.Fuel.{brackets_law, text_law}
 use Rattle.rpl_classes.specs.Faults.{IsRead}
 use Rattle.rpl_classes.specs.declared.brackets.Bracket.{Bracket}
-use Rattle.rpl_classes.specs.inside.Scanned.{Gives}
 use Rattle.rpl_classes.specs.inside.Operators.{OperatorAt}
 use Rattle.rpl_classes.specs.declared.compounds.Operator.{Operator}
 use Rattle.rpl_classes.specs.declared.compounds.Operator.TheVariants.{Both, Without}
@@ -25,26 +23,6 @@ use Rattle.rpl_classes.proofs.ListSteps.{place_from}
 
 pub size_place : (t : List ℕ) (q : ℕ) → IsPlace t q → q ≤ size t
 size_place t q h = omega (arith, at_le t (index t q))
-
--- a reading as another that it equals
-pub gives_as : (t : List ℕ) (a : Result (List Range × ℕ) SetFault) (r s : Reading) → r ≡ s → Gives t a s → Gives t a r
-gives_as t a r s e h = subst (Gives t a) (sym e) h
-
--- an error that is passed on
-pub gives_err : (t : List ℕ) (a : Result (List Range × ℕ) SetFault) (r : Reading) (e : SetFault) → IsErrAnd a (λ f. f ≡ e) → (e ≢ NoMemory → r ≡ Err e) → Gives t a r
-gives_err t (Ok x) r e h g = absurd h
-gives_err t (Err f) r e h g = λ n. g (λ m. n (h ∙ m)) ∙ ap Err (sym h)
-
--- memory ran out
-pub gives_memory : (t : List ℕ) (a : Result (List Range × ℕ) SetFault) (r : Reading) → IsErrAnd a (λ f. f ≡ NoMemory) → Gives t a r
-gives_memory t (Ok x) r h = absurd h
-gives_memory t (Err f) r h = λ n. absurd (n h)
-
-pub then_ok : (r : Reading) (f : List Range → List Placed → Reading) (a : List Range) (s : List Placed) → r ≡ Ok (a, s) → and_then r f ≡ f a s
-then_ok r f a s e = ap (λ x. and_then x f) e
-
-pub then_err : (r : Reading) (f : List Range → List Placed → Reading) (e : SetFault) → r ≡ Err e → and_then r f ≡ Err e
-then_err r f e h = ap (λ x. and_then x f) h
 
 pub operator_goes : (t : List ℕ) (p q : ℕ) (o : Operator) → OperatorAt t p (Some (o, q)) → IsPlace t q × (p < q)
 operator_goes t p q Both g = (g.1.next, g.1.forward)
@@ -90,14 +68,6 @@ bracket_marked t p q d h r k m e =
     ∙ (cond-true (begins 94 s) (changed others (content (rest s))) (content s) m ∙ ap (λ x. changed others (content x)) e))
 
 -- ---- what stands after a `[` and `^`
-
-pub content_list : (t : List ℕ) (p h : ℕ) → past_blanks (symbols_from t p) ≡ symbols_from t h → begins 91 (symbols_from t h) ≡ false → content (symbols_from t p) ≡ list (symbols_from t p)
-content_list t p h e f = cond-false (begins 91 (past_blanks (symbols_from t p))) (and_then (side (symbols_from t p)) joins) (list (symbols_from t p)) (ap (begins 91) e ∙ f)
-
-pub content_compound : (t : List ℕ) (p h : ℕ) → past_blanks (symbols_from t p) ≡ symbols_from t h → begins 91 (symbols_from t h) ≡ true → content (symbols_from t p) ≡ opened t h
-content_compound t p h e f =
-    cond-true (begins 91 (past_blanks (symbols_from t p))) (and_then (side (symbols_from t p)) joins) (list (symbols_from t p)) (ap (begins 91) e ∙ f)
-    ∙ ap (λ x. and_then (and_then (reading x) further) joins) e
 
 -- ---- the whole text
 

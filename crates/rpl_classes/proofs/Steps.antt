@@ -38,10 +38,6 @@ pub blanks_stop : (t : List ℕ) (p q : ℕ) (x : Symbol) → is_blank x ≡ fal
 blanks_stop t p q x b s =
     ap past_blanks s.symbols ∙ past_blanks-cons (p, x) (behind t x q) ∙ ap (λ c. if c then past_blanks (behind t x q) else (p, x) ∷ behind t x q) b ∙ sym s.symbols
 
-pub word-nil : word [] ≡ []
-unfolding word
-word-nil = refl
-
 pub word-cons : (x : Placed) (s : List Placed) → word (x ∷ s) ≡ (if is_word x.1 then char_of x.1 ∷ word s else [])
 unfolding word
 word-cons x s = refl

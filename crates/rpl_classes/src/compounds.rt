@@ -1,7 +1,7 @@
 // Compounds: brackets side by side or joined by operators. Open compounds are kept on a stack, so
 // brackets may be nested to any depth. The ranges to keep and the ranges to remove are collected as
 // they are read, and become a set once, at the end of the compound.
-ghost use Rattle.std.specs.Prelude.{◌≡◌, ◌≤◌, ◌++◌, [], chars, IfOk};
+ghost use Rattle.std.specs.Prelude.{◌≡◌, ◌++◌, [], chars, IfOk};
 ghost use Rattle.rpl_text.specs.Places.{IsPlace};
 ghost use Rattle.rpl_classes.specs.Norm.{norm};
 ghost use Rattle.rpl_classes.specs.Symbols.{symbols_from};

@@ -1,6 +1,6 @@
 // The check that the tables of a file contain exactly what its code uses, each once and in the
 // order of first use. It uses no hashes, which a stranger's file could be made to defeat.
-ghost use Rattle.std.specs.Prelude.{◌≡◌, ◌↔◌, IsTrue, IfOk, Some, length};
+ghost use Rattle.std.specs.Prelude.{◌≡◌, ◌↔◌, IsTrue, IfOk, Some};
 ghost use Rattle.rpl_codefile.specs.inside.Tables.{Apart, AreParts, IsOrdered, come, number_in};
 ghost use Rattle.rpl_codefile.specs.inside.Tables.{set_number};
 ghost use Rattle.rpl_codefile.specs.inside.Tables.{text_number, with_next};

@@ -26,9 +26,6 @@ part_other best label i lt is =
     part_next best label i lt
     ∙ ap (λ t. if t then part_by (drop (i + 1) label) (drop (i + 1) label) else part_by best (drop (i + 1) label)) (not_same (get_or label i 0) 46 is)
 
-pub part_end : (best label : List ℕ) (i : ℕ) → length label ≤ i → part_by best (drop i label) ≡ best
-part_end best label i le = ap (part_by best) (drop_all i label le)
-
 -- bytes of which there are not as many are not the same
 pub not_as_many : (xs ys : List ℕ) → (length xs ≡ length ys → ⊥) → bytes_eq xs ys ≡ false
 not_as_many [] [] h = absurd (h refl)

@@ -1,6 +1,6 @@
 // The text of a cell in each format, from the text as a tree spells it.
 ghost use Rattle.std.specs.Prelude.{◌≡◌, ◌++◌, ◌<◌, OnOk, IfSome, length, option_map};
-ghost use Rattle.std.specs.Prelude.{◌&&◌, not};
+ghost use Rattle.std.specs.Prelude.{◌&&◌};
 ghost use Rattle.rpl_print.specs.Quoted.{is_plain};
 ghost use Rattle.rpl_columns.specs.Cells as C;
 

@@ -1,10 +1,10 @@
 // The smallest parts of a tree's line: words, numbers and strings. Each function takes a place in
 // the line and returns the place after the part that it found there, if any.
-ghost use Rattle.std.specs.Prelude.{◌≡◌, ◌+◌, ◌-◌, ◌≤◌, ◌<◌, ◌∷◌, length, drop, option_map, IfSome};
-ghost use Rattle.std.specs.Prelude.{slice_index, slice_range, false, ℕ};
+ghost use Rattle.std.specs.Prelude.{◌≡◌, ◌+◌, ◌-◌, ◌≤◌, ◌<◌, length, drop, option_map, IfSome};
+ghost use Rattle.std.specs.Prelude.{slice_index, false};
 ghost use Rattle.std.specs.Str.{bytes_eq};
 ghost use Rattle.rpl_print.specs.Quoted as Q;
-ghost use Rattle.rpl_columns.specs.Spelling.{after, string_count, digit_count, number_count};
+ghost use Rattle.rpl_columns.specs.Spelling.{after, string_count, digit_count};
 ghost use Rattle.rpl_columns.specs.Spelling.{control_in, escape_count, is_short_escape, is_digit};
 ghost use Rattle.rpl_columns.specs.Spelling as S;
 ghost use Rattle.rpl_columns.specs.Nodes.{number_in, span_seen, string_in};

@@ -6,7 +6,6 @@ pub mod Depth
 mod Examples
 pub mod Flat
 pub mod Growth
-pub mod InRange
 pub mod Marking
 mod Names
 pub mod Reaching

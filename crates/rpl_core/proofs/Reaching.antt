@@ -1,11 +1,11 @@
 -- Which rules a goal reaches can be told, so each goal has its code.
-use Rattle.std.proofs.Common.{◌≡◌, ℕ, zero, suc, ◌<◌, ◌≤◌, List, [], ◌∷◌, length, refl, sym, ap, ◌∙◌, subst, ⊎_elim, inl, inr, arith}
+use Rattle.std.proofs.Common.{◌≡◌, ℕ, zero, suc, ◌<◌, ◌≤◌, List, [], ◌∷◌, length, refl, ap, ◌∙◌, ⊎_elim, inl, inr, arith}
 use Rattle.std.proofs.lemmas.Option.{slice_get_within}
-use Rattle.std.specs.Prelude.{Bool, true, false, ◌||◌, ◌&&◌, not, nat_eq, max, Option, Some, None, ◌⊎◌, ◌↔◌, slice_get}
+use Rattle.std.specs.Prelude.{Bool, true, false, ◌&&◌, not, max, Option, Some, None, ◌⊎◌, slice_get}
 use Rattle.rpl_core.specs.Core.{Core, Set, Seq, Choice, Many, Not, And, Behind, Call, Capture, Note, Start, End, Halt, Cores, NoMore, Then}
 use Rattle.rpl_core.specs.Laws.{HasCodeLaw}
 use Rattle.rpl_core.specs.Programs.{calls, calls_any, Reaches, by_goal, by_rule, IsCode, program}
-use Rattle.rpl_core.proofs.Bools.{either, both, paired, not_on, not_off, eq_of, on_of}
+use Rattle.rpl_core.proofs.Bools.{either, both, paired, not_on, eq_of, on_of}
 use Rattle.rpl_core.proofs.Growth.{some_below, pair_below, Belong, Missing, closed_exists}
 
 -- above the numbers of all rules that a core calls

@@ -2,7 +2,7 @@
 use Rattle.std.proofs.Common.{◌≡◌, ℕ, ◌+◌, [], ◌∷◌, ◌++◌, length, refl, sym, ap, ◌∙◌, subst, arith, length-append}
 use Rattle.std.proofs.Math.Bool.{or-false}
 use Rattle.std.specs.BTreeMap.{is_at}
-use Rattle.std.specs.BTreeSet.{IsOrdered, IsUnchanged, Updates, btree_set_len}
+use Rattle.std.specs.BTreeSet.{IsOrdered, Updates, btree_set_len}
 use Rattle.std.specs.Cmp.{unsigned_tied}
 use Rattle.std.specs.Ordering.{nat_cmp}
 use Rattle.std.specs.Prelude.{Bool, true, false, ◌||◌, ◌&&◌, not, nat_eq, cond}
@@ -71,18 +71,3 @@ find_one s s1 k absent up count sorted f = record {
   left = omega (arith, ap length f, length-append s.waiting.items (k ∷ []), count);
   ordered = λ o. sorted;
 }
-
--- a rule that was
-pub find_again : (s s1 : RuleSearch) (k : ℕ) → IsUnchanged s.found s1.found → Updates nat_cmp s.found s1.found k true →
-    IsOrdered nat_cmp s1.found → s1.waiting.items ≡ s.waiting.items → Finds (λ r. nat_eq k r) s s1
-find_again s s1 k same up sorted f = record {
-  found = λ r. updated s s1 k r up;
-  waiting =
-      λ r. ap (λ l. waits l r) f ∙ not_new (waits s.waiting.items r) (has s1.found r)
-      ∙ ap (λ (b : Bool). waits s.waiting.items r || (has s1.found r && not b)) (kept r);
-  left = omega (arith, ap length f, ap length same);
-  ordered = λ o. sorted;
-}
-  where
-    kept : (r : ℕ) → has s1.found r ≡ has s.found r
-    kept r = cc

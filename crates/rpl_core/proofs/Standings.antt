@@ -3,12 +3,12 @@ use Rattle.std.proofs.Common.{◌≡◌, ℕ, zero, suc, ◌+◌, ◌-◌, ◌<�
 use Rattle.std.proofs.lemmas.Bool.{cases_lt}
 use Rattle.std.proofs.lemmas.Bool.Decides.{nat_tests}
 use Rattle.std.proofs.lemmas.Option.{slice_get_within}
-use Rattle.std.specs.Prelude.{Bool, true, false, ◌||◌, ◌&&◌, ◌⊎◌, not, nat_le, nat_lt, max, slice_get}
+use Rattle.std.specs.Prelude.{Bool, true, false, ◌||◌, ◌&&◌, ◌⊎◌, not, nat_lt, slice_get}
 use Rattle.rpl_core.specs.Core.{Core, Set, Seq, Choice, Many, Not, And, Behind, Call, Capture, Note, Start, End, Halt, Cores, NoMore, Then}
 use Rattle.rpl_core.specs.Programs.{calls, calls_any}
 use Rattle.rpl_core.specs.Order.{same_block, joins_next}
 use Rattle.rpl_core.specs.Order.{IsInOrder, AreTogether, block_at}
-use Rattle.rpl_core.specs.inside.Standing.{calls_only, all_call_only, body_calls_only, may_call, has_mate, is_new, is_split, stands, above, AreBelow}
+use Rattle.rpl_core.specs.inside.Standing.{calls_only, all_call_only, body_calls_only, may_call, has_mate, is_new, is_split, stands, AreBelow}
 use Rattle.rpl_core.proofs.Bools.{either, left, right, both, paired, not_on, not_off, eq_self, eq_of}
 
 pub same_of : (x y : Option ℕ) (b : ℕ) → x ≡ Some b → y ≡ Some b → same_block x y ≡ true
@@ -90,23 +90,6 @@ pub new_mate : (blocks : List (Option ℕ)) (k next : ℕ) (o : Option ℕ) → 
 new_mate blocks k next None below is e = no_mate blocks k k is
 new_mate blocks k next (Some b) below is e =
     new_block blocks k k next b below is (let le : next ≤ b = grind (arith, nat_tests) in le)
-
--- with one rule more
-pub below_more : (blocks : List (Option ℕ)) (k next : ℕ) → AreBelow blocks k next
-    → AreBelow blocks (k + 1) (above next (block_at (slice_get blocks k)))
-below_more blocks k next below r b lt is =
-    elim (cases_lt r k) [
-      | inl l ↦ less (block_at (slice_get blocks k)) (below r b l is)
-      | inr g ↦ let z : r ≡ k = omega arith in last (block_at (slice_get blocks k)) (subst (λ x. block_at (slice_get blocks x) ≡ Some b) z is)
-    ]
-  where
-    less : (o : Option ℕ) → b < next → b < above next o
-    less None l = l
-    less (Some c) l = omega arith
-
-    last : (o : Option ℕ) → o ≡ Some b → b < above next o
-    last None e = absurd (cc)
-    last (Some c) e = let z : c ≡ b = cc in omega arith
 
 -- rules that are in one block
 together : (x y : Option ℕ) → same_block x y ≡ true → (b : ℕ) × (x ≡ Some b) × (y ≡ Some b)

@@ -1,5 +1,5 @@
 // The order of tables, and calls of rules inside their table.
-ghost use Rattle.std.specs.Prelude.{◌≡◌, ℕ, ◌<◌, ◌≤◌, ◌↔◌, IsTrue, None, true, nat_lt, length};
+ghost use Rattle.std.specs.Prelude.{◌≡◌, ℕ, ◌<◌, ◌↔◌, IsTrue, None, true, nat_lt, length};
 ghost use Rattle.std.specs.Prelude.{slice_get};
 ghost use Rattle.rpl_core.specs.Listed.{blocks_in, bodies_in, rules_of};
 ghost use Rattle.rpl_core.specs.Programs.{calls};

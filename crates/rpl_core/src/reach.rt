@@ -1,10 +1,10 @@
 // The rules that a goal reaches.
-ghost use Rattle.std.specs.Prelude.{◌≡◌, ℕ, IfOk, OnOk, length, nat_eq};
+ghost use Rattle.std.specs.Prelude.{IfOk, OnOk, nat_eq};
 ghost use Rattle.rpl_core.specs.Listed.{rules_of};
 ghost use Rattle.rpl_core.specs.Programs.{calls, calls_any};
 ghost use Rattle.rpl_core.specs.Table.{bodies_of};
 ghost use Rattle.rpl_core.specs.View.{core_of, cores};
-ghost use Rattle.rpl_core.specs.Marked.{CallsAreRules, HasReached, MarksReached, has};
+ghost use Rattle.rpl_core.specs.Marked.{CallsAreRules, HasReached, MarksReached};
 ghost use Rattle.rpl_core.specs.inside.Searching.{Finds};
 
 use crate::NoMemory;

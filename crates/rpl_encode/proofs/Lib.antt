@@ -3,5 +3,4 @@ pub mod Escaping
 pub mod Nodes
 pub mod Walking
 pub mod Listing
-pub mod Placed
 pub mod Digits

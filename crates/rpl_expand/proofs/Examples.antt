@@ -4,7 +4,7 @@ use Rattle.std.specs.Prelude.{codes, true, false}
 use Rattle.rpl_syntax.specs.declared.name.QName.{QName}
 use Rattle.rpl_syntax.specs.declared.expr.Sign.TheVariants as S
 use Rattle.rpl_syntax.specs.declared.expr.Mark.TheVariants as M
-use Rattle.rpl_syntax.specs.Expression.{Expr, Nil, Cons, one}
+use Rattle.rpl_syntax.specs.Expression.{Expr, Cons, one}
 use Rattle.rpl_syntax.specs.Expression as X
 use Rattle.rpl_core.specs.Core.{Core, Set, Seq, Choice, Many, Not, And, Behind, Call, Capture, Note, Start, End}
 use Rattle.rpl_core.specs.Core.{NoMore, Then}

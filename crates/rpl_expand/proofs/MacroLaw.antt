@@ -3,7 +3,7 @@ use Rattle.std.proofs.Common.{◌≡◌, ℕ, ◌+◌, ◌-◌, List, [], ◌∷
 use Rattle.std.specs.Prelude.{Bool, true, false, ◌||◌, if◌then◌else◌}
 use Rattle.regex_class.specs.Ranges.{Range}
 use Rattle.rpl_classes.specs.Classes.{is_upper, is_lower}
-use Rattle.rpl_core.specs.Core.{Core, Call, Note, Set, Cores, NoMore, Then}
+use Rattle.rpl_core.specs.Core.{Core, Call, Note, Set, Then}
 use Rattle.rpl_core.specs.Core as C
 use Rattle.rpl_macro.specs.Casings.{recased, recased_all, either_case, either_cases, every_case, pair_of, single}
 use Rattle.rpl_macro.specs.Casings.{set_in, has_letter, is_letter, keeps_text, under_ci}

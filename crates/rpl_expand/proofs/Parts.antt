@@ -47,11 +47,6 @@ starts : (c : Casing) (s : Scope) (e : Expr) (es : List Expr) → (rest : Cores)
     × (items c s (e ∷ es) ≡ Then (core c s (expr_of e)) rest)
 starts c s e es = starts_by (is_prefix (expr_of e)) (Call s.boundary) (core c s (expr_of e)) (items c s es)
 
-group_between : (prefix : Bool) (b p q : Core) (ps : Cores)
-    → seq_of (Then p (between prefix b (Then q ps))) ≡ Seq (Then p (between prefix b (Then q ps)))
-group_between true b p q ps = refl
-group_between false b p q ps = refl
-
 group_spaced : (prefix : Bool) (b p q : Core) (ps : Cores)
     → seq_of (spaced_by prefix b p (Then q ps)) ≡ Seq (spaced_by prefix b p (Then q ps))
 group_spaced true b p q ps = refl

@@ -9,10 +9,6 @@ use Rattle.rpl_forms.specs.Inlining.{Inners}
 use Rattle.rpl_macro.specs.Casings.{keeps_text}
 use Rattle.rpl_macro.specs.declared.kind.Macro.{Macro}
 use Rattle.rpl_macro.specs.declared.kind.Macro.TheVariants.{Find, FindAll, KeepTo, Ci, Uci, Message, Error}
-use Rattle.rpl_syntax.specs.declared.expr.Sign.{Sign}
-use Rattle.rpl_syntax.specs.declared.expr.Sign.TheVariants as S
-use Rattle.rpl_expand.specs.Expansion.{signed_by}
-use Rattle.rpl_expand.specs.inside.Items.{ahead}
 
 pub seen_set : (b : Bool) (I : Inners) (r : List Range) → seen b I (Set r) ≡ Set r
 seen_set true I r = refl
@@ -25,15 +21,6 @@ seen_start false I = refl
 pub seen_end : (b : Bool) (I : Inners) → seen b I End ≡ End
 seen_end true I = refl
 seen_end false I = refl
-
--- a predicate that looks ahead
-pub seen_ahead : (b : Bool) (I : Inners) (sign : Sign) (p : Core) → (sign ≢ S.Behind)
-    → seen b I (signed_by I sign p) ≡ ahead sign (seen b I p)
-seen_ahead true I S.Not p h = refl
-seen_ahead false I S.Not p h = refl
-seen_ahead true I S.Ahead p h = refl
-seen_ahead false I S.Ahead p h = refl
-seen_ahead b I S.Behind p h = absurd (h refl)
 
 -- a repetition with no turns
 pub never : (b : Bool) (I : Inners) (cooked : Bool) (q p : Core) (l : ℕ) (m : Option ℕ) → l ≡ 0 → m ≡ Some 0

@@ -1,6 +1,6 @@
 -- The printed text of some cores, one after the other.
-use Rattle.std.proofs.Common.{◌≡◌, ℕ, ◌+◌, ◌<◌, ◌≤◌, List, [], ◌∷◌, ◌++◌, length, take, get_or, sym, ap, ◌∙◌}
-use Rattle.std.proofs.lemmas.List.{append_assoc, append-nil, take_more, take_all}
+use Rattle.std.proofs.Common.{◌≡◌, ℕ, ◌+◌, ◌<◌, List, [], ◌∷◌, ◌++◌, length, take, get_or, sym, ap, ◌∙◌}
+use Rattle.std.proofs.lemmas.List.{append_assoc, append-nil, take_more}
 use Rattle.rpl_core.specs.declared.peg.Peg.{Peg}
 use Rattle.rpl_core.specs.View.{core_of, cores}
 use Rattle.rpl_expand.specs.Printed.{printed, printed_all}
@@ -21,11 +21,6 @@ printed_more names ps k p lt is =
     ap (λ l. printed_all names (cores l)) (take_more ps k p lt)
     ∙ printed_last names (take k ps) (get_or ps k p)
     ∙ ap (λ q. printed_all names (cores (take k ps)) ++ (32 ∷ printed names (core_of q))) (sym is)
-
--- all of them
-pub printed_end : (names : List (List ℕ)) (ps : List Peg) (k : ℕ) → length ps ≤ k
-    → printed_all names (cores (take k ps)) ≡ printed_all names (cores ps)
-printed_end names ps k h = ap (λ l. printed_all names (cores l)) (take_all k ps h)
 
 -- what was written before, a space and one more
 pub turn : (first before out one new more all : List ℕ) → out ≡ first ++ before → one ≡ out ++ 32 ∷ []

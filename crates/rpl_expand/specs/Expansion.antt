@@ -1,6 +1,6 @@
 -- The core of an expression.
 use Rattle.std.specs.Prelude.{ℕ, Bool, true, false}
-use Rattle.rpl_core.specs.Core.{Core, Set, Seq, Choice, Many, Not, And, Call, Capture, Note, Cores, NoMore, Then}
+use Rattle.rpl_core.specs.Core.{Core, Set, Choice, Not, And, Call, Capture, Note, Cores, NoMore, Then}
 use Rattle.rpl_core.specs.Core as C
 use Rattle.rpl_syntax.specs.Expression.{Expr, Exprs, Nil, Cons}
 use Rattle.rpl_syntax.specs.Expression as X

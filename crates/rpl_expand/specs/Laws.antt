@@ -2,7 +2,7 @@
 use Rattle.std.specs.Prelude.{◌≡◌, ℕ, Bool, true, false, ◌&&◌, not, List, Option, Some}
 use Rattle.regex_class.specs.Ranges.{Range}
 use Rattle.rpl_classes.specs.Algebra.{folded, widened}
-use Rattle.rpl_core.specs.Core.{Core, Seq, Cores, NoMore}
+use Rattle.rpl_core.specs.Core.{Core, Seq, NoMore}
 use Rattle.rpl_core.specs.Lengths.{has_call}
 use Rattle.rpl_core.specs.Parts.{some_inside}
 use Rattle.rpl_core.specs.Core as C

@@ -1,14 +1,12 @@
 // The core of an expression, or its inlined form inside a look-behind.
-ghost use Rattle.std.specs.Prelude.{◌≡◌, ◌≤◌, IfOk, OnOk, IsTrue, Some, chars, true};
+ghost use Rattle.std.specs.Prelude.{◌≡◌, ◌≤◌, IfOk, OnOk, IsTrue, Some, chars};
 ghost use Rattle.rpl_core.specs.Core as C;
-ghost use Rattle.rpl_core.specs.Core.{Core};
 ghost use Rattle.rpl_core.specs.View.{core_of, cores, listed};
 ghost use Rattle.rpl_expand.specs.Expansion as E;
 ghost use Rattle.rpl_expand.specs.inside.Bases.{Knows, base_scope, core_at, cores_at, shown};
 ghost use Rattle.rpl_expand.specs.inside.Bases.{spaced_at};
 ghost use Rattle.rpl_expand.specs.inside.Items.{ahead, between, core_if};
 ghost use Rattle.rpl_forms.specs.Forms as F;
-ghost use Rattle.rpl_macro.specs.Kinds.{kind_of};
 ghost use Rattle.rpl_macro.specs.Macros.{text_of};
 ghost use Rattle.rpl_syntax.specs.View.{expr_of, exprs_all};
 

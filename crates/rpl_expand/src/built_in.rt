@@ -1,6 +1,5 @@
 // The rules that no statement makes: the boundary and `halt`.
-ghost use Rattle.std.specs.Prelude.{◌≡◌, ◌≢◌, IfOk, chars, codes, [], ◌∷◌};
-ghost use Rattle.rpl_classes.specs.Norm.{norm};
+ghost use Rattle.std.specs.Prelude.{◌≡◌, ◌≢◌, IfOk, chars, codes};
 ghost use Rattle.rpl_core.specs.Core as C;
 ghost use Rattle.rpl_core.specs.Listed.{rules_of};
 ghost use Rattle.rpl_core.specs.View.{core_of};

@@ -1,16 +1,14 @@
 // The size and the depth of a core, before it is built.
-ghost use Rattle.std.specs.Prelude.{◌≡◌, ℕ, List, Option, chars, true, length, ◌<◌};
+ghost use Rattle.std.specs.Prelude.{◌≡◌, chars, true, length, ◌<◌};
 ghost use Rattle.rpl_core.specs.Core as C;
 ghost use Rattle.rpl_core.specs.Core.{Core, Cores};
-ghost use Rattle.rpl_macro.specs.Kinds.{kind_of};
 ghost use Rattle.rpl_macro.specs.declared.casing.Casing.{Casing};
 ghost use Rattle.rpl_forms.specs.inside.Counting.{Adds, Counts, CountsAll, KnowsInners, seen};
 ghost use Rattle.rpl_forms.specs.inside.Counting.{seen_all};
 ghost use Rattle.rpl_expand.specs.inside.Items.{alone, between};
 ghost use Rattle.rpl_expand.specs.Expansion.{core, cores, spaced};
 ghost use Rattle.rpl_expand.specs.Expansion as E;
-ghost use Rattle.rpl_forms.specs.Forms as F;
-ghost use Rattle.rpl_forms.specs.Forms.{macro_core, seq_of};
+ghost use Rattle.rpl_forms.specs.Forms.{seq_of};
 ghost use Rattle.rpl_forms.specs.Inlining.{Inners};
 ghost use Rattle.rpl_expand.specs.inside.Scopes.{scope_seen};
 ghost use Rattle.rpl_syntax.specs.View.{expr_of, exprs_all};

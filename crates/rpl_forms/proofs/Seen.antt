@@ -1,16 +1,14 @@
 -- What is seen of a form, from what is seen of its parts.
 use Rattle.std.proofs.Common.{◌≡◌, ℕ, zero, suc, ◌-◌, List, [], ◌∷◌, refl, ap, ◌∙◌}
-use Rattle.std.specs.Prelude.{Bool, true, false, ◌||◌, Option, Some, None, if◌then◌else◌}
-use Rattle.rpl_core.specs.Core.{Core, Set, Seq, Choice, Many, Not, And, Behind, Capture, Note, Cores, NoMore, Then}
-use Rattle.rpl_core.specs.Lengths.{has_call, has_repetition}
+use Rattle.std.specs.Prelude.{Bool, true, false, Option, Some, None}
+use Rattle.rpl_core.specs.Core.{Core, Set, Seq, Choice, Many, And, Capture, Note, Cores, NoMore, Then}
 use Rattle.rpl_macro.specs.declared.casing.Casing.{Casing}
 use Rattle.rpl_macro.specs.Casings.{set_in, single}
-use Rattle.rpl_forms.specs.inside.Counting.{Counts, seen, seen_all}
-use Rattle.rpl_forms.specs.Forms.{pair, or_nothing, copies, seq_of, sets, text_core, spaced_by, behind, endless, repeat}
+use Rattle.rpl_forms.specs.inside.Counting.{seen, seen_all}
+use Rattle.rpl_forms.specs.Forms.{pair, or_nothing, copies, seq_of, sets, text_core, endless, repeat}
 use Rattle.rpl_forms.specs.Forms.{cooked_turns, cooked_repeat, repeated}
 use Rattle.rpl_forms.specs.Inlining.{Inners, inlined, inlined_all}
 use Rattle.rpl_forms.specs.Sizes.{nodes, deep}
-use Rattle.rpl_forms.specs.declared.size.Count.{Count}
 
 pub seen_seq : (b : Bool) (I : Inners) (ps : Cores) → seen b I (Seq ps) ≡ Seq (seen_all b I ps)
 seen_seq true I ps = refl
@@ -19,18 +17,6 @@ seen_seq false I ps = refl
 pub seen_choice : (b : Bool) (I : Inners) (ps : Cores) → seen b I (Choice ps) ≡ Choice (seen_all b I ps)
 seen_choice true I ps = refl
 seen_choice false I ps = refl
-
-pub seen_many : (b : Bool) (I : Inners) (p : Core) → seen b I (Many p) ≡ Many (seen b I p)
-seen_many true I p = refl
-seen_many false I p = refl
-
-pub seen_not : (b : Bool) (I : Inners) (p : Core) → seen b I (Not p) ≡ Not (seen b I p)
-seen_not true I p = refl
-seen_not false I p = refl
-
-pub seen_and : (b : Bool) (I : Inners) (p : Core) → seen b I (And p) ≡ And (seen b I p)
-seen_and true I p = refl
-seen_and false I p = refl
 
 pub seen_pair : (b : Bool) (I : Inners) (p q : Core) → seen b I (pair p q) ≡ pair (seen b I p) (seen b I q)
 seen_pair true I p q = refl
@@ -45,23 +31,6 @@ inlined_group : (I : Inners) (ps : Cores) → inlined I (seq_of ps) ≡ seq_of (
 inlined_group I NoMore = refl
 inlined_group I (Then p NoMore) = refl
 inlined_group I (Then p (Then q ps)) = refl
-
--- a group
-pub seen_group : (b : Bool) (I : Inners) (ps : Cores) → seen b I (seq_of ps) ≡ seq_of (seen_all b I ps)
-seen_group true I ps = inlined_group I ps
-seen_group false I ps = refl
-
-inlined_spaced : (I : Inners) (prefix : Bool) (b p : Core) (ps : Cores)
-    → inlined_all I (spaced_by prefix b p ps) ≡ spaced_by prefix (inlined I b) (inlined I p) (inlined_all I ps)
-inlined_spaced I true b p NoMore = refl
-inlined_spaced I false b p NoMore = refl
-inlined_spaced I true b p (Then q ps) = refl
-inlined_spaced I false b p (Then q ps) = refl
-
-pub seen_spaced : (s : Bool) (I : Inners) (prefix : Bool) (b p : Core) (ps : Cores)
-    → seen_all s I (spaced_by prefix b p ps) ≡ spaced_by prefix (seen s I b) (seen s I p) (seen_all s I ps)
-seen_spaced true I prefix b p ps = inlined_spaced I prefix b p ps
-seen_spaced false I prefix b p ps = refl
 
 inlined_copies : (I : Inners) (n : ℕ) (p : Core) (ps : Cores)
     → inlined_all I (copies n p ps) ≡ copies n (inlined I p) (inlined_all I ps)
@@ -116,25 +85,6 @@ pub seen_repeated : (s : Bool) (I : Inners) (cooked : Bool) (b p : Core) (n : �
     → seen s I (repeated cooked b p n m) ≡ repeated cooked (seen s I b) (seen s I p) n m
 seen_repeated true I cooked b p n m = inlined_repeated I cooked b p n m
 seen_repeated false I cooked b p n m = refl
-
-inlined_behind : (I : Inners) (p : Core) (b : Bool) (l m : ℕ)
-    → inlined I (if b then Behind 0 0 p else Behind l m p) ≡ (if b then Behind 0 0 p else Behind l m p)
-inlined_behind I p true l m = refl
-inlined_behind I p false l m = refl
-
--- a look-behind
-pub seen_behind : (b : Bool) (I : Inners) (p : Core) → seen b I (behind p) ≡ behind p
-seen_behind true I p = inlined_behind I p (has_call p || has_repetition p) _ _
-seen_behind false I p = refl
-
-either_behind : (n : Count) (p : Core) (b : Bool) (l m : ℕ) → ((l m : ℕ) → Counts n (Behind l m p))
-    → Counts n (if b then Behind 0 0 p else Behind l m p)
-either_behind n p true l m h = h 0 0
-either_behind n p false l m h = h l m
-
--- its counts are those with any lengths
-pub counts_behind : (n : Count) (p : Core) → ((l m : ℕ) → Counts n (Behind l m p)) → Counts n (behind p)
-counts_behind n p h = either_behind n p (has_call p || has_repetition p) _ _ h
 
 pub seen_note : (b : Bool) (I : Inners) (t : List ℕ) → (nodes (seen b I (Note t)) ≡ 1) × (deep (seen b I (Note t)) ≡ 1)
 seen_note true I t = (refl, refl)

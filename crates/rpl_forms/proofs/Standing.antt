@@ -1,7 +1,7 @@
 -- What stands for the rules of a table in a look-behind.
 use Rattle.std.proofs.Common.{◌≡◌, ℕ, zero, suc, ◌+◌, ◌<◌, ◌≤◌, List, [], ◌∷◌, ◌++◌, length, take, refl, sym, ap, ◌∙◌}
 use Rattle.std.proofs.Common.{subst, arith, length-append}
-use Rattle.std.specs.Prelude.{Option, Some, None, is_some, true, false, slice_get, option_map}
+use Rattle.std.specs.Prelude.{Option, Some, None, slice_get, option_map}
 use Rattle.std.proofs.Math.Seq.{take-length}
 use Rattle.std.proofs.lemmas.List.{length-map, take_all}
 use Rattle.std.proofs.lemmas.Option.{slice_get_within, slice_get-map}
@@ -84,32 +84,6 @@ pub stands_for : (rs : List Rule) (limit k : ℕ) (r : Rule) → slice_get rs k 
     → slice_get (take limit (inners_of rs)) k ≡ Some (inner (take k (inners_of rs)) r.block (core_of r.body))
 stands_for rs limit k r e lt = get_take limit k (inners_of rs) lt ∙ got_inner rs k r e
 
-pub called_outside : (I : Inners) (k : ℕ) (b : Option ℕ) (p : Core) (o : Option (Option Core)) → o ≡ Some (inner I b p)
-    → b ≡ None → called k o ≡ inlined I p
-called_outside I k b p o e f = ap (called k) e ∙ ap (λ x. called k (Some (inner I x p))) f
-
-pub called_inside : (I : Inners) (k : ℕ) (b : Option ℕ) (p : Core) (n : ℕ) (o : Option (Option Core))
-    → o ≡ Some (inner I b p) → b ≡ Some n → called k o ≡ Call k
-called_inside I k b p n o e f = ap (called k) e ∙ ap (λ x. called k (Some (inner I x p))) f
-
--- a call of no earlier rule
-pub called_beyond : (rs : List Rule) (limit k : ℕ) → slice_get rs k ≡ None
-    → called k (slice_get (take limit (inners_of rs)) k) ≡ Call k
-called_beyond rs limit k e =
-    ap (called k) (past_take limit k (inners_of rs)
-    (omega (arith, length_from [] (rows_of rs), length-map rs row_at, past k rs e))) where
-      past : (k : ℕ) (rs : List Rule) → slice_get rs k ≡ None → length rs ≤ k
-      past k [] e = omega arith
-      past zero (r ∷ rs) e = absurd cc
-      past (suc k) (r ∷ rs) e = let h = past k rs e in omega (arith, h)
-
-      past_take : {A : Type 0} (n k : ℕ) (xs : List A) → length xs ≤ k → slice_get (take n xs) k ≡ None
-      past_take zero k [] h = refl
-      past_take (suc n) k [] h = refl
-      past_take zero k (x ∷ xs) h = refl
-      past_take (suc n) zero (x ∷ xs) h = absurd (omega arith)
-      past_take (suc n) (suc k) (x ∷ xs) h = past_take n k xs (omega arith)
-
 -- no call is within no rules
 pub called_late : (rs : List Rule) (limit k : ℕ) → limit ≤ k
     → called k (slice_get (take limit (inners_of rs)) k) ≡ Call k
@@ -120,14 +94,6 @@ called_late rs limit k h = ap (called k) (late limit k (inners_of rs) h) where
   late zero k (x ∷ xs) h = refl
   late (suc n) zero (x ∷ xs) h = absurd (omega arith)
   late (suc n) (suc k) (x ∷ xs) h = late n k xs (omega arith)
-
-pub no_block : (o : Option ℕ) → is_some o ≡ false → o ≡ None
-no_block None h = refl
-no_block (Some n) h = absurd cc
-
-pub some_block : (o : Option ℕ) → is_some o ≡ true → (n : ℕ) × (o ≡ Some n)
-some_block None h = absurd cc
-some_block (Some n) h = (n, refl)
 
 -- all rules are the first of as many
 pub whole_inners : (rs : List Rule) (n : ℕ) → n ≡ length rs → take n (inners_of rs) ≡ inners_of rs

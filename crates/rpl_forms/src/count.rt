@@ -1,6 +1,6 @@
 // Sizes and depths of cores, computed from those of their parts. There is one function for each
 // form.
-ghost use Rattle.std.specs.Prelude.{◌≡◌, ℕ, ◌≤◌, Bool, List, length, Option, true};
+ghost use Rattle.std.specs.Prelude.{◌≡◌, ℕ, List, length};
 ghost use Rattle.rpl_core.specs.Core as C;
 ghost use Rattle.rpl_core.specs.Core.{Core, Cores};
 ghost use Rattle.rpl_macro.specs.declared.casing.Casing.{Casing};

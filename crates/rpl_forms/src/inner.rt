@@ -1,12 +1,12 @@
 // Inlined bodies: the form of rules inside a look-behind. Captures and notes are dropped, and
 // calls are replaced by the inlined bodies of earlier rules. Every rule's inlined body is
 // counted; it is built only if a look-behind needs it.
-ghost use Rattle.std.specs.Prelude.{◌≡◌, ◌<◌, ◌+◌, IfOk, IfSome, OnOk, Option, [], ◌∷◌, ◌++◌};
+ghost use Rattle.std.specs.Prelude.{◌≡◌, ◌<◌, ◌+◌, IfOk, IfSome, OnOk, [], ◌∷◌, ◌++◌};
 ghost use Rattle.std.specs.Prelude.{length, slice_get, take};
 ghost use Rattle.rpl_core.specs.Core as C;
 ghost use Rattle.rpl_core.specs.Listed.{rules_of};
 ghost use Rattle.rpl_core.specs.View.{core_of, cores, listed};
-ghost use Rattle.rpl_forms.specs.inside.Counting.{Adds, Counts, CountsAll, IsFirst, KnowsInners};
+ghost use Rattle.rpl_forms.specs.inside.Counting.{Counts, CountsAll, IsFirst, KnowsInners};
 ghost use Rattle.rpl_forms.specs.inside.Counting.{KnowsNext, known_of};
 ghost use Rattle.rpl_forms.specs.inside.Counting.{seen, seen_all};
 ghost use Rattle.rpl_forms.specs.Inlining.{Inners, called, inlined, inlined_all, inner};

@@ -1,6 +1,5 @@
 // Patterns built from those of their parts. There is one function for each form.
-ghost use Rattle.std.specs.Prelude.{◌≡◌, ◌≤◌, false, IfOk, OnOk, chars, List, Option, ℕ};
-ghost use Rattle.rpl_classes.specs.Algebra.{others};
+ghost use Rattle.std.specs.Prelude.{◌≡◌, ◌≤◌, false, IfOk, OnOk, chars, List, ℕ};
 ghost use Rattle.rpl_core.specs.Core as C;
 ghost use Rattle.rpl_core.specs.Core.{Core};
 ghost use Rattle.rpl_core.specs.Listed.{rules_of};

@@ -52,13 +52,6 @@ keeps_then t [] u ys v e k = subst (λ l. Keeps l ys v) e k
 keeps_then t (x ∷ xs) u ys v keeps k =
     ⊎_elim (λ h. inl (h.0, keeps_then t xs u ys v h.1 k)) (λ h. inr (h.0, keeps_then (t ++ x ∷ []) xs u ys v h.1 k)) keeps
 
--- the table holds it, or it is added
-pub kept_there : {A : Type 0} (t u : List A) (k : ℕ) (x : A) → slice_get t k ≡ Some x → u ≡ t → Keeps t (x ∷ []) u
-kept_there t u k x e same = inl (held t k x e, same)
-
-pub kept_new : {A : Type 0} (t u : List A) (x : A) → (Contains t x → ⊥) → u ≡ t ++ x ∷ [] → Keeps t (x ∷ []) u
-kept_new t u x none e = inr (none, e)
-
 -- tables that have at least what others have, at the same numbers
 pub record Above (s t : List (List Range)) (x y : List (List ℕ)) : Type 0 where
   pub sets : (k : ℕ) (a : List Range) → slice_get s k ≡ Some a → slice_get t k ≡ Some a

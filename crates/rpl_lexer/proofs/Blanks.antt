@@ -42,10 +42,6 @@ digit_no_space b h = grind (arith, nat_tests)
 space_no_digit : (b : ℕ) → is_space b ≡ true → is_digit b ≡ false
 space_no_digit b h = grind (arith, nat_tests)
 
-digits_then : (ds z : List ℕ) → each is_digit ds ≡ true → begins is_space z ≡ false → begins is_space (ds ++ z) ≡ false
-digits_then [] z h f = f
-digits_then (c ∷ cs) z h f = digit_no_space c (left (is_digit c) (each is_digit cs) h)
-
 spaces_then : (b z : List ℕ) → each is_space b ≡ true → begins is_digit z ≡ false → begins is_digit (b ++ z) ≡ false
 spaces_then [] z h f = f
 spaces_then (c ∷ cs) z h f = space_no_digit c (left (is_space c) (each is_space cs) h)

@@ -1,6 +1,6 @@
 // Quoted texts and brackets.
-ghost use Rattle.std.specs.Prelude.{◌≡◌, ◌+◌, ◌^◌, ◌<◌, ◌≤◌, ◌&&◌, not, is_some, length, drop};
-ghost use Rattle.std.specs.Prelude.{take, false, IfSome};
+ghost use Rattle.std.specs.Prelude.{◌≡◌, ◌+◌, ◌^◌, ◌<◌, ◌≤◌, ◌&&◌, not, is_some, length};
+ghost use Rattle.std.specs.Prelude.{false, IfSome};
 ghost use Rattle.rpl_text.specs.Escapes.{escape};
 ghost use Rattle.rpl_lexer.specs.Enclosed.{opens, closes, hides, ends, depth_after, close, bad};
 ghost use Rattle.rpl_lexer.specs.Enclosed.{kind_of, enclosed};

@@ -1,11 +1,8 @@
 // The values of tokens.
-ghost use Rattle.std.specs.Prelude.{◌≡◌, ◌+◌, ◌<◌, ◌≤◌, ◌^◌, Some, IfOk, chars, string_bytes};
+ghost use Rattle.std.specs.Prelude.{◌≡◌, ◌+◌, ◌<◌, ◌^◌, Some, IfOk, chars, string_bytes};
 ghost use Rattle.std.specs.Prelude.{length, slice_index};
-ghost use Rattle.std.specs.Prelude.{slice_range, drop};
 ghost use Rattle.rpl_text.specs.Places.{index, IsPlace, step_from};
-ghost use Rattle.rpl_lexer.specs.Bytes.{is_word, run};
 ghost use Rattle.rpl_lexer.specs.Keywords.{keyword_named};
-ghost use Rattle.rpl_lexer.specs.Signs.{punct};
 ghost use Rattle.rpl_lexer.specs.Nesting.{nesting};
 ghost use Rattle.rpl_lexer.specs.Payloads.{span, inner, decoded, text_of, prefix_of, name_of};
 ghost use Rattle.rpl_lexer.specs.Payloads.{keyword_of, punct_of};

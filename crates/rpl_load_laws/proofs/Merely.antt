@@ -4,7 +4,7 @@ use Rattle.std.specs.Prelude.{Bool, true, false, nat_lt, slice_get, Result, Ok, 
 use Rattle.std.proofs.Math.Logic.{∥∥₁_elim, ∥∥₁_map}
 use Rattle.std.proofs.Props.{props}
 use Rattle.std.proofs.lemmas.Bool.Decides.{Decides-ltb}
-use Rattle.rpl_core.specs.Core.{Core, Cores}
+use Rattle.rpl_core.specs.Core.{Core}
 use Rattle.rpl_core.specs.Core as C
 use Rattle.rpl_core.specs.Order.{AreTogether, IsInOrder, block_at}
 use Rattle.rpl_core.specs.Table.{AreDistinct}

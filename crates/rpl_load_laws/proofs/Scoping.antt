@@ -16,7 +16,7 @@ use Rattle.rpl_expand.proofs.Ordering.{in_order}
 use Rattle.rpl_expand.specs.Expansion.{core}
 use Rattle.rpl_macro.specs.declared.casing.Casing.TheVariants.{Plain}
 use Rattle.rpl_expand.specs.Table as E
-use Rattle.rpl_expand.specs.Table.{Statement, body_of, built_in, captured, table}
+use Rattle.rpl_expand.specs.Table.{Statement, body_of, built_in, captured}
 use Rattle.rpl_expand.specs.Bound.{IsOver, MakeTrees}
 use Rattle.rpl_syntax.specs.declared.name.QName.{QName}
 use Rattle.rpl_scope.specs.Packages.{Module, nth, bound, first_rule}

@@ -12,7 +12,7 @@ use Rattle.rpl_package.proofs.Numbering.{nth_within}
 use Rattle.rpl_package.specs.Roots.{Packages}
 use Rattle.rpl_package.specs.Tables.{rows}
 use Rattle.rpl_package.specs.Targets as T
-use Rattle.rpl_package.specs.Targets.{Head, Site, body, boundary, boundary_mark, head, head_of, or_first, resolved}
+use Rattle.rpl_package.specs.Targets.{Site, body, boundary, boundary_mark, head, head_of, or_first, resolved}
 use Rattle.rpl_package.specs.Targets.{resolved_at, resolved_in, rule_in, site, target, then}
 use Rattle.rpl_package.specs.declared.table.Row.{Row}
 use Rattle.rpl_package.specs.declared.targets.NameFault.{NameFault}

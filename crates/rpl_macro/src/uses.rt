@@ -1,5 +1,5 @@
 // The expression that a macro makes of its argument.
-ghost use Rattle.std.specs.Prelude.{◌≡◌, [], ◌∷◌, IfOk, chars, None};
+ghost use Rattle.std.specs.Prelude.{◌≡◌, IfOk, chars, None};
 ghost use Rattle.rpl_syntax.specs.Expression as M;
 ghost use Rattle.rpl_syntax.specs.View.{expr_of};
 ghost use Rattle.rpl_syntax.specs.declared.expr.Mark.TheVariants.{Hit, Skip};

@@ -2,10 +2,9 @@
 use Rattle.std.proofs.Common.{◌≡◌, ◌≢◌, ◌-◌, inl, inr, ◌⊎◌, ℕ, List, [], ◌∷◌, ◌++◌, Bool, Some, None, true, false, refl, sym, ap, ap₂, subst, ◌∙◌, arith}
 use Rattle.std.proofs.Math.Seq.{take-append_seam}
 use Rattle.std.proofs.lemmas.List.{length-append}
-use Rattle.std.specs.Prelude.{if◌then◌else◌, nat_lt, ◌+◌, length, take, Ok, Err}
+use Rattle.std.specs.Prelude.{if◌then◌else◌, nat_lt, ◌+◌, length, take, Ok}
 use Rattle.std.specs.List.{Contains}
 use Rattle.std.proofs.lemmas.List.Elements.{Contains-append_cases, Contains-append_left, Contains-append_right}
-use Rattle.rosie_io.specs.declared.outside.Source.{Ghosts}
 use Rattle.rpl_syntax.specs.Modules.{ParsedModule, said}
 use Rattle.rpl_syntax.specs.declared.module.Import.{Import}
 use Rattle.rpl_scope.specs.Faults.{Or, ◌>>=◌, fault, StopIs}
@@ -18,11 +17,8 @@ use Rattle.rpl_package.specs.Built.{IsSaid, Loads, Becomes, opened}
 use Rattle.rpl_package.specs.Loading.{World, Walk, Stock, State, find, checks, own_text, is_taken, is_loading, label_at, label_of, taken_up, walk, world, load_import}
 use Rattle.rpl_package.specs.declared.opening.ImportedText.{ImportedText}
 use Rattle.rpl_package.specs.declared.stock.Head.{Head}
-use Rattle.rpl_package.specs.inside.Leaving.{LeavesFiles}
 use Rattle.rpl_package.specs.inside.Opening.{Begins, imported_head, own_begun}
-use Rattle.rpl_package.specs.inside.Reading.{IsLoud}
 use Rattle.rpl_package.proofs.Building.{makes_by, loads_by}
-use Rattle.rpl_package.proofs.Causes.{loud_cause}
 use Rattle.rpl_package.proofs.Outcomes.{Follows, same, trail, may, step_on, step_stops}
 use Rattle.rpl_package.proofs.Walking.{own_free, read_leads, room_leads}
 
@@ -112,15 +108,6 @@ begins_on hs path s t now u v b h =
     (makes_by hs now (Some path) (label_of t.name path) s u v b.free b.held b.state h)
 
 -- ---- what is left of the files
-
--- the same with another answer
-pub left_so : {F X Y : Type 0} (S : Ghosts F) (x : X) (y : Y) (a b : F) → LeavesFiles S (Ok x) a b → LeavesFiles S (Ok y) a b
-left_so S x y a b h = record { cause = h.cause; taken = h.taken; tree = h.tree; closed = h.closed }
-
--- a call that stops after others, and reads nothing
-pub left_loud : {F X Y : Type 0} (S : Ghosts F) (x : X) (s : Stop) (a b : F) → LeavesFiles S (Ok x) a b → IsLoud s → LeavesFiles {X = Y} S (Err s) a b
-left_loud S x s a b h loud =
-    record { cause = loud_cause s _ _ _ _ loud h.cause.0 h.cause.1; taken = h.taken; tree = h.tree; closed = h.closed }
 
 -- ---- the heads
 

@@ -9,7 +9,7 @@ use Rattle.rpl_scope.specs.declared.fault.LoadKind.TheVariants as K
 use Rattle.rpl_scope.specs.declared.fault.Stop.{Stop}
 use Rattle.rpl_scope.specs.declared.fault.Stop.TheVariants.{Memory, Fault}
 use Rattle.rpl_scope.specs.Faults.{Or, is_silent, StopIs, IsStop, Gives}
-use Rattle.rpl_package.specs.inside.Reading.{KindCause, StopCause, IsQuiet, IsLoud}
+use Rattle.rpl_package.specs.inside.Reading.{KindCause, StopCause, IsLoud}
 
 -- a call that reads nothing stops with no read fault
 kind_cause : (k : LoadKind) (r0 r1 o0 o1 : ℕ) → is_silent k ≡ false → r1 ≡ r0 → o1 ≡ o0 → KindCause k r0 r1 o0 o1
@@ -17,18 +17,10 @@ kind_cause K.NoMemory r0 r1 o0 o1 h a b = absurd (true≢false h)
 kind_cause K.ReadFault r0 r1 o0 o1 h a b = absurd (true≢false h)
 kind_cause _ r0 r1 o0 o1 h a b = (a, b)
 
-pub stop_cause : {A : Type 0} (s : Stop) (r : Or A) (r0 r1 o0 o1 : ℕ) → StopIs s r → r1 ≡ r0 → o1 ≡ o0 → StopCause s r0 r1 o0 o1
-stop_cause Memory r r0 r1 o0 o1 h a b = (omega (arith, a), omega (arith, b))
-stop_cause (Fault f) r r0 r1 o0 o1 h a b = kind_cause f.kind r0 r1 o0 o1 h.0 a b
-
 -- a stop for a failed read, where a count rose
 pub read_cause : (s : Stop) (f : LoadFault) (r0 r1 o0 o1 : ℕ) → IsStop s f → f.kind ≡ K.ReadFault → (r0 ≤ r1) × (o0 ≤ o1) × (Rose r0 r1 ⊎ Rose o0 o1) → StopCause s r0 r1 o0 o1
 read_cause Memory f r0 r1 o0 o1 h k c = (c.0, c.1)
 read_cause (Fault g) f r0 r1 o0 o1 h k c = subst (λ x. KindCause x r0 r1 o0 o1) (sym (ap (λ x. x.kind) h ∙ k)) c
-
-pub read_quiet : (s : Stop) (f : LoadFault) → IsStop s f → f.kind ≡ K.ReadFault → IsQuiet s
-read_quiet Memory f h k = tt
-read_quiet (Fault g) f h k = ap (λ x. x.kind) h ∙ k
 
 -- a call that reads nothing is loud
 pub told_loud : (s : Stop) (f : LoadFault) → IsStop s f → is_silent f.kind ≡ false → IsLoud s

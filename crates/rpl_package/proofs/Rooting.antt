@@ -3,7 +3,6 @@ use Rattle.std.proofs.Common.{◌≡◌, inl, inr, ℕ, ◌+◌, ◌<◌, ◌≤
 use Rattle.std.proofs.Common.{true, false, ap₂, ◌∙◌, arith}
 use Rattle.std.specs.Prelude.{if◌then◌else◌, Ok, Err, is_some, nat_lt, encode_utf8_all}
 use Rattle.rosie_io.specs.Opening.{file_of}
-use Rattle.std.proofs.lemmas.List.{drop_all}
 use Rattle.rpl_syntax.specs.Modules.{ParsedModule}
 use Rattle.rpl_syntax.specs.declared.name.QName.{QName}
 use Rattle.rpl_scope.specs.Faults.{Or, ◌>>=◌, fault}
@@ -41,9 +40,6 @@ roomy w f t q s h = same _ _ (sym (ap (λ b. if b then named_root w f t q s else
 pub counted_front : (k : ℕ) (rs : List Root) (i : ℕ) (r : Root) → i < length rs → r ≡ get_or rs i r
     → counted k (drop i rs) ≡ (next k r, r) ∷ counted (next k r) (drop (i + 1) rs)
 counted_front k rs i r lt h = ap (counted k) (front rs i r lt h)
-
-pub counted_none : (k : ℕ) (rs : List Root) (i : ℕ) → length rs ≤ i → counted k (drop i rs) ≡ []
-counted_none k rs i le = ap (counted k) (drop_all i rs le)
 
 -- a root that is a file asks for it, so the files tell
 pub root_tells : (T : Type 0) (w : World) (p : List ℕ) (s : State) → IsTold T (root_at w p s).asked → T

@@ -80,12 +80,6 @@ full_leads w below hs f i s g bytes free new found room =
 
 -- ---- how a walk stops
 
--- no more files are read one inside the other
-pub walk_deep : (w : World) (n : ℕ) (s : Stock) (hs : List Head) (f path bytes : List ℕ) → n ≡ 0 → (stop : Stop) → IsStop stop (fault_at f 0 TooManyPackages)
-    → MayStop stop (walk w n s hs f path bytes)
-walk_deep w n s hs f path bytes e stop is =
-    may_lead stop _ _ (same _ _ (sym (ap (λ d. walk w d s hs f path bytes) e))) (may stop _ (told _ stop _ is refl))
-
 -- the module is being loaded
 pub reach_cycle : (w : World) (below : Walk) (hs : List Head) (f : List ℕ) (i : Import) (s : Stock) → is_loading i.path hs ≡ true → (stop : Stop) → IsStop stop (fault_at f i.at (ImportCycle i.path))
     → MayStop stop (load_import w below hs f i s)

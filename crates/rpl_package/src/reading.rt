@@ -1,5 +1,5 @@
 // Parsing a text as a module.
-ghost use Rattle.std.specs.Prelude.{◌≡◌, ◌≢◌, ◌≤◌, ℕ, List, length, IfErr, IfOk};
+ghost use Rattle.std.specs.Prelude.{◌≡◌, ◌≢◌, ℕ, List, IfErr, IfOk};
 ghost use Rattle.rpl_syntax.specs.Modules.{said};
 ghost use Rattle.rpl_lexer.specs.declared.fault.LexKind.TheVariants.{NoMemory as LexOut};
 ghost use Rattle.rpl_parser.specs.declared.fault.ParseKind.TheVariants.{NoMemory as ParseOut};

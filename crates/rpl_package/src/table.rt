@@ -1,6 +1,6 @@
 // The rule table, which numbers the rules.
 ghost use Rattle.std.specs.Prelude.{◌≡◌, ◌≤◌, ◌<◌, ◌+◌, ◌++◌, OnOk, IfOk, IfErr, length};
-ghost use Rattle.rpl_scope.specs.Seen.{module_seen, modules_seen, rule_seen, rules_seen};
+ghost use Rattle.rpl_scope.specs.Seen.{modules_seen, rule_seen, rules_seen};
 ghost use Rattle.rpl_scope.specs.declared.fault.Stop.TheVariants.{Memory as OutOfMemory};
 ghost use Rattle.rpl_package.specs.Tables.{begun_at, begun_in, full_name, in_block, row_of};
 ghost use Rattle.rpl_package.specs.Tables.{rows_of};

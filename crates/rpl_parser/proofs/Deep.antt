@@ -1,5 +1,5 @@
 -- The level stays low until it passes 100.
-use Rattle.std.proofs.Common.{◌≡◌, ℕ, suc, ◌+◌, ◌≤◌, ◌<◌, List, [], ◌∷◌, length, get_or, drop, Some, refl, sym, ap, subst, ◌∙◌, arith}
+use Rattle.std.proofs.Common.{◌≡◌, ℕ, suc, ◌+◌, ◌≤◌, ◌<◌, List, [], ◌∷◌, length, get_or, drop, refl, sym, ap, subst, ◌∙◌, arith}
 use Rattle.std.proofs.Math.Seq.{drop-cons}
 use Rattle.std.proofs.lemmas.Option.{slice_get-get_or}
 use Rattle.std.specs.Prelude.{Bool, true, false, nat_lt}
@@ -60,6 +60,3 @@ at_cons ts i d lt = let k : suc i ≡ i + 1 = omega arith in drop-cons ts i d lt
 
 pub deep_on : (s : List ℕ) (l u : Level) (ts : List Token) (i : ℕ) (d : Token) → i < length ts → u ≡ level_after s (get_or ts i d) (colon_next s (drop (i + 1) ts)) l → nat_lt 100 (reach_by (get_or ts i d).kind s (get_or ts i d) l u) ≡ false → too_deep s u (drop (i + 1) ts) ≡ too_deep s l (drop i ts)
 deep_on s l u ts i d lt f k = rw (at_cons ts i d lt, ← f, k) refl
-
-pub deep_here : (s : List ℕ) (l u : Level) (ts : List Token) (i : ℕ) (d : Token) → i < length ts → u ≡ level_after s (get_or ts i d) (colon_next s (drop (i + 1) ts)) l → nat_lt 100 (reach_by (get_or ts i d).kind s (get_or ts i d) l u) ≡ true → too_deep s l (drop i ts) ≡ Some ((get_or ts i d).start)
-deep_here s l u ts i d lt f k = rw (at_cons ts i d lt, ← f, k) refl

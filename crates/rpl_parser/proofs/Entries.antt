@@ -44,9 +44,6 @@ put_all front e (t ∷ r) = refl
 pub entries_last : (front : List Import) (n m : ℕ) (s r : List Token) (e : Import) → n ≡ suc m → entry_of s ≡ Some (e, r) → comma r ≡ false → with_front front (entries_of n s) ≡ all_of (front ++ e ∷ []) r
 entries_last front n m s r e h k c = rw (h, k, last_here (entries_of m) e r c) (put_all front e r)
 
-pub entries_none : (front : List Import) (n m : ℕ) (s : List Token) → n ≡ suc m → entry_of s ≡ None → with_front front (entries_of n s) ≡ None
-entries_none front n m s h k = rw (h, k) refl
-
 abbrev pub path_at : List ℕ → List Token → List ℕ × List Token
 path_at path r = (path, r)
 

@@ -1,5 +1,5 @@
 -- What one more rule stands for.
-use Rattle.std.proofs.Common.{◌≡◌, List, [], ◌∷◌, ◌++◌, Some, None, refl, sym, ap, ◌∙◌}
+use Rattle.std.proofs.Common.{◌≡◌, List, [], ◌∷◌, ◌++◌, Some, refl, sym, ap, ◌∙◌}
 use Rattle.rpl_syntax.specs.Modules.{Rule, Entry, One, Block, rule_of, rules_of, entry_of, entries_of}
 use Rattle.rpl_syntax.specs.declared.module.Binding.{Binding}
 use Rattle.rpl_syntax.specs.declared.module.Item.{Item}

@@ -55,11 +55,6 @@ module _ (s : List ℕ) (w : Walk) (c : Bool) (p : List Lexeme) where
   pub step_refused : (f : ParseFault) → R.piece_of s p ≡ Err f → step s w c p ≡ Err f
   step_refused f e = step_split ∙ ap (then_placed (first_place p) w c) e
 
--- a statement of a piece is placed, or not
-pub line_placed : (at a : ℕ) (bad b : Option ParseFault) (w : Walk) (c : Bool) (o : Option Line) (l : Line)
-    → a ≡ at → b ≡ bad → o ≡ Some l → by_place a b (place w a c l) ≡ by_line at bad w c o
-line_placed at a bad b w c o l e f g = rw (e, f, g) refl
-
 -- ---- the walk
 
 pub walk_end : (n : ℕ) (s : List ℕ) (w : Walk) (ts : List Lexeme) → length (tokens_of s ts) ≡ 0 → walk n s w ts ≡ finish w

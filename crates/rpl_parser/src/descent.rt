@@ -1,7 +1,7 @@
 // Recursive descent: each function parses one nonterminal of the grammar with one token of
 // lookahead. `depth` is a bound on nesting that the number of tokens always satisfies; the level,
 // which is checked earlier, keeps calls from nesting deeply.
-ghost use Rattle.std.specs.Prelude.{◌≡◌, suc, ◌∷◌, length, Some};
+ghost use Rattle.std.specs.Prelude.{suc, ◌∷◌, length, Some};
 ghost use Rattle.rpl_parser.specs.inside.Gives.{Gives};
 ghost use Rattle.rpl_syntax.specs.Reading.{read, item_of, read_item, read_exp, seq_of, parts_of};
 ghost use Rattle.rpl_syntax.specs.Reading.{◌>>=◌ as and_then, signed, closed};

@@ -2,16 +2,15 @@
 ghost use Rattle.std.specs.Prelude.{◌≡◌, ◌≢◌, Option, IfOk, IfErr, IfSome};
 ghost use Rattle.rpl_lexer.specs.Cut.{IsCut};
 ghost use Rattle.rpl_parser.specs.inside.Gives.{Gives};
-ghost use Rattle.rpl_parser.specs.Lines.{line_of};
 ghost use Rattle.rpl_parser.specs.ModuleFaults.{IsModuleFault};
 ghost use Rattle.rpl_parser.specs.Order.{IsModule};
 ghost use Rattle.rpl_parser.specs.Pieces.{closes_later};
-ghost use Rattle.rpl_parser.specs.Tokens.{AllStand, tokens_of, first_place, first_bad};
+ghost use Rattle.rpl_parser.specs.Tokens.{AllStand, tokens_of};
 ghost use Rattle.rpl_parser.specs.inside.Read.{piece_of};
 ghost use Rattle.rpl_parser.specs.inside.Statements.{line_seen};
 ghost use Rattle.rpl_parser.specs.inside.Walked.{walk_of};
 ghost use Rattle.rpl_parser.specs.Walks as W;
-ghost use Rattle.rpl_parser.specs.Walks.{by_place, by_line, step, module_of};
+ghost use Rattle.rpl_parser.specs.Walks.{by_place, step, module_of};
 ghost use Rattle.rpl_parser.specs.Answers.{Answers};
 ghost use Rattle.rpl_parser.specs.declared.fault.ParseKind.TheVariants.{NoMemory as OutOfMemory};
 ghost use Rattle.rpl_syntax.specs.Modules.{said};

@@ -1,8 +1,8 @@
 -- A text with no byte that needs an escape stands for itself between the quotes.
-use Rattle.std.proofs.Common.{◌≡◌, ℕ, zero, suc, take, ◌++◌, ◌∷◌, List, [], Bool, true, false, ◌&&◌, length, drop, ◌≤◌, refl, sym, ap, ap₂, ◌∙◌}
+use Rattle.std.proofs.Common.{◌≡◌, ℕ, zero, suc, take, ◌++◌, ◌∷◌, List, [], Bool, true, false, ◌&&◌, length, drop, refl, sym, ap, ap₂, ◌∙◌}
 use Rattle.std.specs.Prelude.{nat_eq, nat_le, not}
 use Rattle.std.proofs.lemmas.Bool.{not-true, eqb-false, leb-true, false≢true}
-use Rattle.std.proofs.lemmas.List.{drop_all, take-append-drop}
+use Rattle.std.proofs.lemmas.List.{take-append-drop}
 use Rattle.std.proofs.Math.Bool.{and-true, and_assoc}
 use Rattle.json.specs.Print.{escape}
 use Rattle.json.proofs.Printed.Strings.{escape_byte_plain}
@@ -48,10 +48,6 @@ padded text more h = plain_append text more ∙ ap (λ b. is_plain text && b) h 
 pub next_chunk : (found : Bool) (rest chunk behind text : List ℕ) → rest ≡ chunk ++ behind → (found && is_plain rest) ≡ is_plain text → ((found && is_plain chunk) && is_plain behind) ≡ is_plain text
 next_chunk found rest chunk behind text whole h =
     and_assoc found (is_plain chunk) (is_plain behind) ∙ ap (λ b. found && b) (sym (plain_append chunk behind) ∙ ap is_plain (sym whole)) ∙ h
-
--- all bytes were looked at
-pub looked_at : (text : List ℕ) (i : ℕ) (found : Bool) → length text ≤ i → (found && is_plain (drop i text)) ≡ is_plain text → found ≡ is_plain text
-looked_at text i found past h = sym (and-true found) ∙ ap (λ bs. found && is_plain bs) (sym (drop_all i text past)) ∙ h
 
 -- a text with spaces after it
 pub short_chunk : (text filled spaces : List ℕ) → filled ≡ text → is_plain spaces ≡ true → is_plain (filled ++ drop (length text) spaces) ≡ is_plain text

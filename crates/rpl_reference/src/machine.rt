@@ -1,7 +1,7 @@
 // The machine's steps on a list of characters, one at a time.
 ghost use Rattle.std.specs.Prelude.{if◌then◌else◌, ◌≡◌, ◌<◌, ◌≤◌, ◌+◌, ◌^◌, nat_eq, nat_lt, true};
 ghost use Rattle.std.specs.Prelude.{OnOk, IfOk};
-ghost use Rattle.std.specs.Prelude.{Some, None, [], ◌∷◌, ◌++◌, length, take, map, reverse};
+ghost use Rattle.std.specs.Prelude.{Some, None, [], ◌∷◌, ◌++◌, length, take, map};
 ghost use Rattle.std.specs.Prelude.{slice_get, slice_index_or};
 ghost use Rattle.rpl_core.specs.Core.{fits};
 ghost use Rattle.rpl_core.specs.Forest.{Begin, Finish, begins, finishes};

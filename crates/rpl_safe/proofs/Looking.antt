@@ -1,15 +1,14 @@
 -- One address is looked at.
-use Rattle.std.proofs.Common.{◌≡◌, ℕ, zero, suc, ◌+◌, ◌-◌, ◌<◌, ◌≤◌, List, [], ◌∷◌, ◌++◌, length, get_or, set, replicate, Option, Some, None, refl, sym, ap, ◌∙◌, subst, arith, inl, inr, ⊎_elim, length-append}
-use Rattle.std.proofs.lemmas.Bool.{cases_eq}
-use Rattle.std.specs.Prelude.{◌≢◌, ◌⊎◌, Bool, true, false, nat_eq, slice_get}
+use Rattle.std.proofs.Common.{◌≡◌, ℕ, zero, suc, ◌+◌, ◌-◌, List, [], ◌∷◌, ◌++◌, length, replicate, Option, Some, None, refl, sym, ap, ◌∙◌, subst, arith, inl, inr, ⊎_elim}
+use Rattle.std.specs.Prelude.{◌⊎◌, true, false, slice_get}
 use Rattle.rpl_core.specs.Instr.{Instr}
 use Rattle.rpl_core.specs.Instr as I
-use Rattle.rpl_safe.specs.Safe.{Shape, Shapes, Given, fresh, next, given_by, next_in, AreIn, IsKept}
+use Rattle.rpl_safe.specs.Safe.{Shape, Shapes, Given, fresh, next, given_by, AreIn, IsKept}
 use Rattle.rpl_safe.specs.declared.marks.Mark.{Mark}
 use Rattle.rpl_safe.specs.declared.finding.MarkSearch.{MarkSearch}
-use Rattle.rpl_safe.specs.inside.Marks.{Marks, marks_at, last_of, MarksGiven, with_last, next_mark, mark_by, Has, Clashes, Places, PlacesAll, AreMarked, Is, unmarked, Known, Waits, Follows, Found}
-use Rattle.rpl_safe.proofs.Stacks.{Extends, is_grow, is_same, is_one, Related, related_is, same_some}
-use Rattle.rpl_safe.proofs.Puts.{marked_inside, clash, Grown, grown_on, grown_has, same_search, has_known, has_there, has_fewer, waits_which, waits_end, unmarked_less}
+use Rattle.rpl_safe.specs.inside.Marks.{Marks, marks_at, last_of, MarksGiven, with_last, next_mark, mark_by, Has, Places, PlacesAll, AreMarked, Is, unmarked, Known, Waits, Follows, Found}
+use Rattle.rpl_safe.proofs.Stacks.{Extends, Related, related_is, same_some}
+use Rattle.rpl_safe.proofs.Puts.{clash, Grown, grown_on, grown_has, same_search, has_known, has_there, has_fewer, waits_which}
 
 -- what an instruction gives of the marks it gives of more of them
 last_grow : (f g : Marks) → Extends f g → (go : Mark → Option MarksGiven) (o : Option ℕ) (x : MarksGiven) → with_last (last_of f o) go ≡ Some x → with_last (last_of g o) go ≡ Some x
@@ -187,6 +186,3 @@ none_marked (suc n) (suc a) = none_marked n a
 pub unmarked_all : (n : ℕ) → unmarked (replicate n None) ≡ n
 unmarked_all zero = refl
 unmarked_all (suc n) = ap suc (unmarked_all n)
-
-pub first_mark : Mark
-first_mark = record { frame = 0; last = None; trees = 0 }

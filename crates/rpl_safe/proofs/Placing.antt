@@ -1,17 +1,16 @@
 -- The steps of the search, as the code makes them.
-use Rattle.std.proofs.Common.{◌≡◌, ℕ, zero, suc, ◌+◌, ◌<◌, ◌≤◌, List, [], ◌∷◌, ◌++◌, length, replicate, set, map, get_or, Option, Some, None, refl, sym, ap, ◌∙◌, subst, arith, inl, inr, ⊎_elim, length-append}
-use Rattle.std.proofs.lemmas.List.{length-map, length-replicate}
+use Rattle.std.proofs.Common.{◌≡◌, ℕ, ◌+◌, ◌<◌, ◌≤◌, List, [], ◌∷◌, ◌++◌, length, replicate, set, get_or, Option, Some, None, refl, sym, ap, ◌∙◌, subst, arith, inl, inr, ⊎_elim, length-append}
+use Rattle.std.proofs.lemmas.List.{length-replicate}
 use Rattle.std.proofs.lemmas.Option.{slice_get-map, slice_get_read}
-use Rattle.std.specs.Prelude.{◌≢◌, ◌⊎◌, Bool, true, false, Result, Ok, Err, slice_get, option_map}
+use Rattle.std.specs.Prelude.{◌⊎◌, Bool, true, false, Result, Ok, Err, slice_get, option_map}
 use Rattle.rpl_core.specs.Instr.{Instr}
 use Rattle.rpl_core.specs.Numbers.{instr_of}
 use Rattle.rpl_core.specs.Program.{code_of, sets_of, labels_of, instructions}
 use Rattle.rpl_core.specs.declared.instr.Instr as R
 use Rattle.rpl_core.specs.declared.program.Program.{Program}
-use Rattle.rpl_safe.specs.Safe.{Shapes, IsKept}
 use Rattle.rpl_safe.specs.declared.marks.Mark.{Mark}
 use Rattle.rpl_safe.specs.declared.finding.MarkSearch.{MarkSearch}
-use Rattle.rpl_safe.specs.inside.Marks.{marks_at, MarksGiven, next_mark, Has, Clashes, Puts, PutsAll, PlacesAll, unmarked, Known, Waits, Follows, Found, HasNone, Complete}
+use Rattle.rpl_safe.specs.inside.Marks.{marks_at, MarksGiven, next_mark, Has, Puts, PutsAll, PlacesAll, unmarked, Known, Waits, Found, HasNone, Complete}
 use Rattle.rpl_safe.proofs.Puts.{waits_end, marked_inside, Grown}
 use Rattle.rpl_safe.proofs.Looking.{all_placed, none_placed, found_next, none_marked}
 use Rattle.rpl_safe.proofs.Ending.{found_first}

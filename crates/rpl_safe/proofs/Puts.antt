@@ -1,15 +1,14 @@
 -- What the search has found stays forced.
-use Rattle.std.proofs.Common.{◌≡◌, ℕ, zero, suc, ◌+◌, ◌<◌, ◌≤◌, List, [], ◌∷◌, ◌++◌, length, get_or, set, Option, Some, None, refl, sym, ap, ◌∙◌, subst, arith, inl, inr, ⊎_elim, length-set, length-append, get_or-set_same, get_or-set_other}
-use Rattle.std.proofs.lemmas.Bool.{cases_eq, cases_lt}
+use Rattle.std.proofs.Common.{◌≡◌, ℕ, zero, suc, ◌+◌, ◌<◌, ◌≤◌, List, [], ◌∷◌, ◌++◌, length, set, Option, Some, None, refl, sym, ap, ◌∙◌, subst, arith, inl, inr, ⊎_elim, length-set, length-append, get_or-set_same, get_or-set_other}
+use Rattle.std.proofs.lemmas.Bool.{cases_eq}
 use Rattle.std.proofs.lemmas.Option.{slice_get_past}
-use Rattle.std.specs.Prelude.{◌≢◌, ◌⊎◌, Bool, true, false, slice_get}
+use Rattle.std.specs.Prelude.{◌⊎◌, slice_get}
 use Rattle.rpl_core.specs.Instr.{Instr}
-use Rattle.rpl_core.specs.Instr as I
-use Rattle.rpl_safe.specs.Safe.{Shape, Shapes, Given, next, given_by, next_in, AreIn, IsKept}
+use Rattle.rpl_safe.specs.Safe.{Shape, Shapes, given_by, IsKept}
 use Rattle.rpl_safe.specs.declared.marks.Mark.{Mark}
 use Rattle.rpl_safe.specs.declared.finding.MarkSearch.{MarkSearch}
-use Rattle.rpl_safe.specs.inside.Marks.{Marks, marks_at, last_of, MarksGiven, with_last, next_mark, mark_by, Has, Clashes, Places, PlacesAll, AreMarked, Is, unmarked, Known, Waits, Follows, Found}
-use Rattle.rpl_safe.proofs.Stacks.{Extends, is_grow, is_same, is_one, Related, related_is, same_some}
+use Rattle.rpl_safe.specs.inside.Marks.{Marks, marks_at, Has, Clashes, Is, unmarked, Known, Waits}
+use Rattle.rpl_safe.proofs.Stacks.{Extends, is_grow, is_same, is_one, same_some}
 
 -- one mark more
 pub unmarked_less : (ms : List (Option Mark)) (b : ℕ) (k : Mark) → b < length ms → marks_at ms b ≡ None → suc (unmarked (set ms b (Some k))) ≡ unmarked ms

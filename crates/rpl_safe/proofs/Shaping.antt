@@ -1,11 +1,10 @@
 -- The shapes of the addresses of a fragment, beside its code.
-use Rattle.std.specs.Prelude.{ℕ, zero, suc, ◌+◌, ◌-◌, Bool, true, false, if◌then◌else◌, List, [], ◌∷◌, ◌++◌, length, Option, Some, None}
+use Rattle.std.specs.Prelude.{ℕ, zero, suc, ◌+◌, ◌-◌, Bool, if◌then◌else◌, List, [], ◌∷◌, ◌++◌, length, Option, Some, None}
 use Rattle.regex_class.specs.Ranges.{Range}
 use Rattle.rpl_core.specs.Core.{Core, Set, Seq, Choice, Many, Not, And, Behind, Call, Capture, Note, Start, End, Halt, Cores, NoMore, Then}
 use Rattle.rpl_core.specs.Head.{head, lone_set}
-use Rattle.rpl_core.specs.Instr.{Instr}
-use Rattle.rpl_core.specs.Code.{Placed, code, code_all, code_first, size}
-use Rattle.rpl_safe.specs.Safe.{Shape, Left, fresh}
+use Rattle.rpl_core.specs.Code.{Placed, code, size}
+use Rattle.rpl_safe.specs.Safe.{Shape, fresh}
 
 -- the shapes of a fragment, for the shape with which a run comes to it and the address where it starts
 abbrev pub Shaped : Type 0

@@ -1,16 +1,16 @@
 -- The last test, and what it says.
-use Rattle.std.proofs.Common.{◌≡◌, ℕ, zero, suc, ◌+◌, ◌<◌, ◌≤◌, List, [], ◌∷◌, length, get_or, map, Option, Some, None, refl, sym, ap, ◌∙◌, subst, arith, inl, inr, ⊎_elim}
+use Rattle.std.proofs.Common.{◌≡◌, ℕ, zero, suc, ◌+◌, ◌<◌, ◌≤◌, List, [], ◌∷◌, length, get_or, Option, Some, None, refl, sym, ap, ◌∙◌, subst, arith, inl, inr, ⊎_elim}
 use Rattle.std.proofs.lemmas.Bool.{cases_eq, eqb-true, eq-eqb, ne_eqb, leb-true, le-leb, and_parts}
 use Rattle.std.proofs.lemmas.Option.{slice_get-get_or}
 use Rattle.std.specs.Prelude.{◌≢◌, ◌⊎◌, Bool, true, false, not, ◌||◌, ◌&&◌, nat_eq, nat_le, if◌then◌else◌, slice_get}
 use Rattle.rpl_core.specs.Instr.{Instr}
 use Rattle.rpl_core.specs.Instr as I
-use Rattle.rpl_safe.specs.Safe.{Shape, Shapes, Given, fresh, next, given_by, next_in, AreIn, Avoids, IsKept, IsOpen, IsTree, CallsTree, IsSafe}
+use Rattle.rpl_safe.specs.Safe.{Shape, Shapes, Given, next, given_by, next_in, Avoids, IsKept, IsOpen, CallsTree, IsSafe}
 use Rattle.rpl_safe.specs.declared.marks.Mark.{Mark}
-use Rattle.rpl_safe.specs.inside.Marks.{Marks, marks_at, MarksGiven, next_mark, mark_by, AreMarked, Is, Known, Follows, Complete, HasNone, is_finish, is_return, is_open, is_call, ends, inside_test, alone_test, avoids, call_test, tree_test, AllPass, Answers, Heads, holds, opens_in, finishes_in, called_by, call_at, call_in, head_call, head_of}
+use Rattle.rpl_safe.specs.inside.Marks.{Marks, marks_at, MarksGiven, next_mark, Is, Complete, HasNone, is_finish, is_return, is_open, is_call, ends, inside_test, alone_test, avoids, tree_test, AllPass, Answers, Heads, holds, opens_in, finishes_in, called_by, call_at, call_in, head_call, head_of}
 use Rattle.rpl_safe.proofs.Stacks.{Related, related_is, same_some}
 use Rattle.rpl_safe.proofs.Puts.{marked_inside}
-use Rattle.rpl_safe.proofs.Ending.{least, least_there, least_of, least_kept}
+use Rattle.rpl_safe.proofs.Ending.{least, least_of, least_kept}
 
 gate_from : (x y u v : Bool) → (not x || (not y || (u || v))) ≡ true → x ≡ true → y ≡ true → (u ≡ true) ⊎ (v ≡ true)
 gate_from true true true v e p q = inl refl
@@ -219,10 +219,6 @@ module _ (code : List Instr) (ms : List (Option Mark)) (h : Complete code ms) wh
               (λ x. inr (avoids_to (length ms) (marks_at ms) c (next_mark (marks_at ms) i a m) g.0 r (subst (λ n. Avoids n g.0) (sym same) x)))
               (tree.only_called a s.0 g.0 there g.1))))
 
--- code that begins otherwise isn't safe
-pub begins_well : (code : List Instr) (i : Instr) → slice_get code 0 ≡ Some i → IsSafe code → ((l : List ℕ) × (i ≡ I.Open l)) ⊎ ((c : ℕ) × (i ≡ I.Call c))
-begins_well code i e safe = ⊎_elim (λ tree. inl (tree.label, same_some i (I.Open tree.label) (sym e ∙ tree.opens))) (λ tree. inr (tree.called, same_some i (I.Call tree.called) (sym e ∙ tree.calls))) safe.tree
-
 -- the answer of the last test is that of the whole
 pub decide : (code : List Instr) (ms : List (Option Mark)) (called : Option ℕ) (b : Bool) → Complete code ms → Heads code (Some called) → Answers b (AllPass (marks_at ms) called code) → Answers b (IsSafe code)
 decide code ms None true h k p = safe_open code ms h k.0 k.1 p
@@ -243,11 +239,6 @@ head_some code c calls safe = ⊎_elim
 
 pub head_first : (code : List Instr) → IsSafe code → ((l : List ℕ) × (slice_get code 0 ≡ Some (I.Open l))) ⊎ ((c : ℕ) × (slice_get code 0 ≡ Some (I.Call c)))
 head_first code safe = ⊎_elim (λ tree. inl (tree.label, tree.opens)) (λ tree. inr (tree.called, tree.calls)) safe.tree
-
-pub head_long : (code : List Instr) (o : Option ℕ) → Heads code (Some o) → 0 < length code
-head_long [] None h = let x = h.1 in absurd (cc)
-head_long [] (Some c) h = let x = h.0 in absurd (cc)
-head_long (i ∷ code) o h = omega arith
 
 pub opens_there : (code : List Instr) (a : ℕ) (o : Option Instr) → slice_get code a ≡ o → holds is_open o ≡ true → (l : List ℕ) × (slice_get code a ≡ Some (I.Open l))
 opens_there code a None e q = absurd (cc)

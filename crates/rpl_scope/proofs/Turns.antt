@@ -1,11 +1,9 @@
 -- Steps of loops that go through a list.
-use Rattle.std.proofs.Common.{◌≡◌, ℕ, ◌+◌, ◌<◌, ◌≤◌, List, [], ◌∷◌, ◌++◌, length, drop, get_or, Option, Some, None, refl, sym, ap, subst, ◌∙◌, append_assoc}
+use Rattle.std.proofs.Common.{◌≡◌, ℕ, ◌+◌, ◌<◌, ◌≤◌, List, [], ◌∷◌, ◌++◌, length, drop, get_or, refl, sym, ap, subst, ◌∙◌, append_assoc}
 use Rattle.std.specs.Prelude.{Result, Ok, Err}
 use Rattle.std.proofs.lemmas.List.{drop_all, append-nil}
-use Rattle.rpl_scope.specs.declared.fault.LoadFault.{LoadFault}
 use Rattle.rpl_scope.specs.declared.fault.Stop.{Stop}
-use Rattle.rpl_scope.specs.declared.fault.Stop.TheVariants.{Memory, Fault}
-use Rattle.rpl_scope.specs.Faults.{Or, ◌>>=◌, in_turn, unless, StopIs, Gives}
+use Rattle.rpl_scope.specs.Faults.{Or, ◌>>=◌, in_turn, StopIs, Gives}
 use Rattle.rpl_scope.specs.Imports.{numbered}
 use Rattle.rpl_scope.specs.Packages.{Rule}
 use Rattle.rpl_scope.specs.Seen.{rule_seen, rules_seen}
@@ -17,15 +15,6 @@ use Rattle.rpl_scope.proofs.Stops.{stops}
 
 pub then_gives : {A B X : Type 0} (see : X → B) (res : Result X Stop) (r : Or A) (x : A) (k : A → Or B) → r ≡ Ok x → Gives see res (k x) → Gives see res (r >>= k)
 then_gives see res r x k h e = subst (λ y. Gives see res (y >>= k)) (sym h) e
-
-pub unless_ok : {A : Type 0} (o : Option LoadFault) (x : A) → unless o (tt {0}) ≡ Ok (tt {0}) → unless o x ≡ Ok x
-unless_ok None x h = refl
-unless_ok (Some f) x h = absurd (cc)
-
-pub unless_stop : {A : Type 0} (s : Stop) (o : Option LoadFault) (x : A) → StopIs s (unless o (tt {0})) → StopIs s (unless o x)
-unless_stop Memory o x h = tt
-unless_stop (Fault f) None x h = absurd (let e = h.1 in cc)
-unless_stop (Fault f) (Some g) x h = (h.0, let e = h.1 in cc)
 
 -- ---- steps in turn: the list is seen member by member
 

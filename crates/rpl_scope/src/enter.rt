@@ -1,10 +1,9 @@
 // Adding rules to a module.
-ghost use Rattle.std.specs.Prelude.{◌≡◌, ◌++◌, ◌∷◌, [], IfErr, IfOk, OnOk, length};
+ghost use Rattle.std.specs.Prelude.{◌≡◌, ◌++◌, ◌∷◌, [], OnOk, length};
 ghost use Rattle.rpl_scope.specs.Faults.{Gives, IsStop, fault_at};
 ghost use Rattle.rpl_scope.specs.Seen.{module_seen, rule_seen};
 ghost use Rattle.rpl_scope.specs.Statements.{enter};
 ghost use Rattle.rpl_scope.specs.declared.fault.LoadKind.TheVariants.{Duplicate};
-ghost use Rattle.rpl_scope.specs.declared.fault.Stop.TheVariants.{Memory as OutOfMemory};
 
 use crate::NoMemory;
 use crate::fault::{LoadKind, Stop, fault_at};

@@ -1,14 +1,14 @@
 // The names and prefixes that imports add to a module.
-ghost use Rattle.std.specs.Prelude.{◌≡◌, ◌≤◌, ◌++◌, length, IfOk, OnErr, OnOk, IfErr, None, []};
+ghost use Rattle.std.specs.Prelude.{◌≡◌, length, IfOk, OnErr, OnOk, IfErr, None, []};
 ghost use Rattle.std.specs.Prelude.{ℕ, List, Ok, IsTrue, IsFalse, chars};
 ghost use Rattle.std.specs.List.{IsDistinct};
 ghost use Rattle.std.specs.Map.{keys_of};
 ghost use Rattle.std.specs.Str.{bytes_eq};
 ghost use Rattle.rpl_scope.specs.Faults.{Gives, in_turn};
 ghost use Rattle.rpl_scope.specs.Imports.{last_part, add_prefix, with_prefix, add_name, numbered};
-ghost use Rattle.rpl_scope.specs.Imports.{rules_at, take_in};
+ghost use Rattle.rpl_scope.specs.Imports.{take_in};
 ghost use Rattle.rpl_scope.specs.Imports.{is_same};
-ghost use Rattle.rpl_scope.specs.Packages.{nth, first_of};
+ghost use Rattle.rpl_scope.specs.Packages.{first_of};
 ghost use Rattle.rpl_scope.specs.declared.fault.Stop.TheVariants.{Memory as OutOfMemory};
 ghost use Rattle.rpl_scope.specs.Seen.{module_seen, modules_seen, rule_seen, rules_seen};
 ghost use Rattle.rpl_scope.specs.inside.Taken.{taken_names, taken_entry};

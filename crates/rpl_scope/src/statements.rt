@@ -1,9 +1,8 @@
 // The statements of one text, in order.
-ghost use Rattle.std.specs.Prelude.{◌≡◌, ◌≤◌, ◌<◌, ◌^◌, ◌+◌, ◌++◌, length, map, OnOk, IfOk, true};
+ghost use Rattle.std.specs.Prelude.{◌≡◌, ◌<◌, ◌^◌, ◌+◌, ◌++◌, map, OnOk, IfOk, true};
 ghost use Rattle.std.specs.Prelude.{false};
 ghost use Rattle.rpl_syntax.specs.Modules as S;
-ghost use Rattle.rpl_scope.specs.Bodies.{names_fault, macros_fault};
-ghost use Rattle.rpl_scope.specs.Faults.{Gives, Checks, ◌orelse◌};
+ghost use Rattle.rpl_scope.specs.Faults.{Gives, Checks};
 ghost use Rattle.rpl_scope.specs.Seen.{module_seen, modules_seen, rule_seen, use_seen};
 ghost use Rattle.rpl_scope.specs.Statements.{rule_of, rules_of, block_rules, enter_all, enter};
 ghost use Rattle.rpl_scope.specs.Statements.{names_of, uses_of};

@@ -5,7 +5,7 @@ use Rattle.rpl_lexer.specs.declared.punct.Punct.TheVariants.{Colon, Slash, Amper
 use Rattle.rpl_syntax.specs.declared.token.Token.{Token}
 use Rattle.rpl_syntax.specs.declared.token.Token.TheVariants as T
 use Rattle.rpl_syntax.specs.declared.expr.Sign.TheVariants.{Not, Ahead, Behind}
-use Rattle.rpl_syntax.specs.Expression.{Expr, Exprs, one, wrapped, joined, chosen, Nil, Cons}
+use Rattle.rpl_syntax.specs.Expression.{Expr, Exprs, one, joined, chosen, Cons}
 use Rattle.rpl_syntax.specs.Expression as M
 use Rattle.rpl_syntax.specs.Grammar.{Leaf, TextLeaf, ClassLeaf, NameLeaf, QualifiedLeaf, AnyLeaf, StartLeaf, EndLeaf, BoundaryLeaf, Quant, StarQuant, PlusQuant, QuestionQuant, BoundsQuant, Exp, Last, Or, And, Seq, Single, More, Item, Signed, Applied, Plain, Times, Atom, One, Group, leaf_token, quant_token, closer, spell_exp, spell_seq, spell_item, spell_atom, leaf_expr, times, content, parts, items, item_expr, atom_expr}
 use Rattle.rpl_syntax.specs.Reading.{◌>>=◌, begins, quantified, closed, item_of, items_of, joins, parts_of, seq_of, content_of, read_item, read_exp, signed, applied, colon}

@@ -6,7 +6,7 @@ use Rattle.rpl_syntax.specs.declared.token.Token.{Token}
 use Rattle.rpl_syntax.specs.declared.token.Token.TheVariants as T
 use Rattle.rpl_syntax.specs.declared.expr.Sign.{Sign}
 use Rattle.rpl_syntax.specs.declared.expr.Sign.TheVariants.{Not, Ahead, Behind}
-use Rattle.rpl_syntax.specs.Expression.{Expr, Exprs, one, wrapped, joined, chosen, Nil, Cons}
+use Rattle.rpl_syntax.specs.Expression.{Expr, Exprs, one, wrapped, joined, chosen, Cons}
 use Rattle.rpl_syntax.specs.Expression as M
 use Rattle.rpl_syntax.specs.Grammar.{Leaf, TextLeaf, ClassLeaf, NameLeaf, QualifiedLeaf, AnyLeaf, StartLeaf, EndLeaf, BoundaryLeaf, StarQuant, PlusQuant, QuestionQuant, BoundsQuant, Exp, Last, Or, And, Seq, Single, More, Item, Signed, Applied, Plain, Times, Atom, One, Group, leaf_token, sign_mark, opener, closer, spell_exp, spell_seq, spell_item, spell_atom, leaf_expr, unprefixed, content, parts, items, item_expr, atom_expr}
 use Rattle.rpl_syntax.specs.Reading.{◌>>=◌, begins, quantified, closed, item_of, items_of, joins, parts_of, seq_of, content_of, read_item, read_exp, signed, applied}

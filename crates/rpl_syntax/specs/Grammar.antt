@@ -16,7 +16,7 @@ use Rattle.rpl_syntax.specs.declared.token.Token.TheVariants as T
 use Rattle.rpl_syntax.specs.declared.name.QName.{QName}
 use Rattle.rpl_syntax.specs.declared.expr.Sign.{Sign}
 use Rattle.rpl_syntax.specs.declared.expr.Sign.TheVariants.{Not, Ahead, Behind}
-use Rattle.rpl_syntax.specs.Expression.{Expr, Exprs, one, wrapped, joined, chosen, Nil, Cons}
+use Rattle.rpl_syntax.specs.Expression.{Expr, Exprs, one, wrapped, joined, chosen, Cons}
 use Rattle.rpl_syntax.specs.Expression as M
 
 -- an atom of one token

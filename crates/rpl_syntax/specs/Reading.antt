@@ -10,7 +10,7 @@ use Rattle.rpl_syntax.specs.declared.token.Token.{Token}
 use Rattle.rpl_syntax.specs.declared.token.Token.TheVariants as T
 use Rattle.rpl_syntax.specs.declared.expr.Sign.{Sign}
 use Rattle.rpl_syntax.specs.declared.expr.Sign.TheVariants.{Not, Ahead, Behind}
-use Rattle.rpl_syntax.specs.Expression.{Expr, Exprs, one, wrapped, joined, chosen, Nil, Cons}
+use Rattle.rpl_syntax.specs.Expression.{Expr, Exprs, one, joined, chosen, Cons}
 use Rattle.rpl_syntax.specs.Expression as M
 use Rattle.rpl_syntax.specs.Grammar.{unprefixed, prefixed}
 

@@ -1,6 +1,6 @@
 // Expressions as written, with their names.
 ghost use Rattle.std.specs.Option.{option_copied};
-ghost use Rattle.std.specs.Prelude.{◌≡◌, List, [], ◌∷◌, ◌++◌, length, slice_get, OnOk, OnErr, IfOk};
+ghost use Rattle.std.specs.Prelude.{◌≡◌, [], ◌∷◌, ◌++◌, length, slice_get, OnOk, OnErr, IfOk};
 ghost use Rattle.rpl_syntax.specs.View.{expr_of, exprs_all, listed};
 
 use crate::NoMemory;

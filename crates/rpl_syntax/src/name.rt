@@ -1,5 +1,5 @@
 // Names as written.
-ghost use Rattle.std.specs.Prelude.{◌≡◌, Option, IfOk};
+ghost use Rattle.std.specs.Prelude.{◌≡◌, IfOk};
 
 use crate::NoMemory;
 use rpl_text::Chars;

@@ -4,7 +4,7 @@ use Rattle.std.specs.Prelude.{false, MatchOption, slice_get}
 use Rattle.std.specs.Option.{option_copied}
 use Rattle.std.specs.Borrow.{Bor}
 use Rattle.rpl_core.specs.Core as C
-use Rattle.rpl_core.specs.Core.{Core, Cores, NoMore}
+use Rattle.rpl_core.specs.Core.{Core, NoMore}
 use Rattle.rpl_core.specs.View.{core_of, cores}
 use Rattle.rpl_core.specs.declared.peg.Peg.{Peg}
 use Rattle.rpl_trace.specs.inside.Levels.{AreAlike, is_alone}

@@ -3,7 +3,7 @@ use Rattle.std.proofs.Common.{◌≡◌, ℕ, ◌+◌, ◌-◌, ◌^◌, ◌≤�
 use Rattle.std.specs.Prelude.{false, slice_get}
 use Rattle.std.specs.Borrow.{Bor}
 use Rattle.rpl_core.specs.Core as C
-use Rattle.rpl_core.specs.Core.{Core, Cores, NoMore}
+use Rattle.rpl_core.specs.Core.{Core, NoMore}
 use Rattle.rpl_core.specs.View.{core_of, cores}
 use Rattle.rpl_core.specs.declared.peg.Peg.{Peg}
 use Rattle.rpl_text.specs.Places.{index, IsPlace}

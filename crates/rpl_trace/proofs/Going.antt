@@ -3,7 +3,7 @@ use Rattle.std.proofs.Common.{◌≡◌, ◌≢◌, ℕ, suc, ◌+◌, ◌-◌, 
 use Rattle.std.specs.Prelude.{true, false, nat_le, IsErrAnd, OnOk, IfErr}
 use Rattle.std.specs.Borrow.{Bor}
 use Rattle.rpl_core.specs.Core as C
-use Rattle.rpl_core.specs.Core.{Core, Cores, NoMore}
+use Rattle.rpl_core.specs.Core.{Core}
 use Rattle.rpl_core.specs.View.{core_of, cores}
 use Rattle.rpl_core.specs.declared.peg.Peg.{Peg}
 use Rattle.rpl_text.specs.Places.{index, IsPlace}
@@ -229,10 +229,6 @@ lengths_over R t l s o f w h =
 pub stays : (R : List Core) (t : List ℕ) (task : Task) (s : State) (e : End) → EndStands t e → Stands t s
     → ((o : Ending) (f : Evaluations) → Comes R t o f (due task s) e → Comes R t o f s e) → Steps R t (due task s) e s e
 stays R t task s e a st k = record { comes = k; stands = st; ends = a; limit = refl }
-
-pub turns_to : (R : List Core) (t : List ℕ) (task : Task) (s : State) (e next : End) → EndStands t next → Stands t s
-    → ((o : Ending) (f : Evaluations) → Comes R t o f (due task s) e → Comes R t o f s next) → Steps R t (due task s) e s next
-turns_to R t task s e next a st k = record { comes = k; stands = st; ends = a; limit = refl }
 
 pub closes : (R : List Core) (t : List ℕ) (s new : State) (e next : End) → EndStands t e → Stands t s → next ≡ e → new ≡ happened (V.Ends e) s → Steps R t (due T.Close s) e new next
 closes R t s new e next a st q n =

@@ -1,5 +1,5 @@
 -- A state, with one more task, event or evaluation.
-use Rattle.std.proofs.Common.{◌≡◌, ℕ, ◌+◌, ◌-◌, ◌*◌, ◌<◌, ◌≤◌, List, [], ◌∷◌, ◌++◌, length, reverse, refl, sym, ap, subst, ◌∙◌, arith}
+use Rattle.std.proofs.Common.{◌≡◌, ℕ, ◌+◌, ◌-◌, ◌<◌, ◌≤◌, List, [], ◌∷◌, ◌++◌, length, reverse, refl, sym, ap, subst, ◌∙◌, arith}
 use Rattle.std.proofs.lemmas.List.{reverse-append}
 use Rattle.rpl_core.specs.Core.{Core}
 use Rattle.rpl_trace.specs.Evaluations.{Ending, Evaluations, count}
@@ -24,11 +24,6 @@ pub due_pushed : (tasks : List Task) (task : Task) (events : List Event) (spent 
 due_pushed tasks task events spent limit =
     ap (λ (x : List Task). let s : State = record { tasks = x; events = events; spent = spent; limit = limit } in s) (last_first tasks task)
 
-pub happened_pushed : (tasks : List Task) (event : Event) (events : List Event) (spent limit : ℕ)
-    → record { tasks = tasks; events = reverse (events ++ event ∷ []); spent = spent; limit = limit } ≡ happened event (record { tasks = tasks; events = reverse events; spent = spent; limit = limit })
-happened_pushed tasks event events spent limit =
-    ap (λ (x : List Event). let s : State = record { tasks = tasks; events = x; spent = spent; limit = limit } in s) (last_first events event)
-
 pub stands_due : (t : List ℕ) (s : State) (task : Task) → TaskStands t task → Stands t s → Stands t (due task s)
 stands_due t s task h k = record { tasks = (h, k.tasks); events = k.events; within = k.within }
 
@@ -37,10 +32,6 @@ stands_happened t s event h k = record { tasks = k.tasks; events = (h, k.events)
 
 pub stands_counted : (t : List ℕ) (s : State) → s.spent < s.limit → Stands t s → Stands t (counted s)
 stands_counted t s h k = record { tasks = k.tasks; events = k.events; within = omega arith }
-
--- one evaluation more leaves less to do, with four tasks more as well
-pub counted_less : (limit spent tasks more : ℕ) → spent < limit → more ≤ tasks + 4 → 5 * (limit - (spent + 1)) + more + 1 ≤ 5 * (limit - spent) + tasks
-counted_less limit spent tasks more lt le = omega arith
 
 -- out of memory, or no room for what comes next
 pub refuses : (R : List Core) (t : List ℕ) (s : State) (e : End) (x : TraceFault) → (x ≡ TraceTooLong → s.limit ≤ s.spent)

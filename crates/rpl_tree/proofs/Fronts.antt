@@ -1,6 +1,6 @@
 -- Building goes over the captures of some trees as over one thing: their nodes come at the end, and what is open stays.
-use Rattle.std.proofs.Common.{◌≡◌, ℕ, zero, suc, ◌+◌, ◌-◌, ◌≤◌, List, [], ◌∷◌, ◌++◌, length, take, drop, Option, Some, None, refl, sym, ap, ◌∙◌, subst, arith, append_assoc}
-use Rattle.std.specs.Prelude.{All, fold, slice_get, slice_set, map}
+use Rattle.std.proofs.Common.{◌≡◌, ℕ, zero, suc, ◌+◌, ◌-◌, ◌≤◌, List, [], ◌∷◌, ◌++◌, length, Some, None, refl, sym, ap, ◌∙◌, subst, arith, append_assoc}
+use Rattle.std.specs.Prelude.{All, fold, slice_get}
 use Rattle.std.proofs.lemmas.Bool.{false≢true}
 use Rattle.std.proofs.lemmas.List.{append-nil, length-append}
 use Rattle.std.proofs.lemmas.List.Elements.{All-append, All-cons, All-nil}
@@ -8,8 +8,8 @@ use Rattle.std.proofs.Math.Seq.{take-append_seam, drop-append_seam, set-append_s
 use Rattle.rpl_core.specs.Forest as C
 use Rattle.rpl_core.specs.Forest.{Forest, NoTree, Tree, Noted, flat}
 use Rattle.rpl_core.specs.Captures.{named, all_named}
-use Rattle.rpl_tree.specs.Trees.{node_as, trees_of, forest_of, Write, nothing, a_tree, a_note, IsLeaf, Builds}
-use Rattle.rpl_tree.specs.inside.Building.{Built, opened, noted, close_node, closed, taken_in}
+use Rattle.rpl_tree.specs.Trees.{trees_of, forest_of, Write, nothing, a_tree, a_note, IsLeaf, Builds}
+use Rattle.rpl_tree.specs.inside.Building.{Built, opened, noted, closed, taken_in}
 use Rattle.rpl_core.specs.declared.caught.Caught.{Caught}
 use Rattle.rpl_core.specs.declared.caught.Caught.TheVariants.{Begin, Finish, Note}
 use Rattle.rpl_tree.specs.declared.node.Node.{Node}

@@ -17,7 +17,7 @@ pub struct Building {
 
 impl Building {
     ghost use Rattle.rpl_tree.specs.inside.Built.{built};
-    ghost use Rattle.rpl_tree.specs.inside.Building.{taken_in, closed};
+    ghost use Rattle.rpl_tree.specs.inside.Building.{taken_in};
 
     pub fn new(alloc: Global) -> Building
         ensures { result.nodes.items ≡ [] }

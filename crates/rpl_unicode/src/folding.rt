@@ -1,5 +1,5 @@
 // Case folding.
-ghost use Rattle.std.specs.Prelude.{◌≡◌, ◌≤◌, ◌&&◌, nat_le, IfOk};
+ghost use Rattle.std.specs.Prelude.{◌≤◌, ◌&&◌, nat_le, IfOk};
 ghost use Rattle.regex_class.specs.Ranges.{in_ranges};
 ghost use Rattle.rpl_unicode.specs.Ranges.{IsListOf};
 ghost use Rattle.rpl_unicode.specs.Folding.{folds_with};

@@ -1,8 +1,8 @@
 // The lines that are test comments.
-ghost use Rattle.std.specs.Prelude.{◌≡◌, ◌≤◌, length, drop};
+ghost use Rattle.std.specs.Prelude.{◌≡◌, ◌≤◌, length};
 ghost use Rattle.std.specs.Option.{option_copied};
 ghost use Rattle.rpl_lexer.specs.Bytes.{is_space, run};
-ghost use Rattle.rpl_unittest.specs.Comments.{behind, trimmed, goes_on, if_test, comment_of};
+ghost use Rattle.rpl_unittest.specs.Comments.{behind, trimmed, goes_on, comment_of};
 
 /// Returns the number of spaces and tabs at the front.
 fn spaces(bytes: &[u8]) -> usize

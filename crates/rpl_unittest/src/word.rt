@@ -1,7 +1,6 @@
 // Tokens as the words of a test comment.
 ghost use Rattle.std.specs.Prelude.{◌≡◌, IfOk, map};
 ghost use Rattle.rpl_lexer.specs.Cut.{IsCut, IsToken};
-ghost use Rattle.rpl_lexer.specs.declared.token.TokenKind.TheVariants as K;
 ghost use Rattle.rpl_unittest.specs.Comments as S;
 ghost use Rattle.rpl_unittest.specs.inside.Words.{word_seen, words_seen};
 

@@ -1,5 +1,4 @@
 -- The lines of a run as one value.
-use Rattle.rosie_io.specs.Reader.{Reader}
 use Rattle.rosie_run.specs.declared.lines.Lines.{Lines}
 use Rattle.rosie_run.specs.declared.lines.Reading.{Reading}
 use Rattle.std.specs.Prelude.{◌≡◌}

@@ -1,6 +1,6 @@
 -- The lines of a session as pieces: which are to come, what is made of a line, and what a run over them leaves.
 use Rattle.std.specs.Prelude.{◌≡◌, ◌+◌, ◌++◌, ◌⊎◌, ℕ, false, List, [], length, Option, Some, None, Result, Ok, Err, codes}
-use Rattle.std.specs.Prelude.{IsSome, encode_utf8_all, slice_get, string_bytes}
+use Rattle.std.specs.Prelude.{encode_utf8_all, slice_get, string_bytes}
 use Rattle.std.specs.List.{Contains}
 use Rattle.std.proofs.Math.Path.{refl}
 use Rattle.rosie_io.specs.Answering.{Keeps}
@@ -21,7 +21,6 @@ use Rattle.rosie_run.specs.Report.{Piece}
 use Rattle.rosie_run.specs.Sources.{Moment, NoFewer, RoseIn, Still, moment_of}
 use Rattle.rosie_run.specs.declared.ended.Ended.{Ended}
 use Rattle.rosie_run.specs.declared.ended.Ended.TheVariants as E
-use Rattle.rosie_run.specs.declared.ended.ReadStop.{ReadStop}
 use Rattle.rosie_run.specs.declared.ended.ReadStop.TheVariants.{ReadFault}
 use Rattle.rosie_run.specs.declared.mark.Mark.{Mark}
 use Rattle.rosie_run.specs.declared.tool.Tool.TheVariants.{Rosie}

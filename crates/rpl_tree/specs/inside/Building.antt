@@ -1,5 +1,5 @@
 -- What one capture does to the nodes so far, and to the places of those that are open, the innermost first.
-use Rattle.std.specs.Prelude.{ℕ, ◌-◌, List, [], ◌∷◌, ◌++◌, length, Option, None, Some, slice_get, slice_set, fold}
+use Rattle.std.specs.Prelude.{ℕ, ◌-◌, List, [], ◌∷◌, ◌++◌, length, Option, None, Some, slice_get, slice_set}
 use Rattle.rpl_core.specs.declared.caught.Caught.{Caught}
 use Rattle.rpl_core.specs.declared.caught.Caught.TheVariants.{Begin, Finish, Note}
 use Rattle.rpl_tree.specs.declared.node.Node.{Node}

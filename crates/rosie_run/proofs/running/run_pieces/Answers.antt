@@ -1,4 +1,4 @@
-use Rattle.std.proofs.Common.{refl, ap, sym, subst, ◌∙◌, ◌+◌, ◌||◌, false}
+use Rattle.std.proofs.Common.{refl, ap, subst, ◌∙◌, ◌+◌, false}
 use Rattle.rosie_run.specs.Going.{IsSaidBy}
 use Rattle.rosie_run.specs.Outputs.{texts}
 use Rattle.rosie_run.specs.declared.tally.Tally.{Tally}

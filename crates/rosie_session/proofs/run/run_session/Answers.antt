@@ -1,5 +1,4 @@
-use Rattle.std.proofs.Common.{◌≡◌, ◌∙◌, ap, sym, refl}
-use Rattle.std.specs.Prelude.{Ok}
+use Rattle.std.proofs.Common.{◌∙◌, ap, sym, refl}
 use Rattle.rosie_io.specs.Reader.{Reader}
 use Rattle.rosie_repl.specs.States.{session_of}
 use Rattle.rosie_run.specs.Going.{StoodAt}
@@ -9,7 +8,7 @@ use Rattle.rosie_run.proofs.FromLines.{some-left}
 use Rattle.rosie_session.specs.Replay.{pieces_of, replay}
 use Rattle.rosie_session.specs.Where.{InSession}
 use Rattle.rosie_session.specs.declared.run.Kept.{Kept}
-use Rattle.rosie_session.specs.inside.Passing.{IsOver, LeavesSession, name_of, turns_left}
+use Rattle.rosie_session.specs.inside.Passing.{IsOver, LeavesSession, name_of}
 use Rattle.rosie_session.proofs.Passing.{session-cause, session-rest, session-stood, turns-begun}
 use Rattle.rosie_session.proofs.run.run_session.Goals as goal
 

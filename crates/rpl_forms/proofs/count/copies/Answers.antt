@@ -1,5 +1,5 @@
 use Rattle.std.proofs.Common.{◌≢◌, ◌*◌, ap, arith}
-use Rattle.rpl_forms.specs.Sizes.{nodes, deep}
+use Rattle.rpl_forms.specs.Sizes.{nodes}
 use Rattle.rpl_forms.specs.Sizes as Measures
 use Rattle.rpl_forms.proofs.Counted.{copies_nodes, copies_deep, capped_times}
 use Rattle.rpl_forms.proofs.count.copies.Goals as goal

@@ -1,10 +1,10 @@
-use Rattle.std.proofs.Common.{◌≡◌, ℕ, ◌<◌, Some, None, sym, ap, ◌∙◌, refl, subst, arith, ⊎_elim}
+use Rattle.std.proofs.Common.{sym, ap, ◌∙◌, refl, subst}
 use Rattle.std.specs.Prelude.{◌↔◌, Bool, IsTrue, true, false, Ok}
 use Rattle.std.proofs.lemmas.Bool.{false≢true}
 use Rattle.rpl_safe.specs.Safe.{IsSafe}
-use Rattle.rpl_core.specs.Program.{instructions, sets_of, labels_of}
+use Rattle.rpl_core.specs.Program.{instructions}
 use Rattle.rpl_safe.specs.inside.Marks.{Answers, AllPass, Heads, Searched, marks_at}
-use Rattle.rpl_safe.proofs.Testing.{heads_hold, head_long, none_safe, decide}
+use Rattle.rpl_safe.proofs.Testing.{heads_hold, none_safe, decide}
 use Rattle.rpl_safe.proofs.verify.is_safe.Goals as goal
 
 -- a yes or no, as a `bool` that is true exactly where it holds

@@ -1,7 +1,7 @@
-use Rattle.std.proofs.Common.{◌≡◌, ℕ, Some, None, sym, ap, ◌∙◌}
-use Rattle.std.specs.Prelude.{true, false, option_map}
+use Rattle.std.proofs.Common.{sym, ap, ◌∙◌}
+use Rattle.std.specs.Prelude.{option_map}
 use Rattle.rpl_core.specs.Numbers.{instr_of}
-use Rattle.rpl_safe.specs.inside.Marks.{holds, is_open, is_finish, call_at}
+use Rattle.rpl_safe.specs.inside.Marks.{call_at}
 use Rattle.rpl_safe.proofs.whole_tree.first_call.Goals as goal
 
 pub returns-in-Some : goal.returns-in-Some

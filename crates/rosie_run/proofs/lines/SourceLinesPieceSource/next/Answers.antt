@@ -1,9 +1,9 @@
-use Rattle.std.proofs.Common.{◌≡◌, ◌∙◌, ◌+◌, inl, sym, subst, arith}
+use Rattle.std.proofs.Common.{◌∙◌, inl, sym, subst, arith}
 use Rattle.rosie_io.specs.Gathering.{left}
 use Rattle.rosie_run.specs.Going.{Gives}
 use Rattle.rosie_run.specs.inside.FromLines.{ComesFrom}
 use Rattle.rosie_run.specs.inside.Passing.{kept_err, kept_out}
-use Rattle.rosie_run.proofs.Coming.{IsLater, Onward, first, gives-of, gives-to, goes-of, leaves-of}
+use Rattle.rosie_run.proofs.Coming.{IsLater, gives-of, gives-to, goes-of, leaves-of}
 use Rattle.rosie_run.proofs.lines.SourceLinesPieceSource.next.Goals as goal
 
 pub returns-clause-gives : goal.returns-clause-gives

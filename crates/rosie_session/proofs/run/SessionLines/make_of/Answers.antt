@@ -1,4 +1,4 @@
-use Rattle.std.proofs.Common.{ap, refl}
+use Rattle.std.proofs.Common.{ap}
 use Rattle.rosie_repl.specs.States.{session_of}
 use Rattle.rosie_session.specs.declared.run.Kept.{Kept}
 use Rattle.rosie_session.proofs.run.SessionLines.make_of.Goals as goal

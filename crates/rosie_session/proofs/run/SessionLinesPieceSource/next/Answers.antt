@@ -1,5 +1,5 @@
-use Rattle.std.proofs.Common.{◌∙◌, ◌+◌, inl, sym, arith}
-use Rattle.rosie_session.proofs.Passing.{Makes, Read, gives-next, goes-next, leaves-next, on-both}
+use Rattle.std.proofs.Common.{◌∙◌, inl, sym}
+use Rattle.rosie_session.proofs.Passing.{gives-next, leaves-next}
 use Rattle.rosie_session.proofs.run.SessionLinesPieceSource.next.Goals as goal
 
 pub returns-clause-gives : goal.returns-clause-gives

@@ -1,4 +1,4 @@
-use Rattle.std.proofs.Common.{◌≡◌, ◌<◌, ◌∙◌, get_or, length, refl, sym, ap, subst, arith}
+use Rattle.std.proofs.Common.{◌∙◌, refl, ap, arith}
 use Rattle.rpl_core.specs.Table.{bodies_of}
 use Rattle.std.proofs.lemmas.List.{get_or_default}
 use Rattle.rosie_unittest.specs.Seen.{bench_of, trials_of}
