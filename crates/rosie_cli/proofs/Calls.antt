@@ -8,7 +8,7 @@ use Rattle.rosie_run.specs.Sources.{Moment, Still}
 use Rattle.rosie_run.specs.declared.ended.Ended.{Ended}
 use Rattle.rosie_run.specs.declared.ended.Ended.TheVariants as E
 use Rattle.rosie_run.specs.declared.tally.Tally.{Tally}
-use Rattle.rosie_run.proofs.Headlines.{headline, output-cause, reads-cause}
+use Rattle.rosie_run.proofs.Headlines.{headline, output_cause, reads_cause}
 use Rattle.rosie_run.specs.Causes.{OutputCause, ReadsCause}
 use Rattle.rosie_run.specs.Headline.{Headline}
 use Rattle.rpl_package.specs.Asking.{IsTold}
@@ -16,8 +16,8 @@ use Rattle.rosie_cli.specs.Plans.{Planned, ReadsInput, pieces}
 use Rattle.rosie_cli.specs.Promises.{IsPromised}
 use Rattle.rosie_cli.specs.Report.{KnowsInputs, report}
 use Rattle.rosie_cli.specs.Rosie.{Answers, Call, Comes, report_of, where_of}
-use Rattle.rosie_cli.proofs.Promised.{no-fault, no-stop}
-use Rattle.rosie_cli.proofs.Whole.{answers-all, completes-if, not-spent, read-of}
+use Rattle.rosie_cli.proofs.Promised.{no_fault, no_stop}
+use Rattle.rosie_cli.proofs.Whole.{answers_all, completes_if, not_spent, read_of}
 
 module _ (c : Call) (r : Result Tally Ended) (mid : Texts) (failed : Failures)
     (closes : Closes r c.answer c.run.tells mid c.run.after)
@@ -40,38 +40,38 @@ module _ (c : Call) (r : Result Tally Ended) (mid : Texts) (failed : Failures)
 
   reads_of : ReadsCause c.answer c.run.input.before c.run.input.after c.run.files.before c.run.files.after
   reads_of =
-      reads-cause r c.answer c.run.tells mid c.run.after c.run.input.before c.run.input.after c.run.files.before
+      reads_cause r c.answer c.run.tells mid c.run.after c.run.input.before c.run.input.after c.run.files.before
       c.run.files.after closes cause
 
   writes_of : OutputCause c.answer c.failed.out c.fails.out c.failed.err c.fails.err
   writes_of =
-      output-cause r c.answer c.run.tells mid c.run.after c.failed.out failed.out c.fails.out c.failed.err failed.err
+      output_cause r c.answer c.run.tells mid c.run.after c.failed.out failed.out c.fails.out c.failed.err failed.err
       c.fails.err closes sinks ends
 
-  pub answers-of : Answers c
-  answers-of = record {
+  pub answers_of : Answers c
+  answers_of = record {
     headline = headline_of;
     read = λ p h came asks.
-        read-of r c.answer c.run.tells mid c.run.after _ closes came (rest p h.files h.is h.inputs) asks;
+        read_of r c.answer c.run.tells mid c.run.after _ closes came (rest p h.files h.is h.inputs) asks;
     answers = λ p h u.
-        answers-all c.run.tells (report_of c p) (where_of c p) c.run.before c.run.after c.run.input.before
+        answers_all c.run.tells (report_of c p) (where_of c p) c.run.before c.run.after c.run.input.before
         c.run.input.after c.run.files.before c.run.files.after c.failed.out c.fails.out c.failed.err c.fails.err
         u.input_reads u.files_read u.out_writes u.err_writes
-        (λ file k x. not-spent p c.run.tree c.run.input c.run.files file k u.input_short u.files_short x) c.answer
+        (λ file k x. not_spent p c.run.tree c.run.input c.run.files file k u.input_short u.files_short x) c.answer
         (headline_of p h) reads_of writes_of;
     complete = λ p h u sound.
-        completes-if c.run.tells (report_of c p) (where_of c p) c.run.before c.run.after c.run.input.before
+        completes_if c.run.tells (report_of c p) (where_of c p) c.run.before c.run.after c.run.input.before
         c.run.input.after c.run.files.before c.run.files.after c.failed.out c.fails.out c.failed.err c.fails.err
         u.input_reads u.files_read u.out_writes u.err_writes
-        (λ file k x. not-spent p c.run.tree c.run.input c.run.files file k u.input_short u.files_short x) c.answer
-        (no-stop p.plan c.run.tree c.run.input.before.rest (due p h.is) sound)
-        (no-fault p.plan c.run.tree c.run.input.before.rest (due p h.is) sound) (headline_of p h) reads_of writes_of;
+        (λ file k x. not_spent p c.run.tree c.run.input c.run.files file k u.input_short u.files_short x) c.answer
+        (no_stop p.plan c.run.tree c.run.input.before.rest (due p h.is) sound)
+        (no_fault p.plan c.run.tree c.run.input.before.rest (due p h.is) sound) (headline_of p h) reads_of writes_of;
     reads = reads_of;
     writes = writes_of;
   }
 
 -- the same call, of whose plan more is known
-pub answers-by : (c : Call) (comes : Planned → Type 0)
+pub answers_by : (c : Call) (comes : Planned → Type 0)
     → ((p : Planned) → comes p → c.comes p) → Answers c
     → Answers (record {
       comes = comes;
@@ -80,7 +80,7 @@ pub answers-by : (c : Call) (comes : Planned → Type 0)
       fails = c.fails;
       answer = c.answer;
     })
-answers-by c comes is a = record {
+answers_by c comes is a = record {
   headline = λ p h. a.headline p (record { is = is p h.is; files = h.files; inputs = h.inputs });
   read = λ p h. a.read p (record { is = is p h.is; files = h.files; inputs = h.inputs });
   answers = λ p h. a.answers p (record { is = is p h.is; files = h.files; inputs = h.inputs });
@@ -93,9 +93,9 @@ answers-by c comes is a = record {
 still : (m : Moment) → Still m m
 still m = record { faults = refl; opens = refl }
 
-pub untouched-cause : (r : Result Tally Ended) → IfErr r IsNoCut → (i f : Moment) → SourcesCause r i i f f
-untouched-cause (Ok tally) h i f = (still i, still f)
-untouched-cause (Err E.NoMemory) h i f =
+pub untouched_cause : (r : Result Tally Ended) → IfErr r IsNoCut → (i f : Moment) → SourcesCause r i i f f
+untouched_cause (Ok tally) h i f = (still i, still f)
+untouched_cause (Err E.NoMemory) h i f =
     (record { faults = omega arith; opens = omega arith }, record { faults = omega arith; opens = omega arith })
-untouched-cause (Err E.WriteFault) h i f = (still i, still f)
-untouched-cause (Err (E.Cut why text)) h i f = absurd h
+untouched_cause (Err E.WriteFault) h i f = (still i, still f)
+untouched_cause (Err (E.Cut why text)) h i f = absurd h

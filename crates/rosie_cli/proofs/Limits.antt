@@ -48,11 +48,11 @@ module _ (run : List Row → Job → Plan) (r : Ready) (R : List Core) (same : b
       ∙ ap (λ b. cond b (refusal compile_line) (run r.rules (record { rules = R; goal = r.goal; code = long.0 }))) test
 
 -- the same job for the same lines
-pub reads-same : (m m' : Maker) (whole : Bool) (names names' : List (List ℕ)) → m' ≡ m → names' ≡ names
+pub reads_same : (m m' : Maker) (whole : Bool) (names names' : List (List ℕ)) → m' ≡ m → names' ≡ names
     → Reads m whole names ≡ Reads m' whole names'
-reads-same m m' whole names names' e n =
+reads_same m m' whole names names' e n =
     ap (λ x. Reads x whole names) (sym e) ∙ ap (λ x. Reads m' whole x) (sym n)
 
-pub names-rows_of : (rs : List Rule) → full_names (rows_of rs) ≡ names_of rs
-names-rows_of [] = refl
-names-rows_of (r ∷ rs) = ap (λ xs. r.name ∷ xs) (names-rows_of rs)
+pub names_rows_of : (rs : List Rule) → full_names (rows_of rs) ≡ names_of rs
+names_rows_of [] = refl
+names_rows_of (r ∷ rs) = ap (λ xs. r.name ∷ xs) (names_rows_of rs)

@@ -21,38 +21,38 @@ use Rattle.rosie_cli.specs.inside.Planning.{due_of, IsMade, Leaves, Plans}
 -- ---- what is planned
 
 -- where no read failed no path is looked for
-pub made-plans : (r : Result Plan Unready) (p : Planned) → IfErr r IsOwn → IsMade r p.plan → Plans r p
-made-plans (Ok plan) p own h = (h, tt)
-made-plans (Err NoMemory) p own h = (h, tt)
-made-plans (Err (Refused line)) p own h = (h, tt)
-made-plans (Err (ReadFault path)) p own h = absurd own
+pub made_plans : (r : Result Plan Unready) (p : Planned) → IfErr r IsOwn → IsMade r p.plan → Plans r p
+made_plans (Ok plan) p own h = (h, tt)
+made_plans (Err NoMemory) p own h = (h, tt)
+made_plans (Err (Refused line)) p own h = (h, tt)
+made_plans (Err (ReadFault path)) p own h = absurd own
 
-pub known-plans : (r : Result Plan Unready) (p q : Planned) → p ≡ q → IfErr r IsOwn → IsMade r q.plan → Plans r p
-known-plans r p q e own h = subst (Plans r) (sym e) (made-plans r q own h)
+pub known_plans : (r : Result Plan Unready) (p q : Planned) → p ≡ q → IfErr r IsOwn → IsMade r q.plan → Plans r p
+known_plans r p q e own h = subst (Plans r) (sym e) (made_plans r q own h)
 
 -- a pattern that has no program is refused where its code is too long
-pub told-made : (fault : CompileFault) (u : Unready) (p : P.Plan) → Tells (due_of fault) u
+pub told_made : (fault : CompileFault) (u : Unready) (p : P.Plan) → Tells (due_of fault) u
     → (fault ≡ C.CodeTooLong → p ≡ refusal compile_line) → IsMade (Err u) p
-told-made fault NoMemory p h long = tt
-told-made C.CodeTooLong (Refused line) p h long =
+told_made fault NoMemory p h long = tt
+told_made C.CodeTooLong (Refused line) p h long =
     let same : compile_line ≡ string_bytes line = cc in long refl ∙ ap refusal same
-told-made C.NoMemory (Refused line) p h long = absurd (cc)
-told-made fault (ReadFault path) p h long = absurd h
+told_made C.NoMemory (Refused line) p h long = absurd (cc)
+told_made fault (ReadFault path) p h long = absurd h
 
 -- what isn't ready is refused with the line that is due, or has a path that is asked for
-pub due-plans : {A : Type 0} (u : Unready) (p : Planned) (Meant : OrLine A → P.Plan → Type 0) (ready : OrLine A)
+pub due_plans : {A : Type 0} (u : Unready) (p : Planned) (Meant : OrLine A → P.Plan → Type 0) (ready : OrLine A)
     → ((line : List ℕ) (plan : P.Plan) → Meant (Err line) plan → plan ≡ refusal line) → IsDue u ready
     → IsAsked u p.asked → Meant ready p.plan → Plans (Err u) p
-due-plans NoMemory p Meant ready told due asked is = (tt, tt)
-due-plans (Refused line) p Meant ready told due asked is =
+due_plans NoMemory p Meant ready told due asked is = (tt, tt)
+due_plans (Refused line) p Meant ready told due asked is =
     (told (string_bytes line) p.plan (subst (λ r. Meant r p.plan) due is), tt)
-due-plans (ReadFault path) p Meant ready told due asked is = (tt, asked)
+due_plans (ReadFault path) p Meant ready told due asked is = (tt, asked)
 
 -- and goes out as it is
-pub plans-through : (r : Result Plan Unready) (u : Unready) (p : Planned) → IsErrAnd r (λ e. e ≡ u) → Plans (Err u) p
+pub plans_through : (r : Result Plan Unready) (u : Unready) (p : Planned) → IsErrAnd r (λ e. e ≡ u) → Plans (Err u) p
     → Plans r p
-plans-through (Ok plan) u p h k = absurd h
-plans-through (Err e) u p h k = subst (λ v. Plans (Err v) p) (sym h) k
+plans_through (Ok plan) u p h k = absurd h
+plans_through (Err e) u p h k = subst (λ v. Plans (Err v) p) (sym h) k
 
 -- where a path is asked for, the files tell
 pub asks_some : (T : Type 0) (asked : List (List ℕ)) (path : List ℕ) (more : List (List ℕ)) → asked ≡ path ∷ more
@@ -71,19 +71,19 @@ same_cause (Refused line) f0 f1 own still = still
 same_cause (ReadFault path) f0 f1 own still = absurd own
 
 -- where the step that comes last reads no file
-pub leaves-own : {F : Type 0} (S : Ghosts F) (r : Result Plan Unready) (old new : F) → NotFewer (S.taken old) (S.taken new)
+pub leaves_own : {F : Type 0} (S : Ghosts F) (r : Result Plan Unready) (old new : F) → NotFewer (S.taken old) (S.taken new)
     → S.tree new ≡ S.tree old → Still (moment_of S old) (moment_of S new)
     → IfErr r IsOwn → Leaves S r old new
-leaves-own S (Ok plan) old new taken tree still own = record { cause = still; taken = taken; tree = tree }
-leaves-own S (Err u) old new taken tree still own =
+leaves_own S (Ok plan) old new taken tree still own = record { cause = still; taken = taken; tree = tree }
+leaves_own S (Err u) old new taken tree still own =
     record { cause = same_cause u (moment_of S old) (moment_of S new) own still; taken = taken; tree = tree }
 
 -- and where reading went wrong
-pub leaves-through : {F : Type 0} (S : Ghosts F) (r : Result Plan Unready) (old new : F)
+pub leaves_through : {F : Type 0} (S : Ghosts F) (r : Result Plan Unready) (old new : F)
     → NotFewer (S.taken old) (S.taken new) → S.tree new ≡ S.tree old → (u : Unready) → IsErrAnd r (λ e. e ≡ u)
     → Counts u (moment_of S old) (moment_of S new) → Leaves S r old new
-leaves-through S (Ok plan) old new taken tree u h cause = absurd h
-leaves-through S (Err e) old new taken tree u h cause =
+leaves_through S (Ok plan) old new taken tree u h cause = absurd h
+leaves_through S (Err e) old new taken tree u h cause =
     record {
       cause = subst (λ v. Counts v (moment_of S old) (moment_of S new)) (sym h) cause;
       taken = taken;

@@ -10,7 +10,7 @@ use Rattle.rosie_prepare.specs.Prepared.{Tree, PatternRequest, Ready, OrLine, bo
 use Rattle.rosie_prepare.proofs.OneAnswer.{one_answer, one_table}
 use Rattle.rosie_inspect.proofs.Rows.{one_pattern_text}
 use Rattle.rosie_inspect.proofs.Texts.{one_text}
-use Rattle.rosie_unittest.proofs.Once.{one-suite}
+use Rattle.rosie_unittest.proofs.Once.{one_suite}
 use Rattle.rosie_words.specs.declared.command.Command.{Command}
 use Rattle.rosie_words.specs.declared.command.What.{What}
 use Rattle.rosie_words.specs.declared.command.What.TheVariants as W
@@ -130,7 +130,7 @@ one_listed roots folders tree p q x y =
 one_tested : (folders : List (List ℕ)) (file : List ℕ) (budget : Option ℕ) (tree : Tree) (p q : Planned)
     → IsTesting folders file budget tree p → IsTesting folders file budget tree q → p ≡ q
 one_tested folders file budget tree p q x y =
-    let same = one-suite tree folders file budget p.asked q.asked x.suite y.suite x.comes y.comes in
+    let same = one_suite tree folders file budget p.asked q.asked x.suite y.suite x.comes y.comes in
     planned_same p q same.0 (x.tries ∙ ap tried same.1 ∙ sym y.tries)
 
 one_what : (c : Command) (what : What) (tree : Tree) (p q : Planned) → IsPlannedAs c what tree p

@@ -12,13 +12,13 @@ use Rattle.rosie_run.specs.Report.{Piece, has, is_stop, is_fault, fault_piece, t
 use Rattle.rosie_run.specs.declared.lines.Reading.{Reading}
 use Rattle.rosie_run.specs.declared.mark.Mark.{Mark}
 use Rattle.rosie_run.proofs.Onward.{lines_none}
-use Rattle.rosie_run.proofs.Pieces.{has-nil, has-append, has-up, up-all}
+use Rattle.rosie_run.proofs.Pieces.{has_nil, has_append, has_up, up_all}
 use Rattle.rosie_jobs.specs.Lines.{reading}
 use Rattle.rosie_jobs.specs.Limits.{IsAllowed}
 use Rattle.rosie_jobs.specs.Budgets.{Pays}
 use Rattle.rosie_jobs.specs.Makers.{Maker, makes_of}
 use Rattle.rosie_jobs.proofs.Allowed.{IsGood, good_made, short_line, text_line}
-use Rattle.rosie_unittest.proofs.Paid.{suite-clean}
+use Rattle.rosie_unittest.proofs.Paid.{suite_clean}
 use Rattle.rosie_cli.specs.Plans.{Plan, Says, Writes, Tries, Reads, pieces, Samples, Replays}
 use Rattle.rosie_sample.specs.Counting.{counts_piece, line_pieces, muted, sample_pieces}
 use Rattle.rosie_sample.specs.Lines.{sample}
@@ -40,7 +40,7 @@ good_then : (b : Bool) (p q : Piece) → b ≡ true → IsGood p → IsGood (con
 good_then b p q e h = subst (λ x. IsGood (cond x p q)) (sym e) h
 
 clean_nil : Clean []
-clean_nil = record { stays = has-nil is_stop; answers = has-nil is_fault }
+clean_nil = record { stays = has_nil is_stop; answers = has_nil is_fault }
 
 clean_cons : (p : Piece) (ps : List Piece) → IsGood p → Clean ps → Clean (p ∷ ps)
 unfolding has
@@ -48,8 +48,8 @@ clean_cons p ps g h = record { stays = ap (λ b. b || has is_stop ps) g.0 ∙ h.
 
 clean_append : (ps qs : List Piece) → Clean ps → Clean qs → Clean (ps ++ qs)
 clean_append ps qs h k = record {
-  stays = has-append is_stop ps qs ∙ ap (λ b. b || has is_stop qs) h.stays ∙ k.stays;
-  answers = has-append is_fault ps qs ∙ ap (λ b. b || has is_fault qs) h.answers ∙ k.answers;
+  stays = has_append is_stop ps qs ∙ ap (λ b. b || has is_stop qs) h.stays ∙ k.stays;
+  answers = has_append is_fault ps qs ∙ ap (λ b. b || has is_fault qs) h.answers ∙ k.answers;
 }
 
 module _ (m : Maker) (due : Pays m) (whole : Bool) where
@@ -139,20 +139,20 @@ plan_clean : (plan : Plan) (tree : List (List ℕ × List ℕ)) (input : List �
 plan_clean (Says ps) tree input due h = record { stays = h.0; answers = h.1 }
 plan_clean (Writes bytes) tree input due h = clean_cons (text_piece bytes) [] (refl, refl) clean_nil
 plan_clean (Tries b trials) tree input due h =
-    let clean = suite-clean b trials due h in record { stays = clean.stays; answers = clean.answers }
+    let clean = suite_clean b trials due h in record { stays = clean.stays; answers = clean.answers }
 plan_clean (Reads m whole names) tree input due h = clean_inputs m due whole tree input names h.standard h.files
 plan_clean (Samples r) tree input due h = clean_sample r due h
 plan_clean (Replays w) tree input due h = record { stays = never_stops w input; answers = h }
 
 -- a sound run has neither
-pub no-stop : (plan : Plan) (tree : List (List ℕ × List ℕ)) (input : List ℕ) → IsPromised plan
+pub no_stop : (plan : Plan) (tree : List (List ℕ × List ℕ)) (input : List ℕ) → IsPromised plan
     → IsSound plan tree input → has is_stop (report plan tree input) ≡ false
 unfolding report
-no-stop plan tree input due h = has-up (pieces plan tree input) ∙ (plan_clean plan tree input due h).stays
+no_stop plan tree input due h = has_up (pieces plan tree input) ∙ (plan_clean plan tree input due h).stays
 
-pub no-fault : (plan : Plan) (tree : List (List ℕ × List ℕ)) (input : List ℕ) → IsPromised plan
+pub no_fault : (plan : Plan) (tree : List (List ℕ × List ℕ)) (input : List ℕ) → IsPromised plan
     → IsSound plan tree input → has is_fault (report plan tree input) ≡ false
 unfolding report
-no-fault plan tree input due h =
+no_fault plan tree input due h =
     let clean = plan_clean plan tree input due h in
-    ap (has is_fault) (up-all (pieces plan tree input) clean.stays) ∙ clean.answers
+    ap (has is_fault) (up_all (pieces plan tree input) clean.stays) ∙ clean.answers

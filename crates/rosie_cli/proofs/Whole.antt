@@ -23,10 +23,10 @@ use Rattle.rosie_run.specs.declared.status.Status.{Status}
 use Rattle.rosie_run.specs.declared.status.Status.TheVariants.{Matched, NoMatch, Refused, LineFault}
 use Rattle.rosie_run.specs.declared.status.Status.TheVariants.{ReadFault, WriteFault, NoMemory, Spent}
 use Rattle.rosie_run.specs.declared.tally.Tally.{Tally}
-use Rattle.rosie_run.proofs.Breaking.{runs-weaken, breaks-cut}
+use Rattle.rosie_run.proofs.Breaking.{runs_weaken, breaks_cut}
 use Rattle.rosie_run.proofs.Headlines.{completes}
 use Rattle.rosie_run.proofs.Inward.{file_later}
-use Rattle.rosie_run.proofs.Pieces.{has-nil, wrote-none}
+use Rattle.rosie_run.proofs.Pieces.{has_nil, wrote_none}
 use Rattle.rosie_jobs.specs.Lines.{reading}
 use Rattle.rosie_jobs.specs.Makers.{Maker, makes_of}
 use Rattle.rosie_unittest.specs.Trials.{Bench, Trial, suite_pieces}
@@ -72,28 +72,28 @@ among_later (Replays w) tree i f0 f f1 why file k faults opens taken x =
     session_later w i.before.rest i.before i.after f0 f f1 why file k faults opens x
 
 -- the run of what the words come to, from the run of its plan
-pub planned-runs : (s : Result Tally Ended) (W : Telling) (p : Planned) (plan : Plan)
+pub planned_runs : (s : Result Tally Ended) (W : Telling) (p : Planned) (plan : Plan)
     (tree tree' : List (List ℕ × List ℕ)) (i : Span) (f0 f f1 : Moment) (a b : Texts) → p.plan ≡ plan → tree' ≡ tree
     → f.faults ≡ f0.faults → f.opens ≡ f0.opens → (f.taken < 2 ^ 64 - 1 → f0.taken ≤ f.taken)
     → Runs s W (pieces plan tree' i.before.rest) (among plan tree' i (record { before = f; after = f1 })) a b
     → Runs s W (pieces p.plan tree i.before.rest) (stood p tree i (record { before = f0; after = f1 })) a b
-planned-runs s W p plan tree tree' i f0 f f1 a b is t faults opens taken h =
+planned_runs s W p plan tree tree' i f0 f f1 a b is t faults opens taken h =
     let input = i.before.rest in
     let there = subst (λ x. Runs s W (pieces plan x input) (among plan x i (record { before = f; after = f1 })) a b) t h in
     let same = subst (λ x. Runs s W (pieces x tree input) (among x tree i (record { before = f; after = f1 })) a b)
     (sym is) there in
-    runs-weaken W s (pieces p.plan tree input) (among p.plan tree i (record { before = f; after = f1 }))
+    runs_weaken W s (pieces p.plan tree input) (among p.plan tree i (record { before = f; after = f1 }))
     (stood p tree i (record { before = f0; after = f1 })) a b
     (λ why file k x. in_inputs (among_later p.plan tree i f0 f f1 why file k faults opens taken x)) same
 
 -- words that are refused, whatever files were read before
-pub refused-runs : (s : Result Tally Ended) (W : Telling) (p : Planned) (line : List ℕ)
+pub refused_runs : (s : Result Tally Ended) (W : Telling) (p : Planned) (line : List ℕ)
     (tree : List (List ℕ × List ℕ)) (i f : Span) (a b : Texts) → p.plan ≡ refusal line
     → Runs s W (stop_piece line ∷ []) Nowhere a b
     → Runs s W (pieces p.plan tree i.before.rest) (stood p tree i f) a b
-refused-runs s W p line tree i f a b is h =
+refused_runs s W p line tree i f a b is h =
     let same = subst (λ x. Runs s W (pieces x tree i.before.rest) (among x tree i f) a b) (sym is) h in
-    runs-weaken W s (pieces p.plan tree i.before.rest) (among p.plan tree i f) (stood p tree i f) a b
+    runs_weaken W s (pieces p.plan tree i.before.rest) (among p.plan tree i f) (stood p tree i f) a b
     (λ why file k x. in_inputs x) same
 
 -- a plan that only says something reads no input
@@ -101,24 +101,24 @@ no_input : reads_standard [] ≡ true → ⊥
 unfolding reads_standard
 no_input e = false≢true e
 
-pub said-goes : (s : Result Tally Ended) (plan : Plan) (P : Type 0) → IsSaid plan → GoesOn s (ReadsInput plan → P)
-said-goes (Ok tally) (Says ps) P is = λ goes reads. absurd (no_input reads)
-said-goes (Ok tally) (Writes bytes) P is = λ goes reads. absurd (no_input reads)
-said-goes (Ok tally) (Tries b trials) P is = λ goes reads. absurd (no_input reads)
-said-goes (Ok tally) (Reads m whole names) P is = absurd is
-said-goes (Ok tally) (Samples r) P is = λ goes reads. absurd (no_input reads)
-said-goes (Ok tally) (Replays w) P is = absurd is
-said-goes (Err e) plan P is = tt
+pub said_goes : (s : Result Tally Ended) (plan : Plan) (P : Type 0) → IsSaid plan → GoesOn s (ReadsInput plan → P)
+said_goes (Ok tally) (Says ps) P is = λ goes reads. absurd (no_input reads)
+said_goes (Ok tally) (Writes bytes) P is = λ goes reads. absurd (no_input reads)
+said_goes (Ok tally) (Tries b trials) P is = λ goes reads. absurd (no_input reads)
+said_goes (Ok tally) (Reads m whole names) P is = absurd is
+said_goes (Ok tally) (Samples r) P is = λ goes reads. absurd (no_input reads)
+said_goes (Ok tally) (Replays w) P is = absurd is
+said_goes (Err e) plan P is = tt
 
 -- the run over the same plan, and over the same names
-pub match-runs : (s : Result Tally Ended) (W : Telling) (m : Maker) (whole : Bool) (names names' : List (List ℕ))
+pub match_runs : (s : Result Tally Ended) (W : Telling) (m : Maker) (whole : Bool) (names names' : List (List ℕ))
     (r : Reading) (plan : Plan) (tree : List (List ℕ × List ℕ)) (i f : Span) (a b : Texts)
     → plan ≡ Reads m whole names → names' ≡ names → r ≡ reading whole
     → Runs s W (inputs_pieces (makes_of m) r tree i.before.rest names')
     (InInputs names' (λ front. length (inputs_pieces (makes_of m) r tree i.before.rest front)) tree r.whole
     i.before i.after f.before f.after) a b
     → Runs s W (pieces plan tree i.before.rest) (among plan tree i f) a b
-match-runs s W m whole names names' r plan tree i f a b is n e h =
+match_runs s W m whole names names' r plan tree i f a b is n e h =
     let read = subst (λ x. Runs s W (inputs_pieces (makes_of m) x tree i.before.rest names')
     (InInputs names' (λ front. length (inputs_pieces (makes_of m) x tree i.before.rest front)) tree x.whole
     i.before i.after f.before f.after) a b) e h in
@@ -126,26 +126,26 @@ match-runs s W m whole names names' r plan tree i f a b is n e h =
     (subst (λ x. Runs s W (pieces (Reads m whole x) tree i.before.rest) (among (Reads m whole x) tree i f) a b) n read)
 
 -- whose inputs are told
-pub told-names : (names names' : List (List ℕ)) (files input : Type 0) → names' ≡ names → AreTold names files input
+pub told_names : (names names' : List (List ℕ)) (files input : Type 0) → names' ≡ names → AreTold names files input
     → AreTold names' files input
-told-names names names' files input e h = subst (λ x. AreTold x files input) (sym e) h
+told_names names names' files input e h = subst (λ x. AreTold x files input) (sym e) h
 
-pub names-go : (s : Result Tally Ended) (plan : Plan) (names names' : List (List ℕ)) (P : Type 0)
+pub names_go : (s : Result Tally Ended) (plan : Plan) (names names' : List (List ℕ)) (P : Type 0)
     → inputs_of plan ≡ names → names' ≡ names → GoesOn s (reads_standard names' ≡ true → P)
     → GoesOn s (ReadsInput plan → P)
-names-go s plan names names' P e f h =
+names_go s plan names names' P e f h =
     subst (λ x. GoesOn s (reads_standard x ≡ true → P)) (f ∙ sym e) h
 
 -- and over the same tests
-pub test-runs : (s : Result Tally Ended) (W : Telling) (bench : Bench) (trials : List Trial) (plan : Plan)
+pub test_runs : (s : Result Tally Ended) (W : Telling) (bench : Bench) (trials : List Trial) (plan : Plan)
     (tree : List (List ℕ × List ℕ)) (i f : Span) (a b : Texts) → plan ≡ Tries bench trials
     → Runs s W (suite_pieces bench trials) Nowhere a b → Runs s W (pieces plan tree i.before.rest) (among plan tree i f) a b
-test-runs s W bench trials plan tree i f a b is h =
+test_runs s W bench trials plan tree i f a b is h =
     subst (λ x. Runs s W (pieces x tree i.before.rest) (among x tree i f) a b) (sym is) h
 
-pub planned-goes : (s : Result Tally Ended) (p : Planned) (plan : Plan) (P : Type 0) → p.plan ≡ plan
+pub planned_goes : (s : Result Tally Ended) (p : Planned) (plan : Plan) (P : Type 0) → p.plan ≡ plan
     → GoesOn s (ReadsInput plan → P) → GoesOn s (ReadsInput p.plan → P)
-planned-goes s p plan P is h = subst (λ x. GoesOn s (ReadsInput x → P)) (sym is) h
+planned_goes s p plan P is h = subst (λ x. GoesOn s (ReadsInput x → P)) (sym is) h
 
 -- a read that failed on the way to the plan
 pub unread : (e : Ended) (W : Telling) (p : Planned) (tree : List (List ℕ × List ℕ)) (path : List ℕ) (i f : Span)
@@ -153,8 +153,8 @@ pub unread : (e : Ended) (W : Telling) (p : Planned) (tree : List (List ℕ × L
     → RoseIn f.before f.after → Breaks e W (pieces p.plan tree i.before.rest) (stood p tree i f) a a
 unread e W p tree path i f a fits is some rose =
     let all = pieces p.plan tree i.before.rest in
-    breaks-cut W e Y.ReadFault path all [] all (stood p tree i f) a a is refl (has-nil is_stop)
-    (wrote-none W a a refl fits) (in_loading some refl rose refl)
+    breaks_cut W e Y.ReadFault path all [] all (stood p tree i f) a a is refl (has_nil is_stop)
+    (wrote_none W a a refl fits) (in_loading some refl rose refl)
 
 -- the standard input was read where the run came to its end
 read_flags : (s f h : Bool) → CameToEnd (flags_status s f h) → s ≡ false
@@ -165,11 +165,11 @@ read_why : (why : ReadStop) → CameToEnd (stop_status why) → ⊥
 read_why Y.ReadFault is = is
 read_why Y.Spent is = is
 
-pub read-of : (r : Result Tally Ended) (s : Status) (W : Telling) (b d : Texts) (P : Type 0) → Closes r s W b d → CameToEnd s → GoesOn r P → P
-read-of (Ok tally) s W b d P c is goes = elim c.1 [ inl e ↦ goes (read_flags tally.stop tally.fault tally.hit (subst CameToEnd e is)) | inr e ↦ absurd (subst CameToEnd e is) ]
-read-of (Err E.NoMemory) s W b d P c is goes = absurd (subst CameToEnd c.1 is)
-read-of (Err E.WriteFault) s W b d P c is goes = absurd (subst CameToEnd c.1 is)
-read-of (Err (E.Cut why text)) s W b d P c is goes = elim c.3 [ inl e ↦ absurd (read_why why (subst CameToEnd e.0 is)) | inr e ↦ absurd (subst CameToEnd e.0 is) ]
+pub read_of : (r : Result Tally Ended) (s : Status) (W : Telling) (b d : Texts) (P : Type 0) → Closes r s W b d → CameToEnd s → GoesOn r P → P
+read_of (Ok tally) s W b d P c is goes = elim c.1 [ inl e ↦ goes (read_flags tally.stop tally.fault tally.hit (subst CameToEnd e is)) | inr e ↦ absurd (subst CameToEnd e is) ]
+read_of (Err E.NoMemory) s W b d P c is goes = absurd (subst CameToEnd c.1 is)
+read_of (Err E.WriteFault) s W b d P c is goes = absurd (subst CameToEnd c.1 is)
+read_of (Err (E.Cut why text)) s W b d P c is goes = elim c.3 [ inl e ↦ absurd (read_why why (subst CameToEnd e.0 is)) | inr e ↦ absurd (subst CameToEnd e.0 is) ]
 
 -- the standard input is among the inputs where one of them has its name
 or_true : (b c : Bool) → c ≡ true → cond b true c ≡ true
@@ -221,77 +221,77 @@ among_not_spent (Samples r) tree i f file k short files x = x
 among_not_spent (Replays w) tree i f file k short files x =
     session_not_spent w i.before.rest i.before i.after f.before f.after file k (short session_reads) x
 
-pub not-spent : (p : Planned) (tree : List (List ℕ × List ℕ)) (i f : Span) (file : List ℕ) (k : ℕ)
+pub not_spent : (p : Planned) (tree : List (List ℕ × List ℕ)) (i f : Span) (file : List ℕ) (k : ℕ)
     → (reads_standard (inputs_of p.plan) ≡ true → length i.before.rest < 2 ^ 32) → AreShort (inputs_of p.plan) tree
     → stood p tree i f Y.Spent file k → ⊥
 unfolding IsShort
-not-spent p tree i f file k short files (in_loading at e rose z) = absurd (cc)
-not-spent p tree i f file k short files (in_inputs x) = among_not_spent p.plan tree i f file k short files x
+not_spent p tree i f file k short files (in_loading at e rose z) = absurd (cc)
+not_spent p tree i f file k short files (in_inputs x) = among_not_spent p.plan tree i f file k short files x
 
 -- words that are refused have a plan that says so
-pub refused-plan : (a : Asked) (text : List ℕ) (tree : List (List ℕ × List ℕ)) (p : Planned) → Refuse text ≡ a
+pub refused_plan : (a : Asked) (text : List ℕ) (tree : List (List ℕ × List ℕ)) (p : Planned) → Refuse text ≡ a
     → IsPlanned a tree p → p.plan ≡ refusal text
-refused-plan a text tree p e is =
+refused_plan a text tree p e is =
     ap (λ (q : Planned). q.plan) (subst (λ (x : Asked). IsPlanned x tree p) (sym e) is)
 
 -- and the plan of others is that of their command
-pub do-planned : (a : Asked) (c : Command) (tree : List (List ℕ × List ℕ)) (p : Planned) → Do c ≡ a
+pub do_planned : (a : Asked) (c : Command) (tree : List (List ℕ × List ℕ)) (p : Planned) → Do c ≡ a
     → IsPlanned a tree p → IsPlannedAs c c.what tree p
-do-planned a c tree p e is = subst (λ (x : Asked). IsPlanned x tree p) (sym e) is
+do_planned a c tree p e is = subst (λ (x : Asked). IsPlanned x tree p) (sym e) is
 
-pub do-goes-on : (a : Asked) (c : Command) → Do c ≡ a → IsRefused a → ⊥
-do-goes-on a c e refused = subst IsRefused (sym e) refused
+pub do_goes_on : (a : Asked) (c : Command) → Do c ≡ a → IsRefused a → ⊥
+do_goes_on a c e refused = subst IsRefused (sym e) refused
 
 -- a session, from its own run
 abbrev pub session_planned : Loading → Planned
 session_planned w = record { asked = []; plan = Replays w }
 
-pub session-runs : (s : Result Tally Ended) (W : Telling) (p : Planned) (w : Loading) (tree : List (List ℕ × List ℕ))
+pub session_runs : (s : Result Tally Ended) (W : Telling) (p : Planned) (w : Loading) (tree : List (List ℕ × List ℕ))
     (i f : Span) (a b : Texts) → p ≡ session_planned w
     → Runs s W (replay w i.before.rest) (InSession w i.before.rest i.before i.after f.before f.after) a b
     → Runs s W (pieces p.plan tree i.before.rest) (stood p tree i f) a b
-session-runs s W p w tree i f a b is h =
+session_runs s W p w tree i f a b is h =
     let input = i.before.rest in
     subst (λ (q : Planned). Runs s W (pieces q.plan tree input) (stood q tree i f) a b) (sym is)
-    (runs-weaken W s (replay w input) (InSession w input i.before i.after f.before f.after)
+    (runs_weaken W s (replay w input) (InSession w input i.before i.after f.before f.after)
     (stood (session_planned w) tree i f) a b (λ why file k x. in_inputs x) h)
 
-pub session-goes : (s : Result Tally Ended) (p : Planned) (P : Type 0) → GoesOn s P → GoesOn s (ReadsInput p.plan → P)
-session-goes (Ok tally) p P h = λ goes _. h goes
-session-goes (Err e) p P h = tt
+pub session_goes : (s : Result Tally Ended) (p : Planned) (P : Type 0) → GoesOn s P → GoesOn s (ReadsInput p.plan → P)
+session_goes (Ok tally) p P h = λ goes _. h goes
+session_goes (Err e) p P h = tt
 
 -- where nothing goes wrong there is an answer
 module _ (W : Telling) (ps : List Piece) (Where : ReadStop → List ℕ → ℕ → Type 0) (a b : Texts) (i0 i1 f0 f1 : Moment)
     (o0 o1 e0 e1 : ℕ) (i : RoseIn i0 i1 → ⊥) (f : RoseIn f0 f1 → ⊥) (o : Rose o0 o1 → ⊥) (e : Rose e0 e1 → ⊥)
     (few : (file : List ℕ) (k : ℕ) → Where Y.Spent file k → ⊥) where
-  pub completes-if : (answer : Status) → has is_stop ps ≡ false → has is_fault ps ≡ false
+  pub completes_if : (answer : Status) → has is_stop ps ≡ false → has is_fault ps ≡ false
       → Headline answer W ps Where a b → ReadsCause answer i0 i1 f0 f1 → OutputCause answer o0 o1 e0 e1
       → IsComplete answer ps
-  completes-if answer stays clean h r w =
+  completes_if answer stays clean h r w =
       completes W ps Where a b i0 i1 f0 f1 o0 o1 e0 e1 i f o e few stays clean answer h r w
 
   -- where no read and no write goes wrong the answer is the report's
-  pub answers-all : (answer : Status) → Headline answer W ps Where a b → ReadsCause answer i0 i1 f0 f1
+  pub answers_all : (answer : Status) → Headline answer W ps Where a b → ReadsCause answer i0 i1 f0 f1
       → OutputCause answer o0 o1 e0 e1 → IsAnswer answer ps
-  answers-all Matched h r w = inl h.status
-  answers-all NoMatch h r w = inl h.status
-  answers-all Refused h r w = inl h.status
-  answers-all LineFault h r w = inl h.status
-  answers-all ReadFault h r w = elim r.2 [ inl x ↦ absurd (i x) | inr x ↦ absurd (f x) ]
-  answers-all Spent h r w = absurd (few h.file h.k h.stood)
-  answers-all WriteFault h r w = elim w.2 [ inl x ↦ absurd (o x) | inr x ↦ absurd (e x) ]
-  answers-all NoMemory h r w = inr refl
+  answers_all Matched h r w = inl h.status
+  answers_all NoMatch h r w = inl h.status
+  answers_all Refused h r w = inl h.status
+  answers_all LineFault h r w = inl h.status
+  answers_all ReadFault h r w = elim r.2 [ inl x ↦ absurd (i x) | inr x ↦ absurd (f x) ]
+  answers_all Spent h r w = absurd (few h.file h.k h.stood)
+  answers_all WriteFault h r w = elim w.2 [ inl x ↦ absurd (o x) | inr x ↦ absurd (e x) ]
+  answers_all NoMemory h r w = inr refl
 
 -- ---- a plan that doesn't name the standard input
 
-pub unread-names : (plan : Plan) (names names' : List (List ℕ)) → inputs_of plan ≡ names → names' ≡ names
+pub unread_names : (plan : Plan) (names names' : List (List ℕ)) → inputs_of plan ≡ names → names' ≡ names
     → LeavesInput plan → reads_standard names' ≡ false
-unread-names plan names names' e f n = ap reads_standard (f ∙ sym e) ∙ n
+unread_names plan names names' e f n = ap reads_standard (f ∙ sym e) ∙ n
 
 pub session-reads : (p : Planned) (w : Loading) → p ≡ session_planned w → LeavesInput p.plan → ⊥
 session-reads p w is n =
     false≢true (sym (subst (λ (q : Planned). LeavesInput q.plan) is n) ∙ session_reads)
 
 -- a session runs its lines
-pub session-works : (p : Planned) (w : Loading) → p ≡ session_planned w → IsIdlePlan p.plan → ⊥
-session-works p w is n = subst (λ (q : Planned). IsIdlePlan q.plan) is n
+pub session_works : (p : Planned) (w : Loading) → p ≡ session_planned w → IsIdlePlan p.plan → ⊥
+session_works p w is n = subst (λ (q : Planned). IsIdlePlan q.plan) is n

@@ -83,10 +83,10 @@ one_text names a b s t =
     ∙ sym t.same
 
 -- what is in order by its bytes has its bytes in order
-sorted-map : {A : Type 0} (f : A → List ℕ) (xs : List A) → IsSortedBy (λ x y. lt (f x) (f y)) xs →
+sorted_map : {A : Type 0} (f : A → List ℕ) (xs : List A) → IsSortedBy (λ x y. lt (f x) (f y)) xs →
     IsSortedBy lt (map f xs)
-sorted-map f [] up = λ k d l h. absurd (omega arith)
-sorted-map f (x ∷ xs) up = λ k d l h.
+sorted_map f [] up = λ k d l h. absurd (omega arith)
+sorted_map f (x ∷ xs) up = λ k d l h.
     let long : k + 1 < length (x ∷ xs) = omega (arith, length-map (x ∷ xs) f) in
     let at : k < length (x ∷ xs) = omega arith in
     ap (λ u. lt u (get_or (map f (x ∷ xs)) k d)) (get_or-map f (x ∷ xs) (k + 1) x d long)
@@ -102,7 +102,7 @@ lines_text f all names lines sorted text members made moved order same =
       members =
           IsPermutation-trans (map name_line all) (map name_line names) (map f sorted)
           (IsPermutation-map name_line all names members) of_lines;
-      order = sorted-map f sorted order;
+      order = sorted_map f sorted order;
       same = same;
     }
 

@@ -38,8 +38,8 @@ pays_prop : (s : Settings) (job : Job) → IsProp (PaysFor s job)
 pays_prop s job = Prim.hlevel props
 
 -- a job whose code does what its goal means
-pub job-due : (s : Settings) (job : Job) → ∥ IsMeant job ∥₁ → PaysFor s job
-job-due s job meant = ∥∥₁_elim meant (pays_prop s job) (λ m. λ line u over.
+pub job_due : (s : Settings) (job : Job) → ∥ IsMeant job ∥₁ → PaysFor s job
+job_due s job meant = ∥∥₁_elim meant (pays_prop s job) (λ m. λ line u over.
     over_tells (outcome job.rules job.goal (chars line)) (budget_of s (chars line))
     (run job.code (chars line) (budget_of s (chars line))) over
     (m (chars line) (are_scalars line (IsUtf8-from_is_utf8 line u)) (budget_of s (chars line))))

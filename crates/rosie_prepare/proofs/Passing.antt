@@ -26,13 +26,13 @@ use Rattle.rpl_syntax.specs.Expression.{Expr}
 
 -- ---- tables as rows
 
-pub bodies-rows_of : (rs : List Rule) → bodies (rows_of rs) ≡ bodies_of rs
-bodies-rows_of [] = refl
-bodies-rows_of (r ∷ rs) = ap (λ xs. core_of r.body ∷ xs) (bodies-rows_of rs)
+pub bodies_rows_of : (rs : List Rule) → bodies (rows_of rs) ≡ bodies_of rs
+bodies_rows_of [] = refl
+bodies_rows_of (r ∷ rs) = ap (λ xs. core_of r.body ∷ xs) (bodies_rows_of rs)
 
-pub blocks-rows_of : (rs : List Rule) → blocks (rows_of rs) ≡ blocks_of rs
-blocks-rows_of [] = refl
-blocks-rows_of (r ∷ rs) = ap (λ xs. r.block ∷ xs) (blocks-rows_of rs)
+pub blocks_rows_of : (rs : List Rule) → blocks (rows_of rs) ≡ blocks_of rs
+blocks_rows_of [] = refl
+blocks_rows_of (r ∷ rs) = ap (λ xs. r.block ∷ xs) (blocks_rows_of rs)
 
 -- ---- a line that is told
 

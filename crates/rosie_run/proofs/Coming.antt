@@ -21,16 +21,16 @@ use Rattle.rosie_run.specs.declared.mark.Mark.{Mark}
 use Rattle.rosie_run.specs.declared.tool.Tool.{Tool}
 use Rattle.rosie_run.specs.inside.FromLines.{LeavesBy, Since, reading_of, to_come}
 use Rattle.rosie_run.specs.inside.Passing.{IsStop, IsStopOrMemory, MakesOf, MakesPiece}
-use Rattle.rosie_run.proofs.FromLines.{past-next, since-next, stops-failed, stops-spent}
-use Rattle.rosie_run.proofs.OneLine.{long-is, no-text-is, text-is}
+use Rattle.rosie_run.proofs.FromLines.{past_next, since_next, stops_failed, stops_spent}
+use Rattle.rosie_run.proofs.OneLine.{long_is, no_text_is, text_is}
 use Rattle.rosie_run.proofs.Onward.{lines_none, pieces_none}
 use Rattle.rosie_run.proofs.Passing.{pieces_next}
 
 -- what is known of the pieces after it, said otherwise
-pub gives-to : (result : Result (Option Mark) Ended) (ps : List Piece) (C D : List Piece → Type 0) (out err : List ℕ) (s0 s1 : ℕ) (P : Type 0) → OnPiece result P → (P → (more : List Piece) → C more → D more) → Gives result ps C out err s0 s1 → Gives result ps D out err s0 s1
-gives-to (Ok (Some mark)) ps C D out err s0 s1 P h f g = record { piece = g.piece; more = g.more; is = g.is; made = g.made; steps = g.steps; comes = f h g.more g.comes }
-gives-to (Ok None) ps C D out err s0 s1 P h f g = g
-gives-to (Err e) ps C D out err s0 s1 P h f g = g
+pub gives_to : (result : Result (Option Mark) Ended) (ps : List Piece) (C D : List Piece → Type 0) (out err : List ℕ) (s0 s1 : ℕ) (P : Type 0) → OnPiece result P → (P → (more : List Piece) → C more → D more) → Gives result ps C out err s0 s1 → Gives result ps D out err s0 s1
+gives_to (Ok (Some mark)) ps C D out err s0 s1 P h f g = record { piece = g.piece; more = g.more; is = g.is; made = g.made; steps = g.steps; comes = f h g.more g.comes }
+gives_to (Ok None) ps C D out err s0 s1 P h f g = g
+gives_to (Err e) ps C D out err s0 s1 P h f g = g
 
 module _ (makes : Makes) (tool : Tool) (file : List ℕ) (old now : Reader) (left0 left1 out err : List ℕ) (s0 s1 : ℕ) where
   abbrev pub r : Reading
@@ -66,18 +66,18 @@ module _ (makes : Makes) (tool : Tool) (file : List ℕ) (old now : Reader) (lef
   stop_gives (Err E.WriteFault) P m same = tt
   stop_gives (Err (E.Cut why text)) P m same = same
 
-  pub gives-of : (found : Result Line LineFault) (result : Result (Option Mark) Ended) → MakesOf found result makes tool file now.number now.text out err s0 s1 → Numbers found old now → Passes found old now left0 left1 → Gives result first IsLater out err s0 s1
-  gives-of (Ok L.Text) result m n p =
-      piece_gives result now.text (makes file now.number now.text) p.0 (text-is makes r file (old.number + 1) now.text p.1 p.2 ∙ ap (λ k. makes file k now.text) (sym n.0)) m
-  gives-of (Ok L.End) result m n p =
+  pub gives_of : (found : Result Line LineFault) (result : Result (Option Mark) Ended) → MakesOf found result makes tool file now.number now.text out err s0 s1 → Numbers found old now → Passes found old now left0 left1 → Gives result first IsLater out err s0 s1
+  gives_of (Ok L.Text) result m n p =
+      piece_gives result now.text (makes file now.number now.text) p.0 (text_is makes r file (old.number + 1) now.text p.1 p.2 ∙ ap (λ k. makes file k now.text) (sym n.0)) m
+  gives_of (Ok L.End) result m n p =
       subst (λ x. Gives x first IsLater out err s0 s1) (sym m.0) (pieces_none makes r file old.number (lines old.whole left0) (ap (lines old.whole) p.0 ∙ lines_none old.whole), m.1)
-  gives-of (Err (F.TooLong k)) result m n p =
-      piece_gives result p.0 (long k) p.1 (subst (λ x. line_piece makes r file x p.0 ≡ long k) (n.0 ∙ n.1) (long-is makes r file k p.0 p.2)) m
-  gives-of (Err (F.NotText k)) result m n p =
-      piece_gives result p.0 (no_text k) p.1 (subst (λ x. line_piece makes r file x p.0 ≡ no_text k) (n.0 ∙ n.1) (no-text-is makes r file k p.0 p.2 p.3)) m
-  gives-of (Err F.NoMemory) result m n p = subst (λ x. Gives x first IsLater out err s0 s1) (sym m) tt
-  gives-of (Err F.ReadFault) result m n p = stop_gives result (IsStop Y.ReadFault) m.0 m.1
-  gives-of (Err F.Spent) result m n p = stop_gives result (IsStopOrMemory Y.Spent) m.0 m.1
+  gives_of (Err (F.TooLong k)) result m n p =
+      piece_gives result p.0 (long k) p.1 (subst (λ x. line_piece makes r file x p.0 ≡ long k) (n.0 ∙ n.1) (long_is makes r file k p.0 p.2)) m
+  gives_of (Err (F.NotText k)) result m n p =
+      piece_gives result p.0 (no_text k) p.1 (subst (λ x. line_piece makes r file x p.0 ≡ no_text k) (n.0 ∙ n.1) (no_text_is makes r file k p.0 p.2 p.3)) m
+  gives_of (Err F.NoMemory) result m n p = subst (λ x. Gives x first IsLater out err s0 s1) (sym m) tt
+  gives_of (Err F.ReadFault) result m n p = stop_gives result (IsStop Y.ReadFault) m.0 m.1
+  gives_of (Err F.Spent) result m n p = stop_gives result (IsStopOrMemory Y.Spent) m.0 m.1
 
   -- how many lines were passed, and whether there may be more
   goes_some : (result : Result (Option Mark) Ended) (P : Type 0) → P → OnPiece result P
@@ -92,19 +92,19 @@ module _ (makes : Makes) (tool : Tool) (file : List ℕ) (old now : Reader) (lef
   abbrev pub Onward : Type 0
   Onward = (now.number ≡ old.number + 1) × (now.done ≡ false)
 
-  pub goes-of : (found : Result Line LineFault) (result : Result (Option Mark) Ended) → MakesOf found result makes tool file now.number now.text out err s0 s1 → Numbers found old now → OnPiece result Onward
-  goes-of (Ok L.Text) result m n = goes_some result Onward n
-  goes-of (Ok L.End) result m n = subst (λ x. OnPiece x Onward) (sym m.0) tt
-  goes-of (Err (F.TooLong k)) result m n = goes_some result Onward (n.1, n.2)
-  goes-of (Err (F.NotText k)) result m n = goes_some result Onward (n.1, n.2)
-  goes-of (Err F.NoMemory) result m n = subst (λ x. OnPiece x Onward) (sym m) tt
-  goes-of (Err F.ReadFault) result m n = goes_none result Onward (IsStop Y.ReadFault) m.0
-  goes-of (Err F.Spent) result m n = goes_none result Onward (IsStopOrMemory Y.Spent) m.0
+  pub goes_of : (found : Result Line LineFault) (result : Result (Option Mark) Ended) → MakesOf found result makes tool file now.number now.text out err s0 s1 → Numbers found old now → OnPiece result Onward
+  goes_of (Ok L.Text) result m n = goes_some result Onward n
+  goes_of (Ok L.End) result m n = subst (λ x. OnPiece x Onward) (sym m.0) tt
+  goes_of (Err (F.TooLong k)) result m n = goes_some result Onward (n.1, n.2)
+  goes_of (Err (F.NotText k)) result m n = goes_some result Onward (n.1, n.2)
+  goes_of (Err F.NoMemory) result m n = subst (λ x. OnPiece x Onward) (sym m) tt
+  goes_of (Err F.ReadFault) result m n = goes_none result Onward (IsStop Y.ReadFault) m.0
+  goes_of (Err F.Spent) result m n = goes_none result Onward (IsStopOrMemory Y.Spent) m.0
 
   -- what is left of the source
   module _ {S : Type 0} (G : Ghosts S) (begin : Reader) (a b b' : S) (k : ℕ) (h : Since G begin old a b k) (whole : old.whole ≡ begin.whole) (reads : Reads G.tells old.held now.held (G.rest b) (G.rest b') (G.taken b) (G.taken b')) (at_end : G.tells → old.held.ended ≡ false → now.held.ended ≡ true → G.rest b' ≡ []) (ended : old.held.ended ≡ true → b' ≡ b) where
     piece_leaves : (result : Result (Option Mark) Ended) (p : Piece) → MakesPiece result p out err s0 s1 → G.faults b' ≡ G.faults b → (G.tells → (line : List ℕ) × Splits old.whole now.held.ended line (left old.held (G.rest b)) (left now.held (G.rest b'))) → LeavesBy (how_of result) G begin now a b' (count_of result k)
-    piece_leaves (Ok (Some mark)) p m f sp = since-next G begin old a b k h whole now b' reads f sp at_end ended
+    piece_leaves (Ok (Some mark)) p m f sp = since_next G begin old a b k h whole now b' reads f sp at_end ended
     piece_leaves (Ok None) p m f sp = absurd m
     piece_leaves (Err e) p m f sp = subst (λ x. LeavesBy (end_of x) G begin now a b' k) (sym m) (f ∙ h.faults)
 
@@ -120,12 +120,12 @@ module _ (makes : Makes) (tool : Tool) (file : List ℕ) (old now : Reader) (lef
     spent_leaves (Err E.WriteFault) m f x = absurd m
     spent_leaves (Err (E.Cut why text)) m f x = subst (λ w. LeavesBy (CutBy w) G begin now a b' k) (sym m) x
 
-    pub leaves-of : (found : Result Line LineFault) (result : Result (Option Mark) Ended) → MakesOf found result makes tool file now.number now.text out err s0 s1 → Numbers found old now → (G.tells → Passes found old now (left old.held (G.rest b)) (left now.held (G.rest b'))) → HasCause found (G.faults b) (G.faults b') → Stops found G.tells old now (G.rest b) (G.rest b') → LeavesBy (how_of result) G begin now a b' (count_of result k)
-    leaves-of (Ok L.Text) result m n p c s = piece_leaves result (makes file now.number now.text) m c (λ t. (now.text, (p t).0))
-    leaves-of (Ok L.End) result m n p c s =
-        subst (λ x. LeavesBy (how_of x) G begin now a b' (count_of x k)) (sym m.0) (past-next G begin old a b k h whole now b' reads c at_end ended n.3)
-    leaves-of (Err (F.TooLong i)) result m n p c s = piece_leaves result (long i) m c (λ t. ((p t).0, (p t).1))
-    leaves-of (Err (F.NotText i)) result m n p c s = piece_leaves result (no_text i) m c (λ t. ((p t).0, (p t).1))
-    leaves-of (Err F.NoMemory) result m n p c s = subst (λ x. LeavesBy (how_of x) G begin now a b' (count_of x k)) (sym m) (c ∙ h.faults)
-    leaves-of (Err F.ReadFault) result m n p c s = failed_leaves result m.0 (stops-failed G begin old a b k h whole now b' reads s.0 s.1 c)
-    leaves-of (Err F.Spent) result m n p c s = spent_leaves result m.0 c (stops-spent G begin old a b k h whole now b' reads s.0 s.1 c s.2)
+    pub leaves_of : (found : Result Line LineFault) (result : Result (Option Mark) Ended) → MakesOf found result makes tool file now.number now.text out err s0 s1 → Numbers found old now → (G.tells → Passes found old now (left old.held (G.rest b)) (left now.held (G.rest b'))) → HasCause found (G.faults b) (G.faults b') → Stops found G.tells old now (G.rest b) (G.rest b') → LeavesBy (how_of result) G begin now a b' (count_of result k)
+    leaves_of (Ok L.Text) result m n p c s = piece_leaves result (makes file now.number now.text) m c (λ t. (now.text, (p t).0))
+    leaves_of (Ok L.End) result m n p c s =
+        subst (λ x. LeavesBy (how_of x) G begin now a b' (count_of x k)) (sym m.0) (past_next G begin old a b k h whole now b' reads c at_end ended n.3)
+    leaves_of (Err (F.TooLong i)) result m n p c s = piece_leaves result (long i) m c (λ t. ((p t).0, (p t).1))
+    leaves_of (Err (F.NotText i)) result m n p c s = piece_leaves result (no_text i) m c (λ t. ((p t).0, (p t).1))
+    leaves_of (Err F.NoMemory) result m n p c s = subst (λ x. LeavesBy (how_of x) G begin now a b' (count_of x k)) (sym m) (c ∙ h.faults)
+    leaves_of (Err F.ReadFault) result m n p c s = failed_leaves result m.0 (stops_failed G begin old a b k h whole now b' reads s.0 s.1 c)
+    leaves_of (Err F.Spent) result m n p c s = spent_leaves result m.0 c (stops_spent G begin old a b k h whole now b' reads s.0 s.1 c s.2)

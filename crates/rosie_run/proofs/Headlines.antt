@@ -19,7 +19,7 @@ use Rattle.rosie_run.specs.declared.ended.ReadStop.TheVariants as Y
 use Rattle.rosie_run.specs.declared.status.Status.{Status}
 use Rattle.rosie_run.specs.declared.status.Status.TheVariants.{Matched, NoMatch, Refused, LineFault, ReadFault, WriteFault, NoMemory, Spent}
 use Rattle.rosie_run.specs.declared.tally.Tally.{Tally}
-use Rattle.rosie_run.proofs.Pieces.{up-append, fronts-whole}
+use Rattle.rosie_run.proofs.Pieces.{up_append, fronts_whole}
 
 -- the four statuses of a run that came to its end
 flags_are : (s f h : Bool) (P : Status → Type 0) → P Refused → P LineFault → P Matched → P NoMatch → P (flags_status s f h)
@@ -60,14 +60,14 @@ module _ (W : Telling) (all : List Piece) (Where : ReadStop → List ℕ → ℕ
       subst (λ x. Headline x W (up_to_stop all) Where a d) (sym e)
       (headline_flags tally.stop tally.fault tally.hit (up_to_stop all) a d (record { status = ap (λ (t : Tally). flags_status t.stop t.fault t.hit) r.1; wrote = wrote_still (up_to_stop all) a b d r.0 stays }))
   headline_ok tally s a b d r stays (inr e) =
-      subst (λ x. Headline x W (up_to_stop all) Where a d) (sym e) (in_the_run (fronts_still (up_to_stop all) a b d (fronts-whole W (up_to_stop all) a b r.0) stays))
+      subst (λ x. Headline x W (up_to_stop all) Where a d) (sym e) (in_the_run (fronts_still (up_to_stop all) a b d (fronts_whole W (up_to_stop all) a b r.0) stays))
 
   first_done : (done todo : List Piece) → up_to_stop all ≡ done ++ todo → take (length done) (up_to_stop all) ≡ done
   first_done done todo e = ap (take (length done)) e ∙ take-append_seam done todo
 
   behind_done : (done todo : List Piece) → all ≡ done ++ todo → has is_stop done ≡ false → IsBehind (up_to_stop all) (length done)
   behind_done done todo split goes =
-      let whole = ap up_to_stop split ∙ up-append done todo goes in
+      let whole = ap up_to_stop split ∙ up_append done todo goes in
       record {
         within = omega (arith, ap length whole, length-append done (up_to_stop todo));
         goes_on = ap (has is_stop) (first_done done (up_to_stop todo) whole) ∙ goes;
@@ -79,7 +79,7 @@ module _ (W : Telling) (all : List Piece) (Where : ReadStop → List ℕ → ℕ
 
   headline_cut : (why : ReadStop) (text : List ℕ) (s : Status) (a b d : Texts) → CutShort W all Where why text a b → (W.out → d.out ≡ b.out) → (W.counts → d.number ≡ b.number) → d.steps ≡ b.steps → ((s ≡ stop_status why) × (W.err → d.err ≡ b.err ++ text)) ⊎ ((s ≡ WriteFault) × (W.err → IsFront b.err d.err text)) → Headline s W (up_to_stop all) Where a d
   headline_cut why text s a b d h out number steps (inl e) =
-      let first = first_done h.done (up_to_stop h.todo) (ap up_to_stop h.split ∙ up-append h.done h.todo h.goes_on) in
+      let first = first_done h.done (up_to_stop h.todo) (ap up_to_stop h.split ∙ up_append h.done h.todo h.goes_on) in
       subst (λ x. Headline x W (up_to_stop all) Where a d) (sym e.0) (headline_why why a d (record {
         file = h.file;
         k = length h.done;
@@ -91,7 +91,7 @@ module _ (W : Telling) (all : List Piece) (Where : ReadStop → List ℕ → ℕ
         steps = steps ∙ h.wrote.steps ∙ ap (λ ps. a.steps + costs ps) (sym first);
       }))
   headline_cut why text s a b d h out number steps (inr e) =
-      let first = first_done h.done (up_to_stop h.todo) (ap up_to_stop h.split ∙ up-append h.done h.todo h.goes_on) in
+      let first = first_done h.done (up_to_stop h.todo) (ap up_to_stop h.split ∙ up_append h.done h.todo h.goes_on) in
       subst (λ x. Headline x W (up_to_stop all) Where a d) (sym e.0) (at_the_end why h.file (length h.done) (behind_done h.done h.todo h.split h.goes_on) h.stood
       (λ t. subst (λ ps. IsFront a.out d.out (outs ps)) (sym first) (front_still a.out b.out d.out (outs h.done) (length (outs h.done), omega arith, h.wrote.out t ∙ ap (λ xs. a.out ++ xs) (sym (take-length (outs h.done)))) (out t)))
       (λ t. subst (λ x. IsFront a.err d.err (errs (take (length h.done) (up_to_stop all)) ++ x)) h.says (subst (λ ps. IsFront a.err d.err (errs ps ++ text)) (sym first) (last_front a.err b.err d.err (errs h.done) text (h.wrote.err t) (e.1 t)))))
@@ -107,29 +107,29 @@ output_from : (s : Status) (o0 o1 o2 e0 e1 e2 : ℕ) → o1 ≡ o0 → e1 ≡ e0
 output_from s o0 o1 o2 e0 e1 e2 p q h = subst (λ x. OutputCause s x o2 e0 e2) p (subst (λ x. OutputCause s o1 o2 x e2) q h)
 
 -- a fault of writing comes only where a count rose
-pub output-cause : (r : Result Tally Ended) (s : Status) (W : Telling) (b d : Texts) (o0 o1 o2 e0 e1 e2 : ℕ) → Closes r s W b d → WritesCause r o0 o1 e0 e1 → ClosesCause r s o1 o2 e1 e2 → OutputCause s o0 o2 e0 e2
-output-cause (Ok tally) s W b d o0 o1 o2 e0 e1 e2 c w h = output_from s o0 o1 o2 e0 e1 e2 w.0 w.1 h
-output-cause (Err E.NoMemory) s W b d o0 o1 o2 e0 e1 e2 c w h = subst (λ x. OutputCause x o0 o2 e0 e2) (sym c.1) (h.0 ∙ w.0, h.1 ∙ w.1)
-output-cause (Err E.WriteFault) s W b d o0 o1 o2 e0 e1 e2 c w h =
+pub output_cause : (r : Result Tally Ended) (s : Status) (W : Telling) (b d : Texts) (o0 o1 o2 e0 e1 e2 : ℕ) → Closes r s W b d → WritesCause r o0 o1 e0 e1 → ClosesCause r s o1 o2 e1 e2 → OutputCause s o0 o2 e0 e2
+output_cause (Ok tally) s W b d o0 o1 o2 e0 e1 e2 c w h = output_from s o0 o1 o2 e0 e1 e2 w.0 w.1 h
+output_cause (Err E.NoMemory) s W b d o0 o1 o2 e0 e1 e2 c w h = subst (λ x. OutputCause x o0 o2 e0 e2) (sym c.1) (h.0 ∙ w.0, h.1 ∙ w.1)
+output_cause (Err E.WriteFault) s W b d o0 o1 o2 e0 e1 e2 c w h =
     subst (λ x. OutputCause x o0 o2 e0 e2) (sym c.1) (subst (λ x. OutputCause WriteFault o0 x e0 e2) (sym h.0) (subst (λ x. OutputCause WriteFault o0 o1 e0 x) (sym h.1) w))
-output-cause (Err (E.Cut why text)) s W b d o0 o1 o2 e0 e1 e2 c w h = output_from s o0 o1 o2 e0 e1 e2 w.0 w.1 h
+output_cause (Err (E.Cut why text)) s W b d o0 o1 o2 e0 e1 e2 c w h = output_from s o0 o1 o2 e0 e1 e2 w.0 w.1 h
 
 -- and a fault of reading too
 few_of : (m0 m1 : Moment) → Still m0 m1 → NoFewer m0 m1
 few_of m0 m1 s = let a = s.faults in let b = s.opens in record { faults = omega arith; opens = omega arith }
 
-pub reads-cause : (r : Result Tally Ended) (s : Status) (W : Telling) (b d : Texts) (i0 i1 f0 f1 : Moment) → Closes r s W b d → SourcesCause r i0 i1 f0 f1 → ReadsCause s i0 i1 f0 f1
-reads-cause (Ok tally) s W b d i0 i1 f0 f1 c h = by c.1 where
+pub reads_cause : (r : Result Tally Ended) (s : Status) (W : Telling) (b d : Texts) (i0 i1 f0 f1 : Moment) → Closes r s W b d → SourcesCause r i0 i1 f0 f1 → ReadsCause s i0 i1 f0 f1
+reads_cause (Ok tally) s W b d i0 i1 f0 f1 c h = by c.1 where
   by : (s ≡ flags_status tally.stop tally.fault tally.hit) ⊎ (s ≡ WriteFault) → ReadsCause s i0 i1 f0 f1
   by (inl e) = subst (λ x. ReadsCause x i0 i1 f0 f1) (sym e) (flags_are tally.stop tally.fault tally.hit (λ x. ReadsCause x i0 i1 f0 f1) h h h h)
   by (inr e) = subst (λ x. ReadsCause x i0 i1 f0 f1) (sym e) (few_of i0 i1 h.0, few_of f0 f1 h.1)
-reads-cause (Err E.NoMemory) s W b d i0 i1 f0 f1 c h = subst (λ x. ReadsCause x i0 i1 f0 f1) (sym c.1) h
-reads-cause (Err E.WriteFault) s W b d i0 i1 f0 f1 c h = subst (λ x. ReadsCause x i0 i1 f0 f1) (sym c.1) (few_of i0 i1 h.0, few_of f0 f1 h.1)
-reads-cause (Err (E.Cut Y.ReadFault text)) s W b d i0 i1 f0 f1 c h = by c.3 where
+reads_cause (Err E.NoMemory) s W b d i0 i1 f0 f1 c h = subst (λ x. ReadsCause x i0 i1 f0 f1) (sym c.1) h
+reads_cause (Err E.WriteFault) s W b d i0 i1 f0 f1 c h = subst (λ x. ReadsCause x i0 i1 f0 f1) (sym c.1) (few_of i0 i1 h.0, few_of f0 f1 h.1)
+reads_cause (Err (E.Cut Y.ReadFault text)) s W b d i0 i1 f0 f1 c h = by c.3 where
   by : ((s ≡ ReadFault) × (W.err → d.err ≡ b.err ++ string_bytes text)) ⊎ ((s ≡ WriteFault) × (W.err → IsFront b.err d.err (string_bytes text))) → ReadsCause s i0 i1 f0 f1
   by (inl e) = subst (λ x. ReadsCause x i0 i1 f0 f1) (sym e.0) h
   by (inr e) = subst (λ x. ReadsCause x i0 i1 f0 f1) (sym e.0) (h.0, h.1)
-reads-cause (Err (E.Cut Y.Spent text)) s W b d i0 i1 f0 f1 c h = by c.3 where
+reads_cause (Err (E.Cut Y.Spent text)) s W b d i0 i1 f0 f1 c h = by c.3 where
   by : ((s ≡ Spent) × (W.err → d.err ≡ b.err ++ string_bytes text)) ⊎ ((s ≡ WriteFault) × (W.err → IsFront b.err d.err (string_bytes text))) → ReadsCause s i0 i1 f0 f1
   by (inl e) = subst (λ x. ReadsCause x i0 i1 f0 f1) (sym e.0) h
   by (inr e) = subst (λ x. ReadsCause x i0 i1 f0 f1) (sym e.0) (few_of i0 i1 h.0, few_of f0 f1 h.1)

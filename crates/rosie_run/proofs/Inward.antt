@@ -21,19 +21,19 @@ use Rattle.rosie_run.specs.declared.ended.ReadStop.TheVariants.{ReadFault, Spent
 use Rattle.rosie_run.specs.declared.lines.Reading.{Reading}
 use Rattle.rosie_run.specs.declared.tally.Tally.{Tally}
 use Rattle.rosie_run.proofs.Onward.{goes_by, stops_by}
-use Rattle.rosie_run.proofs.Pieces.{has-append, has-up, up-all, wrote-append, stands-first, stands-on, stands-end, stands-stop, stands-front}
+use Rattle.rosie_run.proofs.Pieces.{has_append, has_up, up_all, wrote_append, stands_first, stands_on, stands_end, stands_stop, stands_front}
 
 -- what goes on breaks off in its next part
-pub breaks-later : (W : Telling) (e : Ended) (all done qs todo : List Piece) (P Q : ReadStop → List ℕ → ℕ → Type 0) (a b d : Texts) (t : Tally) → Stands W all done (qs ++ todo) a b t → ((why : ReadStop) (file : List ℕ) (k : ℕ) → P why file k → Q why file (length done + k)) → Breaks e W qs P b d → Breaks e W all Q a d
-breaks-later W E.NoMemory all done qs todo P Q a b d t s f h = stands-front W all done qs todo a b d t s h
-breaks-later W E.WriteFault all done qs todo P Q a b d t s f h = stands-front W all done qs todo a b d t s h
-breaks-later W (E.Cut why text) all done qs todo P Q a b d t s f h = record {
+pub breaks_later : (W : Telling) (e : Ended) (all done qs todo : List Piece) (P Q : ReadStop → List ℕ → ℕ → Type 0) (a b d : Texts) (t : Tally) → Stands W all done (qs ++ todo) a b t → ((why : ReadStop) (file : List ℕ) (k : ℕ) → P why file k → Q why file (length done + k)) → Breaks e W qs P b d → Breaks e W all Q a d
+breaks_later W E.NoMemory all done qs todo P Q a b d t s f h = stands_front W all done qs todo a b d t s h
+breaks_later W E.WriteFault all done qs todo P Q a b d t s f h = stands_front W all done qs todo a b d t s h
+breaks_later W (E.Cut why text) all done qs todo P Q a b d t s f h = record {
   file = h.file;
   done = done ++ h.done;
   todo = h.todo ++ todo;
   split = s.split ∙ ap (λ xs. done ++ (xs ++ todo)) h.split ∙ ap (λ xs. done ++ xs) (append_assoc h.done h.todo todo) ∙ sym (append_assoc done h.done (h.todo ++ todo));
-  goes_on = has-append is_stop done h.done ∙ ap (λ x. x || has is_stop h.done) s.goes_on ∙ h.goes_on;
-  wrote = wrote-append W done h.done a b d s.wrote h.wrote;
+  goes_on = has_append is_stop done h.done ∙ ap (λ x. x || has is_stop h.done) s.goes_on ∙ h.goes_on;
+  wrote = wrote_append W done h.done a b d s.wrote h.wrote;
   says = h.says;
   stood = subst (Q why h.file) (sym (length-append done h.done)) (f why h.file (length h.done) h.stood);
 }
@@ -85,19 +85,19 @@ left_nil : (left : List ℕ) → left_all [] left ≡ left
 unfolding left_all
 left_nil left = refl
 
-pub names-next : {Z : Type 0} (f : Z → List ℕ) (xs : List Z) (i : ℕ) (x : Z) (name : List ℕ) → i < length xs → x ≡ get_or xs i x → name ≡ f x → names_of f (drop i xs) ≡ name ∷ names_of f (drop (i + 1) xs)
-names-next f xs i x name lt is e = ap (names_of f) (drop_more xs i x lt) ∙ ap (λ y. f y ∷ names_of f (drop (i + 1) xs)) (sym is) ∙ ap (λ n. n ∷ names_of f (drop (i + 1) xs)) (sym e)
+pub names_next : {Z : Type 0} (f : Z → List ℕ) (xs : List Z) (i : ℕ) (x : Z) (name : List ℕ) → i < length xs → x ≡ get_or xs i x → name ≡ f x → names_of f (drop i xs) ≡ name ∷ names_of f (drop (i + 1) xs)
+names_next f xs i x name lt is e = ap (names_of f) (drop_more xs i x lt) ∙ ap (λ y. f y ∷ names_of f (drop (i + 1) xs)) (sym is) ∙ ap (λ n. n ∷ names_of f (drop (i + 1) xs)) (sym e)
 
-pub names-none : {Z : Type 0} (f : Z → List ℕ) (xs : List Z) (i : ℕ) → length xs ≤ i → names_of f (drop i xs) ≡ []
-names-none f xs i h = ap (names_of f) (drop_all i xs h)
+pub names_none : {Z : Type 0} (f : Z → List ℕ) (xs : List Z) (i : ℕ) → length xs ≤ i → names_of f (drop i xs) ≡ []
+names_none f xs i h = ap (names_of f) (drop_all i xs h)
 
 -- the standard input was read, and nothing is left of it
 by_standard : (standard : Bool) (left : List ℕ) (read read' : Bool) → (standard ≡ false → read' ≡ read) → (read ≡ true → left ≡ []) → read' ≡ true → cond standard [] left ≡ []
 by_standard true left read read' stays h is = refl
 by_standard false left read read' stays h is = h (sym (stays refl) ∙ is)
 
-pub once-on : (name left left' : List ℕ) (read read' : Bool) → left' ≡ left_after name left → (is_standard name ≡ false → read' ≡ read) → (read ≡ true → left ≡ []) → read' ≡ true → left' ≡ []
-once-on name left left' read read' e stays h is = e ∙ by_standard (is_standard name) left read read' stays h is
+pub once_on : (name left left' : List ℕ) (read read' : Bool) → left' ≡ left_after name left → (is_standard name ≡ false → read' ≡ read) → (read ≡ true → left ≡ []) → read' ≡ true → left' ≡ []
+once_on name left left' read read' e stays h is = e ∙ by_standard (is_standard name) left read read' stays h is
 
 reads_head : (standard : Bool) (rest : Bool) → cond standard true rest ≡ false → (standard ≡ false) × (rest ≡ false)
 reads_head true rest h = absurd (false≢true (sym h))
@@ -113,18 +113,18 @@ reads_drop f xs zero h = h
 reads_drop f [] (suc i) h = h
 reads_drop f (x ∷ xs) (suc i) h = reads_drop f xs i (reads_cons (f x) (names_of f xs) h).1
 
-pub not-standard : {Z : Type 0} (f : Z → List ℕ) (xs : List Z) (i : ℕ) (name : List ℕ) (more : List (List ℕ)) → names_of f (drop i xs) ≡ name ∷ more → reads_standard (names_of f xs) ≡ false → is_standard name ≡ false
-not-standard f xs i name more next h = (reads_cons name more (sym (ap reads_standard next) ∙ reads_drop f xs i h)).0
+pub not_standard : {Z : Type 0} (f : Z → List ℕ) (xs : List Z) (i : ℕ) (name : List ℕ) (more : List (List ℕ)) → names_of f (drop i xs) ≡ name ∷ more → reads_standard (names_of f xs) ≡ false → is_standard name ≡ false
+not_standard f xs i name more next h = (reads_cons name more (sym (ap reads_standard next) ∙ reads_drop f xs i h)).0
 
 -- one that stands there is among them
 true_by : (a b : Bool) → (a ≡ false → b ≡ false) → b ≡ true → a ≡ true
 true_by true b h e = refl
 true_by false b h e = absurd (false≢true (sym (h refl) ∙ e))
 
-pub standard-there : {Z : Type 0} (f : Z → List ℕ) (xs : List Z) (i : ℕ) (name : List ℕ) (more : List (List ℕ))
+pub standard_there : {Z : Type 0} (f : Z → List ℕ) (xs : List Z) (i : ℕ) (name : List ℕ) (more : List (List ℕ))
     → names_of f (drop i xs) ≡ name ∷ more → is_standard name ≡ true → reads_standard (names_of f xs) ≡ true
-standard-there f xs i name more next is =
-    true_by (reads_standard (names_of f xs)) (is_standard name) (λ n. not-standard f xs i name more next n) is
+standard_there f xs i name more next is =
+    true_by (reads_standard (names_of f xs)) (is_standard name) (λ n. not_standard f xs i name more next n) is
 
 files_head : (standard : Bool) (rest : Bool) → cond standard rest true ≡ false → (standard ≡ true) × (rest ≡ false)
 files_head true rest h = (refl, h)
@@ -145,24 +145,24 @@ file_by : (a b : Bool) → (a ≡ false → b ≡ true) → b ≡ false → a �
 file_by true b h e = refl
 file_by false b h e = absurd (false≢true (sym e ∙ h refl))
 
-pub file-there : {Z : Type 0} (f : Z → List ℕ) (xs : List Z) (i : ℕ) (name : List ℕ) (more : List (List ℕ))
+pub file_there : {Z : Type 0} (f : Z → List ℕ) (xs : List Z) (i : ℕ) (name : List ℕ) (more : List (List ℕ))
     → names_of f (drop i xs) ≡ name ∷ more → is_standard name ≡ false → reads_file (names_of f xs) ≡ true
-file-there f xs i name more next isn't =
+file_there f xs i name more next isn't =
     file_by (reads_file (names_of f xs)) (is_standard name)
     (λ n. (files_cons name more (sym (ap reads_file next) ∙ files_drop f xs i n)).0) isn't
 
 -- what such a one needs is told
-pub told-one : {Z : Type 0} (f : Z → List ℕ) (xs : List Z) (i : ℕ) (name : List ℕ) (more : List (List ℕ))
+pub told_one : {Z : Type 0} (f : Z → List ℕ) (xs : List Z) (i : ℕ) (name : List ℕ) (more : List (List ℕ))
     (files input : Type 0) → names_of f (drop i xs) ≡ name ∷ more → AreTold (names_of f xs) files input
     → (is_standard name ≡ false → files) × (is_standard name ≡ true → input)
-told-one f xs i name more files input next k = (
-  λ n. k.of_files (file-there f xs i name more next n),
-  λ n. k.of_input (standard-there f xs i name more next n),
+told_one f xs i name more files input next k = (
+  λ n. k.of_files (file_there f xs i name more next n),
+  λ n. k.of_input (standard_there f xs i name more next n),
 )
 
-pub untouched-on : {I : Type 0} (standard read read' : Bool) (i0 i i' : I) → (standard ≡ true → read' ≡ true) → (standard ≡ false → (read' ≡ read) × (i' ≡ i)) → (read ≡ false → i ≡ i0) → read' ≡ false → i' ≡ i0
-untouched-on true read read' i0 i i' is isn't h e = absurd (false≢true (sym e ∙ is refl))
-untouched-on false read read' i0 i i' is isn't h e = (isn't refl).1 ∙ h (sym (isn't refl).0 ∙ e)
+pub untouched_on : {I : Type 0} (standard read read' : Bool) (i0 i i' : I) → (standard ≡ true → read' ≡ true) → (standard ≡ false → (read' ≡ read) × (i' ≡ i)) → (read ≡ false → i ≡ i0) → read' ≡ false → i' ≡ i0
+untouched_on true read read' i0 i i' is isn't h e = absurd (false≢true (sym e ∙ is refl))
+untouched_on false read read' i0 i i' is isn't h e = (isn't refl).1 ∙ h (sym (isn't refl).0 ∙ e)
 
 ends_later : (why : ReadStop) (m0 m m1 : Moment) → m.faults ≡ m0.faults → (m.taken < 2 ^ 64 - 1 → m0.taken ≤ m.taken) → Ends why m m1 → Ends why m0 m1
 ends_later ReadFault m0 m m1 f t h = subst (λ x. Rose x m1.faults) f h
@@ -173,14 +173,14 @@ file_later tree whole f0 f f1 why file k faults opens taken (not_opened w rose z
 file_later tree whole f0 f f1 why file k faults opens taken (opened got o e is z long) = opened got (o ∙ opens) (ends_later why f0 f f1 faults taken e) is z long
 
 module _ (W : Telling) (makes : Makes) (r : Reading) (tree : List (List ℕ × List ℕ)) (input : List ℕ) (names : List (List ℕ)) where
-  pub reached-start : (a b : Texts) (t : Tally) (back : List (List ℕ)) → back ≡ names → b ≡ a → (W.counts → a.number ≤ 2 ^ 64 - 1) → t ≡ tally_of [] → Reached W makes r tree input input names back false t a b
-  reached-start a b t back is e fits none = record {
+  pub reached_start : (a b : Texts) (t : Tally) (back : List (List ℕ)) → back ≡ names → b ≡ a → (W.counts → a.number ≤ 2 ^ 64 - 1) → t ≡ tally_of [] → Reached W makes r tree input input names back false t a b
+  reached_start a b t back is e fits none = record {
     front = [];
     split = sym is;
     leaves = sym (left_nil input);
     reads = reads_nil;
     stands = subst (λ ps. Stands W (inputs_pieces makes r tree input names) ps (inputs_pieces makes r tree input back) a b t) (sym (inputs_nil makes r tree input))
-        (subst (λ xs. Stands W (inputs_pieces makes r tree input names) [] (inputs_pieces makes r tree input xs) a b t) (sym is) (stands-first W (inputs_pieces makes r tree input names) a b t e fits none));
+        (subst (λ xs. Stands W (inputs_pieces makes r tree input names) [] (inputs_pieces makes r tree input xs) a b t) (sym is) (stands_first W (inputs_pieces makes r tree input names) a b t e fits none));
   }
 
   module _ (left name : List ℕ) (back back' : List (List ℕ)) (read : Bool) (t : Tally) (a b : Texts) (h : Reached W makes r tree input left names back read t a b) (next : back ≡ name ∷ back') where
@@ -195,20 +195,20 @@ module _ (W : Telling) (makes : Makes) (r : Reading) (tree : List (List ℕ × L
 
     module _ (d : Texts) (part t' : Tally) (w : Wrote W (up_to_stop (one_pieces makes r tree left name)) b d × (part ≡ tally_of (up_to_stop (one_pieces makes r tree left name)))) (sums : t' ≡ added t part) where
       part_stop : part.stop ≡ has is_stop (one_pieces makes r tree left name)
-      part_stop = ap (λ (x : Tally). x.stop) w.1 ∙ has-up (one_pieces makes r tree left name)
+      part_stop = ap (λ (x : Tally). x.stop) w.1 ∙ has_up (one_pieces makes r tree left name)
 
-      pub part-goes : t'.stop ≡ false → part.stop ≡ false
-      part-goes goes = goes_by t.stop part.stop none_yet (sym (ap (λ (x : Tally). x.stop) sums) ∙ goes)
+      pub part_goes : t'.stop ≡ false → part.stop ≡ false
+      part_goes goes = goes_by t.stop part.stop none_yet (sym (ap (λ (x : Tally). x.stop) sums) ∙ goes)
 
       -- an input was passed
-      pub reached-on : (left' : List ℕ) (read' : Bool) → t'.stop ≡ false → (part.stop ≡ false → left' ≡ left_after name left) → (is_standard name ≡ true → read' ≡ true) → (is_standard name ≡ false → read' ≡ read) → Reached W makes r tree input left' names back' read' t' a d
-      reached-on left' read' goes leaves' is isn't =
-          let off = part-goes goes in
+      pub reached_on : (left' : List ℕ) (read' : Bool) → t'.stop ≡ false → (part.stop ≡ false → left' ≡ left_after name left) → (is_standard name ≡ true → read' ≡ true) → (is_standard name ≡ false → read' ≡ read) → Reached W makes r tree input left' names back' read' t' a d
+      reached_on left' read' goes leaves' is isn't =
+          let off = part_goes goes in
           let leaves = leaves' off in
           let clear : has is_stop (one_pieces makes r tree left name) ≡ false = sym part_stop ∙ off in
-          let same = up-all (one_pieces makes r tree left name) clear in
+          let same = up_all (one_pieces makes r tree left name) clear in
           let on : Stands W (inputs_pieces makes r tree input names) (inputs_pieces makes r tree input h.front ++ one_pieces makes r tree left name) (inputs_pieces makes r tree (left_after name left) back') a d t' =
-          stands-on W (inputs_pieces makes r tree input names) (inputs_pieces makes r tree input h.front) (one_pieces makes r tree left name) (inputs_pieces makes r tree (left_after name left) back') a b d t t' ahead (subst (λ ps. Wrote W ps b d) same w.0) clear (sums ∙ ap (added t) (w.1 ∙ ap tally_of same)) in
+          stands_on W (inputs_pieces makes r tree input names) (inputs_pieces makes r tree input h.front) (one_pieces makes r tree left name) (inputs_pieces makes r tree (left_after name left) back') a b d t t' ahead (subst (λ ps. Wrote W ps b d) same w.0) clear (sums ∙ ap (added t) (w.1 ∙ ap tally_of same)) in
           record {
             front = h.front ++ name ∷ [];
             split = whole ∙ sym (append_assoc h.front (name ∷ []) back');
@@ -219,22 +219,22 @@ module _ (W : Telling) (makes : Makes) (r : Reading) (tree : List (List ℕ × L
           }
 
       -- a piece of it ends the run
-      pub reached-stop : t'.stop ≡ true → Wrote W (up_to_stop (inputs_pieces makes r tree input names)) a d × (t' ≡ tally_of (up_to_stop (inputs_pieces makes r tree input names)))
-      reached-stop stop =
+      pub reached_stop : t'.stop ≡ true → Wrote W (up_to_stop (inputs_pieces makes r tree input names)) a d × (t' ≡ tally_of (up_to_stop (inputs_pieces makes r tree input names)))
+      reached_stop stop =
           let off : part.stop ≡ true = stops_by t.stop part.stop none_yet (sym (ap (λ (x : Tally). x.stop) sums) ∙ stop) in
-          stands-stop W (inputs_pieces makes r tree input names) (inputs_pieces makes r tree input h.front) (one_pieces makes r tree left name) (inputs_pieces makes r tree (left_after name left) back') a b d t t' ahead (sym part_stop ∙ off) w.0 (sums ∙ ap (added t) w.1)
+          stands_stop W (inputs_pieces makes r tree input names) (inputs_pieces makes r tree input h.front) (one_pieces makes r tree left name) (inputs_pieces makes r tree (left_after name left) back') a b d t t' ahead (sym part_stop ∙ off) w.0 (sums ∙ ap (added t) w.1)
 
     module _ (i0 i i1 f0 f f1 : Moment) (first : read ≡ false → i ≡ i0) (faults : f.faults ≡ f0.faults) (opens : f.opens ≡ f0.opens) (taken : f.taken < 2 ^ 64 - 1 → f0.taken ≤ f.taken) where
       stood : (why : ReadStop) (file : List ℕ) (k : ℕ) → InOne name read tree r.whole i i1 f f1 why file k → InInputs names (λ front. length (inputs_pieces makes r tree input front)) tree r.whole i0 i1 f0 f1 why file (length (inputs_pieces makes r tree input h.front) + k)
       stood why file k (of_standard is once x) = in_standard h.front back' k (whole ∙ ap (λ n. h.front ++ n ∷ back') (sym x.0)) (ap is_standard x.0 ∙ is) (h.reads ∙ once) (subst (λ m. InSource r.whole m i1 why k) (first once) x.1) refl
       stood why file k (of_file isn't x) = in_file h.front back' k (whole ∙ ap (λ n. h.front ++ n ∷ back') (sym x.0)) (ap is_standard x.0 ∙ isn't) (file_later tree r.whole f0 f f1 why file k faults opens taken x.1) refl
 
-      pub reached-break : (e : Ended) (d : Texts) → Breaks e W (one_pieces makes r tree left name) (InOne name read tree r.whole i i1 f f1) b d → Breaks e W (inputs_pieces makes r tree input names) (InInputs names (λ front. length (inputs_pieces makes r tree input front)) tree r.whole i0 i1 f0 f1) a d
-      reached-break e d x = breaks-later W e (inputs_pieces makes r tree input names) (inputs_pieces makes r tree input h.front) (one_pieces makes r tree left name) (inputs_pieces makes r tree (left_after name left) back') (InOne name read tree r.whole i i1 f f1) (InInputs names (λ front. length (inputs_pieces makes r tree input front)) tree r.whole i0 i1 f0 f1) a b d t ahead stood x
+      pub reached_break : (e : Ended) (d : Texts) → Breaks e W (one_pieces makes r tree left name) (InOne name read tree r.whole i i1 f f1) b d → Breaks e W (inputs_pieces makes r tree input names) (InInputs names (λ front. length (inputs_pieces makes r tree input front)) tree r.whole i0 i1 f0 f1) a d
+      reached_break e d x = breaks_later W e (inputs_pieces makes r tree input names) (inputs_pieces makes r tree input h.front) (one_pieces makes r tree left name) (inputs_pieces makes r tree (left_after name left) back') (InOne name read tree r.whole i i1 f f1) (InInputs names (λ front. length (inputs_pieces makes r tree input front)) tree r.whole i0 i1 f0 f1) a b d t ahead stood x
 
   -- all inputs were passed
-  pub reached-end : (left : List ℕ) (back : List (List ℕ)) (read : Bool) (t : Tally) (a b : Texts) → Reached W makes r tree input left names back read t a b → back ≡ [] → Wrote W (up_to_stop (inputs_pieces makes r tree input names)) a b × (t ≡ tally_of (up_to_stop (inputs_pieces makes r tree input names)))
-  reached-end left back read t a b h none = stands-end W (inputs_pieces makes r tree input names) (inputs_pieces makes r tree input h.front) (inputs_pieces makes r tree left back) a b t h.stands (ap (inputs_pieces makes r tree left) none ∙ inputs_nil makes r tree left)
+  pub reached_end : (left : List ℕ) (back : List (List ℕ)) (read : Bool) (t : Tally) (a b : Texts) → Reached W makes r tree input left names back read t a b → back ≡ [] → Wrote W (up_to_stop (inputs_pieces makes r tree input names)) a b × (t ≡ tally_of (up_to_stop (inputs_pieces makes r tree input names)))
+  reached_end left back read t a b h none = stands_end W (inputs_pieces makes r tree input names) (inputs_pieces makes r tree input h.front) (inputs_pieces makes r tree left back) a b t h.stands (ap (inputs_pieces makes r tree left) none ∙ inputs_nil makes r tree left)
 
-  pub reached-all : (left : List ℕ) (back : List (List ℕ)) (read : Bool) (t : Tally) (a b : Texts) → Reached W makes r tree input left names back read t a b → back ≡ [] → reads_standard names ≡ read
-  reached-all left back read t a b h none = ap reads_standard (h.split ∙ ap (λ xs. h.front ++ xs) none ∙ append-nil h.front) ∙ h.reads
+  pub reached_all : (left : List ℕ) (back : List (List ℕ)) (read : Bool) (t : Tally) (a b : Texts) → Reached W makes r tree input left names back read t a b → back ≡ [] → reads_standard names ≡ read
+  reached_all left back read t a b h none = ap reads_standard (h.split ∙ ap (λ xs. h.front ++ xs) none ∙ append-nil h.front) ∙ h.reads

@@ -25,14 +25,14 @@ module _ (makes : Makes) (r : Reading) (file : List ℕ) (n : ℕ) (line : List 
       let test : nat_lt r.most (length line) ≡ false = grind (arith, h) in
       when_false (nat_lt r.most (length line)) long (cond (is_utf8 line) (makes file n line) no_text) test
 
-  pub long-is : r.most < length line → line_piece makes r file n line ≡ long
+  pub long_is : r.most < length line → line_piece makes r file n line ≡ long
   unfolding line_piece
-  long-is h =
+  long_is h =
       let test : nat_lt r.most (length line) ≡ true = grind (arith, h) in
       when_true (nat_lt r.most (length line)) long (cond (is_utf8 line) (makes file n line) no_text) test
 
-  pub no-text-is : length line ≤ r.most → is_utf8 line ≡ false → line_piece makes r file n line ≡ no_text
-  no-text-is h u = short h ∙ when_false (is_utf8 line) (makes file n line) no_text u
+  pub no_text_is : length line ≤ r.most → is_utf8 line ≡ false → line_piece makes r file n line ≡ no_text
+  no_text_is h u = short h ∙ when_false (is_utf8 line) (makes file n line) no_text u
 
-  pub text-is : length line ≤ r.most → is_utf8 line ≡ true → line_piece makes r file n line ≡ makes file n line
-  text-is h u = short h ∙ when_true (is_utf8 line) (makes file n line) no_text u
+  pub text_is : length line ≤ r.most → is_utf8 line ≡ true → line_piece makes r file n line ≡ makes file n line
+  text_is h u = short h ∙ when_true (is_utf8 line) (makes file n line) no_text u

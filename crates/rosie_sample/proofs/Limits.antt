@@ -99,8 +99,8 @@ module _ (job : MatchJob) where
       ap (λ b. b || has is_stop (pieces_from makes (reading false) file (n + 1) more)) (line_stays file (n + 1) line)
       ∙ lines_stay file (n + 1) more
 
-  pub sample-stays : (seed lines : ℕ) → has is_stop (line_pieces makes seed lines) ≡ false
-  sample-stays seed lines = lines_stay (codes "-") 0 (sample seed lines)
+  pub sample_stays : (seed lines : ℕ) → has is_stop (line_pieces makes seed lines) ≡ false
+  sample_stays seed lines = lines_stay (codes "-") 0 (sample seed lines)
 
   lines_bytes : (file : List ℕ) (n : ℕ) (ls : List (List ℕ)) → length (outs (pieces_from makes (reading false) file n ls)) ≤ max_answer_bytes * length ls
   unfolding pieces_from outs
@@ -115,5 +115,5 @@ module _ (job : MatchJob) where
   sample_length x zero = refl
   sample_length x (suc n) = let h = sample_length (next x) n in omega arith
 
-  pub sample-bytes : (seed lines : ℕ) → lines < 2 ^ 32 → length (outs (line_pieces makes seed lines)) < 2 ^ 60
-  sample-bytes seed lines few = let h = lines_bytes (codes "-") 0 (sample seed lines) in let l = sample_length seed lines in omega arith
+  pub sample_bytes : (seed lines : ℕ) → lines < 2 ^ 32 → length (outs (line_pieces makes seed lines)) < 2 ^ 60
+  sample_bytes seed lines few = let h = lines_bytes (codes "-") 0 (sample seed lines) in let l = sample_length seed lines in omega arith

@@ -7,7 +7,7 @@ use Rattle.rosie_run.specs.Lines.{Makes, line_fault, line_piece, pieces_from}
 use Rattle.rosie_run.specs.Report.{Piece, is_hit, outs, fault_piece}
 use Rattle.rosie_run.specs.declared.mark.Mark.{Mark}
 use Rattle.rosie_run.specs.declared.mark.Mark.TheVariants as M
-use Rattle.rosie_run.proofs.Pieces.{outs-append, outs-nil, outs-one}
+use Rattle.rosie_run.proofs.Pieces.{outs_append, outs_nil, outs_one}
 use Rattle.std.specs.Prelude.{Option, None, String}
 use Rattle.rosie_sample.specs.Views.{report_of}
 use Rattle.std.proofs.Common.{subst}
@@ -51,36 +51,36 @@ pieces_step : (makes : Makes) (file : List ℕ) (n : ℕ) (line : List ℕ) (mor
 unfolding pieces_from
 pieces_step makes file n line more ls e = ap (pieces_from makes (reading false) file n) e
 
-hits-append : (ps qs : List Piece) → hits (ps ++ qs) ≡ hits ps + hits qs
+hits_append : (ps qs : List Piece) → hits (ps ++ qs) ≡ hits ps + hits qs
 unfolding hits
-hits-append [] qs = omega arith
-hits-append (p ∷ ps) qs = let h = hits-append ps qs in omega arith
+hits_append [] qs = omega arith
+hits_append (p ∷ ps) qs = let h = hits_append ps qs in omega arith
 
 one_hit : (p : Piece) → hits (p ∷ []) ≡ cond (is_hit p.mark) 1 0
 unfolding hits
 one_hit p = omega arith
 
 -- those that are left, by the next
-pub left-next : (makes : Makes) (lines passed x : ℕ) (line : List ℕ) → line ≡ line_of (drawn (next x)) → is_utf8 line ≡ true → length line ≤ 64 → passed < lines
+pub left_next : (makes : Makes) (lines passed x : ℕ) (line : List ℕ) → line ≡ line_of (drawn (next x)) → is_utf8 line ≡ true → length line ≤ 64 → passed < lines
     → pieces_from makes (reading false) (codes "-") passed (sample x (lines - passed))
     ≡ makes (codes "-") (passed + 1) line ∷ pieces_from makes (reading false) (codes "-") (passed + 1) (sample (next x) (lines - (passed + 1)))
-left-next makes lines passed x line e u l more =
+left_next makes lines passed x line e u l more =
     let k : lines - passed - 1 ≡ lines - (passed + 1) = omega arith in
     pieces_step makes (codes "-") passed (line_of (drawn (next x))) (sample (next x) (lines - passed - 1)) (sample x (lines - passed)) (sample_step x (lines - passed) (omega arith))
     ∙ ap (λ y. line_piece makes (reading false) (codes "-") (passed + 1) y ∷ pieces_from makes (reading false) (codes "-") (passed + 1) (sample (next x) (lines - passed - 1))) (sym e)
     ∙ ap (λ p. p ∷ pieces_from makes (reading false) (codes "-") (passed + 1) (sample (next x) (lines - passed - 1))) (line_plain makes (codes "-") (passed + 1) line u l)
     ∙ ap (λ n. makes (codes "-") (passed + 1) line ∷ pieces_from makes (reading false) (codes "-") (passed + 1) (sample (next x) n)) k
 
-pub hits-more : (done : List Piece) (p : Piece) (n m : ℕ) → n ≡ hits done → m ≡ n + cond (is_hit p.mark) 1 0 → m ≡ hits (done ++ p ∷ [])
-hits-more done p n m h e = let a = hits-append done (p ∷ []) in let b = one_hit p in omega arith
+pub hits_more : (done : List Piece) (p : Piece) (n m : ℕ) → n ≡ hits done → m ≡ n + cond (is_hit p.mark) 1 0 → m ≡ hits (done ++ p ∷ [])
+hits_more done p n m h e = let a = hits_append done (p ∷ []) in let b = one_hit p in omega arith
 
-pub bytes-more : (done : List Piece) (p : Piece) (n m : ℕ) → n ≡ length (outs done) → m ≡ n + length p.out → m ≡ length (outs (done ++ p ∷ []))
-bytes-more done p n m h e = let a = ap length (outs-append done (p ∷ [])) in let b = ap length (outs-one p) in omega (arith, length-append (outs done) (outs (p ∷ [])))
+pub bytes_more : (done : List Piece) (p : Piece) (n m : ℕ) → n ≡ length (outs done) → m ≡ n + length p.out → m ≡ length (outs (done ++ p ∷ []))
+bytes_more done p n m h e = let a = ap length (outs_append done (p ∷ [])) in let b = ap length (outs_one p) in omega (arith, length-append (outs done) (outs (p ∷ [])))
 
-pub all-more : (lines : ℕ) (done left left' : List Piece) (p : Piece) (ps : List Piece) → left ≡ p ∷ left'
+pub all_more : (lines : ℕ) (done left left' : List Piece) (p : Piece) (ps : List Piece) → left ≡ p ∷ left'
     → ps ≡ map muted left ++ counts_piece lines (done ++ left) ∷ []
     → ps ≡ muted p ∷ (map muted left' ++ counts_piece lines ((done ++ p ∷ []) ++ left') ∷ [])
-all-more lines done left left' p ps e h =
+all_more lines done left left' p ps e h =
     h ∙ ap (λ xs. map muted xs ++ counts_piece lines (done ++ xs) ∷ []) e
     ∙ ap (λ xs. muted p ∷ (map muted left' ++ counts_piece lines xs ∷ [])) (sym (append_assoc done (p ∷ []) left'))
 
@@ -90,14 +90,14 @@ one_most M.Miss = omega arith
 one_most M.Fault = omega arith
 one_most M.Stop = omega arith
 
-pub gives-line : {Z : Type 0} (o : Option (String Z)) → o ≡ None → (s : SampleRun) (ps : List Piece) (mark : Mark) (err : List ℕ) (s0 s1 : ℕ)
+pub gives_line : {Z : Type 0} (o : Option (String Z)) → o ≡ None → (s : SampleRun) (ps : List Piece) (mark : Mark) (err : List ℕ) (s0 s1 : ℕ)
     → GivesPiece ps (IsLeft s) mark [] err s0 s1 → GivesPiece ps (ComesBy o s) mark (said_out o) (said_err o err) s0 s1
-gives-line o e s ps mark err s0 s1 h = subst (λ x. GivesPiece ps (ComesBy x s) mark (said_out x) (said_err x err) s0 s1) (sym e) h
+gives_line o e s ps mark err s0 s1 h = subst (λ x. GivesPiece ps (ComesBy x s) mark (said_out x) (said_err x err) s0 s1) (sym e) h
 
 -- the last piece
-pub gives-last : (s : SampleRun) (ps : List Piece) (text : List ℕ) (n : ℕ) (D : List Piece → Type 0) → IsLeft s ps → s.lines ≤ s.passed
+pub gives_last : (s : SampleRun) (ps : List Piece) (text : List ℕ) (n : ℕ) (D : List Piece → Type 0) → IsLeft s ps → s.lines ≤ s.passed
     → text ≡ counts_text s.lines s.matched s.bytes → D [] → GivesPiece ps D M.Miss text [] n n
-gives-last s ps text n D h past says d =
+gives_last s ps text n D h past says d =
     let makes = makes_of (matcher_of s.job) in
     let none : lines_left s ≡ [] = pieces_none makes (codes "-") s.passed (sample s.sample.number (s.lines - s.passed)) (sample_none s.sample.number (s.lines - s.passed) (omega arith)) in
     let all : h.done ≡ h.done ++ lines_left s = sym (ap (λ xs. h.done ++ xs) none ∙ append-nil h.done) in record {
@@ -113,8 +113,8 @@ gives-last s ps text n D h past says d =
       comes = d;
     }
 
-pub left-by : {Z : Type 0} (o : Option (String Z)) → o ≡ None → (s : SampleRun) (ps : List Piece) → ComesBy o s ps → IsLeft s ps
-left-by o e s ps h = subst (λ x. ComesBy x s ps) e h
+pub left_by : {Z : Type 0} (o : Option (String Z)) → o ≡ None → (s : SampleRun) (ps : List Piece) → ComesBy o s ps → IsLeft s ps
+left_by o e s ps h = subst (λ x. ComesBy x s ps) e h
 
 report_is : (makes : Makes) (seed lines n : ℕ) → n ≡ lines → sample_pieces makes seed lines ≡ map muted (pieces_from makes (reading false) (codes "-") 0 (sample seed n)) ++ counts_piece lines (pieces_from makes (reading false) (codes "-") 0 (sample seed n)) ∷ []
 unfolding sample_pieces
@@ -125,12 +125,12 @@ unfolding hits
 hits_none = refl
 
 -- where it begins, all of its report is to come
-pub report-left : (s : SampleRun) → s.passed ≡ 0 → s.matched ≡ 0 → s.bytes ≡ 0 → IsLeft s (report_of s)
-report-left s passed matched bytes =
+pub report_left : (s : SampleRun) → s.passed ≡ 0 → s.matched ≡ 0 → s.bytes ≡ 0 → IsLeft s (report_of s)
+report_left s passed matched bytes =
     let makes = makes_of (matcher_of s.job) in record {
       done = [];
       matched = matched ∙ hits_none;
-      bytes = bytes ∙ sym (ap length outs-nil);
+      bytes = bytes ∙ sym (ap length outs_nil);
       is = report_is makes s.sample.number s.lines (s.lines - s.passed) (omega arith)
           ∙ ap (λ n. map muted (pieces_from makes (reading false) (codes "-") n (sample s.sample.number (s.lines - s.passed))) ++ counts_piece s.lines (pieces_from makes (reading false) (codes "-") n (sample s.sample.number (s.lines - s.passed))) ∷ []) (sym passed);
     }

@@ -66,6 +66,6 @@ short_after old new x n e h w =
     let line : new ≡ line_of (drawn (next x)) = w ∙ ap (λ xs. xs ++ line_of (n / 65536)) e ∙ ap (λ k. line_of (k / 65536)) h in
     let l = ap length line in let short = line_short x in omega arith
 
-pub on-ok : {X Y : Type 0} (o : Result X Y) (P Q : Type 0) → (P → Q) → OnOk o P → OnOk o Q
-on-ok (Ok x) P Q f h = f h
-on-ok (Err e) P Q f h = tt
+pub on_ok : {X Y : Type 0} (o : Result X Y) (P Q : Type 0) → (P → Q) → OnOk o P → OnOk o Q
+on_ok (Ok x) P Q f h = f h
+on_ok (Err e) P Q f h = tt

@@ -27,7 +27,7 @@ use Rattle.rpl_package.specs.Asking.{IsTold}
 use Rattle.rosie_session.specs.Loading.{IsLoading, Loading}
 use Rattle.rosie_session.specs.Replay.{Turn, asked_by, edit_turn, pieces_of, refused, session_fault, turn, turns_from}
 use Rattle.rosie_session.specs.inside.Passing.{MakesOf, MakesTurn, to_come}
-use Rattle.rosie_session.proofs.Onward.{turns-next, turns_none}
+use Rattle.rosie_session.proofs.Onward.{turns_next, turns_none}
 use Rattle.rosie_session.proofs.Sessions.{by_tests, turn_by}
 use Rattle.rosie_session.proofs.Told.{told_left}
 
@@ -38,15 +38,15 @@ module _ (w : Loading) (n : ℕ) (s : Session) (line : List ℕ) where
       turn_by w n s line ∙ ap (λ b. by_tests w n s (edit_of line) b (is_utf8 line)) e
       ∙ ap (λ b. by_tests w n s (edit_of line) long b) f
 
-  pub turn-text : length line ≤ 1048576 → is_utf8 line ≡ true → turn w n s line ≡ edit_turn w n s (edit_of line)
-  turn-text h u = tested false true (grind (arith, h)) u
+  pub turn_text : length line ≤ 1048576 → is_utf8 line ≡ true → turn w n s line ≡ edit_turn w n s (edit_of line)
+  turn_text h u = tested false true (grind (arith, h)) u
 
-  pub turn-long : 1048576 < length line → turn w n s line ≡ refused s [] (session_fault n (codes "line too long"))
-  turn-long h = tested true (is_utf8 line) (grind (arith, h)) refl
+  pub turn_long : 1048576 < length line → turn w n s line ≡ refused s [] (session_fault n (codes "line too long"))
+  turn_long h = tested true (is_utf8 line) (grind (arith, h)) refl
 
-  pub turn-no-text :
+  pub turn_no_text :
       length line ≤ 1048576 → is_utf8 line ≡ false → turn w n s line ≡ refused s [] (session_fault n (codes "not UTF-8"))
-  turn-no-text h u = tested false false (grind (arith, h)) u
+  turn_no_text h u = tested false false (grind (arith, h)) u
 
 module _ (w : Loading) (old now : Reader) (s0 s1 : Session) (left0 left1 : List ℕ) (parts : old.whole ≡ false)
     (most : old.most ≡ 1048576) where
@@ -66,35 +66,35 @@ module _ (w : Loading) (old now : Reader) (s0 s1 : Session) (left0 left1 : List 
   -- the line with the next number has this turn
   module _ (line : List ℕ) (sp : Splits false now.held.ended line left0 left1) (t : Turn)
       (is : turn w (old.number + 1) s0 line ≡ t) where
-    pub turn-next : now.number ≡ old.number + 1 → s1 ≡ t.session → before ≡ t ∷ after
-    turn-next count session =
-        turns-next w old.number now.number s0 s1 line (lines false left1) (lines false left0) sp.lines count
+    pub turn_next : now.number ≡ old.number + 1 → s1 ≡ t.session → before ≡ t ∷ after
+    turn_next count session =
+        turns_next w old.number now.number s0 s1 line (lines false left1) (lines false left0) sp.lines count
         (session ∙ ap (λ (x : Turn). x.session) (sym is)) ∙ ap (λ x. x ∷ after) is
 
     -- it comes first, whatever the session is after it
-    pub turn-first : (later : List Turn) × (before ≡ t ∷ later)
-    turn-first =
+    pub turn_first : (later : List Turn) × (before ≡ t ∷ later)
+    turn_first =
         let later = turns_from w (old.number + 1) t.session (lines false left1) in (
           later,
-          turns-next w old.number (old.number + 1) s0 t.session line (lines false left1) (lines false left0) sp.lines refl
+          turns_next w old.number (old.number + 1) s0 t.session line (lines false left1) (lines false left0) sp.lines refl
               (ap (λ (x : Turn). x.session) (sym is)) ∙ ap (λ x. x ∷ later) is,
         )
 
     -- and is told where all the lines to come are
-    pub turn-told : (tells : Type 0) → IsTold tells (asked_by before) → IsTold tells t.asked
-    turn-told tells told =
-        let all : IsTold tells (t.asked ++ asked_by turn-first.0) = subst (λ ts. IsTold tells (asked_by ts)) turn-first.1 told in
-        told_left tells t.asked (asked_by turn-first.0) all
+    pub turn_told : (tells : Type 0) → IsTold tells (asked_by before) → IsTold tells t.asked
+    turn_told tells told =
+        let all : IsTold tells (t.asked ++ asked_by turn_first.0) = subst (λ ts. IsTold tells (asked_by ts)) turn_first.1 told in
+        told_left tells t.asked (asked_by turn_first.0) all
 
   -- a line of text
-  pub text-is : now.number ≡ old.number + 1 → length now.text ≤ old.most → is_utf8 now.text ≡ true
+  pub text_is : now.number ≡ old.number + 1 → length now.text ≤ old.most → is_utf8 now.text ≡ true
       → turn w (old.number + 1) s0 now.text ≡ edit_turn w now.number s0 (edit_of now.text)
-  text-is count short u =
+  text_is count short u =
       let l = most in
-      turn-text w (old.number + 1) s0 now.text (omega arith) u ∙ ap (λ k. edit_turn w k s0 (edit_of now.text)) (sym count)
+      turn_text w (old.number + 1) s0 now.text (omega arith) u ∙ ap (λ k. edit_turn w k s0 (edit_of now.text)) (sym count)
 
-  pub text-splits : Splits old.whole now.held.ended now.text left0 left1 → Splits false now.held.ended now.text left0 left1
-  text-splits sp = subst (λ b. Splits b now.held.ended now.text left0 left1) parts sp
+  pub text_splits : Splits old.whole now.held.ended now.text left0 left1 → Splits false now.held.ended now.text left0 left1
+  text_splits sp = subst (λ b. Splits b now.held.ended now.text left0 left1) parts sp
 
   module _ (out err : List ℕ) (steps0 steps1 : ℕ) where
     text_one : (result : Result (Option Mark) Ended) (t : Turn) (unread : Option (List ℕ)) → (s1 ≡ t.session → before ≡ t ∷ after)
@@ -118,41 +118,41 @@ module _ (w : Loading) (old now : Reader) (s0 s1 : Session) (left0 left1 : List 
     stop_one (Err E.WriteFault) P m same = tt
     stop_one (Err (E.Cut why text)) P m same = same
 
-    pub one-turn : (files : Type 0) (tree : Tree) (folders : List (List ℕ)) (found : Result Line LineFault)
+    pub one_turn : (files : Type 0) (tree : Tree) (folders : List (List ℕ)) (found : Result Line LineFault)
         (result : Result (Option Mark) Ended) (unread : Option (List ℕ)) → IsLoading tree folders w
         → IsTold files (asked_by before) → Numbers found old now → Passes found old now left0 left1
         → MakesOf files tree folders found result now.number now.text s0 s1 unread out err steps0 steps1
         → OneTurn result out err steps0 steps1
-    one-turn files tree folders (Ok L.Text) result unread is told n p m =
+    one_turn files tree folders (Ok L.Text) result unread is told n p m =
         let t = edit_turn w now.number s0 (edit_of now.text) in
-        let sp = text-splits p.0 in
-        let e = text-is n.0 p.1 p.2 in
-        text_one result t unread (turn-next now.text sp t e n.0) (m w is (turn-told now.text sp t e files told))
-    one-turn files tree folders (Ok L.End) result unread is told n p m =
+        let sp = text_splits p.0 in
+        let e = text_is n.0 p.1 p.2 in
+        text_one result t unread (turn_next now.text sp t e n.0) (m w is (turn_told now.text sp t e files told))
+    one_turn files tree folders (Ok L.End) result unread is told n p m =
         subst (λ x. OneTurn x out err steps0 steps1) (sym m.0)
         (turns_none w old.number s0 (lines false left0) (ap (lines false) p.0 ∙ lines_none false), m.1)
-    one-turn files tree folders (Err (F.TooLong k)) result unread is told n p m =
+    one_turn files tree folders (Err (F.TooLong k)) result unread is told n p m =
         let why = codes "line too long" in
         let sp = subst (λ b. Splits b now.held.ended p.0 left0 left1) parts p.1 in
         let l = most in
-        let e = turn-long w (old.number + 1) s0 p.0 (omega (arith, p.2)) ∙ ap (λ j. refused s0 [] (session_fault j why)) (sym (n.0 ∙ n.1)) in
-        fault_one result (session_fault k why) (turn-next p.0 sp (refused s0 [] (session_fault k why)) e n.1 m.1) m.0
-    one-turn files tree folders (Err (F.NotText k)) result unread is told n p m =
+        let e = turn_long w (old.number + 1) s0 p.0 (omega (arith, p.2)) ∙ ap (λ j. refused s0 [] (session_fault j why)) (sym (n.0 ∙ n.1)) in
+        fault_one result (session_fault k why) (turn_next p.0 sp (refused s0 [] (session_fault k why)) e n.1 m.1) m.0
+    one_turn files tree folders (Err (F.NotText k)) result unread is told n p m =
         let why = codes "not UTF-8" in
         let sp = subst (λ b. Splits b now.held.ended p.0 left0 left1) parts p.1 in
         let l = most in
-        let e = turn-no-text w (old.number + 1) s0 p.0 (omega (arith, p.2)) p.3 ∙ ap (λ j. refused s0 [] (session_fault j why)) (sym (n.0 ∙ n.1)) in
-        fault_one result (session_fault k why) (turn-next p.0 sp (refused s0 [] (session_fault k why)) e n.1 m.1) m.0
-    one-turn files tree folders (Err F.NoMemory) result unread is told n p m =
+        let e = turn_no_text w (old.number + 1) s0 p.0 (omega (arith, p.2)) p.3 ∙ ap (λ j. refused s0 [] (session_fault j why)) (sym (n.0 ∙ n.1)) in
+        fault_one result (session_fault k why) (turn_next p.0 sp (refused s0 [] (session_fault k why)) e n.1 m.1) m.0
+    one_turn files tree folders (Err F.NoMemory) result unread is told n p m =
         subst (λ x. OneTurn x out err steps0 steps1) (sym m.0) tt
-    one-turn files tree folders (Err F.ReadFault) result unread is told n p m = stop_one result (IsStop Y.ReadFault) m.0.0 m.0.1
-    one-turn files tree folders (Err F.Spent) result unread is told n p m = stop_one result (IsStopOrMemory Y.Spent) m.0.0 m.0.1
+    one_turn files tree folders (Err F.ReadFault) result unread is told n p m = stop_one result (IsStop Y.ReadFault) m.0.0 m.0.1
+    one_turn files tree folders (Err F.Spent) result unread is told n p m = stop_one result (IsStopOrMemory Y.Spent) m.0.0 m.0.1
 
     -- its piece is given
-    pub gives-turn : (result : Result (Option Mark) Ended) (C : List Piece → Type 0)
+    pub gives_turn : (result : Result (Option Mark) Ended) (C : List Piece → Type 0)
         → ((t : Turn) → before ≡ t ∷ after → C (pieces_of after)) → OneTurn result out err steps0 steps1
         → Gives result (pieces_of before) C out err steps0 steps1
-    gives-turn (Ok (Some mark)) C f o =
+    gives_turn (Ok (Some mark)) C f o =
         record { piece = o.0.piece; more = pieces_of after; is = ap pieces_of o.1; made = o.2; steps = o.3; comes = f o.0 o.1 }
-    gives-turn (Ok None) C f o = (ap pieces_of o.0, o.1)
-    gives-turn (Err e) C f o = o
+    gives_turn (Ok None) C f o = (ap pieces_of o.0, o.1)
+    gives_turn (Err e) C f o = o

@@ -8,11 +8,11 @@ use Rattle.rosie_session.specs.Loading.{Loading}
 use Rattle.rosie_session.specs.Replay.{Turn, turn, turns_from}
 
 -- the turn of the next line comes first
-pub turns-next :
+pub turns_next :
     (w : Loading) (n n' : ℕ) (s s' : Session) (line : List ℕ) (more ls : List (List ℕ)) → ls ≡ line ∷ more → n' ≡ n + 1
     → s' ≡ (turn w (n + 1) s line).session → turns_from w n s ls ≡ turn w (n + 1) s line ∷ turns_from w n' s' more
 unfolding turns_from
-turns-next w n n' s s' line more ls e count is =
+turns_next w n n' s s' line more ls e count is =
     ap (turns_from w n s) e ∙ ap (λ k. turn w (n + 1) s line ∷ turns_from w k (turn w (n + 1) s line).session more) (sym count)
     ∙ ap (λ x. turn w (n + 1) s line ∷ turns_from w n' x more) (sym is)
 

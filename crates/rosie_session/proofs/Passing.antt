@@ -29,8 +29,8 @@ use Rattle.rosie_run.specs.declared.mark.Mark.{Mark}
 use Rattle.rosie_run.specs.declared.tally.Tally.{Tally}
 use Rattle.rosie_run.specs.declared.tool.Tool.TheVariants.{Rosie}
 use Rattle.rosie_run.specs.inside.FromLines.{IsFresh, LeavesBy}
-use Rattle.rosie_run.proofs.Coming.{goes-of, leaves-of}
-use Rattle.rosie_run.proofs.FromLines.{since-next}
+use Rattle.rosie_run.proofs.Coming.{goes_of, leaves_of}
+use Rattle.rosie_run.proofs.FromLines.{since_next}
 use Rattle.rpl_package.specs.Asking.{IsTold}
 use Rattle.rosie_session.specs.Loading.{IsLoading, Loading}
 use Rattle.rosie_session.specs.Replay.{Turn, asked_by, edit_turn, turns, turns_from}
@@ -38,7 +38,7 @@ use Rattle.rosie_session.specs.Where.{InSession, in_lines, in_load}
 use Rattle.rosie_session.specs.declared.run.SessionLines.{SessionLines}
 use Rattle.rosie_session.specs.inside.Passing.{ComesFrom, FilesOf, GoesOnFrom, IsOver, LeavesHow, LeavesSession, MakesOf, Onward}
 use Rattle.rosie_session.specs.inside.Passing.{TextFiles, name_of, turns_left}
-use Rattle.rosie_session.proofs.Lines.{OneTurn, gives-turn, one-turn, text-is, text-splits, turn-first, turn-told}
+use Rattle.rosie_session.proofs.Lines.{OneTurn, gives_turn, one_turn, text_is, text_splits, turn_first, turn_told}
 use Rattle.rosie_session.proofs.Onward.{get_there}
 use Rattle.rosie_session.proofs.Told.{told_later, told_right}
 
@@ -86,7 +86,7 @@ module _ {F I : Type 0} (G : Ghosts F) (H : Ghosts I) (y z : SessionLines F I) (
   pub one : (found : Result Line LineFault) (result : Result (Option Mark) Ended) → Read H y z found → Makes found result
       → (w : Loading) → IsOver G H w y → One w result
   one found result r m w o =
-      one-turn w y.kept.now.reader z.kept.now.reader (session_of y.kept.now.state) (session_of z.kept.now.state)
+      one_turn w y.kept.now.reader z.kept.now.reader (session_of y.kept.now.state) (session_of z.kept.now.state)
       (left y.kept.now.reader.held (H.rest y.input.now)) (left z.kept.now.reader.held (H.rest z.input.now)) goes.parts goes.most
       out err steps0 steps1 G.tells (G.tree y.files.now) y.folders.now found result z.kept.now.unread o.loads o.told r.numbers
       (r.passes o.input) m
@@ -140,20 +140,20 @@ module _ {F I : Type 0} (G : Ghosts F) (H : Ghosts I) (y z : SessionLines F I) (
         let d = h.leaves.2 w o in
         let p = r.passes o.input in
         let t = edit_turn w now.number s0 (edit_of now.text) in
-        let sp = text-splits w old now s0 s1 left0 left1 goes.parts goes.most p.0 in
-        let is = text-is w old now s0 s1 left0 left1 goes.parts goes.most r.numbers.0 p.1 p.2 in
-        let first = turn-first w old now s0 s1 left0 left1 goes.parts goes.most now.text sp t is in
+        let sp = text_splits w old now s0 s1 left0 left1 goes.parts goes.most p.0 in
+        let is = text_is w old now s0 s1 left0 left1 goes.parts goes.most r.numbers.0 p.1 p.2 in
+        let first = turn_first w old now s0 s1 left0 left1 goes.parts goes.most now.text sp t is in
         let o' = over w o in (
           t,
           ap (λ ts. slice_get ts k) (d.1 ∙ ap (λ ts. d.0 ++ ts) first.1)
               ∙ subst (λ j. slice_get (d.0 ++ t ∷ first.0) j ≡ Some t) d.2 (get_there d.0 t first.0),
-          (m w o'.loads (turn-told w old now s0 s1 left0 left1 goes.parts goes.most now.text sp t is G.tells o'.told)).0,
+          (m w o'.loads (turn_told w old now s0 s1 left0 left1 goes.parts goes.most now.text sp t is G.tells o'.told)).0,
         )
 
     text_leaves : (result : Result (Option Mark) Ended) → Read H y z (Ok L.Text) → Makes (Ok L.Text) result
         → TextFiles result (moment_of G y.files.now) (moment_of G z.files.now) → LeavesHow (how_of result) G H s z (count_of result k)
     text_leaves (Ok (Some mark)) r m f = (
-      since-next H s.kept.now.reader y.kept.now.reader s.input.now y.input.now k h.leaves.0 h.keeps.whole z.kept.now.reader
+      since_next H s.kept.now.reader y.kept.now.reader s.input.now y.input.now k h.leaves.0 h.keeps.whole z.kept.now.reader
           z.input.now reads r.cause (λ t. (z.kept.now.reader.text, (r.passes t).0)) at_end ended,
       still_on (moment_of G s.files.now) (moment_of G y.files.now) (moment_of G z.files.now) h.leaves.1 f,
       onward (Ok L.Text) (Ok (Some mark)) r m mark refl,
@@ -172,20 +172,20 @@ module _ {F I : Type 0} (G : Ghosts F) (H : Ghosts I) (y z : SessionLines F I) (
       },
     )
 
-    pub leaves-next : (found : Result Line LineFault) (result : Result (Option Mark) Ended) → Read H y z found → Makes found result
+    pub leaves_next : (found : Result Line LineFault) (result : Result (Option Mark) Ended) → Read H y z found → Makes found result
         → FilesOf found result z.kept.now.unread (moment_of G y.files.now) (moment_of G z.files.now)
         → LeavesHow (how_of result) G H s z (count_of result k)
-    leaves-next (Ok L.Text) result r m f = text_leaves result r m f
-    leaves-next (Ok L.End) result r m f =
+    leaves_next (Ok L.Text) result r m f = text_leaves result r m f
+    leaves_next (Ok L.End) result r m f =
         subst (λ x. LeavesHow (how_of x) G H s z (count_of x k)) (sym m.0) (
-          leaves-of (λ file n line. fault_piece []) Rosie (codes "(session)") y.kept.now.reader z.kept.now.reader [] [] out err steps0
+          leaves_of (λ file n line. fault_piece []) Rosie (codes "(session)") y.kept.now.reader z.kept.now.reader [] [] out err steps0
               steps1 H s.kept.now.reader s.input.now y.input.now z.input.now k h.leaves.0 h.keeps.whole reads at_end ended (Ok L.End)
               (Ok None) (refl, m.1) r.numbers r.passes r.cause r.stops,
           still_on (moment_of G s.files.now) (moment_of G y.files.now) (moment_of G z.files.now) h.leaves.1 f,
         )
-    leaves-next (Err fault) result r m f =
+    leaves_next (Err fault) result r m f =
         by_reader result (onward (Err fault) result r m)
-        (leaves-of (λ file n line. fault_piece []) Rosie (codes "(session)") y.kept.now.reader z.kept.now.reader [] [] out err steps0
+        (leaves_of (λ file n line. fault_piece []) Rosie (codes "(session)") y.kept.now.reader z.kept.now.reader [] [] out err steps0
         steps1 H s.kept.now.reader s.input.now y.input.now z.input.now k h.leaves.0 h.keeps.whole reads at_end ended (Err fault)
         result m.0 r.numbers r.passes r.cause r.stops)
         (still_on (moment_of G s.files.now) (moment_of G y.files.now) (moment_of G z.files.now) h.leaves.1 f.0) f.1
@@ -201,13 +201,13 @@ module _ {F I : Type 0} (G : Ghosts F) (H : Ghosts I) (y z : SessionLines F I) (
         (subst (λ ts. IsTold G.tells (asked_by ts)) next o.told);
   }
 
-  pub gives-next : (found : Result Line LineFault) (result : Result (Option Mark) Ended) → Read H y z found → Makes found result
+  pub gives_next : (found : Result Line LineFault) (result : Result (Option Mark) Ended) → Read H y z found → Makes found result
       → z.folders.now ≡ y.folders.now → G.tree z.files.now ≡ G.tree y.files.now → (ps : List Piece) → ComesFrom G H y ps
       → Gives result ps (ComesFrom G H z) out err steps0 steps1
-  gives-next found result r m folders tree ps c =
+  gives_next found result r m folders tree ps c =
       let w = c.loading in
       subst (λ x. Gives result x (ComesFrom G H z) out err steps0 steps1) (sym c.is)
-      (gives-turn w y.kept.now.reader z.kept.now.reader (session_of y.kept.now.state) (session_of z.kept.now.state)
+      (gives_turn w y.kept.now.reader z.kept.now.reader (session_of y.kept.now.state) (session_of z.kept.now.state)
       (left y.kept.now.reader.held (H.rest y.input.now)) (left z.kept.now.reader.held (H.rest z.input.now)) goes.parts goes.most
       out err steps0 steps1 result (ComesFrom G H z)
       (λ t next. record { loading = w; over = over_next w t folders tree c.over next; is = refl })
@@ -222,12 +222,12 @@ module _ {F I : Type 0} (G : Ghosts F) (H : Ghosts I) (y z : SessionLines F I) (
   abbrev pub Counts : Type 0
   Counts = (z.kept.now.reader.number ≡ y.kept.now.reader.number + 1) × (z.kept.now.reader.done ≡ false)
 
-  pub goes-next : (found : Result Line LineFault) (result : Result (Option Mark) Ended)
+  pub goes_next : (found : Result Line LineFault) (result : Result (Option Mark) Ended)
       → Numbers found y.kept.now.reader z.kept.now.reader → Makes found result → OnPiece result Counts
-  goes-next (Ok L.Text) result n m = on_piece result Counts n
-  goes-next (Ok L.End) result n m = subst (λ x. OnPiece x Counts) (sym m.0) tt
-  goes-next (Err fault) result n m =
-      goes-of (λ file n line. fault_piece []) Rosie (codes "(session)") y.kept.now.reader z.kept.now.reader [] [] out err steps0
+  goes_next (Ok L.Text) result n m = on_piece result Counts n
+  goes_next (Ok L.End) result n m = subst (λ x. OnPiece x Counts) (sym m.0) tt
+  goes_next (Err fault) result n m =
+      goes_of (λ file n line. fault_piece []) Rosie (codes "(session)") y.kept.now.reader z.kept.now.reader [] [] out err steps0
       steps1 (Err fault) result m.0 n
 
 -- ---- at its end
@@ -268,17 +268,17 @@ module _ {F I : Type 0} (G : Ghosts F) (H : Ghosts I) (s z : SessionLines F I) (
     by (inl l) = (still l.0.faults h.opens, l.1, inl (l.0.many fresh))
     by (inr l) = absurd (let e = l.0 in cc)
 
-  pub session-cause : (r : Result Tally Ended) → LeavesRun r (λ how k. LeavesSession G H how s z k) → SourcesCause r i0 i1 f0 f1
-  session-cause (Ok tally) h = ok_cause tally.stop h.0 h.1 h.2
-  session-cause (Err E.NoMemory) h = (still h.1.leaves.0 h.1.opens, h.1.leaves.1)
-  session-cause (Err E.WriteFault) h = (still h.1.leaves.0.faults h.1.opens, h.1.leaves.1)
-  session-cause (Err (E.Cut Y.ReadFault text)) h = failed h.0 h.1
-  session-cause (Err (E.Cut Y.Spent text)) h = spent h.0 h.1
+  pub session_cause : (r : Result Tally Ended) → LeavesRun r (λ how k. LeavesSession G H how s z k) → SourcesCause r i0 i1 f0 f1
+  session_cause (Ok tally) h = ok_cause tally.stop h.0 h.1 h.2
+  session_cause (Err E.NoMemory) h = (still h.1.leaves.0 h.1.opens, h.1.leaves.1)
+  session_cause (Err E.WriteFault) h = (still h.1.leaves.0.faults h.1.opens, h.1.leaves.1)
+  session_cause (Err (E.Cut Y.ReadFault text)) h = failed h.0 h.1
+  session_cause (Err (E.Cut Y.Spent text)) h = spent h.0 h.1
 
-  pub session-rest : (r : Result Tally Ended) → H.tells → LeavesRun r (λ how k. LeavesSession G H how s z k)
+  pub session_rest : (r : Result Tally Ended) → H.tells → LeavesRun r (λ how k. LeavesSession G H how s z k)
       → GoesOn r (H.rest z.input.now ≡ [])
-  session-rest (Ok tally) t h = λ goes. (h.2 goes).leaves.0.rest t fresh
-  session-rest (Err e) t h = tt
+  session_rest (Ok tally) t h = λ goes. (h.2 goes).leaves.0.rest t fresh
+  session_rest (Err e) t h = tt
 
   in_source : (why : ReadStop) (k : ℕ) → H.tells → LeavesBy (CutBy why) H s.kept.now.reader z.kept.now.reader s.input.now z.input.now k
       → InSource false i0 i1 why k
@@ -286,10 +286,10 @@ module _ {F I : Type 0} (G : Ghosts F) (H : Ghosts I) (s z : SessionLines F I) (
   in_source Y.Spent k t l = subst (λ b. InSource b i0 i1 Y.Spent k) parts (l.stood t fresh)
 
   -- where reading stood
-  pub session-stood : (w : Loading) → IsOver G H w s → turns_left H w s ≡ turns w (H.rest s.input.now) → (why : ReadStop)
+  pub session_stood : (w : Loading) → IsOver G H w s → turns_left H w s ≡ turns w (H.rest s.input.now) → (why : ReadStop)
       (file : List ℕ) (k : ℕ) → StoodAt (λ how n. LeavesSession G H how s z n) (name_of z.kept.now.unread) why file k
       → InSession w (H.rest s.input.now) i0 i1 f0 f1 why file k
-  session-stood w o all why file k h = by h.1.leaves where
+  session_stood w o all why file k h = by h.1.leaves where
     by : LeavesHow (CutBy why) G H s z k → InSession w (H.rest s.input.now) i0 i1 f0 f1 why file k
     by (inl l) = in_lines (h.0 ∙ ap name_of l.2, in_source why k o.input l.0)
     by (inr l) =
@@ -297,9 +297,9 @@ module _ {F I : Type 0} (G : Ghosts F) (H : Ghosts I) (s z : SessionLines F I) (
         in_load t.0 (ap (λ ts. slice_get ts k) (sym all) ∙ t.1) (subst (Contains t.0.asked) (sym h.0) t.2) l.0 l.1.rose
 
 -- where nothing was read yet, all turns are to come
-pub turns-begun : {F I : Type 0} (H : Ghosts I) (w : Loading) (s : SessionLines F I) (r : Reader) → s.kept.now.reader ≡ r
+pub turns_begun : {F I : Type 0} (H : Ghosts I) (w : Loading) (s : SessionLines F I) (r : Reader) → s.kept.now.reader ≡ r
     → r.number ≡ 0 → IsFresh r.held → session_of s.kept.now.state ≡ begun → turns_left H w s ≡ turns w (H.rest s.input.now)
-turns-begun H w s r e n fresh b =
+turns_begun H w s r e n fresh b =
     let rest = H.rest s.input.now in
     ap (λ (x : Reader). turns_from w x.number (session_of s.kept.now.state) (lines false (left x.held rest))) e
     ∙ ap (λ k. turns_from w k (session_of s.kept.now.state) (lines false (left r.held rest))) n

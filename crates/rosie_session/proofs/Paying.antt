@@ -4,11 +4,11 @@ use Rattle.std.specs.Prelude.{Bool, Option, Some, None, Ok, Err, cond, nat_lt}
 use Rattle.std.proofs.lemmas.Grind.{merely}
 use Rattle.std.proofs.lemmas.List.{length-map}
 use Rattle.rosie_prepare.specs.Lines.{compile_line}
-use Rattle.rosie_jobs.proofs.Allowed.{job-due}
+use Rattle.rosie_jobs.proofs.Allowed.{job_due}
 use Rattle.rosie_jobs.specs.Budgets.{PaysFor}
 use Rattle.rosie_jobs.specs.Lines.{Job}
 use Rattle.rosie_jobs.specs.declared.settings.Settings.{Settings}
-use Rattle.rosie_prepare.proofs.Passing.{blocks-rows_of, bodies-rows_of, first_same}
+use Rattle.rosie_prepare.proofs.Passing.{blocks_rows_of, bodies_rows_of, first_same}
 use Rattle.rosie_prepare.specs.Prepared.{Comes, IsPrepared, OrLine, Passes, Ready, TableFacts, Tree, PatternRequest, blocks, bodies}
 use Rattle.rosie_prepare.specs.Prepared.{found, goal_in, ready, table_too_large, table_unsound, too_large, unsound}
 use Rattle.rpl_check.proofs.Accepting.{accepted, whole_of}
@@ -59,10 +59,10 @@ module _ (p : Packages) (is : IsBuilt p) (d : TableFacts p) (small : table_too_l
   same = (rules_for (table_of p) 0 small).1
 
   same_bodies : bodies_of rules ≡ bodies (table_of p)
-  same_bodies = sym (bodies-rows_of rules) ∙ ap bodies same
+  same_bodies = sym (bodies_rows_of rules) ∙ ap bodies same
 
   same_blocks : blocks_of rules ≡ blocks (table_of p)
-  same_blocks = sym (blocks-rows_of rules) ∙ ap blocks same
+  same_blocks = sym (blocks_rows_of rules) ∙ ap blocks same
 
   same_inners : inners_of rules ≡ inners_from [] (table_of p)
   same_inners = ap (inners_from []) same
@@ -171,7 +171,7 @@ fit_prepared tree v asked r h =
 pub pays_code : (s : Settings) (R : List Core) (g : Core) (code : List Instr) → IsWhole R g → IsCode R g code
     → PaysFor s (record { rules = R; goal = g; code = code })
 pays_code s R g code whole is =
-    job-due s (record { rules = R; goal = g; code = code })
+    job_due s (record { rules = R; goal = g; code = code })
     (merely (λ t chars b. answer_holds whole.stays.0 _ _ _ whole.stays.1 is t chars (whole.shut t) b))
 
 job_within : (b : Bool) (job made : Job) → cond b (Err compile_line) (Ok made) ≡ Ok job → made ≡ job

@@ -12,7 +12,7 @@ use Rattle.rosie_repl.specs.Session.{Kept, Session, begun, changed, kept_by, onw
 use Rattle.rosie_run.specs.Report.{Piece, fault_piece, has, is_stop}
 use Rattle.rosie_run.specs.declared.mark.Mark.{Mark}
 use Rattle.rosie_run.specs.declared.mark.Mark.TheVariants.{Hit, Miss, Fault, Stop}
-use Rattle.rosie_run.proofs.Pieces.{has-nil}
+use Rattle.rosie_run.proofs.Pieces.{has_nil}
 use Rattle.rpl_core.specs.Meaning.{Outcome}
 use Rattle.rpl_core.specs.Outcome.{outcome}
 use Rattle.rpl_core.specs.Run.{run}
@@ -254,7 +254,7 @@ has_cons p ps h k = grind (arith, h, k)
 
 pub all_go : (w : Loading) (n : ℕ) (s : Session) (ls : List (List ℕ)) → has is_stop (pieces_of (turns_from w n s ls)) ≡ false
 unfolding turns_from
-all_go w n s [] = has-nil is_stop
+all_go w n s [] = has_nil is_stop
 all_go w n s (line ∷ more) =
     has_cons (turn w (n + 1) s line).piece _ (turn_goes w (n + 1) s line)
     (all_go w (n + 1) (turn w (n + 1) s line).session more)

@@ -10,13 +10,13 @@ use Rattle.rosie_unittest.specs.declared.subject.Entry.{Entry}
 use Rattle.rosie_unittest.specs.inside.Entries.{AreSound, IsSound, StandsAt, nothing, subject_of}
 use Rattle.rosie_unittest.specs.inside.Ready.{IsReady}
 
-pub sound-none : (R : List Core) → AreSound R []
-sound-none R = λ k d lt. absurd (omega arith)
+pub sound_none : (R : List Core) → AreSound R []
+sound_none R = λ k d lt. absurd (omega arith)
 
 -- one more, that is sound
-pub sound-next : (R : List Core) (es : List Entry) (e : Entry) → AreSound R es
+pub sound_next : (R : List Core) (es : List Entry) (e : Entry) → AreSound R es
     → subject_of R e.subject ≡ subject_for R e.target → ∥ IsReady (subject_of R e.subject) ∥₁ → AreSound R (es ++ e ∷ [])
-sound-next R es e h subject ready = All-push (IsSound R) es e h (record { subject = subject; ready = ready })
+sound_next R es e h subject ready = All-push (IsSound R) es e h (record { subject = subject; ready = ready })
 
 -- the entry of a target, read at its place
 module _ (R : List Core) (es : List Entry) (o : Option Target) (i : ℕ) (x d : Entry) (sound : AreSound R es)
@@ -24,9 +24,9 @@ module _ (R : List Core) (es : List Entry) (o : Option Target) (i : ℕ) (x d : 
   same : x ≡ get_or es i nothing
   same = read ∙ get_or_default es i d nothing at.there
 
-  pub subject-at : subject_of R x.subject ≡ subject_for R o
-  subject-at =
+  pub subject_at : subject_of R x.subject ≡ subject_for R o
+  subject_at =
       ap (λ e. subject_of R e.subject) same ∙ (sound i nothing at.there).subject ∙ ap (subject_for R) at.is
 
-  pub ready-of : ∥ IsReady (subject_of R x.subject) ∥₁
-  ready-of = subst (λ e. ∥ IsReady (subject_of R e.subject) ∥₁) (sym same) (sound i nothing at.there).ready
+  pub ready_of : ∥ IsReady (subject_of R x.subject) ∥₁
+  ready_of = subst (λ e. ∥ IsReady (subject_of R e.subject) ∥₁) (sym same) (sound i nothing at.there).ready

@@ -31,11 +31,11 @@ use Rattle.rosie_unittest.specs.Trials.{Bench, Runs, by_outcome, by_run, cost_of
 use Rattle.rosie_unittest.specs.inside.Ready.{IsReadyJob, IsText, AreOfTree, by_found}
 use Rattle.rosie_unittest.specs.declared.verdict.Verdict.{Verdict}
 use Rattle.rosie_unittest.specs.declared.verdict.Verdict.TheVariants.{Met, Unmet, Spent, LongAnswer}
-use Rattle.rosie_unittest.proofs.Verdicts.{verdict-by}
+use Rattle.rosie_unittest.proofs.Verdicts.{verdict_by}
 
 -- the characters of a text's spelling
-pub text-spelled : (t s : List ℕ) → IsText t → s ≡ encode_utf8_all t → chars s ≡ t
-text-spelled t s is e = ap chars e ∙ chars-encodes t is.scalars
+pub text_spelled : (t s : List ℕ) → IsText t → s ≡ encode_utf8_all t → chars s ≡ t
+text_spelled t s is e = ap chars e ∙ chars-encodes t is.scalars
 
 pub text_prop : (t : List ℕ) → IsProp (IsText t)
 text_prop t = Prim.hlevel props
@@ -46,10 +46,10 @@ tree_prop : (ns : List Node) → IsProp (AreOneTree ns)
 tree_prop [] = Prim.hlevel props
 tree_prop (n ∷ ns) = Prim.hlevel props
 
-pub one-tree :
+pub one_tree :
     (labels : List (List ℕ)) (caught : List Caught) (nodes : List Node) → BuiltAsOneTree → BuildsEach caught nodes
     → ∥ AreOfTree labels caught ∥₁ → AreOneTree nodes
-one-tree labels caught nodes law builds tree =
+one_tree labels caught nodes law builds tree =
     ∥∥₁_elim tree (tree_prop nodes) (λ t.
     law caught nodes (label_in labels) t.0 t.1 t.2 t.3 (builds (label_in labels) (Tree t.0 t.1 t.2 t.3 NoTree) t.4))
 
@@ -71,18 +71,18 @@ module _ (prefix : List ℕ) (t : Test) where
   met found = is_met t.verb prefix (part_of t.part) (encode_utf8_all t.text) found
 
   -- the answer is short enough, and the test is judged
-  pub found-met : (x : Option Forest) (fits m : Bool) → fits ≡ not (long x) → fits ≡ true → m ≡ met x → cond m Met Unmet ≡ by_found prefix t x
-  found-met x fits m e h is =
+  pub found_met : (x : Option Forest) (fits m : Bool) → fits ≡ not (long x) → fits ≡ true → m ≡ met x → cond m Met Unmet ≡ by_found prefix t x
+  found_met x fits m e h is =
       ap (λ b. cond b Met Unmet) is
       ∙ sym (ap (λ b. cond b LongAnswer (cond (met x) Met Unmet)) (when_false (long x) fits (sym e) h))
 
   -- or it is too long
-  pub found-long : (x : Option Forest) (fits : Bool) → fits ≡ not (long x) → fits ≡ false → LongAnswer ≡ by_found prefix t x
-  found-long x fits e h = sym (ap (λ b. cond b LongAnswer (cond (met x) Met Unmet)) (when_true (long x) fits (sym e) h))
+  pub found_long : (x : Option Forest) (fits : Bool) → fits ≡ not (long x) → fits ≡ false → LongAnswer ≡ by_found prefix t x
+  found_long x fits e h = sym (ap (λ b. cond b LongAnswer (cond (met x) Met Unmet)) (when_true (long x) fits (sym e) h))
 
   -- where nothing was found there is no answer at all
-  pub found-none : (m : Bool) → m ≡ met None → cond m Met Unmet ≡ by_found prefix t None
-  found-none m is = ap (λ b. cond b Met Unmet) is
+  pub found_none : (m : Bool) → m ≡ met None → cond m Met Unmet ≡ by_found prefix t None
+  found_none m is = ap (λ b. cond b Met Unmet) is
 
 -- ---- by the answer of the machine
 
@@ -91,30 +91,30 @@ module _ (b : Bench) (t : Test) (job : Job) where
   most = budget_or b.budget t.text
 
   -- the run that was made is that of the test
-  pub ran-by : (code : List Instr) (s : List ℕ) (k : ℕ) (a : Answer) → code ≡ job.code → s ≡ t.text → k ≡ most → run code s k ≡ a → ran b t job ≡ a
-  ran-by code s k a ec es ek e =
+  pub ran_by : (code : List Instr) (s : List ℕ) (k : ℕ) (a : Answer) → code ≡ job.code → s ≡ t.text → k ≡ most → run code s k ≡ a → ran b t job ≡ a
+  ran_by code s k a ec es ek e =
       ap (λ x. run job.code t.text x) (sym ek) ∙ ap (λ x. run job.code x k) (sym es) ∙ ap (λ x. run x s k) (sym ec) ∙ e
 
-  pub at-ran : (code : List Instr) (s : List ℕ) (k n p : ℕ) (labels : List (List ℕ)) (cs : List Caught) → code ≡ job.code → s ≡ t.text → k ≡ most → run code s k ≡ Matched n (index s p) (captures_of s labels cs) → ran b t job ≡ Matched n (index t.text p) (captures_of t.text labels cs)
-  at-ran code s k n p labels cs ec es ek e =
-      ran-by code s k (Matched n (index s p) (captures_of s labels cs)) ec es ek e ∙ ap (λ x. Matched n (index x p) (captures_of x labels cs)) es
+  pub at_ran : (code : List Instr) (s : List ℕ) (k n p : ℕ) (labels : List (List ℕ)) (cs : List Caught) → code ≡ job.code → s ≡ t.text → k ≡ most → run code s k ≡ Matched n (index s p) (captures_of s labels cs) → ran b t job ≡ Matched n (index t.text p) (captures_of t.text labels cs)
+  at_ran code s k n p labels cs ec es ek e =
+      ran_by code s k (Matched n (index s p) (captures_of s labels cs)) ec es ek e ∙ ap (λ x. Matched n (index x p) (captures_of x labels cs)) es
 
   -- and so is that over the text's spelling
-  pub ran-on : (code : List Instr) (bytes s : List ℕ) (k : ℕ) (a : Answer) → IsText t.text
+  pub ran_on : (code : List Instr) (bytes s : List ℕ) (k : ℕ) (a : Answer) → IsText t.text
       → bytes ≡ encode_utf8_all t.text → s ≡ chars bytes → k ≡ budget_or b.budget (chars bytes) → code ≡ job.code
       → run code s k ≡ a → ran b t job ≡ a
-  ran-on code bytes s k a text spelled es ek ec e =
-      let same = text-spelled t.text bytes text spelled in
-      ran-by code s k a ec (es ∙ same) (ek ∙ ap (budget_or b.budget) same) e
+  ran_on code bytes s k a text spelled es ek ec e =
+      let same = text_spelled t.text bytes text spelled in
+      ran_by code s k a ec (es ∙ same) (ek ∙ ap (budget_or b.budget) same) e
 
-  pub at-on : (code : List Instr) (bytes s : List ℕ) (k n p : ℕ) (labels : List (List ℕ)) (cs : List Caught)
+  pub at_on : (code : List Instr) (bytes s : List ℕ) (k n p : ℕ) (labels : List (List ℕ)) (cs : List Caught)
       → IsText t.text → bytes ≡ encode_utf8_all t.text → s ≡ chars bytes → k ≡ budget_or b.budget (chars bytes)
       → code ≡ job.code → run code s k ≡ Matched n (index s p) (captures_of s labels cs) → CapturesIn s cs
       → (ran b t job ≡ Matched n (index t.text p) (captures_of t.text labels cs)) × CapturesIn t.text cs
-  at-on code bytes s k n p labels cs text spelled es ek ec e inside =
-      let same = text-spelled t.text bytes text spelled in
+  at_on code bytes s k n p labels cs text spelled es ek ec e inside =
+      let same = text_spelled t.text bytes text spelled in
       let is = es ∙ same in
-      (at-ran code s k n p labels cs ec is (ek ∙ ap (budget_or b.budget) same) e, subst (λ x. CapturesIn x cs) is inside)
+      (at_ran code s k n p labels cs ec is (ek ∙ ap (budget_or b.budget) same) e, subst (λ x. CapturesIn x cs) is inside)
 
   by_answer : (a : Answer) → is_over (ran b t job) ≡ is_over a → is_over a ≡ false → by_outcome b t (outcome job.rules job.goal t.text) ≡ verdict_of b t (Runs job)
   by_answer a e h = sym (ap (λ x. cond x Spent (by_outcome b t (outcome job.rules job.goal t.text))) (e ∙ h))
@@ -134,21 +134,21 @@ module _ (b : Bench) (t : Test) (job : Job) where
       h (placed (at t.text) k.1) (trees_same t.text labels cs k.1 inside k.3)
       ∙ sym (ap (by_outcome b t) k.2) ∙ by_answer a (ap is_over e) refl
 
-  pub match-verdict :
+  pub match_verdict :
       (text : IsText t.text) (ready : ∥ IsReadyJob job ∥₁) (labels : List (List ℕ)) (cs : List Caught) (n p : ℕ) (v : Verdict)
       → ran b t job ≡ Matched n (index t.text p) (captures_of t.text labels cs) → CapturesIn t.text cs
       → ((f : Forest) → all_named (label_in labels) cs ≡ flat f → v ≡ by_found b.prefix t (Some f))
       → v ≡ verdict_of b t (Runs job)
-  match-verdict text ready labels cs n p v e inside h =
-      verdict-by v (verdict_of b t (Runs job)) ready (λ r. at_verdict text r labels cs n p v e inside h)
+  match_verdict text ready labels cs n p v e inside h =
+      verdict_by v (verdict_of b t (Runs job)) ready (λ r. at_verdict text r labels cs n p v e inside h)
 
-  pub match-verdicts :
+  pub match_verdicts :
       {E : Type 0} (r : Result Verdict E) (text : IsText t.text) (ready : ∥ IsReadyJob job ∥₁) (labels : List (List ℕ)) (cs : List Caught) (n p : ℕ)
       → ran b t job ≡ Matched n (index t.text p) (captures_of t.text labels cs) → CapturesIn t.text cs
       → IfOk r (λ v. (f : Forest) → all_named (label_in labels) cs ≡ flat f → v ≡ by_found b.prefix t (Some f))
       → IfOk r (λ v. v ≡ verdict_of b t (Runs job))
-  match-verdicts (Ok v) text ready labels cs n p e inside h = match-verdict text ready labels cs n p v e inside h
-  match-verdicts (Err x) text ready labels cs n p e inside h = tt
+  match_verdicts (Ok v) text ready labels cs n p e inside h = match_verdict text ready labels cs n p v e inside h
+  match_verdicts (Err x) text ready labels cs n p e inside h = tt
 
   -- whose captures are those of one tree
   at_tree :
@@ -164,11 +164,11 @@ module _ (b : Bench) (t : Test) (job : Job) where
         trees_same t.text labels cs k.1 inside k.3 ∙ ap (λ f. flat (placed (at t.text) f)) one.1,
       )
 
-  pub match-tree :
+  pub match_tree :
       (text : IsText t.text) (ready : ∥ IsReadyJob job ∥₁) (labels : List (List ℕ)) (cs : List Caught) (n p : ℕ)
       → ran b t job ≡ Matched n (index t.text p) (captures_of t.text labels cs) → CapturesIn t.text cs
       → ∥ AreOfTree labels cs ∥₁
-  match-tree text ready labels cs n p e inside =
+  match_tree text ready labels cs n p e inside =
       ∥∥₁_map ready (λ r. at_tree text r labels cs n p e inside)
 
   -- no match
@@ -177,17 +177,17 @@ module _ (b : Bench) (t : Test) (job : Job) where
       let k = told text ready (Failed n) e in
       h ∙ sym (ap (by_outcome b t) k.1) ∙ by_answer (Failed n) (ap is_over e) refl
 
-  pub none-verdict : (text : IsText t.text) (ready : ∥ IsReadyJob job ∥₁) (n : ℕ) (v : Verdict) → ran b t job ≡ Failed n → v ≡ by_found b.prefix t None → v ≡ verdict_of b t (Runs job)
-  none-verdict text ready n v e h =
-      verdict-by v (verdict_of b t (Runs job)) ready (λ r. fail_verdict text r n v e h)
+  pub none_verdict : (text : IsText t.text) (ready : ∥ IsReadyJob job ∥₁) (n : ℕ) (v : Verdict) → ran b t job ≡ Failed n → v ≡ by_found b.prefix t None → v ≡ verdict_of b t (Runs job)
+  none_verdict text ready n v e h =
+      verdict_by v (verdict_of b t (Runs job)) ready (λ r. fail_verdict text r n v e h)
 
   -- no end within the budget
-  pub over-verdict : ran b t job ≡ Unfinished → Spent ≡ verdict_of b t (Runs job)
-  over-verdict e = sym (ap (λ a. by_run b t job a) e)
+  pub over_verdict : ran b t job ≡ Unfinished → Spent ≡ verdict_of b t (Runs job)
+  over_verdict e = sym (ap (λ a. by_run b t job a) e)
 
-  pub steps-by : (a : Answer) (k s0 s1 : ℕ) → ran b t job ≡ a → k ≡ made most a → s1 ≡ s0 + k → s1 ≡ s0 + cost_of b t (Runs job)
-  steps-by a k s0 s1 e h is = is ∙ ap (λ x. s0 + x) (h ∙ sym (ap (made most) e))
+  pub steps_by : (a : Answer) (k s0 s1 : ℕ) → ran b t job ≡ a → k ≡ made most a → s1 ≡ s0 + k → s1 ≡ s0 + cost_of b t (Runs job)
+  steps_by a k s0 s1 e h is = is ∙ ap (λ x. s0 + x) (h ∙ sym (ap (made most) e))
 
-pub on-ok : {A E : Type 0} {P : Type 0} (r : Result A E) → P → OnOk r P
-on-ok (Ok a) p = p
-on-ok (Err e) p = tt
+pub on_ok : {A E : Type 0} {P : Type 0} (r : Result A E) → P → OnOk r P
+on_ok (Ok a) p = p
+on_ok (Err e) p = tt

@@ -17,7 +17,7 @@ use Rattle.rosie_unittest.specs.Laws.{OneSuite}
 use Rattle.rosie_unittest.specs.Suites.{AreTrials, Comes, ComesAgain, IsSubject, Suite, Tells, tests, bad}
 use Rattle.rosie_unittest.specs.Suites.{goal_of, loading, read_again, subject_unless_long}
 use Rattle.rosie_unittest.specs.Trials.{Bench, Subject, Trial}
-use Rattle.rosie_unittest.proofs.Loads.{again-tells, bench_with}
+use Rattle.rosie_unittest.proofs.Loads.{again_tells, bench_with}
 
 -- what the tests of a target are tried with is one thing
 pub subject_one : (R : List Core) (t : Option Target) (s u : Subject) → IsSubject R t s → IsSubject R t u → s ≡ u
@@ -52,7 +52,7 @@ again_one :
     → ComesAgain p file budget text r → ComesAgain p file budget text q → r ≡ q
 again_one p file budget (Err line) r q h k = h ∙ sym k
 again_one p file budget (Ok text) r q h k =
-    tells_one p k.0 (bench_with file budget k.1) text r q (again-tells p file budget text r k.0 k.1 k.2 k.3 h) k.4
+    tells_one p k.0 (bench_with file budget k.1) text r q (again_tells p file budget text r k.0 k.1 k.2 k.3 h) k.4
 
 comes_one :
     (tree : Tree) (file : List ℕ) (budget : Option ℕ) (paths asked asked' : List (List ℕ)) (l : OrLine Packages)
@@ -62,8 +62,8 @@ comes_one tree file budget paths asked asked' (Err line) r q h k = (h.0 ∙ sym 
 comes_one tree file budget paths asked asked' (Ok p) r q h k =
     (h.0 ∙ sym k.0, again_one p file budget (read_again file (file_of (encode_utf8_all file) tree)) r q h.1 k.1)
 
-pub one-suite : OneSuite
-one-suite tree folders file budget asked paths r s h k =
+pub one_suite : OneSuite
+one_suite tree folders file budget asked paths r s h k =
     let same = one_table (loading tree folders file).answer h.packages k.packages h.loads k.loads in
     comes_one tree file budget (map encode_utf8_all (loading tree folders file).asked) asked paths k.packages r s
     (subst (λ l. Comes tree file budget (map encode_utf8_all (loading tree folders file).asked) asked l r) same h.comes)

@@ -6,7 +6,7 @@ use Rattle.std.proofs.Props.{props}
 use Rattle.std.proofs.lemmas.Bool.{false≢true}
 use Rattle.rosie_run.specs.Report.{Piece, has, is_fault, is_stop}
 use Rattle.rosie_run.specs.declared.mark.Mark.{Mark}
-use Rattle.rosie_run.proofs.Pieces.{has-nil}
+use Rattle.rosie_run.proofs.Pieces.{has_nil}
 use Rattle.rpl_core.specs.Meaning.{Outcome}
 use Rattle.rpl_core.specs.Outcome.{outcome, work_of}
 use Rattle.rpl_core.specs.Run.{Answer, Matched, Failed, Unfinished}
@@ -49,8 +49,8 @@ pays_prop : (b : Bench) (ts : List Trial) → IsProp (SuitePays b ts)
 pays_prop b ts = Prim.hlevel (props, paid_prop)
 
 -- tests whose code does what their goals mean
-pub suite-due : (b : Bench) (ts : List Trial) → ∥ AreReady ts ∥₁ → SuitePays b ts
-suite-due b ts ready = ∥∥₁_elim ready (pays_prop b ts) (λ r k d lt. let h = r k d lt in paid b (get_or ts k d).test (get_or ts k d).subject h.0 h.1)
+pub suite_due : (b : Bench) (ts : List Trial) → ∥ AreReady ts ∥₁ → SuitePays b ts
+suite_due b ts ready = ∥∥₁_elim ready (pays_prop b ts) (λ r k d lt. let h = r k d lt in paid b (get_or ts k d).test (get_or ts k d).subject h.0 h.1)
 
 -- ---- tests that are allowed
 
@@ -101,15 +101,15 @@ unfolding has
 clean_cons p ps g h = record { stays = ap (λ x. x || has is_stop ps) g.0 ∙ h.stays; answers = ap (λ x. x || has is_fault ps) g.1 ∙ h.answers }
 
 clean_trials : (b : Bench) (last : Piece) (ts : List Trial) → IsGood last.mark → SuitePays b ts → AreAllowed b ts → Clean (map (trial_piece b) ts ++ last ∷ [])
-clean_trials b last [] g due h = clean_cons last [] g (record { stays = has-nil is_stop; answers = has-nil is_fault })
+clean_trials b last [] g due h = clean_cons last [] g (record { stays = has_nil is_stop; answers = has_nil is_fault })
 clean_trials b last (t ∷ ts) g due h =
     clean_cons (trial_piece b t) (map (trial_piece b) ts ++ last ∷ []) (good_subject b t.test t.subject (due 0 t (omega arith)) (h 0 t (omega arith)))
     (clean_trials b last ts g (λ k d lt. due (suc k) d (omega arith)) (λ k d lt. h (suc k) d (omega arith)))
 
-pub suite-clean : (b : Bench) (ts : List Trial) → SuitePays b ts → AreAllowed b ts → Clean (suite_pieces b ts)
-suite-clean b ts due h = clean_trials b (counts_piece b.file (length ts) (unmet b ts)) ts (good_counts (unmet b ts)) due h
+pub suite_clean : (b : Bench) (ts : List Trial) → SuitePays b ts → AreAllowed b ts → Clean (suite_pieces b ts)
+suite_clean b ts due h = clean_trials b (counts_piece b.file (length ts) (unmet b ts)) ts (good_counts (unmet b ts)) due h
 
 -- a suite's tests are ready
-pub suite-pays : {E : Type 0} (result : Result Suite E) → IfOk result (λ s. SuitePays (bench_of s) (trials_of s))
-suite-pays (Ok s) = suite-due (bench_of s) (trials_of s) s.ready
-suite-pays (Err e) = tt
+pub suite_pays : {E : Type 0} (result : Result Suite E) → IfOk result (λ s. SuitePays (bench_of s) (trials_of s))
+suite_pays (Ok s) = suite_due (bench_of s) (trials_of s) s.ready
+suite_pays (Err e) = tt

@@ -14,25 +14,25 @@ use Rattle.rosie_unittest.specs.declared.verdict.Verdict.{Verdict}
 use Rattle.rosie_unittest.specs.declared.verdict.Verdict.TheVariants as V
 use Rattle.rosie_unittest.specs.inside.Running.{ComesBy, last_piece, pieces_from, trials_from}
 
-pub one-fits : (v : Verdict) → one_if_unmet v ≤ 1
-one-fits V.Met = omega arith
-one-fits V.Unmet = omega arith
-one-fits V.Spent = omega arith
-one-fits V.LongAnswer = omega arith
-one-fits V.LongCode = omega arith
+pub one_fits : (v : Verdict) → one_if_unmet v ≤ 1
+one_fits V.Met = omega arith
+one_fits V.Unmet = omega arith
+one_fits V.Spent = omega arith
+one_fits V.LongAnswer = omega arith
+one_fits V.LongCode = omega arith
 
 module _ (s : Suite) (i : ℕ) (x : Trial) (lt : i < length s.trials.items) (at : x ≡ get_or s.trials.items i x) where
   rest : drop i s.trials.items ≡ x ∷ drop (i + 1) s.trials.items
   rest = drop_more s.trials.items i x lt ∙ ap (λ y. y ∷ drop (i + 1) s.trials.items) (sym at)
 
   -- the piece of the next test comes first
-  pub piece-next : pieces_from s i ≡ trial_piece (bench_of s) (trial_of (bodies_of s.rules) x) ∷ pieces_from s (i + 1)
-  piece-next =
+  pub piece_next : pieces_from s i ≡ trial_piece (bench_of s) (trial_of (bodies_of s.rules) x) ∷ pieces_from s (i + 1)
+  piece_next =
       ap (λ ys. map (trial_piece (bench_of s)) (map (trial_of (bodies_of s.rules)) ys) ++ last_piece s ∷ []) rest
 
-  pub unmet-next : (k one n : ℕ) → one ≡ one_if_unmet (verdict_in (bench_of s) (trial_of (bodies_of s.rules) x))
+  pub unmet_next : (k one n : ℕ) → one ≡ one_if_unmet (verdict_in (bench_of s) (trial_of (bodies_of s.rules) x))
       → k + unmet (bench_of s) (trials_from s i) ≡ n → (k + one) + unmet (bench_of s) (trials_from s (i + 1)) ≡ n
-  unmet-next k one n is h =
+  unmet_next k one n is h =
       let step : unmet (bench_of s) (trials_from s i)
       ≡ one_if_unmet (verdict_in (bench_of s) (trial_of (bodies_of s.rules) x)) + unmet (bench_of s) (trials_from s (i + 1)) =
       ap (λ ys. unmet (bench_of s) (map (trial_of (bodies_of s.rules)) ys)) rest in
@@ -40,20 +40,20 @@ module _ (s : Suite) (i : ℕ) (x : Trial) (lt : i < length s.trials.items) (at 
 
 -- all tests were tried
 module _ (s : Suite) (i : ℕ) (past : length s.trials.items ≤ i) where
-  pub pieces-last : pieces_from s i ≡ last_piece s ∷ []
-  pieces-last =
+  pub pieces_last : pieces_from s i ≡ last_piece s ∷ []
+  pieces_last =
       ap (λ ys. map (trial_piece (bench_of s)) (map (trial_of (bodies_of s.rules)) ys) ++ last_piece s ∷ [])
       (drop_all i s.trials.items past)
 
-  pub unmet-last : (k n : ℕ) → k + unmet (bench_of s) (trials_from s i) ≡ n → k ≡ n
-  unmet-last k n h =
+  pub unmet_last : (k n : ℕ) → k + unmet (bench_of s) (trials_from s i) ≡ n → k ≡ n
+  unmet_last k n h =
       let none : unmet (bench_of s) (trials_from s i) ≡ 0 =
       ap (λ ys. unmet (bench_of s) (map (trial_of (bodies_of s.rules)) ys)) (drop_all i s.trials.items past) in
       omega arith
 
 -- where no test was tried, all pieces are to come
-pub comes-begun : (r : SuiteRun) (s : Suite) → r.suite.now ≡ s → r.passed ≡ 0 → r.is_done ≡ false
+pub comes_begun : (r : SuiteRun) (s : Suite) → r.suite.now ≡ s → r.passed ≡ 0 → r.is_done ≡ false
     → ComesBy r.is_done r (suite_pieces (bench_of s) (trials_of s))
-comes-begun r s suite passed opened =
+comes_begun r s suite passed opened =
     subst (λ b. ComesBy b r (suite_pieces (bench_of s) (trials_of s))) (sym opened)
     (ap (λ x. pieces_from x 0) (sym suite) ∙ ap (pieces_from r.suite.now) (sym passed))

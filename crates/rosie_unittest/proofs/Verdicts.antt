@@ -27,5 +27,5 @@ back LongCode = refl
 number_prop : (v w : Verdict) → IsProp (number v ≡ number w)
 number_prop v w = Prim.hlevel props
 
-pub verdict-by : {P : Type 0} (v w : Verdict) → ∥ P ∥₁ → (P → v ≡ w) → v ≡ w
-verdict-by v w p f = sym (back v) ∙ ap numbered (∥∥₁_elim p (number_prop v w) (λ x. ap number (f x))) ∙ back w
+pub verdict_by : {P : Type 0} (v w : Verdict) → ∥ P ∥₁ → (P → v ≡ w) → v ≡ w
+verdict_by v w p f = sym (back v) ∙ ap numbered (∥∥₁_elim p (number_prop v w) (λ x. ap number (f x))) ∙ back w

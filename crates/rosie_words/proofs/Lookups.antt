@@ -24,15 +24,15 @@ option_or_assoc : (a b c : Option Word) → option_or (option_or a b) c ≡ opti
 option_or_assoc None b c = refl
 option_or_assoc (Some x) b c = refl
 
-option_or-None : (a : Option Word) → option_or a None ≡ a
-option_or-None None = refl
-option_or-None (Some x) = refl
+option_or_None : (a : Option Word) → option_or a None ≡ a
+option_or_None None = refl
+option_or_None (Some x) = refl
 
 abbrev here : OptionName → Given → Option Word
 here o g = if same_option o g.option then Some g.value else None
 
 last_more : (o : OptionName) (gs : List Given) (g : Given) → last o (gs ++ g ∷ []) ≡ option_or (here o g) (last o gs)
-last_more o [] g = sym (option_or-None _)
+last_more o [] g = sym (option_or_None _)
 last_more o (x ∷ xs) g = rw (last_more o xs g) (option_or_assoc (here o g) (last o xs) (here o x))
 
 put_more : (gs : List Given) (o : OptionName) (w v : Word) → values_of (gs ++ given o w v ∷ []) ≡ put o v (values_of gs)

@@ -35,13 +35,13 @@ starts all r s = record {
   arguments = rw (s.front, s.arguments) refl;
 }
 
-put_all-append : (gs hs : List Given) (s : OptionValues) → put_all (gs ++ hs) s ≡ put_all hs (put_all gs s)
-put_all-append [] hs s = refl
-put_all-append (g ∷ gs) hs s = put_all-append gs hs (put g.option g.value s)
+put_all_append : (gs hs : List Given) (s : OptionValues) → put_all (gs ++ hs) s ≡ put_all hs (put_all gs s)
+put_all_append [] hs s = refl
+put_all_append (g ∷ gs) hs s = put_all_append gs hs (put g.option g.value s)
 
-map-append : (gs hs : List Given) → map name_of (gs ++ hs) ≡ map name_of gs ++ map name_of hs
-map-append [] hs = refl
-map-append (g ∷ gs) hs = ap (λ ns. name_of g ∷ ns) (map-append gs hs)
+map_append : (gs hs : List Given) → map name_of (gs ++ hs) ≡ map name_of gs ++ map name_of hs
+map_append [] hs = refl
+map_append (g ∷ gs) hs = ap (λ ns. name_of g ∷ ns) (map_append gs hs)
 
 pub takes : (all rest : List Word) (w : Word) (old new : Reader) → Takes old new w → Stands all (w ∷ rest) old → Stands all rest new
 takes all rest w old new t s =
@@ -50,8 +50,8 @@ takes all rest w old new t s =
     let g = option_in (role f w) w in
     record {
       sound = rw t.front ((sym (ap (λ o. option_or o (first_fault n rest)) t.sound)) ∙ s.sound);
-      values = rw (t.front, t.values) (sym (put_all-append g (options n rest) old.values) ∙ s.values);
-      options = rw (t.front, t.options) (append_assoc (map seen old.options.items) (map name_of g) (map name_of (options n rest)) ∙ ap (λ ns. map seen old.options.items ++ ns) (sym (map-append g (options n rest))) ∙ s.options);
+      values = rw (t.front, t.values) (sym (put_all_append g (options n rest) old.values) ∙ s.values);
+      options = rw (t.front, t.options) (append_assoc (map seen old.options.items) (map name_of g) (map name_of (options n rest)) ∙ ap (λ ns. map seen old.options.items ++ ns) (sym (map_append g (options n rest))) ∙ s.options);
       arguments = rw (t.front, t.arguments) (append_assoc (map text old.arguments.items) (argument_in (role f w) w) (arguments n rest) ∙ s.arguments);
     }
 

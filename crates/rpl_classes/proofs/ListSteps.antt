@@ -10,7 +10,7 @@ use Rattle.rpl_classes.specs.inside.Scanned.{Passed, RangeFound}
 use Rattle.rpl_classes.specs.declared.symbols.Symbol.{Symbol}
 use Rattle.rpl_classes.specs.declared.symbols.Symbol.TheVariants.{Plain, Escaped, End}
 use Rattle.rpl_classes.specs.declared.fault.SetFault.TheVariants.{BadRange, BadSet}
-use Rattle.rpl_classes.proofs.Scans.{symbols-nil, symbols-cons}
+use Rattle.rpl_classes.proofs.Scans.{symbols_nil, symbols_cons}
 
 -- some symbol stands at each place
 pub record Shape (p : ℕ) (s : List Placed) : Type 0 where
@@ -24,8 +24,8 @@ shape_by p c true (Some (v, k)) f r = record { symbol = Escaped v; others = f k;
 shape_by p c false o f r = record { symbol = Plain c; others = r; is = refl }
 
 shape_of : (p : ℕ) (cs : List ℕ) → Shape p (symbols 0 p cs)
-shape_of p [] = record { symbol = End; others = []; is = symbols-nil p }
-shape_of p (c ∷ cs) = subst (Shape p) (sym (symbols-cons p c cs)) (shape_by p c (nat_eq c 92) (escape cs) _ _)
+shape_of p [] = record { symbol = End; others = []; is = symbols_nil p }
+shape_of p (c ∷ cs) = subst (Shape p) (sym (symbols_cons p c cs)) (shape_by p c (nat_eq c 92) (escape cs) _ _)
 
 pub shape : (t : List ℕ) (p : ℕ) → Shape p (symbols_from t p)
 shape t p = shape_of p (drop (index t p) t)
@@ -33,13 +33,13 @@ shape t p = shape_of p (drop (index t p) t)
 pub place_from : (t : List ℕ) (p : ℕ) → place (symbols_from t p) ≡ p
 place_from t p = let s = shape t p in ap place s.is
 
-each-cons : (b : Bool) (x : Placed) (s : List Placed) → each b (x ∷ s) ≡ (
+each_cons : (b : Bool) (x : Placed) (s : List Placed) → each b (x ∷ s) ≡ (
     if is_plain 93 x.1 then (if b then Err (BadSet x.0) else Ok ([], s))
     else (if not (is_member x.1) then Err (BadSet x.0)
     else (if is_plain 45 x.1 && (not b && not (begins 93 s)) then Err (BadRange x.0)
     else changed (λ a. (char_of x.1, char_of x.1) ∷ a) (each false s))))
 unfolding each
-each-cons b x s = refl
+each_cons b x s = refl
 
 -- what a list is by its first symbol
 abbrev closing : Bool → ℕ → List Placed → Reading
@@ -58,7 +58,7 @@ abbrev each_by : Bool → ℕ → List Placed → Reading
 each_by b p s = if begins 93 s then closing b p s else other b p s
 
 each_from : (t : List ℕ) (p : ℕ) (b : Bool) → each b (symbols_from t p) ≡ each_by b p (symbols_from t p)
-each_from t p b = let s = shape t p in ap (each b) s.is ∙ each-cons b (p, s.symbol) s.others ∙ sym (ap (each_by b p) s.is)
+each_from t p b = let s = shape t p in ap (each b) s.is ∙ each_cons b (p, s.symbol) s.others ∙ sym (ap (each_by b p) s.is)
 
 at_close : (t : List ℕ) (p : ℕ) (b : Bool) → begins 93 (symbols_from t p) ≡ true → each b (symbols_from t p) ≡ closing b p (symbols_from t p)
 at_close t p b h = each_from t p b ∙ cond-true (begins 93 (symbols_from t p)) (closing b p (symbols_from t p)) (other b p (symbols_from t p)) h

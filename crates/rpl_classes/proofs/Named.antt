@@ -51,13 +51,13 @@ own_name Cntrl = refl
 own_name Graph = refl
 own_name Print = refl
 
-singles-zero : (p : ℕ → Bool) → singles p 0 ≡ []
+singles_zero : (p : ℕ → Bool) → singles p 0 ≡ []
 unfolding singles
-singles-zero p = refl
+singles_zero p = refl
 
-singles-suc : (p : ℕ → Bool) (n : ℕ) → singles p (suc n) ≡ (if p n then (n, n) ∷ singles p n else singles p n)
+singles_suc : (p : ℕ → Bool) (n : ℕ) → singles p (suc n) ≡ (if p n then (n, n) ∷ singles p n else singles p n)
 unfolding singles
-singles-suc p n = refl
+singles_suc p n = refl
 
 below_zero : (c : ℕ) (b : Bool) → false ≡ (nat_lt c 0 && b)
 below_zero c b = grind (arith, nat_tests)
@@ -80,8 +80,8 @@ without_one p n c h = elim (cases_order c n) [
 
 -- the members of numbers that pass a test
 pub singles_members : (p : ℕ → Bool) (n c : ℕ) → in_ranges (singles p n) c ≡ (nat_lt c n && p c)
-singles_members p zero c = ap (λ l. in_ranges l c) (singles-zero p) ∙ in_ranges-nil c ∙ below_zero c (p c)
-singles_members p (suc n) c = ap (λ l. in_ranges l c) (singles-suc p n) ∙ elim (cases_Bool (p n)) [
+singles_members p zero c = ap (λ l. in_ranges l c) (singles_zero p) ∙ in_ranges-nil c ∙ below_zero c (p c)
+singles_members p (suc n) c = ap (λ l. in_ranges l c) (singles_suc p n) ∙ elim (cases_Bool (p n)) [
   | inl h ↦ ap (λ b. in_ranges (if b then (n, n) ∷ singles p n else singles p n) c) h ∙ in_ranges-cons (n, n) (singles p n) c
       ∙ ap (λ b. in_range (n, n) c || b) (singles_members p n c) ∙ with_one p n c h
   | inr h ↦ ap (λ b. in_ranges (if b then (n, n) ∷ singles p n else singles p n) c) h ∙ singles_members p n c ∙ without_one p n c h

@@ -13,20 +13,20 @@ use Rattle.rpl_classes.specs.Symbols.{symbols_from, first, place, rest, begins}
 use Rattle.rpl_classes.specs.Lists.{Reading, changed, char_of}
 use Rattle.rpl_classes.specs.Brackets.{is_word, word, past_word, is_name, named, name, class}
 use Rattle.rpl_classes.specs.inside.Scanned.{Passed, Worded, NameFound, ClassFound}
-use Rattle.rpl_classes.proofs.Steps.{word-cons, past_word-cons}
+use Rattle.rpl_classes.proofs.Steps.{word_cons, past_word_cons}
 use Rattle.rpl_classes.proofs.ListSteps.{shape, place_from}
 
 past_none : (t : List ℕ) (p : ℕ) → is_word (first (symbols_from t p)) ≡ false → past_word (symbols_from t p) ≡ symbols_from t p
 past_none t p f =
     let s = shape t p in
-    ap past_word s.is ∙ past_word-cons (p, s.symbol) s.others
+    ap past_word s.is ∙ past_word_cons (p, s.symbol) s.others
     ∙ cond-false (is_word s.symbol) (past_word s.others) ((p, s.symbol) ∷ s.others) (sym (ap (λ l. is_word (first l)) s.is) ∙ f) ∙ sym s.is
 
 word_some : (t : List ℕ) (p : ℕ) → is_word (first (symbols_from t p)) ≡ true → word (symbols_from t p) ≡ [] → ⊥
 word_some t p f e =
     let s = shape t p in
     let g : char_of s.symbol ∷ word s.others ≡ [] =
-    sym (ap word s.is ∙ word-cons (p, s.symbol) s.others ∙ cond-true (is_word s.symbol) (char_of s.symbol ∷ word s.others) [] (sym (ap (λ l. is_word (first l)) s.is) ∙ f)) ∙ e in
+    sym (ap word s.is ∙ word_cons (p, s.symbol) s.others ∙ cond-true (is_word s.symbol) (char_of s.symbol ∷ word s.others) [] (sym (ap (λ l. is_word (first l)) s.is) ∙ f)) ∙ e in
     absurd (cc)
 
 slice_empty : (t : List ℕ) (a : ℕ) → slice_range t a a ≡ []

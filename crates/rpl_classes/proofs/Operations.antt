@@ -9,7 +9,7 @@ use Rattle.rpl_classes.specs.Sets.{is_char, IsNormal, HasJust}
 use Rattle.rpl_classes.specs.Norm.{norm}
 use Rattle.rpl_classes.specs.Algebra.{both, others, without, set_of}
 use Rattle.rpl_classes.proofs.Named.{set_just, set_normal}
-use Rattle.rpl_classes.proofs.Normal.{norm-nil, norm_whole, norm_members, norm_normal, norm_just}
+use Rattle.rpl_classes.proofs.Normal.{norm_nil, norm_whole, norm_members, norm_normal, norm_just}
 
 tells : (x y : Bool) → (y ≡ true → x ≡ true) → y ≡ (x && y)
 tells x true h = sym (ap (λ b. b && true) (h refl))
@@ -89,7 +89,7 @@ unfolding without
 without_normal rs ss = set_normal (λ x. in_ranges rs x && not (in_ranges ss x))
 
 pub nil_normal : IsNormal []
-nil_normal = subst IsNormal norm-nil (norm_normal [])
+nil_normal = subst IsNormal norm_nil (norm_normal [])
 
 -- a class with the members of a normal list that another lacks
 pub without_from_class : (a b u : List Range) → IsNormal a → IsCanonical u → HasExactly u (λ c. in_ranges a c && not (in_ranges b c)) → u ≡ without a b

@@ -8,31 +8,31 @@ use Rattle.std.proofs.lemmas.List.{drop_all}
 use Rattle.rpl_text.specs.Places.{at, index, IsPlace, step_from}
 use Rattle.rpl_text.specs.Escapes.{escape, placed, escape_from}
 use Rattle.rpl_text.proofs.Walks.{none_step, index_at, place_at, at_suc, get_below, at_zero}
-use Rattle.rpl_text.proofs.Cuts.{at-drop}
+use Rattle.rpl_text.proofs.Cuts.{at_drop}
 use Rattle.rpl_text.proofs.Escaped.{escape_plain}
 use Rattle.rpl_text.proofs.Stepped.{stepped}
 use Rattle.rpl_classes.specs.Symbols.{escaped, symbols, symbols_from}
 use Rattle.rpl_classes.specs.inside.Scanned.{Scanned}
 use Rattle.rpl_classes.specs.declared.symbols.Symbol.TheVariants.{Plain, Escaped, End}
 
-pub symbols-nil : (p : ℕ) → symbols 0 p [] ≡ (p, End) ∷ []
+pub symbols_nil : (p : ℕ) → symbols 0 p [] ≡ (p, End) ∷ []
 unfolding symbols
-symbols-nil p = refl
+symbols_nil p = refl
 
-pub symbols-cons : (p c : ℕ) (cs : List ℕ) → symbols 0 p (c ∷ cs) ≡ (if nat_eq c 92 then escaped p (escape cs) (λ k. symbols k (p + 1) cs) else (p, Plain c) ∷ symbols 0 (p + len_utf8 c) cs)
+pub symbols_cons : (p c : ℕ) (cs : List ℕ) → symbols 0 p (c ∷ cs) ≡ (if nat_eq c 92 then escaped p (escape cs) (λ k. symbols k (p + 1) cs) else (p, Plain c) ∷ symbols 0 (p + len_utf8 c) cs)
 unfolding symbols
-symbols-cons p c cs = refl
+symbols_cons p c cs = refl
 
-symbols-skip : (k p c : ℕ) (cs : List ℕ) → symbols (suc k) p (c ∷ cs) ≡ symbols k (p + len_utf8 c) cs
+symbols_skip : (k p c : ℕ) (cs : List ℕ) → symbols (suc k) p (c ∷ cs) ≡ symbols k (p + len_utf8 c) cs
 unfolding symbols
-symbols-skip k p c cs = refl
+symbols_skip k p c cs = refl
 
 -- characters of an escape are passed over
 skipped : (k p : ℕ) (cs : List ℕ) → k ≤ length cs → symbols k p cs ≡ symbols 0 (p + at cs k) (drop k cs)
 skipped zero p cs le = let e : p ≡ p + at cs 0 = omega (arith, at_zero cs) in ap (λ x. symbols 0 x cs) e
 skipped (suc k) p [] le = absurd (omega arith)
 skipped (suc k) p (c ∷ cs) le =
-    symbols-skip k p c cs ∙ skipped k (p + len_utf8 c) cs (omega arith)
+    symbols_skip k p c cs ∙ skipped k (p + len_utf8 c) cs (omega arith)
     ∙ ap (λ x. symbols 0 x (drop k cs)) (add_assoc p (len_utf8 c) (at cs k))
 
 pub scan_plain : (t : List ℕ) (p c q : ℕ) → IsPlace t p → Some (c, q) ≡ step_from t (index t p) → (c ≡ 92 → ⊥) → Scanned t p (Plain c) q
@@ -40,7 +40,7 @@ scan_plain t p c q h e n =
     let s = stepped t p c q h e in
     let b = len_utf8_bounds c in
     record {
-      symbols = ap (symbols 0 p) s.front ∙ symbols-cons p c (drop (index t p + 1) t)
+      symbols = ap (symbols 0 p) s.front ∙ symbols_cons p c (drop (index t p + 1) t)
           ∙ ap (λ b. if b then escaped p (escape (drop (index t p + 1) t)) (λ k. symbols k (p + 1) (drop (index t p + 1) t)) else (p, Plain c) ∷ symbols 0 (p + len_utf8 c) (drop (index t p + 1) t)) (ne_eqb c 92 n)
           ∙ ap (λ x. (p, Plain c) ∷ symbols 0 x (drop (index t p + 1) t)) (sym s.next)
           ∙ ap (λ k. (p, Plain c) ∷ symbols 0 q (drop k t)) (sym s.number);
@@ -52,7 +52,7 @@ pub scan_end : (t : List ℕ) (p : ℕ) → IsPlace t p → None ≡ step_from t
 scan_end t p h e =
     let n = none_step t (index t p) e in
     record {
-      symbols = ap (symbols 0 p) (drop_all (index t p) t n.1) ∙ symbols-nil p;
+      symbols = ap (symbols 0 p) (drop_all (index t p) t n.1) ∙ symbols_nil p;
       next = h;
       forward = refl;
     }
@@ -62,7 +62,7 @@ backslash : (t : List ℕ) (p q : ℕ) → IsPlace t p → Some (92, q) ≡ step
     → symbols_from t p ≡ escaped p (escape (drop (index t p + 1) t)) (λ k. symbols k (p + 1) (drop (index t p + 1) t))
 backslash t p q h e =
     let s = stepped t p 92 q h e in
-    ap (symbols 0 p) s.front ∙ symbols-cons p 92 (drop (index t p + 1) t)
+    ap (symbols 0 p) s.front ∙ symbols_cons p 92 (drop (index t p + 1) t)
 
 no_escape : (t : List ℕ) (j : ℕ) (o : Option (ℕ × ℕ)) → None ≡ placed t j o → o ≡ None
 no_escape t j None e = refl
@@ -98,7 +98,7 @@ scan_escape t p q v r h e g =
     let b = get_below t i 92 s.get in
     let inside : i + 1 + k ≤ length t = omega (arith, length-drop (i + 1) t, plain.inside) in
     let one = at_suc t i 92 s.get in
-    let place : at t (i + 1 + k) ≡ p + 1 + at cs k = omega (arith, at-drop t (i + 1) k, len_utf8_ascii 92) in
+    let place : at t (i + 1 + k) ≡ p + 1 + at cs k = omega (arith, at_drop t (i + 1) k, len_utf8_ascii 92) in
     record {
       symbols = backslash t p q h e ∙ ap (λ o. escaped p o (λ k. symbols k (p + 1) cs)) f.is
           ∙ ap (λ x. (p, Escaped v) ∷ x) (skipped k (p + 1) cs plain.inside

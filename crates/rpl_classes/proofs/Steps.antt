@@ -26,33 +26,33 @@ taken t p q End f e h s = absurd (let g = sym e ∙ h in cc)
 pub place_le : (bs : List ℕ) (p : ℕ) → IsUtf8 bs → IsPlace (chars bs) p → p ≤ length bs
 place_le bs p u h = omega (arith, at_le (chars bs) (index (chars bs) p), at_end bs u)
 
-pub past_blanks-cons : (x : Placed) (s : List Placed) → past_blanks (x ∷ s) ≡ (if is_blank x.1 then past_blanks s else x ∷ s)
+pub past_blanks_cons : (x : Placed) (s : List Placed) → past_blanks (x ∷ s) ≡ (if is_blank x.1 then past_blanks s else x ∷ s)
 unfolding past_blanks
-past_blanks-cons x s = refl
+past_blanks_cons x s = refl
 
 pub blanks_taken : (t : List ℕ) (p q : ℕ) (x : Symbol) → is_blank x ≡ true → Taken t p x q → past_blanks (symbols_from t p) ≡ past_blanks (symbols_from t q)
 blanks_taken t p q x b s =
-    ap past_blanks s.symbols ∙ past_blanks-cons (p, x) (symbols_from t q) ∙ ap (λ c. if c then past_blanks (symbols_from t q) else (p, x) ∷ symbols_from t q) b
+    ap past_blanks s.symbols ∙ past_blanks_cons (p, x) (symbols_from t q) ∙ ap (λ c. if c then past_blanks (symbols_from t q) else (p, x) ∷ symbols_from t q) b
 
 pub blanks_stop : (t : List ℕ) (p q : ℕ) (x : Symbol) → is_blank x ≡ false → Scanned t p x q → past_blanks (symbols_from t p) ≡ symbols_from t p
 blanks_stop t p q x b s =
-    ap past_blanks s.symbols ∙ past_blanks-cons (p, x) (behind t x q) ∙ ap (λ c. if c then past_blanks (behind t x q) else (p, x) ∷ behind t x q) b ∙ sym s.symbols
+    ap past_blanks s.symbols ∙ past_blanks_cons (p, x) (behind t x q) ∙ ap (λ c. if c then past_blanks (behind t x q) else (p, x) ∷ behind t x q) b ∙ sym s.symbols
 
-pub word-cons : (x : Placed) (s : List Placed) → word (x ∷ s) ≡ (if is_word x.1 then char_of x.1 ∷ word s else [])
+pub word_cons : (x : Placed) (s : List Placed) → word (x ∷ s) ≡ (if is_word x.1 then char_of x.1 ∷ word s else [])
 unfolding word
-word-cons x s = refl
+word_cons x s = refl
 
-pub past_word-cons : (x : Placed) (s : List Placed) → past_word (x ∷ s) ≡ (if is_word x.1 then past_word s else x ∷ s)
+pub past_word_cons : (x : Placed) (s : List Placed) → past_word (x ∷ s) ≡ (if is_word x.1 then past_word s else x ∷ s)
 unfolding past_word
-past_word-cons x s = refl
+past_word_cons x s = refl
 
 pub past_word_taken : (t : List ℕ) (p q : ℕ) (x : Symbol) → is_word x ≡ true → Taken t p x q → past_word (symbols_from t p) ≡ past_word (symbols_from t q)
 past_word_taken t p q x b s =
-    ap past_word s.symbols ∙ past_word-cons (p, x) (symbols_from t q) ∙ ap (λ c. if c then past_word (symbols_from t q) else (p, x) ∷ symbols_from t q) b
+    ap past_word s.symbols ∙ past_word_cons (p, x) (symbols_from t q) ∙ ap (λ c. if c then past_word (symbols_from t q) else (p, x) ∷ symbols_from t q) b
 
 pub past_word_stop : (t : List ℕ) (p q : ℕ) (x : Symbol) → is_word x ≡ false → Scanned t p x q → past_word (symbols_from t p) ≡ symbols_from t p
 past_word_stop t p q x b s =
-    ap past_word s.symbols ∙ past_word-cons (p, x) (behind t x q) ∙ ap (λ c. if c then past_word (behind t x q) else (p, x) ∷ behind t x q) b ∙ sym s.symbols
+    ap past_word s.symbols ∙ past_word_cons (p, x) (behind t x q) ∙ ap (λ c. if c then past_word (behind t x q) else (p, x) ∷ behind t x q) b ∙ sym s.symbols
 
 -- a symbol of a name is the text's character
 pub word_char : (t : List ℕ) (p q : ℕ) (x : Symbol) → is_word x ≡ true → GoesOn t x p q → (slice_get t (index t p) ≡ Some (char_of x)) × (index t q ≡ index t p + 1)
@@ -79,7 +79,7 @@ pub word_taken : (t : List ℕ) (o p q : ℕ) (x : Symbol) → is_word x ≡ tru
 word_taken t o p q x h le s k e =
     let w = word_char t p q x h s.forward in
     e ∙ ap (λ y. slice_range t (index t o) (index t p) ++ y)
-    (ap word k.symbols ∙ word-cons (p, x) (symbols_from t q) ∙ ap (λ b. if b then char_of x ∷ word (symbols_from t q) else []) h)
+    (ap word k.symbols ∙ word_cons (p, x) (symbols_from t q) ∙ ap (λ b. if b then char_of x ∷ word (symbols_from t q) else []) h)
     ∙ sym (append_assoc (slice_range t (index t o) (index t p)) (char_of x ∷ []) (word (symbols_from t q)))
     ∙ ap (λ y. y ++ word (symbols_from t q)) (sym (ap (slice_range t (index t o)) w.1 ∙ slice_more t (index t o) (index t p) (char_of x) le w.0))
 
@@ -88,7 +88,7 @@ pub word_stop : (t : List ℕ) (o p q : ℕ) (x : Symbol) → is_word x ≡ fals
     → word (symbols_from t o) ≡ slice_range t (index t o) (index t p)
 word_stop t o p q x h s e =
     e ∙ ap (λ y. slice_range t (index t o) (index t p) ++ y)
-    (ap word s.symbols ∙ word-cons (p, x) (behind t x q) ∙ ap (λ b. if b then char_of x ∷ word (behind t x q) else []) h)
+    (ap word s.symbols ∙ word_cons (p, x) (behind t x q) ∙ ap (λ b. if b then char_of x ∷ word (behind t x q) else []) h)
     ∙ append-nil (slice_range t (index t o) (index t p))
 
 slice_none : (t : List ℕ) (a : ℕ) → slice_range t a a ≡ []

@@ -12,7 +12,7 @@ use Rattle.rpl_core.specs.Instr.{Instr}
 use Rattle.rpl_core.specs.Instr as I
 use Rattle.rpl_core.specs.Machine.{Entry, ReturnTo, Retry, State, Going, Failing, Ended, act, step}
 use Rattle.rpl_core.specs.Code.{Placed, lengths_code}
-use Rattle.rpl_compile_laws.proofs.Captures.{begins-append, finishes-append}
+use Rattle.rpl_compile_laws.proofs.Captures.{begins_append, finishes_append}
 use Rattle.rpl_compile_laws.proofs.Steps.{HasAt, has_front, has_back, closings, Leads, leads_none, leads_step, leads_last, Does, does_after, does_more, does_prefixed}
 
 -- an outcome that doesn't match
@@ -90,7 +90,7 @@ module _ (prog : List Instr) (t : List ℕ) where
       rw (append-nil cs) (one a i st cs I.Halt (Ended i cs) h (rw q refl))
   halt_leads (suc d) a i st cs h e =
       let q : nat_lt (finishes cs) (begins cs) ≡ true = lt-ltb _ _ (omega arith) in
-      let e' : begins (cs ++ Finish i ∷ []) ≡ finishes (cs ++ Finish i ∷ []) + d = omega (arith, begins-append cs (Finish i ∷ []), finishes-append cs (Finish i ∷ [])) in
+      let e' : begins (cs ++ Finish i ∷ []) ≡ finishes (cs ++ Finish i ∷ []) + d = omega (arith, begins_append cs (Finish i ∷ []), finishes_append cs (Finish i ∷ [])) in
       let rest = halt_leads d a i st (cs ++ Finish i ∷ []) h e' in
       let same = append_assoc cs (Finish i ∷ []) (closings d i) in
       leads_step prog t (suc d) _ _ _ (fetch a i st cs I.Halt h ∙ rw q refl) (subst (λ l. Leads prog t (suc d) (Going a i st (cs ++ Finish i ∷ [])) (Ended i l)) same rest)
@@ -133,7 +133,7 @@ module _ (prog : List Instr) (t : List ℕ) where
       let same : ((cs ++ Begin c i ∷ []) ++ flat f) ++ Finish j ∷ [] ≡ cs ++ (Begin c i ∷ (flat f ++ Finish j ∷ [])) = simp append_assoc in
       (suc (ho.0 + 1), omega (arith, ho.1), rw (← same) l)
   capture_does a m i c st cs (HaltAt w j f) h1 h2 ho = λ d q.
-      let q' : begins (cs ++ Begin c i ∷ []) ≡ finishes (cs ++ Begin c i ∷ []) + suc d = omega (arith, begins-append cs (Begin c i ∷ []), finishes-append cs (Begin c i ∷ [])) in
+      let q' : begins (cs ++ Begin c i ∷ []) ≡ finishes (cs ++ Begin c i ∷ []) + suc d = omega (arith, begins_append cs (Begin c i ∷ []), finishes_append cs (Begin c i ∷ [])) in
       let k = ho (suc d) q' in
       let same : (cs ++ Begin c i ∷ []) ++ (flat f ++ Finish j ∷ closings d j) ≡ cs ++ ((Begin c i ∷ (flat f ++ Finish j ∷ [])) ++ closings d j) = simp append_assoc in
       (suc k.0, omega (arith, k.1), rw (← same) (leads_step prog t k.0 _ _ _ (fetch a i st cs (I.Open c) h1) k.2))

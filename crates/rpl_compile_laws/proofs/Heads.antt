@@ -27,14 +27,14 @@ or_parts true b e = absurd (cc)
 or_parts false b e = (refl, e)
 
 -- what is outside both sets' ranges is outside each
-fits-append : (c : Option ℕ) (r s : List Range) → fits c (r ++ s) ≡ false → (fits c r ≡ false) × (fits c s ≡ false)
-fits-append None r s e = (refl, refl)
-fits-append (Some c) r s e = or_parts (in_ranges r c) (in_ranges s c) (sym (in_ranges-append r s c) ∙ e)
+fits_append : (c : Option ℕ) (r s : List Range) → fits c (r ++ s) ≡ false → (fits c r ≡ false) × (fits c s ≡ false)
+fits_append None r s e = (refl, refl)
+fits_append (Some c) r s e = or_parts (in_ranges r c) (in_ranges s c) (sym (in_ranges-append r s c) ∙ e)
 
 -- a character outside the normal form is outside the ranges
-fits-norm : (c : Option ℕ) (s : List Range) → IsCharThere c → fits c (norm s) ≡ false → fits c s ≡ false
-fits-norm None s k e = refl
-fits-norm (Some c) s k e = ap (λ b. b && in_ranges s c) (sym k) ∙ sym (norm_members s c) ∙ e
+fits_norm : (c : Option ℕ) (s : List Range) → IsCharThere c → fits c (norm s) ≡ false → fits c s ≡ false
+fits_norm None s k e = refl
+fits_norm (Some c) s k e = ap (λ b. b && in_ranges s c) (sym k) ∙ sym (norm_members s c) ∙ e
 
 -- more work leaves a failure one
 more_fails : (v : ℕ) (o : Outcome) → Fails o → Fails (more v o)
@@ -73,12 +73,12 @@ head_more c (Some s) v o h = λ e. more_fails v o (h e)
 head_or : (c : Option ℕ) (g h : Option (List Range)) (o : Outcome) (i : ℕ) (r : ℕ → Outcome) → HeadFails c g o → HeadFails c h (r i) → HeadFails c (both_heads g h) (or_else o i r)
 head_or c None h o i r a b = tt
 head_or c (Some s) None o i r a b = tt
-head_or c (Some s) (Some u) o i r a b = λ e. let k = fits-append c s u e in or_fails o i r (a k.0) (b k.1)
+head_or c (Some s) (Some u) o i r a b = λ e. let k = fits_append c s u e in or_fails o i r (a k.0) (b k.1)
 
 -- a last part's head with no more ranges is its own
 head_last : (c : Option ℕ) (g : Option (List Range)) (o : Outcome) → HeadFails c g o → HeadFails c (both_heads g (Some [])) o
 head_last c None o a = tt
-head_last c (Some s) o a = λ e. a ((fits-append c s [] e).0)
+head_last c (Some s) o a = λ e. a ((fits_append c s [] e).0)
 
 -- a sequence fails outside the head of its first part
 head_then : (c : Option ℕ) (h : Option (List Range)) (o : Outcome) (r : ℕ → Outcome) → HeadFails c h o → HeadFails c h (then_do o r)
@@ -93,7 +93,7 @@ head_under c (Some s) x i o h = λ e. under_fails x i o (h e)
 -- the normal form of a head is one as well
 head_norm : (c : Option ℕ) (h : Option (List Range)) (o : Outcome) → IsCharThere c → HeadFails c h o → HeadFails c (option_map norm h) o
 head_norm c None o k h = tt
-head_norm c (Some s) o k h = λ e. h (fits-norm c s k e)
+head_norm c (Some s) o k h = λ e. h (fits_norm c s k e)
 
 module _ (f : Core → ℕ → Outcome) (R : List Core) (t : List ℕ) (there : (i : ℕ) → IsCharThere (slice_get t i)) where
   mutual

@@ -5,7 +5,7 @@ use Rattle.rpl_core.specs.Forest.{Forest, Caught, Finish, flat, begins, finishes
 use Rattle.rpl_core.specs.Meaning.{Outcome, Open, Fail, At, HaltAt, more, prefixed}
 use Rattle.rpl_core.specs.Instr.{Instr}
 use Rattle.rpl_core.specs.Machine.{Entry, State, Going, Failing, Ended, step, after}
-use Rattle.rpl_compile_laws.proofs.Captures.{flat-joined, begins-append, finishes-append, flat_balanced}
+use Rattle.rpl_compile_laws.proofs.Captures.{flat_joined, begins_append, finishes_append, flat_balanced}
 
 -- the instructions stand in the program at this address
 abbrev pub HasAt : List Instr → ℕ → List Instr → Type 0
@@ -83,12 +83,12 @@ module _ (prog : List Instr) (t : List ℕ) where
   does_prefixed v u x s b st cs f (Fail w) e h =
       (h.0, omega (arith, h.1), flat f ++ h.2, rw (← append_assoc cs (flat f) h.2) h.3)
   does_prefixed v u x s b st cs f (At w j g) e h =
-      (h.0, omega (arith, h.1), rw (flat-joined f g, ← append_assoc cs (flat f) (flat g)) h.2)
+      (h.0, omega (arith, h.1), rw (flat_joined f g, ← append_assoc cs (flat f) (flat g)) h.2)
   does_prefixed v u x s b st cs f (HaltAt w j g) e h = λ d q.
-      let q' : begins (cs ++ flat f) ≡ finishes (cs ++ flat f) + d = omega (arith, begins-append cs (flat f), finishes-append cs (flat f), flat_balanced f) in
+      let q' : begins (cs ++ flat f) ≡ finishes (cs ++ flat f) + d = omega (arith, begins_append cs (flat f), finishes_append cs (flat f), flat_balanced f) in
       let k = h d q' in
       let same : (cs ++ flat f) ++ (flat g ++ closings d j) ≡ cs ++ ((flat f ++ flat g) ++ closings d j) = simp append_assoc in
-      (k.0, omega (arith, k.1), rw (flat-joined f g, ← same) k.2)
+      (k.0, omega (arith, k.1), rw (flat_joined f g, ← same) k.2)
 
   -- the same address and captures under other names
   pub does_at : (v : ℕ) (s : State) (b c : ℕ) (st : List Entry) (cs : List Caught) (o : Outcome) → b ≡ c → Does v s b st cs o → Does v s c st cs o

@@ -10,7 +10,7 @@ use Rattle.rpl_encode.specs.inside.Children.{is_hit_by, is_printed, printed_text
 use Rattle.rpl_encode.specs.Labels.{label_in}
 use Rattle.rpl_encode.specs.Texts.{texts}
 use Rattle.rpl_encode.specs.inside.Walk.{text_by, text_at}
-use Rattle.rpl_tree.proofs.Trees.{forest_of-cons}
+use Rattle.rpl_tree.proofs.Trees.{forest_of_cons}
 use Rattle.rpl_encode.proofs.Nodes.{drop_within, drop_got, drop_capped, got_none}
 use Rattle.rpl_encode.proofs.Walking.{stepped}
 
@@ -25,7 +25,7 @@ node_texts labels line n (Some text) f g = refl
 pub root_line : (labels : List (List ℕ)) (line : List ℕ) (nodes : List Node) (root : Node) → slice_get nodes 0 ≡ Some root → line_by_line (take 1 (texts line (trees labels nodes))) ≡ text_at labels line root ++ 10 ∷ []
 root_line labels line nodes root got =
     ap (λ ns. line_by_line (take 1 (texts line (trees labels ns)))) (drop_got nodes 0 root got)
-    ∙ ap (λ f. line_by_line (take 1 (texts line f))) (forest_of-cons (label_in labels) root (drop 1 nodes))
+    ∙ ap (λ f. line_by_line (take 1 (texts line f))) (forest_of_cons (label_in labels) root (drop 1 nodes))
     ∙ ap (λ ts. line_by_line (take 1 ts)) (node_texts labels line root root.note _ _)
     ∙ append-nil (text_at labels line root ++ 10 ∷ [])
 
@@ -53,7 +53,7 @@ printed_step labels line h nodes i j (suc k) now b n got some fits least next le
     ∙ ap (λ m. take m (drop b (drop (i + 1) nodes))) less'
     ∙ ap (take now) behind in
     ap (λ ns. printed_texts h line (trees labels (take (suc k) ns))) (drop_got nodes i n got)
-    ∙ ap (printed_texts h line) (forest_of-cons (label_in labels) n (take k (drop (i + 1) nodes)))
+    ∙ ap (printed_texts h line) (forest_of_cons (label_in labels) n (take k (drop (i + 1) nodes)))
     ∙ node_printed labels line h n n.note _ _
     ∙ ap (λ ns. if is_printed labels h n then text_at labels line n ∷ printed_texts h line (trees labels ns) else printed_texts h line (trees labels ns)) rest
 
@@ -64,7 +64,7 @@ below_of labels n (Some text) ns g = refl
 -- the walk begins with all nodes under the root
 pub first_below : (labels : List (List ℕ)) (nodes : List Node) → trees labels (take (below_of_first nodes) (drop 1 nodes)) ≡ below_root (trees labels nodes)
 first_below labels [] = refl
-first_below labels (n ∷ ns) = below_of labels n n.note ns _ ∙ ap below_root (sym (forest_of-cons (label_in labels) n ns))
+first_below labels (n ∷ ns) = below_of labels n n.note ns _ ∙ ap below_root (sym (forest_of_cons (label_in labels) n ns))
 
 printed_none : (h : Bool) (line : List ℕ) → printed_texts h line NoTree ≡ []
 printed_none true line = refl

@@ -11,7 +11,7 @@ use Rattle.std.proofs.lemmas.List.{append-nil, drop-drop, drop_all, take_all, re
 use Rattle.std.proofs.lemmas.Bool.{false≢true}
 use Rattle.std.specs.Prelude.{slice_get, reverse, IsTrue, ◌↔◌, if◌then◌else◌}
 use Rattle.rpl_encode.specs.Answer.{line_by_line}
-use Rattle.rpl_tree.proofs.Trees.{forest_of-cons}
+use Rattle.rpl_tree.proofs.Trees.{forest_of_cons}
 use Rattle.rpl_encode.proofs.Nodes.{take_within, drop_within, drop_behind, drop_got, drop_capped, got_none}
 
 -- the objects below a node; a note has none
@@ -26,8 +26,8 @@ node_objects : (labels : List (List ℕ)) (line : List ℕ) (n : Node) (note : O
 node_objects labels line n None f g = refl
 node_objects labels line n (Some text) f g = refl
 
-pub objects_of-cons : (labels : List (List ℕ)) (line : List ℕ) (n : Node) (ns : List Node) → objects_of labels line (n ∷ ns) ≡ (fields_at labels line n ++ (subs (below_of n.note (objects_of labels line (take n.below ns))) ++ codes "}")) ∷ objects_of labels line (drop n.below ns)
-objects_of-cons labels line n ns = ap (objects line) (forest_of-cons (label_in labels) n ns) ∙ node_objects labels line n n.note _ _
+pub objects_of_cons : (labels : List (List ℕ)) (line : List ℕ) (n : Node) (ns : List Node) → objects_of labels line (n ∷ ns) ≡ (fields_at labels line n ++ (subs (below_of n.note (objects_of labels line (take n.below ns))) ++ codes "}")) ∷ objects_of labels line (drop n.below ns)
+objects_of_cons labels line n ns = ap (objects line) (forest_of_cons (label_in labels) n ns) ∙ node_objects labels line n n.note _ _
 
 joined_next : (os : List (List ℕ)) → joined false os ≡ flat_map (λ p. 44 ∷ p) os
 joined_next [] = refl
@@ -49,7 +49,7 @@ node_rest labels line n ns k ks first =
     let os = objects_of labels line (take (k - b) (drop b ns)) in
     let inside = subs (below_of n.note (objects_of labels line (take b ns))) ++ codes "}" in
     let all : objects_of labels line (n ∷ take k ns) ≡ (fields_at labels line n ++ inside) ∷ os =
-    objects_of-cons labels line n (take k ns)
+    objects_of_cons labels line n (take k ns)
     ∙ ap (λ ms. (fields_at labels line n ++ (subs (below_of n.note (objects_of labels line ms)) ++ codes "}")) ∷ objects_of labels line (drop n.below (take k ns))) (take_within k n.below ns)
     ∙ ap (λ ms. (fields_at labels line n ++ inside) ∷ objects_of labels line ms) (drop_within k n.below ns) in
     let behind = codes "]}" ++ rest_of labels line (drop k ns) ks false in
@@ -71,7 +71,7 @@ pub subs_rest : (labels : List (List ℕ)) (line : List ℕ) (n m : Node) (ns : 
 subs_rest labels line n m ns k b ks first note least =
     let behind = rest_of labels line (drop (min n.below k) (m ∷ ns)) ((k - min n.below k) ∷ ks) false in
     let os = objects_of labels line (take (min n.below k) (m ∷ ns)) in
-    let found : os ≡ _ = ap (λ x. objects_of labels line (take x (m ∷ ns))) least ∙ objects_of-cons labels line m (take b ns) in
+    let found : os ≡ _ = ap (λ x. objects_of labels line (take x (m ∷ ns))) least ∙ objects_of_cons labels line m (take b ns) in
     node_rest labels line n (m ∷ ns) k ks first
     ∙ ap (λ x. comma first ++ (fields_at labels line n ++ ((subs (below_of x os) ++ codes "}") ++ behind))) note
     ∙ ap (λ xs. comma first ++ (fields_at labels line n ++ ((subs xs ++ codes "}") ++ behind))) found
@@ -148,14 +148,14 @@ opened false below lists e = ap reverse e
 
 root_objects : (labels : List (List ℕ)) (line : List ℕ) (nodes : List Node) (root : Node) → slice_get nodes 0 ≡ Some root → take 1 (objects_of labels line nodes) ≡ (fields_at labels line root ++ (subs (below_of root.note (objects_of labels line (take root.below (drop 1 nodes)))) ++ codes "}")) ∷ []
 root_objects labels line nodes root got =
-    ap (λ ns. take 1 (objects_of labels line ns)) (drop_got nodes 0 root got) ∙ ap (take 1) (objects_of-cons labels line root (drop 1 nodes))
+    ap (λ ns. take 1 (objects_of labels line ns)) (drop_got nodes 0 root got) ∙ ap (take 1) (objects_of_cons labels line root (drop 1 nodes))
 
 opened_root : (labels : List (List ℕ)) (line : List ℕ) (root : Node) (ns : List Node) → root.note ≡ None → 0 < root.below → 0 < length ns → ((fields_at labels line root ++ (subs (below_of root.note (objects_of labels line (take root.below ns))) ++ codes "}")) ++ 10 ∷ []) ++ [] ≡ (fields_at labels line root ++ ending true) ++ (rest_of labels line ns (root.below ∷ []) true ++ 10 ∷ [])
 opened_root labels line root [] note below more = absurd (omega arith)
 opened_root labels line root (m ∷ ns) note below more =
     let some : root.below ≡ suc (root.below - 1) = omega arith in
     let os = objects_of labels line (take root.below (m ∷ ns)) in
-    let found : os ≡ _ = ap (λ x. objects_of labels line (take x (m ∷ ns))) some ∙ objects_of-cons labels line m (take (root.below - 1) ns) in
+    let found : os ≡ _ = ap (λ x. objects_of labels line (take x (m ∷ ns))) some ∙ objects_of_cons labels line m (take (root.below - 1) ns) in
     ap (λ x. ((fields_at labels line root ++ (subs (below_of x os) ++ codes "}")) ++ 10 ∷ []) ++ []) note
     ∙ ap (λ xs. ((fields_at labels line root ++ (subs xs ++ codes "}")) ++ 10 ∷ []) ++ []) found
     ∙ root_group (fields_at labels line root) (ending true) _ _

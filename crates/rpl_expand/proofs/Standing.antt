@@ -8,7 +8,7 @@ use Rattle.rpl_package.specs.Roots.{Packages}
 use Rattle.rpl_package.specs.Tables as P
 use Rattle.rpl_package.specs.Targets.{head, body, head_of, then, rule_in}
 use Rattle.rpl_package.specs.declared.table.Row.{Row}
-use Rattle.rpl_package.proofs.Rows.{length-rows_of}
+use Rattle.rpl_package.proofs.Rows.{length_rows_of}
 use Rattle.rpl_expand.specs.Table.{Statement}
 use Rattle.rpl_expand.specs.Sets.{statement_at, statement_by, statements, statements_from, with_one}
 
@@ -47,7 +47,7 @@ some_row all i b [] same n lt = absurd (omega (arith, lt))
 some_row all i b (m ∷ ms) same n lt =
     let own = P.rows_of m.label i 0 b m.rules in
     let more = P.rows_from (i + 1) (P.begun_in b 0 m.rules) ms in
-    let long = length-rows_of m.label i 0 b m.rules in
+    let long = length_rows_of m.label i 0 b m.rules in
     let whole = length-append own more in
     let in_it : n < length m.rules → (w : Row) × (r : Rule) × (nth (own ++ more) n ≡ Some w)
     × (rule_in all w.from w.place ≡ Some r) = λ here.

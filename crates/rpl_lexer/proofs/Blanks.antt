@@ -171,8 +171,8 @@ part_narrow ds (Some n) h = ap is_some h.number
 joined : (a ds b z : List ℕ) → (a ++ ds ++ b) ++ z ≡ a ++ (ds ++ (b ++ z))
 joined a ds b z = append_assoc (a ++ ds) b z ∙ append_assoc a ds (b ++ z)
 
-three-len : (a ds b : List ℕ) → length (a ++ ds ++ b) ≡ 0 + length a + length ds + length b
-three-len a ds b = omega (arith, length-append (a ++ ds) b, length-append a ds)
+three_len : (a ds b : List ℕ) → length (a ++ ds ++ b) ≡ 0 + length a + length ds + length b
+three_len a ds b = omega (arith, length-append (a ++ ds) b, length-append a ds)
 
 abbrev one_parts : (n m k : ℕ) → Parts
 one_parts n m k = record {
@@ -188,7 +188,7 @@ one_bytes a ds b r = a ++ (ds ++ (b ++ 125 ∷ r))
 one_byte : (a ds b r : List ℕ) (c : ℕ) → has (one_bytes a ds b r) (0 + length a + length ds + length b) c ≡ nat_eq 125 c
 one_byte a ds b r c =
     subst (λ x. has x (0 + length a + length ds + length b) c ≡ nat_eq 125 c) (joined a ds b (125 ∷ r))
-    (has_at (a ++ ds ++ b) 125 r c (0 + length a + length ds + length b) (three-len a ds b))
+    (has_at (a ++ ds ++ b) 125 r c (0 + length a + length ds + length b) (three_len a ds b))
 
 one_is : (a ds b r : List ℕ) → IsPart a ds b → parts (one_bytes a ds b r) ≡ one_parts (length a) (length ds) (length b)
 one_is a ds b r h =
@@ -219,26 +219,26 @@ module _ (a ds b c es d r : List ℕ) where
   abbrev up_to_comma : List ℕ
   up_to_comma = (a ++ ds ++ b) ++ 44 ∷ []
 
-  comma-len : length up_to_comma ≡ before_comma + 1
-  comma-len = length-append (a ++ ds ++ b) (44 ∷ []) ∙ ap (λ x. x + 1) (three-len a ds b)
+  comma_len : length up_to_comma ≡ before_comma + 1
+  comma_len = length-append (a ++ ds ++ b) (44 ∷ []) ∙ ap (λ x. x + 1) (three_len a ds b)
 
   comma_split : up_to_comma ++ tail ≡ two_bytes
   comma_split = append_assoc (a ++ ds ++ b) (44 ∷ []) tail ∙ joined a ds b (44 ∷ tail)
 
   second_placed : IsPart c es d → Placed two_bytes (before_comma + 1) c es d
-  second_placed k = subst (λ x. Placed x (before_comma + 1) c es d) comma_split (placed up_to_comma c es d (125 ∷ r) (before_comma + 1) comma-len k refl refl)
+  second_placed k = subst (λ x. Placed x (before_comma + 1) c es d) comma_split (placed up_to_comma c es d (125 ∷ r) (before_comma + 1) comma_len k refl refl)
 
   comma_there : has two_bytes before_comma 44 ≡ true
-  comma_there = subst (λ x. has x before_comma 44 ≡ true) (joined a ds b (44 ∷ tail)) (has_at (a ++ ds ++ b) 44 tail 44 before_comma (three-len a ds b))
+  comma_there = subst (λ x. has x before_comma 44 ≡ true) (joined a ds b (44 ∷ tail)) (has_at (a ++ ds ++ b) 44 tail 44 before_comma (three_len a ds b))
 
-  whole-len : length (up_to_comma ++ (c ++ es ++ d)) ≡ before_comma + 1 + length c + length es + length d
-  whole-len = omega (arith, length-append up_to_comma (c ++ es ++ d), comma-len, three-len c es d)
+  whole_len : length (up_to_comma ++ (c ++ es ++ d)) ≡ before_comma + 1 + length c + length es + length d
+  whole_len = omega (arith, length-append up_to_comma (c ++ es ++ d), comma_len, three_len c es d)
 
   brace_there : has two_bytes (before_comma + 1 + length c + length es + length d) 125 ≡ true
   brace_there =
       let e : (up_to_comma ++ (c ++ es ++ d)) ++ 125 ∷ r ≡ two_bytes = append_assoc up_to_comma (c ++ es ++ d) (125 ∷ r) ∙ ap (λ x. up_to_comma ++ x) (joined c es d (125 ∷ r)) ∙ comma_split in
       subst (λ x. has x (before_comma + 1 + length c + length es + length d) 125 ≡ true) e
-      (has_at (up_to_comma ++ (c ++ es ++ d)) 125 r 125 (before_comma + 1 + length c + length es + length d) whole-len)
+      (has_at (up_to_comma ++ (c ++ es ++ d)) 125 r 125 (before_comma + 1 + length c + length es + length d) whole_len)
 
   two_is : IsPart a ds b → IsPart c es d → parts two_bytes ≡ two_parts (length a) (length ds) (length b) (length c) (length es) (length d)
   two_is h k =
@@ -360,7 +360,7 @@ record One (w r : List ℕ) (a ds b : List ℕ) : Type 0 where
 one_flat : (a ds b r : List ℕ) (s : Sharpened a ds b) → One (a ++ ds ++ b) r s.front ds s.back
 one_flat a ds b r s = record {
   bytes = ap (λ x. x ++ 125 ∷ r) s.same ∙ joined s.front ds s.back (125 ∷ r);
-  long = ap length s.same ∙ three-len s.front ds s.back;
+  long = ap length s.same ∙ three_len s.front ds s.back;
 }
 
 record Two (w r : List ℕ) (a ds b c es d : List ℕ) : Type 0 where
@@ -376,7 +376,7 @@ two_flat a ds b c es d r s t =
       bytes =
           ap (λ z. z ++ 125 ∷ r) cut ∙ append_assoc x (44 ∷ y) (125 ∷ r) ∙ joined s.front ds s.back (44 ∷ (y ++ 125 ∷ r))
           ∙ ap (λ z. s.front ++ (ds ++ (s.back ++ 44 ∷ z))) (joined t.front es t.back (125 ∷ r));
-      long = ap length cut ∙ omega (arith, length-append x (44 ∷ y), three-len s.front ds s.back, three-len t.front es t.back);
+      long = ap length cut ∙ omega (arith, length-append x (44 ∷ y), three_len s.front ds s.back, three_len t.front es t.back);
     }
 
 pub bounds_said : (w r : List ℕ) (b : Bounds) → SaysBounds w b → BoundsBack w b r
@@ -422,7 +422,7 @@ bounds_wide w r at (wide_second a ds b c es d least h s k i t j) =
     let o = sharpened c es d i t.digits j in
     let f = two_flat a ds b c es d r p o in
     let n : 0 + length p.front + length ds + length p.back + 1 + length o.front ≡ length (a ++ ds ++ b ++ 44 ∷ c) =
-    omega (arith, ap length p.same, three-len a ds b, three-len p.front ds p.back, length-append (a ++ ds ++ b) (44 ∷ c), ap length (o.kept (wide_some es t))) in
+    omega (arith, ap length p.same, three_len a ds b, three_len p.front ds p.back, length-append (a ++ ds ++ b) (44 ∷ c), ap length (o.kept (wide_some es t))) in
     ap (λ x. stands (123 ∷ x)) f.bytes
     ∙ second_fails p.front ds p.back o.front es o.back r p.part o.part (part_narrow ds least s) (ap is_some t.number)
     ∙ ap (λ x. Fault NumberTooWide (1 + x)) n

@@ -122,26 +122,26 @@ module _ (ds es r : List ℕ) (d : each is_digit ds ≡ true) (e : each is_digit
   split : (ds ++ 44 ∷ []) ++ rest ≡ bytes
   split = append_assoc ds (44 ∷ []) rest
 
-  front-len : length (ds ++ 44 ∷ []) ≡ length ds + 1
-  front-len = length-append ds (44 ∷ [])
+  front_len : length (ds ++ 44 ∷ []) ≡ length ds + 1
+  front_len = length-append ds (44 ∷ [])
 
   split_twice : ((ds ++ 44 ∷ []) ++ es) ++ 125 ∷ r ≡ bytes
   split_twice = append_assoc (ds ++ 44 ∷ []) es (125 ∷ r) ∙ split
 
-  twice-len : length ((ds ++ 44 ∷ []) ++ es) ≡ length ds + 1 + length es
-  twice-len = length-append (ds ++ 44 ∷ []) es ∙ ap (λ x. x + length es) front-len
+  twice_len : length ((ds ++ 44 ∷ []) ++ es) ≡ length ds + 1 + length es
+  twice_len = length-append (ds ++ 44 ∷ []) es ∙ ap (λ x. x + length es) front_len
 
   comma_is : parts bytes ≡ comma_parts (length ds) (length es)
   comma_is =
       let n = length ds in
       let z : 0 + n ≡ n = omega arith in
-      let most = subst (λ x. ◌≡◌ {A = Span} (digits_from x (n + 1)) (record { start = n + 1; end = n + 1 + length es })) split (digits_at (ds ++ 44 ∷ []) es (125 ∷ r) (n + 1) front-len e refl refl) in
-      let k : past is_space bytes (n + 1 + length es) ≡ n + 1 + length es = subst (λ x. past is_space x (n + 1 + length es) ≡ n + 1 + length es) split_twice (space_at ((ds ++ 44 ∷ []) ++ es) (125 ∷ r) (n + 1 + length es) twice-len refl) in
+      let most = subst (λ x. ◌≡◌ {A = Span} (digits_from x (n + 1)) (record { start = n + 1; end = n + 1 + length es })) split (digits_at (ds ++ 44 ∷ []) es (125 ∷ r) (n + 1) front_len e refl refl) in
+      let k : past is_space bytes (n + 1 + length es) ≡ n + 1 + length es = subst (λ x. past is_space x (n + 1 + length es) ≡ n + 1 + length es) split_twice (space_at ((ds ++ 44 ∷ []) ++ es) (125 ∷ r) (n + 1 + length es) twice_len refl) in
       sym (parts_comma bytes (record { start = 0; end = 0 + n }) (record { start = n + 1; end = n + 1 + length es }) n (n + 1 + length es)
       (sym (digits_at [] ds (44 ∷ rest) 0 refl d refl refl)) (sym (ap (past is_space bytes) z ∙ space_at ds (44 ∷ rest) n refl refl)) (has_at ds 44 rest 44 n refl) (sym most) (sym k))
 
   most_part : part bytes (record { start = length ds + 1; end = length ds + 1 + length es }) ≡ es
-  most_part = subst (λ x. part x (record { start = length ds + 1; end = length ds + 1 + length es }) ≡ es) split (part_at (ds ++ 44 ∷ []) es (125 ∷ r) (length ds + 1) front-len)
+  most_part = subst (λ x. part x (record { start = length ds + 1; end = length ds + 1 + length es }) ≡ es) split (part_at (ds ++ 44 ∷ []) es (125 ∷ r) (length ds + 1) front_len)
 
 pub comma_stands : (ds es r : List ℕ) (n : ℕ) → Spells n ds → each is_digit es ≡ true → is_some (narrow (value 0 es)) ≡ true → stands (123 ∷ (ds ++ 44 ∷ (es ++ 125 ∷ r))) ≡ Found K.Bounds (length ds + 1 + length es + 2)
 comma_stands ds es r n h d s =
@@ -151,7 +151,7 @@ comma_stands ds es r n h d s =
     let p = comma_parts len (length es) in
     let l : is_wide bs (parts bs).least ≡ false = ap (λ (x : Parts). is_wide bs x.least) e ∙ not_wide bs p.least ds (part_at [] ds (44 ∷ (es ++ 125 ∷ r)) 0 refl) (ap is_some h.number) in
     let m : is_wide bs (parts bs).most ≡ false = ap (λ (x : Parts). is_wide bs x.most) e ∙ not_wide bs p.most es (most_part ds es r h.digits d) s in
-    let k : has bs (len + 1 + length es) 125 ≡ true = subst (λ x. has x (len + 1 + length es) 125 ≡ true) (split_twice ds es r h.digits d) (has_at ((ds ++ 44 ∷ []) ++ es) 125 r 125 (len + 1 + length es) (twice-len ds es r h.digits d)) in
+    let k : has bs (len + 1 + length es) 125 ≡ true = subst (λ x. has x (len + 1 + length es) 125 ≡ true) (split_twice ds es r h.digits d) (has_at ((ds ++ 44 ∷ []) ++ es) 125 r 125 (len + 1 + length es) (twice_len ds es r h.digits d)) in
     let c : has bs (parts bs).close 125 ≡ true = ap (λ (x : Parts). has bs x.close 125) e ∙ k in
     bounds_stand bs (begun bs (no_space ds (44 ∷ (es ++ 125 ∷ r)) h.digits refl) (digit_first ds (44 ∷ (es ++ 125 ∷ r)) h.digits h.some)) c l m ∙ ap (λ (x : Parts). Found K.Bounds (x.close + 2)) e
 

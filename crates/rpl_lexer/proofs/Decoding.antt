@@ -7,42 +7,42 @@ use Rattle.std.proofs.lemmas.List.{drop_all, append-nil}
 use Rattle.rpl_text.specs.Places.{at, index, IsPlace, step_from}
 use Rattle.rpl_text.specs.Escapes.{escape, placed, escape_from}
 use Rattle.rpl_text.proofs.Walks.{none_step, index_at, place_at, at_suc, get_below, at_le, at_end}
-use Rattle.rpl_text.proofs.Cuts.{at-drop}
+use Rattle.rpl_text.proofs.Cuts.{at_drop}
 use Rattle.rpl_text.proofs.Escaped.{escape_plain}
 use Rattle.rpl_text.proofs.Stepped.{stepped}
 use Rattle.rpl_lexer.specs.Payloads.{unescaped, decoded}
 use Rattle.rpl_lexer.specs.inside.Decoding.{Decodes}
 
-pub decoded-nil : (k : ℕ) → decoded k [] ≡ []
+pub decoded_nil : (k : ℕ) → decoded k [] ≡ []
 unfolding decoded
-decoded-nil k = refl
+decoded_nil k = refl
 
-pub decoded-skip : (k c : ℕ) (cs : List ℕ) → decoded (suc k) (c ∷ cs) ≡ decoded k cs
+pub decoded_skip : (k c : ℕ) (cs : List ℕ) → decoded (suc k) (c ∷ cs) ≡ decoded k cs
 unfolding decoded
-decoded-skip k c cs = refl
+decoded_skip k c cs = refl
 
-pub decoded-cons : (c : ℕ) (cs : List ℕ) → decoded 0 (c ∷ cs) ≡ (if nat_eq c 34 then [] else (if nat_eq c 92 then unescaped (escape cs) (λ k. decoded k cs) else c ∷ decoded 0 cs))
+pub decoded_cons : (c : ℕ) (cs : List ℕ) → decoded 0 (c ∷ cs) ≡ (if nat_eq c 34 then [] else (if nat_eq c 92 then unescaped (escape cs) (λ k. decoded k cs) else c ∷ decoded 0 cs))
 unfolding decoded
-decoded-cons c cs = refl
+decoded_cons c cs = refl
 
 -- characters of an escape are passed over
 pub skipped : (k : ℕ) (cs : List ℕ) → decoded k cs ≡ decoded 0 (drop k cs)
 skipped zero cs = refl
-skipped (suc k) [] = decoded-nil (suc k) ∙ sym (decoded-nil 0)
-skipped (suc k) (c ∷ cs) = decoded-skip k c cs ∙ skipped k cs
+skipped (suc k) [] = decoded_nil (suc k) ∙ sym (decoded_nil 0)
+skipped (suc k) (c ∷ cs) = decoded_skip k c cs ∙ skipped k cs
 
 -- at the end, at a quote, and at any other character that stands for itself
 pub reads_end : (t : List ℕ) (p : ℕ) → None ≡ step_from t (index t p) → Decodes t p None
-reads_end t p e = let n = none_step t (index t p) e in ap (decoded 0) (drop_all (index t p) t n.1) ∙ decoded-nil 0
+reads_end t p e = let n = none_step t (index t p) e in ap (decoded 0) (drop_all (index t p) t n.1) ∙ decoded_nil 0
 
 pub reads_quote : (t : List ℕ) (p q : ℕ) → IsPlace t p → Some (34, q) ≡ step_from t (index t p) → Decodes t p None
-reads_quote t p q h e = let s = stepped t p 34 q h e in ap (decoded 0) s.front ∙ decoded-cons 34 (drop (index t p + 1) t)
+reads_quote t p q h e = let s = stepped t p 34 q h e in ap (decoded 0) s.front ∙ decoded_cons 34 (drop (index t p + 1) t)
 
 pub reads_plain : (t : List ℕ) (p c q : ℕ) → IsPlace t p → Some (c, q) ≡ step_from t (index t p) → (c ≡ 34 → ⊥) → (c ≡ 92 → ⊥) → Decodes t p (Some (c, q))
 reads_plain t p c q h e n m =
     let s = stepped t p c q h e in
     let cs = drop (index t p + 1) t in (
-      ap (decoded 0) s.front ∙ decoded-cons c cs
+      ap (decoded 0) s.front ∙ decoded_cons c cs
           ∙ ap (λ b. if b then [] else (if nat_eq c 92 then unescaped (escape cs) (λ k. decoded k cs) else c ∷ decoded 0 cs)) (ne_eqb c 34 n)
           ∙ ap (λ b. if b then unescaped (escape cs) (λ k. decoded k cs) else c ∷ decoded 0 cs) (ne_eqb c 92 m)
           ∙ ap (λ k. c ∷ decoded 0 (drop k t)) (sym s.number),
@@ -52,7 +52,7 @@ reads_plain t p c q h e n m =
 
 backslash : (t : List ℕ) (p q : ℕ) → IsPlace t p → Some (92, q) ≡ step_from t (index t p)
     → decoded 0 (drop (index t p) t) ≡ unescaped (escape (drop (index t p + 1) t)) (λ k. decoded k (drop (index t p + 1) t))
-backslash t p q h e = let s = stepped t p 92 q h e in ap (decoded 0) s.front ∙ decoded-cons 92 (drop (index t p + 1) t)
+backslash t p q h e = let s = stepped t p 92 q h e in ap (decoded 0) s.front ∙ decoded_cons 92 (drop (index t p + 1) t)
 
 by_escape : (t : List ℕ) (p q : ℕ) (o : Option (ℕ × ℕ)) → IsPlace t p → Some (92, q) ≡ step_from t (index t p) → escape (drop (index t p + 1) t) ≡ o → Decodes t p (placed t (index t p + 1) o)
 by_escape t p q None h e g = backslash t p q h e ∙ ap (λ o. unescaped o (λ k. decoded k (drop (index t p + 1) t))) g
@@ -66,7 +66,7 @@ by_escape t p q (Some (v, k)) h e g =
     let r = at t (i + 1 + k) in
     let number : index t r ≡ i + 1 + k = index_at t (i + 1 + k) inside in
     let one = at_suc t i 92 s.get in
-    let later : p < r = omega (arith, at-drop t (i + 1) k, len_utf8_ascii 92) in
+    let later : p < r = omega (arith, at_drop t (i + 1) k, len_utf8_ascii 92) in
     let same : drop k cs ≡ drop (index t r) t = drop-drop k (i + 1) t ∙ ap (λ n. drop n t) (sym number) in (
       backslash t p q h e ∙ ap (λ o. unescaped o (λ k. decoded k cs)) g ∙ ap (λ x. v ∷ x) (skipped k cs ∙ ap (decoded 0) same),
       place_at t (i + 1 + k) inside,

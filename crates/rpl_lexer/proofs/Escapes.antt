@@ -6,7 +6,7 @@ use Rattle.std.specs.Char.{digit_value}
 use Rattle.std.proofs.lemmas.Bool.{cases_Bool}
 use Rattle.rpl_text.specs.Characters.{is_char}
 use Rattle.rpl_text.specs.Escapes.{hex, numbered, is_kept, escape}
-use Rattle.rpl_text.proofs.Hex.{hex-cons, hex-nil}
+use Rattle.rpl_text.proofs.Hex.{hex_cons, hex_nil}
 
 -- an escape, and what is after it
 pub record Front (y : List ℕ) : Type 0 where
@@ -24,9 +24,9 @@ record Digits (n v w : ℕ) (cs : List ℕ) : Type 0 where
   long : length digits ≡ n
   read : hex n v digits ≡ Some w
 
-hex-zero : (v : ℕ) (cs : List ℕ) → hex 0 v cs ≡ Some v
+hex_zero : (v : ℕ) (cs : List ℕ) → hex 0 v cs ≡ Some v
 unfolding hex
-hex-zero v cs = refl
+hex_zero v cs = refl
 
 none_some : {P : Type 0} (w : ℕ) → None ≡ Some w → P
 none_some w e = absurd (cc)
@@ -37,12 +37,12 @@ digits zero v w cs e = record {
   behind = cs;
   is = refl;
   long = refl;
-  read = hex-zero v [] ∙ sym (hex-zero v cs) ∙ e;
+  read = hex_zero v [] ∙ sym (hex_zero v cs) ∙ e;
 }
-digits (suc n) v w [] e = none_some w (sym (hex-nil n v) ∙ e)
+digits (suc n) v w [] e = none_some w (sym (hex_nil n v) ∙ e)
 digits (suc n) v w (c ∷ cs) e =
     let x = 16 * v + digit_value c in
-    let s = sym (hex-cons n v c cs) ∙ e in
+    let s = sym (hex_cons n v c cs) ∙ e in
     elim (cases_Bool (nat_lt (digit_value c) 16)) [
       | inl t ↦
           let g = digits n x w cs (sym (ap (λ b. if b then hex n x cs else None) t) ∙ s) in
@@ -51,7 +51,7 @@ digits (suc n) v w (c ∷ cs) e =
             behind = g.behind;
             is = ap (λ y. c ∷ y) g.is;
             long = ap suc g.long;
-            read = hex-cons n v c g.digits ∙ ap (λ b. if b then hex n x g.digits else None) t ∙ g.read;
+            read = hex_cons n v c g.digits ∙ ap (λ b. if b then hex n x g.digits else None) t ∙ g.read;
           }
       | inr f ↦ none_some w (sym (ap (λ b. if b then hex n x cs else None) f) ∙ s)
     ]

@@ -25,18 +25,18 @@ use Rattle.rpl_lexer.proofs.Texts.{text_form}
 form_of : (k : TokenKind) (w : List ℕ) (n : ℕ) → n ≡ length w → stands w ≡ Found k n → Form k w
 form_of k w n e h = subst (Form k) (take_all n w (omega (arith, e))) (longest w k n h).fits.form
 
-between-len : (b c : ℕ) (u : List ℕ) → length u + 2 ≡ length (b ∷ u ++ c ∷ [])
-between-len b c u = omega (arith, length-append u (c ∷ []))
+between_len : (b c : ℕ) (u : List ℕ) → length u + 2 ≡ length (b ∷ u ++ c ∷ [])
+between_len b c u = omega (arith, length-append u (c ∷ []))
 
 of_text : (w : List ℕ) → IsText w → Form K.Text w
 of_text w h =
     subst (Form K.Text) (sym h.is)
-    (form_of K.Text (34 ∷ h.inner ++ 34 ∷ []) (length h.inner + 2) (between-len 34 34 h.inner) (in_text_stands h.inner [] h.written))
+    (form_of K.Text (34 ∷ h.inner ++ 34 ∷ []) (length h.inner + 2) (between_len 34 34 h.inner) (in_text_stands h.inner [] h.written))
 
 of_bracket : (w : List ℕ) → IsBracket w → Form K.Bracket w
 of_bracket w h =
     subst (Form K.Bracket) (sym h.is)
-    (form_of K.Bracket (91 ∷ h.inner ++ 93 ∷ []) (length h.inner + 2) (between-len 91 93 h.inner) (in_bracket_stands h.inner [] h.written))
+    (form_of K.Bracket (91 ∷ h.inner ++ 93 ∷ []) (length h.inner + 2) (between_len 91 93 h.inner) (in_bracket_stands h.inner [] h.written))
 
 pub text_forms : TextForm
 text_forms w = (text_form w, of_text w)

@@ -8,8 +8,8 @@ use Rattle.std.proofs.lemmas.Bool.Decides.{nat_tests}
 use Rattle.std.proofs.lemmas.Str.{inside_one, encode_ascii, encodes-append}
 use Rattle.rpl_text.specs.Characters.{is_char}
 use Rattle.rpl_text.specs.Escapes.{hex, numbered, is_kept, escape}
-use Rattle.rpl_text.proofs.Escaped.{escape-cons, escape-nil}
-use Rattle.rpl_text.proofs.Hex.{hex-cons, hex-nil}
+use Rattle.rpl_text.proofs.Escaped.{escape_cons, escape_nil}
+use Rattle.rpl_text.proofs.Hex.{hex_cons, hex_nil}
 use Rattle.rpl_lexer.specs.declared.token.TokenKind.TheVariants as K
 use Rattle.rpl_lexer.specs.declared.enclosed.Enclosure.TheVariants.{Quotes}
 use Rattle.rpl_lexer.specs.declared.front.Stand.TheVariants.{Found}
@@ -21,7 +21,7 @@ use Rattle.rpl_lexer.specs.Written.{is_bare, is_inner, Writes, nothing, bare, es
 use Rattle.std.proofs.lemmas.List.{append-nil}
 use Rattle.rpl_lexer.proofs.Walks.{plus_none}
 use Rattle.rpl_lexer.proofs.Spans.{left, right}
-use Rattle.rpl_lexer.proofs.Decoding.{decoded-cons, skipped}
+use Rattle.rpl_lexer.proofs.Decoding.{decoded_cons, skipped}
 
 -- ---- what an escape is made of
 
@@ -59,19 +59,19 @@ record Digits (n v w : ℕ) (ds : List ℕ) : Type 0 where
   low : each (λ b. nat_lt b 128) ds ≡ true
   stays : (y : List ℕ) → hex n v (ds ++ y) ≡ Some w
 
-hex-zero : (v : ℕ) (cs : List ℕ) → hex 0 v cs ≡ Some v
+hex_zero : (v : ℕ) (cs : List ℕ) → hex 0 v cs ≡ Some v
 unfolding hex
-hex-zero v cs = refl
+hex_zero v cs = refl
 
 and_both : (a b : Bool) → a ≡ true → b ≡ true → (a && b) ≡ true
 and_both a b h g = rw (h, g) refl
 
 hex_digits : (n v w : ℕ) (ds : List ℕ) → hex n v ds ≡ Some w → length ds ≡ n → Digits n v w ds
-hex_digits zero v w [] h e = record { plain = refl; inner = refl; low = refl; stays = λ y. hex-zero v y ∙ sym (hex-zero v []) ∙ h }
+hex_digits zero v w [] h e = record { plain = refl; inner = refl; low = refl; stays = λ y. hex_zero v y ∙ sym (hex_zero v []) ∙ h }
 hex_digits zero v w (d ∷ ds) h e = absurd (omega (arith, e))
-hex_digits (suc n) v w [] h e = none_some w (sym (hex-nil n v) ∙ h)
+hex_digits (suc n) v w [] h e = none_some w (sym (hex_nil n v) ∙ h)
 hex_digits (suc n) v w (d ∷ ds) h e =
-    let f = sym (hex-cons n v d ds) ∙ h in
+    let f = sym (hex_cons n v d ds) ∙ h in
     elim (cases_lt (digit_value d) 16) [
       | inl lt ↦
           let t = lt-ltb (digit_value d) 16 lt in
@@ -80,7 +80,7 @@ hex_digits (suc n) v w (d ∷ ds) h e =
             plain = and_both (is_bare d) (each is_bare ds) (digit_bare d lt) g.plain;
             inner = and_both (is_inner d) (each is_inner ds) (digit_inner d lt) g.inner;
             low = and_both (nat_lt d 128) (each (λ b. nat_lt b 128) ds) (digit_low d lt) g.low;
-            stays = λ y. hex-cons n v d (ds ++ y) ∙ ap (λ b. if b then hex n (16 * v + digit_value d) (ds ++ y) else None) t ∙ g.stays y;
+            stays = λ y. hex_cons n v d (ds ++ y) ∙ ap (λ b. if b then hex n (16 * v + digit_value d) (ds ++ y) else None) t ∙ g.stays y;
           }
       | inr ge ↦ none_some w (sym (ap (λ b. if b then hex n (16 * v + digit_value d) ds else None) (le-ltb (digit_value d) 16 ge)) ∙ f)
     ]
@@ -141,23 +141,23 @@ kept_line : (d : ℕ) → is_kept d ≡ true → nat_eq d 10 ≡ false
 kept_line d h = grind (arith, nat_tests)
 
 pub shape : (c : ℕ) (e : List ℕ) → escape e ≡ Some (c, length e) → Shape c e
-shape c [] h = none_pair c 0 (sym escape-nil ∙ h)
+shape c [] h = none_pair c 0 (sym escape_nil ∙ h)
 shape c (d ∷ ds) h =
-    let s = sym (escape-cons d ds) ∙ h in
+    let s = sym (escape_cons d ds) ∙ h in
     elim (if_cases (is_kept d) _ _ _ s) [
-      | inl a ↦ one_letter c d d ds (kept_below d a.0) (kept_line d a.0) a.1 (λ y. escape-cons d y ∙ rw (a.0) refl)
+      | inl a ↦ one_letter c d d ds (kept_below d a.0) (kept_line d a.0) a.1 (λ y. escape_cons d y ∙ rw (a.0) refl)
       | inr a ↦ elim (if_cases (nat_eq d 110) _ _ _ a.1) [
-        | inl b ↦ one_letter c d 10 ds (below d 110 b.0 (omega arith)) (not_line d 110 b.0 refl) b.1 (λ y. escape-cons d y ∙ rw (a.0, b.0) refl)
+        | inl b ↦ one_letter c d 10 ds (below d 110 b.0 (omega arith)) (not_line d 110 b.0 refl) b.1 (λ y. escape_cons d y ∙ rw (a.0, b.0) refl)
         | inr b ↦ elim (if_cases (nat_eq d 114) _ _ _ b.1) [
-          | inl g ↦ one_letter c d 13 ds (below d 114 g.0 (omega arith)) (not_line d 114 g.0 refl) g.1 (λ y. escape-cons d y ∙ rw (a.0, b.0, g.0) refl)
+          | inl g ↦ one_letter c d 13 ds (below d 114 g.0 (omega arith)) (not_line d 114 g.0 refl) g.1 (λ y. escape_cons d y ∙ rw (a.0, b.0, g.0) refl)
           | inr g ↦ elim (if_cases (nat_eq d 116) _ _ _ g.1) [
-            | inl i ↦ one_letter c d 9 ds (below d 116 i.0 (omega arith)) (not_line d 116 i.0 refl) i.1 (λ y. escape-cons d y ∙ rw (a.0, b.0, g.0, i.0) refl)
+            | inl i ↦ one_letter c d 9 ds (below d 116 i.0 (omega arith)) (not_line d 116 i.0 refl) i.1 (λ y. escape_cons d y ∙ rw (a.0, b.0, g.0, i.0) refl)
             | inr i ↦ elim (if_cases (nat_eq d 120) _ _ _ i.1) [
-              | inl j ↦ more_digits c d 2 0x7f ds (below d 120 j.0 (omega arith)) (not_line d 120 j.0 refl) j.1 (λ y. escape-cons d y ∙ rw (a.0, b.0, g.0, i.0, j.0) refl)
+              | inl j ↦ more_digits c d 2 0x7f ds (below d 120 j.0 (omega arith)) (not_line d 120 j.0 refl) j.1 (λ y. escape_cons d y ∙ rw (a.0, b.0, g.0, i.0, j.0) refl)
               | inr j ↦ elim (if_cases (nat_eq d 117) _ _ _ j.1) [
-                | inl k ↦ more_digits c d 4 0x10_ffff ds (below d 117 k.0 (omega arith)) (not_line d 117 k.0 refl) k.1 (λ y. escape-cons d y ∙ rw (a.0, b.0, g.0, i.0, j.0, k.0) refl)
+                | inl k ↦ more_digits c d 4 0x10_ffff ds (below d 117 k.0 (omega arith)) (not_line d 117 k.0 refl) k.1 (λ y. escape_cons d y ∙ rw (a.0, b.0, g.0, i.0, j.0, k.0) refl)
                 | inr k ↦ elim (if_cases (nat_eq d 85) _ _ _ k.1) [
-                  | inl l ↦ more_digits c d 8 0x10_ffff ds (below d 85 l.0 (omega arith)) (not_line d 85 l.0 refl) l.1 (λ y. escape-cons d y ∙ rw (a.0, b.0, g.0, i.0, j.0, k.0, l.0) refl)
+                  | inl l ↦ more_digits c d 8 0x10_ffff ds (below d 85 l.0 (omega arith)) (not_line d 85 l.0 refl) l.1 (λ y. escape_cons d y ∙ rw (a.0, b.0, g.0, i.0, j.0, k.0, l.0) refl)
                   | inr l ↦ none_pair c (length (d ∷ ds)) l.1
                 ]
               ]
@@ -276,15 +276,15 @@ walked_token u r h =
     ap (by_close K.Text (u ++ 34 ∷ r)) (h.closes (34 ∷ r)) ∙ ap (by_bad K.Text (length u + 1)) b ∙ ap (λ x. Found K.Text x) n
 
 read_back : (w cs x : List ℕ) → Writes w cs → decoded 0 (w ++ 34 ∷ x) ≡ cs
-read_back [] [] x nothing = decoded-cons 34 x
+read_back [] [] x nothing = decoded_cons 34 x
 read_back (a ∷ w) (b ∷ cs) x (bare c v ds h k) =
     let q = bare_quote c h in
     let s = bare_slash c h in
-    decoded-cons c (v ++ 34 ∷ x) ∙ rw (q, s) (ap (λ z. c ∷ z) (read_back v ds x k))
+    decoded_cons c (v ++ 34 ∷ x) ∙ rw (q, s) (ap (λ z. c ∷ z) (read_back v ds x k))
 read_back u us x (escaped c e w cs h k) =
     let s = shape c e h in
     let y = w ++ 34 ∷ x in
-    decoded-cons 92 ((e ++ w) ++ 34 ∷ x)
+    decoded_cons 92 ((e ++ w) ++ 34 ∷ x)
     ∙ ap (λ z. unescaped (escape z) (λ n. decoded n z)) (append_assoc e w (34 ∷ x))
     ∙ ap (λ o. unescaped o (λ n. decoded n (e ++ y))) (s.stays y)
     ∙ ap (λ z. c ∷ z) (skipped (length e) (e ++ y) ∙ ap (decoded 0) (drop-append_seam e y) ∙ read_back w cs x k)

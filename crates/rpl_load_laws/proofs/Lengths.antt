@@ -7,7 +7,7 @@ use Rattle.std.proofs.lemmas.List.{length-take, length-drop}
 use Rattle.rpl_lexer.specs.Bytes.{is_word, run}
 use Rattle.rpl_lexer.specs.Payloads.{span, inner, prefix_of, name_of, text_of, unescaped, decoded}
 use Rattle.rpl_lexer.specs.declared.token.Token.{Token as Lexeme}
-use Rattle.rpl_lexer.proofs.Decoding.{decoded-cons, decoded-nil, decoded-skip}
+use Rattle.rpl_lexer.proofs.Decoding.{decoded_cons, decoded_nil, decoded_skip}
 use Rattle.rpl_text.specs.Escapes.{escape}
 
 -- ---- characters
@@ -35,8 +35,8 @@ if_short true x y n h k = h
 if_short false x y n h k = k
 
 decoded_short : (k : ℕ) (cs : List ℕ) → length (decoded k cs) ≤ length cs
-decoded_short k [] = omega (arith, ap length (decoded-nil k))
-decoded_short (suc k) (c ∷ cs) = omega (arith, ap length (decoded-skip k c cs), decoded_short k cs)
+decoded_short k [] = omega (arith, ap length (decoded_nil k))
+decoded_short (suc k) (c ∷ cs) = omega (arith, ap length (decoded_skip k c cs), decoded_short k cs)
 decoded_short zero (c ∷ cs) =
     let e = unescaped (escape cs) (λ k. decoded k cs) in
     let r = c ∷ decoded 0 cs in
@@ -44,7 +44,7 @@ decoded_short zero (c ∷ cs) =
     let one : length e ≤ n = unescaped_short (escape cs) (λ k. decoded k cs) (length cs) (λ k. decoded_short k cs) in
     let two : length r ≤ n = omega (arith, decoded_short 0 cs) in
     let all = if_short (nat_eq c 34) [] (if nat_eq c 92 then e else r) n (omega arith) (if_short (nat_eq c 92) e r n one two) in
-    omega (arith, ap length (decoded-cons c cs), all)
+    omega (arith, ap length (decoded_cons c cs), all)
 
 -- ---- tokens
 

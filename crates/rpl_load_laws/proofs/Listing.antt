@@ -28,9 +28,9 @@ abbrev words : List QName → List (List ℕ)
 words [] = []
 words (q ∷ qs) = written q.prefix q.name ∷ words qs
 
-words-append : (ps qs : List QName) → words (ps ++ qs) ≡ words ps ++ words qs
-words-append [] qs = refl
-words-append (p ∷ ps) qs = ap (λ ws. written p.prefix p.name ∷ ws) (words-append ps qs)
+words_append : (ps qs : List QName) → words (ps ++ qs) ≡ words ps ++ words qs
+words_append [] qs = refl
+words_append (p ∷ ps) qs = ap (λ ws. written p.prefix p.name ∷ ws) (words_append ps qs)
 
 -- ---- those that are listed are some of those that are known
 
@@ -158,7 +158,7 @@ module _ (ms : List Module) (all : AllUnder ms) where
   after_lacks x [] a = tt
   after_lacks x (e ∷ es) a =
       let own = names_of (Some e.0) (nth ms e.1.number) in
-      subst (λ ws. Lacks ws x) (sym (words-append own (after es)))
+      subst (λ ws. Lacks ws x) (sym (words_append own (after es)))
       (lacks_append (words own) (words (after es)) x
       (module_lacks x e.0 (nth ms e.1.number) (λ m at. all.each e.1.number m at) a.0) (after_lacks x es a.1))
 
@@ -188,7 +188,7 @@ module _ (ms : List Module) (all : AllUnder ms) where
       let i = e.1.number in
       let own = names_of (Some e.0) (nth ms i) in
       let f : (m : Module) → nth ms i ≡ Some m → AreUnder m = λ m at. all.each i m at in
-      subst AllApart (sym (words-append own (after es)))
+      subst AllApart (sym (words_append own (after es)))
       (apart_append (words own) (words (after es)) (module_apart e.0 (nth ms i) f) (after_apart es a.1)
       (module_none e.0 es (nth ms i) f a.0))
 
@@ -201,7 +201,7 @@ module _ (ms : List Module) (all : AllUnder ms) where
 
   known_apart : (m : Module) → AreUnder m → AllApart (words (known_in ms (Some m)))
   known_apart m h =
-      subst AllApart (sym (words-append (names_of None (Some m)) (after m.prefixes)))
+      subst AllApart (sym (words_append (names_of None (Some m)) (after m.prefixes)))
       (subst (λ ws. AllApart (ws ++ words (after m.prefixes))) (sym (own_words m.names))
       (apart_append (keys m.names) (words (after m.prefixes)) h.names (after_apart m.prefixes h.prefixes)
       (own_none m.prefixes (keys m.names) h.plain)))
@@ -220,13 +220,13 @@ module _ (ms : List Module) (all : AllUnder ms) where
   after_spaceless [] h = tt
   after_spaceless (e ∷ es) h =
       let own = names_of (Some e.0) (nth ms e.1.number) in
-      subst (AllByRecursion HasNoSpace) (sym (words-append own (after es)))
+      subst (AllByRecursion HasNoSpace) (sym (words_append own (after es)))
       (all_append HasNoSpace (words own) (words (after es))
       (module_spaceless e.0 (nth ms e.1.number) (λ m at. all.each e.1.number m at) h.0) (after_spaceless es h.1))
 
   known_spaceless : (m : Module) → AreUnder m → AllByRecursion HasNoSpace (words (known_in ms (Some m)))
   known_spaceless m h =
-      subst (AllByRecursion HasNoSpace) (sym (words-append (names_of None (Some m)) (after m.prefixes)))
+      subst (AllByRecursion HasNoSpace) (sym (words_append (names_of None (Some m)) (after m.prefixes)))
       (subst (λ ws. AllByRecursion HasNoSpace (ws ++ words (after m.prefixes))) (sym (own_words m.names))
       (all_append HasNoSpace (keys m.names) (words (after m.prefixes)) (own_spaceless (keys m.names) h.plain)
       (after_spaceless m.prefixes h.clear)))

@@ -4,7 +4,7 @@ use Rattle.std.proofs.Common.{length, Some, refl, sym, ap, subst, ◌∙◌}
 use Rattle.std.specs.Prelude.{Bool, true, false, if◌then◌else◌}
 use Rattle.rpl_scope.specs.Packages.{Rule, Module, first_rule, nth}
 use Rattle.rpl_package.proofs.Numbering.{nth_within}
-use Rattle.rpl_package.proofs.Rows.{length-rows_of}
+use Rattle.rpl_package.proofs.Rows.{length_rows_of}
 use Rattle.rpl_package.specs.Tables.{opens, begun_at, begun_in, row_of, rows_of, rows_from}
 use Rattle.rpl_package.specs.declared.table.Row.{Row}
 use Rattle.rpl_load_laws.proofs.Lists.{nth_more, nth_in, nth_behind, nth_found}
@@ -174,7 +174,7 @@ module _ (i b : ℕ) (x : Module) (ms : List Module) (n : ℕ) (w : Row) where
   here h =
       let lt : n < length x.rules =
       (let k = nth_within (rows_of x.label i 0 b x.rules) n w h in omega
-      (arith, k, length-rows_of x.label i 0 b x.rules)) in
+      (arith, k, length_rows_of x.label i 0 b x.rules)) in
       let f = nth_found x.rules n lt in
       let is : w ≡ row_of x.label i n (upto b 0 x.rules n) f.0 =
       (let g = rows_of_at x.label i 0 b x.rules n f.0 n f.1 (omega arith) in cc) in
@@ -194,7 +194,7 @@ module _ (i b : ℕ) (x : Module) (ms : List Module) (n : ℕ) (w : Row) where
   there : (k : ℕ) → n ≡ length (rows_of x.label i 0 b x.rules) + k → Located (i + 1) (begun_in b 0 x.rules) ms k w
       → Located i b (x ∷ ms) n w
   there k e l =
-      let own = length-rows_of x.label i 0 b x.rules in
+      let own = length_rows_of x.label i 0 b x.rules in
       let number = l.number in let counts = l.counts in
       record {
         owner = suc l.owner;
@@ -244,7 +244,7 @@ row_is i b (x ∷ ms) (suc j) t m r n from h g f e =
     let k = n - length x.rules in
     let least = first_least ms j in
     let below : k + 2 ≡ first_rule ms j + t = omega (arith, e, least) in
-    let own = length-rows_of x.label i 0 b x.rules in
+    let own = length_rows_of x.label i 0 b x.rules in
     let at : n ≡ length (rows_of x.label i 0 b x.rules) + k = omega (arith, e, least, own) in
     nth_behind (rows_of x.label i 0 b x.rules) (rows_from (i + 1) (begun_in b 0 x.rules) ms) k n at
     ∙ row_is (i + 1) (begun_in b 0 x.rules) ms j t m r k from h g (omega (arith, f)) below

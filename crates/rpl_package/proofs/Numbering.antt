@@ -8,7 +8,7 @@ use Rattle.rpl_scope.specs.declared.module.Module.{Module as Declared}
 use Rattle.rpl_package.specs.Tables.{begun_in, rows_of, rows_from}
 use Rattle.rpl_package.specs.inside.Firsts.{firsts_from, firsts}
 use Rattle.rpl_package.specs.Targets.{then, rule_in}
-use Rattle.rpl_package.proofs.Rows.{length-rows_of}
+use Rattle.rpl_package.proofs.Rows.{length_rows_of}
 
 pub nth_within : {A : Type 0} (xs : List A) (i : ℕ) (x : A) → nth xs i ≡ Some x → i < length xs
 nth_within [] i x h = absurd (cc)
@@ -34,9 +34,9 @@ found_by ms i k r (Some m) e g = (m, e, g)
 pub found_in : (ms : List Module) (i k : ℕ) (r : Rule) → rule_in ms i k ≡ Some r → (m : Module) × (nth ms i ≡ Some m) × (nth m.rules k ≡ Some r)
 found_in ms i k r h = found_by ms i k r (nth ms i) refl h
 
-pub length-firsts : (n : ℕ) (ms : List Module) → length (firsts_from n ms) ≡ length ms
-length-firsts n [] = refl
-length-firsts n (m ∷ ms) = let h = length-firsts (n + length m.rules) ms in omega (arith, h)
+pub length_firsts : (n : ℕ) (ms : List Module) → length (firsts_from n ms) ≡ length ms
+length_firsts n [] = refl
+length_firsts n (m ∷ ms) = let h = length_firsts (n + length m.rules) ms in omega (arith, h)
 
 first_at : (n : ℕ) (ms : List Module) (i d : ℕ) (m : Module) → nth ms i ≡ Some m → get_or (firsts_from (n + 2) ms) i d ≡ n + first_rule ms i
 first_at n [] i d m h = absurd (cc)
@@ -56,12 +56,12 @@ room_at a b [] i k m r h g = absurd (cc)
 room_at a b (x ∷ ms) zero k m r h g =
     let lt : k < length x.rules = nth_within x.rules k r (ap (λ o. then o (λ y. nth y.rules k)) h ∙ g) in
     let whole = length-append (rows_of x.label a 0 b x.rules) (rows_from (a + 1) (begun_in b 0 x.rules) ms) in
-    let own = length-rows_of x.label a 0 b x.rules in
+    let own = length_rows_of x.label a 0 b x.rules in
     omega (arith, lt, whole, own)
 room_at a b (x ∷ ms) (suc i) k m r h g =
     let rest = room_at (a + 1) (begun_in b 0 x.rules) ms i k m r h g in
     let whole = length-append (rows_of x.label a 0 b x.rules) (rows_from (a + 1) (begun_in b 0 x.rules) ms) in
-    let own = length-rows_of x.label a 0 b x.rules in
+    let own = length_rows_of x.label a 0 b x.rules in
     omega (arith, rest, whole, own)
 
 abbrev count_of : Option Module → ℕ
@@ -74,7 +74,7 @@ few_in a b [] i m h = absurd (cc)
 few_in a b (x ∷ ms) zero m h =
     let same : length x.rules ≡ length m.rules = ap count_of h in
     let whole = length-append (rows_of x.label a 0 b x.rules) (rows_from (a + 1) (begun_in b 0 x.rules) ms) in
-    let own = length-rows_of x.label a 0 b x.rules in
+    let own = length_rows_of x.label a 0 b x.rules in
     omega (arith, same, whole, own)
 few_in a b (x ∷ ms) (suc i) m h =
     let rest = few_in (a + 1) (begun_in b 0 x.rules) ms i m h in

@@ -77,10 +77,10 @@ replaced_same [] i m h = refl
 replaced_same (x ∷ ms) zero m h = ap (λ y. y ∷ ms) (sym (ap (or_else m) h))
 replaced_same (x ∷ ms) (suc i) m h = ap (λ l. x ∷ l) (replaced_same ms i m h)
 
-length-replaced : (ms : List Module) (i : ℕ) (m : Module) → length (replaced ms i m) ≡ length ms
-length-replaced [] i m = refl
-length-replaced (x ∷ ms) zero m = refl
-length-replaced (x ∷ ms) (suc i) m = let h = length-replaced ms i m in omega (arith, h)
+length_replaced : (ms : List Module) (i : ℕ) (m : Module) → length (replaced ms i m) ≡ length ms
+length_replaced [] i m = refl
+length_replaced (x ∷ ms) zero m = refl
+length_replaced (x ∷ ms) (suc i) m = let h = length_replaced ms i m in omega (arith, h)
 
 prefixes_more : (ms : List Module) (i : ℕ) (m n : Module) → nth ms i ≡ Some m → Extends m n → prefixes_of (nth ms i) ≤ prefixes_of (nth (replaced ms i n) i)
 prefixes_more [] i m n h e = absurd (cc)
@@ -148,7 +148,7 @@ pub cuts_put : (i : ℕ) (a b : Stock) (m n : Module) → CutsTo i a b → nth b
 cuts_put i a b m n h there e =
     let m0 = h.modules in
     let q = h.prefixes in
-    let same = length-replaced b.modules i n in
+    let same = length_replaced b.modules i n in
     let more = prefixes_more b.modules i m n there e in
     let count = ap prefixes_of there in
     record {

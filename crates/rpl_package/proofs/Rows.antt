@@ -15,9 +15,9 @@ named_fully [] name h = absurd (h refl)
 named_fully (c ∷ l) name h = refl
 
 -- as many rows as rules
-pub length-rows_of : (label : List ℕ) (i k b : ℕ) (rs : List P.Rule) → length (rows_of label i k b rs) ≡ length rs
-length-rows_of label i k b [] = refl
-length-rows_of label i k b (r ∷ rs) = let h = length-rows_of label i (k + 1) (begun_at b k r) rs in omega (arith, h)
+pub length_rows_of : (label : List ℕ) (i k b : ℕ) (rs : List P.Rule) → length (rows_of label i k b rs) ≡ length rs
+length_rows_of label i k b [] = refl
+length_rows_of label i k b (r ∷ rs) = let h = length_rows_of label i (k + 1) (begun_at b k r) rs in omega (arith, h)
 
 pub module_step : (i b : ℕ) (rows now all : List Row) (ms : List Module) (n : ℕ) (m : Module) → n < length ms → m ≡ get_or ms n m
     → now ≡ rows ++ rows_of m.label i 0 b (rules_seen m.rules.items)

@@ -7,17 +7,17 @@ use Rattle.rpl_core.specs.Forest as F
 use Rattle.rpl_reference.specs.declared.machine.Caught.{Caught}
 use Rattle.rpl_reference.specs.Answers.{caught_of}
 
-pub begins-append : (xs ys : List F.Caught) → F.begins (xs ++ ys) ≡ F.begins xs + F.begins ys
-begins-append [] ys = omega arith
-begins-append (F.Begin c i ∷ xs) ys = omega (arith, begins-append xs ys)
-begins-append (F.Finish i ∷ xs) ys = begins-append xs ys
-begins-append (F.Mark x i ∷ xs) ys = begins-append xs ys
+pub begins_append : (xs ys : List F.Caught) → F.begins (xs ++ ys) ≡ F.begins xs + F.begins ys
+begins_append [] ys = omega arith
+begins_append (F.Begin c i ∷ xs) ys = omega (arith, begins_append xs ys)
+begins_append (F.Finish i ∷ xs) ys = begins_append xs ys
+begins_append (F.Mark x i ∷ xs) ys = begins_append xs ys
 
-pub finishes-append : (xs ys : List F.Caught) → F.finishes (xs ++ ys) ≡ F.finishes xs + F.finishes ys
-finishes-append [] ys = omega arith
-finishes-append (F.Begin c i ∷ xs) ys = finishes-append xs ys
-finishes-append (F.Finish i ∷ xs) ys = omega (arith, finishes-append xs ys)
-finishes-append (F.Mark x i ∷ xs) ys = finishes-append xs ys
+pub finishes_append : (xs ys : List F.Caught) → F.finishes (xs ++ ys) ≡ F.finishes xs + F.finishes ys
+finishes_append [] ys = omega arith
+finishes_append (F.Begin c i ∷ xs) ys = finishes_append xs ys
+finishes_append (F.Finish i ∷ xs) ys = omega (arith, finishes_append xs ys)
+finishes_append (F.Mark x i ∷ xs) ys = finishes_append xs ys
 
 -- the captures before the index, and the one there
 pub map_more : (xs : List Caught) (i : ℕ) (x : Caught) → i < length xs → x ≡ get_or xs i x

@@ -18,7 +18,7 @@ use Rattle.rpl_classes.specs.Algebra.{others}
 use Rattle.rpl_classes.specs.Symbols.{Placed, escaped, symbols, size, first, past_blanks}
 use Rattle.rpl_classes.specs.Lists.{Reading, and_then, changed}
 use Rattle.rpl_classes.specs.Brackets.{more, joined, body, inside, bracket, marked, outermost, bracket_of}
-use Rattle.rpl_classes.proofs.Normal.{rises-cons, rises-nil, norm-nil, norm_normal, norm_whole, norm_normal_same, normal_same}
+use Rattle.rpl_classes.proofs.Normal.{rises_cons, rises_nil, norm_nil, norm_normal, norm_whole, norm_normal_same, normal_same}
 use Rattle.rpl_classes.proofs.Operations.{others_members, others_normal, nil_normal}
 use Rattle.rpl_lexer.specs.Written.{is_inner}
 use Rattle.rpl_lexer.proofs.Stood.{Bracketed, nothing, inner, hidden, nested}
@@ -50,11 +50,11 @@ or_right false b e = e
 fine : (n : ℕ) (rs : List Range) → rises_from n rs ≡ true → ((c : ℕ) → in_ranges rs c ≡ true → is_char c ≡ true) → Fine rs
 fine n [] h k = tt
 fine n (r ∷ rs) h k =
-    let p = and_parts (fits_from n r) (rises_from (r.1 + 2) rs) (sym (rises-cons n r rs) ∙ h) in
+    let p = and_parts (fits_from n r) (rises_from (r.1 + 2) rs) (sym (rises_cons n r rs) ∙ h) in
     let f = fits_from-true n r p.0 in
     let here : (c : ℕ) → in_range r c ≡ true → is_char c ≡ true = λ c e. k c (in_ranges-cons r rs c ∙ or_left (in_range r c) (in_ranges rs c) e) in
     let alone : IsNormal (r ∷ []) = record {
-      rises = rises-cons 0 r [] ∙ and_from (fits_from 0 r) (rises_from (r.1 + 2) []) (le-fits_from 0 r (omega arith) f.1 f.2) (rises-nil (r.1 + 2));
+      rises = rises_cons 0 r [] ∙ and_from (fits_from 0 r) (rises_from (r.1 + 2) []) (le-fits_from 0 r (omega arith) f.1 f.2) (rises_nil (r.1 + 2));
       chars = λ c e. here c (sym (or-false (in_range r c)) ∙ (ap (λ b. in_range r c || b) (sym (in_ranges-nil c)) ∙ (sym (in_ranges-cons r [] c) ∙ e)));
     } in
     (alone, here r.0 (low_end r f.1), here r.1 (high_end r f.1), f.1, fine (r.1 + 2) rs p.1 (λ c e. k c (in_ranges-cons r rs c ∙ or_right (in_range r c) (in_ranges rs c) e)))
@@ -182,22 +182,22 @@ digits_len : (c : ℕ) → length (85 ∷ point_digits c) ≡ 9
 unfolding point_digits
 digits_len c = refl
 
-slash-first : (p : ℕ) (w : List ℕ) → symbols 0 p (92 ∷ w) ≡ escaped p (escape w) (λ k. symbols k (p + 1) w)
+slash_first : (p : ℕ) (w : List ℕ) → symbols 0 p (92 ∷ w) ≡ escaped p (escape w) (λ k. symbols k (p + 1) w)
 unfolding symbols
-slash-first p w = refl
+slash_first p w = refl
 
 point : (p c : ℕ) (cs : List ℕ) → is_char c ≡ true → (q : ℕ) × (symbols 0 p (92 ∷ 85 ∷ (point_digits c ++ cs)) ≡ escaped p (Some (c, 9)) (λ k. symbols 0 q cs))
 point p c cs h =
     let w = 85 ∷ (point_digits c ++ cs) in
     let s = skip 9 (p + 1) (85 ∷ point_digits c) cs (digits_len c) in
-    (s.0, slash-first p w ∙ (ap (λ (o : Option (ℕ × ℕ)). escaped p o (λ k. symbols k (p + 1) w)) (point_read c cs h) ∙ ap (λ (z : List Placed). escaped p (Some (c, 9)) (λ k. z)) s.1))
+    (s.0, slash_first p w ∙ (ap (λ (o : Option (ℕ × ℕ)). escaped p o (λ k. symbols k (p + 1) w)) (point_read c cs h) ∙ ap (λ (z : List Placed). escaped p (Some (c, 9)) (λ k. z)) s.1))
 
 abbrev dash_at : ℕ → Placed
 dash_at q = (q, first (symbols 0 0 (45 ∷ [])))
 
-dash-first : (p : ℕ) (cs : List ℕ) → symbols 0 p (45 ∷ cs) ≡ dash_at p ∷ symbols 0 (p + len_utf8 45) cs
+dash_first : (p : ℕ) (cs : List ℕ) → symbols 0 p (45 ∷ cs) ≡ dash_at p ∷ symbols 0 (p + len_utf8 45) cs
 unfolding symbols
-dash-first p cs = refl
+dash_first p cs = refl
 
 -- x, `-`, y
 abbrev listing : (p low q r high : ℕ) → List Placed → List Placed
@@ -219,12 +219,12 @@ listed p low high cs h k =
       next = a.0 + len_utf8 45;
       end = b.0;
       symbols = ap (λ x. symbols 0 p (92 ∷ 85 ∷ x)) (append_assoc (point_digits low) (45 ∷ 92 ∷ 85 ∷ point_digits high) (93 ∷ cs))
-          ∙ (a.1 ∙ ap (λ (z : List Placed). escaped p (Some (low, 9)) (λ i. z)) (dash-first a.0 r ∙ ap (λ (z : List Placed). dash_at a.0 ∷ z) b.1));
+          ∙ (a.1 ∙ ap (λ (z : List Placed). escaped p (Some (low, 9)) (λ i. z)) (dash_first a.0 r ∙ ap (λ (z : List Placed). dash_at a.0 ∷ z) b.1));
     }
 
-bracket-open : (n p : ℕ) (x : List ℕ) → bracket (suc n) (symbols 0 p (91 ∷ x)) ≡ inside (bracket n) n p (symbols 0 (p + len_utf8 91) x)
+bracket_open : (n p : ℕ) (x : List ℕ) → bracket (suc n) (symbols 0 p (91 ∷ x)) ≡ inside (bracket n) n p (symbols 0 (p + len_utf8 91) x)
 unfolding symbols bracket
-bracket-open n p x = refl
+bracket_open n p x = refl
 
 listing_read : (b : List Placed → Reading) (n i p low q r high e : ℕ) (cs : List ℕ) → nat_le low high ≡ true → inside b n i (listing p low q r high (symbols 0 e (93 ∷ cs))) ≡ Ok (norm ((low, high) ∷ []), symbols 0 (e + len_utf8 93) cs)
 unfolding symbols past_blanks
@@ -235,33 +235,33 @@ range_read : (n p low high : ℕ) (cs : List ℕ) → is_char low ≡ true → i
 range_read n p low high cs h k le =
     let l = listed (p + len_utf8 91) low high cs h k in
     let t : nat_le low high ≡ true = grind (arith, nat_tests) in
-    (l.end + len_utf8 93, bracket-open n p (pair_text low high ++ 93 ∷ cs) ∙ (ap (inside (bracket n) n p) l.symbols ∙ listing_read (bracket n) n p (p + len_utf8 91) low l.dash l.next high l.end cs t))
+    (l.end + len_utf8 93, bracket_open n p (pair_text low high ++ 93 ∷ cs) ∙ (ap (inside (bracket n) n p) l.symbols ∙ listing_read (bracket n) n p (p + len_utf8 91) low l.dash l.next high l.end cs t))
 
 -- ---- brackets side by side
 
-more-open : (b : List Placed → Reading) (k p : ℕ) (a : List Range) (x : List ℕ) → more b (suc k) a (symbols 0 p (91 ∷ x)) ≡ and_then (b (symbols 0 p (91 ∷ x))) (λ c s. more b k (a ++ c) s)
+more_open : (b : List Placed → Reading) (k p : ℕ) (a : List Range) (x : List ℕ) → more b (suc k) a (symbols 0 p (91 ∷ x)) ≡ and_then (b (symbols 0 p (91 ∷ x))) (λ c s. more b k (a ++ c) s)
 unfolding symbols past_blanks more
-more-open b k p a x = refl
+more_open b k p a x = refl
 
-more-shut : (b : List Placed → Reading) (k p : ℕ) (a : List Range) (cs : List ℕ) → more b k a (symbols 0 p (93 ∷ cs)) ≡ Ok (norm a, symbols 0 p (93 ∷ cs))
+more_shut : (b : List Placed → Reading) (k p : ℕ) (a : List Range) (cs : List ℕ) → more b k a (symbols 0 p (93 ∷ cs)) ≡ Ok (norm a, symbols 0 p (93 ∷ cs))
 unfolding symbols past_blanks more
-more-shut b zero p a cs = refl
-more-shut b (suc k) p a cs = refl
+more_shut b zero p a cs = refl
+more_shut b (suc k) p a cs = refl
 
-joined-shut : (b : List Placed → Reading) (k p : ℕ) (a : List Range) (cs : List ℕ) → joined b (suc k) a (symbols 0 p (93 ∷ cs)) ≡ Ok (a, symbols 0 (p + len_utf8 93) cs)
+joined_shut : (b : List Placed → Reading) (k p : ℕ) (a : List Range) (cs : List ℕ) → joined b (suc k) a (symbols 0 p (93 ∷ cs)) ≡ Ok (a, symbols 0 (p + len_utf8 93) cs)
 unfolding symbols past_blanks joined
-joined-shut b k p a cs = refl
+joined_shut b k p a cs = refl
 
-body-open : (b : List Placed → Reading) (k p : ℕ) (x : List ℕ) → body b k (symbols 0 p (91 ∷ x)) ≡ and_then (and_then (b (symbols 0 p (91 ∷ x))) (more b k)) (joined b k)
+body_open : (b : List Placed → Reading) (k p : ℕ) (x : List ℕ) → body b k (symbols 0 p (91 ∷ x)) ≡ and_then (and_then (b (symbols 0 p (91 ∷ x))) (more b k)) (joined b k)
 unfolding symbols past_blanks
-body-open b k p x = refl
+body_open b k p x = refl
 
 ranges_before : (r : Range) (rs : List Range) (t : List ℕ) → ranges_text (r ∷ rs) ++ t ≡ 91 ∷ (pair_text r.0 r.1 ++ 93 ∷ (ranges_text rs ++ t))
 ranges_before r rs t = append_assoc (range_text r.0 r.1) (ranges_text rs) t ∙ range_before r.0 r.1 (ranges_text rs ++ t)
 
 -- the ranges after some others, up to the closing `]`
 more_read : (rs : List Range) (n k p : ℕ) (a : List Range) (cs : List ℕ) → Fine rs → length rs ≤ k → (q : ℕ) × (more (bracket (suc n)) k a (symbols 0 p (ranges_text rs ++ 93 ∷ cs)) ≡ Ok (norm (a ++ rs), symbols 0 q (93 ∷ cs)))
-more_read [] n k p a cs f le = (p, more-shut (bracket (suc n)) k p a cs ∙ ap (λ (x : List Range). Ok (norm x, symbols 0 p (93 ∷ cs))) (sym (append-nil a)))
+more_read [] n k p a cs f le = (p, more_shut (bracket (suc n)) k p a cs ∙ ap (λ (x : List Range). Ok (norm x, symbols 0 p (93 ∷ cs))) (sym (append-nil a)))
 more_read (r ∷ rs) n zero p a cs f le = absurd (omega arith)
 more_read (r ∷ rs) n (suc k) p a cs f le =
     let t = ranges_text rs ++ 93 ∷ cs in
@@ -270,7 +270,7 @@ more_read (r ∷ rs) n (suc k) p a cs f le =
     let v = more_read rs n k u.0 (a ++ r ∷ []) cs f.4 (omega arith) in (
       v.0,
       ap (λ x. more b (suc k) a (symbols 0 p x)) (ranges_before r rs (93 ∷ cs))
-          ∙ (more-open b k p a (pair_text r.0 r.1 ++ 93 ∷ t)
+          ∙ (more_open b k p a (pair_text r.0 r.1 ++ 93 ∷ t)
           ∙ (ap (λ (x : Reading). and_then x (λ c s. more b k (a ++ c) s)) u.1
           ∙ (ap (λ x. more b k (a ++ x) (symbols 0 u.0 t)) (norm_normal_same (r ∷ []) f.0)
           ∙ (v.1 ∙ ap (λ (x : List Range). Ok (norm x, symbols 0 v.0 (93 ∷ cs))) (append_assoc a (r ∷ []) rs))))),
@@ -285,11 +285,11 @@ members_read r rs n k p cs f le =
     let v = more_read rs n (suc k) u.0 (r ∷ []) cs f.4 le in (
       v.0 + len_utf8 93,
       ap (λ x. body b (suc k) (symbols 0 p x)) (ranges_before r rs (93 ∷ cs))
-          ∙ (body-open b (suc k) p (pair_text r.0 r.1 ++ 93 ∷ t)
+          ∙ (body_open b (suc k) p (pair_text r.0 r.1 ++ 93 ∷ t)
           ∙ (ap (λ (x : Reading). and_then (and_then x (more b (suc k))) (joined b (suc k))) u.1
           ∙ (ap (λ x. and_then (more b (suc k) x (symbols 0 u.0 t)) (joined b (suc k))) (norm_normal_same (r ∷ []) f.0)
           ∙ (ap (λ (x : Reading). and_then x (joined b (suc k))) v.1
-          ∙ joined-shut b k v.0 (norm (r ∷ rs)) cs)))),
+          ∙ joined_shut b k v.0 (norm (r ∷ rs)) cs)))),
     )
 
 -- ---- the one member that is nothing but all characters
@@ -310,9 +310,9 @@ no_member b e = rw e refl
 nothing_left : others whole_ranges ≡ []
 nothing_left = normal_same (others whole_ranges) [] (others_normal whole_ranges) nil_normal (λ c h. others_members whole_ranges c ∙ (ap (λ b. b && not (in_ranges whole_ranges c)) h ∙ (no_member (in_ranges whole_ranges c) (in_whole c h) ∙ sym (in_ranges-nil c))))
 
-inside-caret : (b : List Placed → Reading) (n i p : ℕ) (x : List ℕ) → inside b n i (symbols 0 p (94 ∷ x)) ≡ changed others (body b n (symbols 0 (p + len_utf8 94) x))
+inside_caret : (b : List Placed → Reading) (n i p : ℕ) (x : List ℕ) → inside b n i (symbols 0 p (94 ∷ x)) ≡ changed others (body b n (symbols 0 (p + len_utf8 94) x))
 unfolding symbols
-inside-caret b n i p x = refl
+inside_caret b n i p x = refl
 
 whole_before : (t : List ℕ) → members_text [] ++ t ≡ 91 ∷ 94 ∷ (ranges_text whole_ranges ++ 93 ∷ t)
 whole_before t =
@@ -329,11 +329,11 @@ none_read n k p cs =
     let e : members_text [] ++ 93 ∷ cs ≡ 91 ∷ 94 ∷ w = whole_before (93 ∷ cs) in (
       u.0 + len_utf8 93,
       ap (λ x. body b (suc k) (symbols 0 p x)) e
-          ∙ (body-open b (suc k) p (94 ∷ w)
-          ∙ (ap (λ (x : Reading). and_then (and_then x (more b (suc k))) (joined b (suc k))) (bracket-open (suc (suc n)) p (94 ∷ w) ∙ (inside-caret (bracket (suc (suc n))) (suc (suc n)) p i w ∙ ap (changed others) u.1))
+          ∙ (body_open b (suc k) p (94 ∷ w)
+          ∙ (ap (λ (x : Reading). and_then (and_then x (more b (suc k))) (joined b (suc k))) (bracket_open (suc (suc n)) p (94 ∷ w) ∙ (inside_caret (bracket (suc (suc n))) (suc (suc n)) p i w ∙ ap (changed others) u.1))
           ∙ (ap (λ x. and_then (more b (suc k) x (symbols 0 u.0 (93 ∷ cs))) (joined b (suc k))) (ap others (norm_normal_same whole_ranges whole_normal) ∙ nothing_left)
-          ∙ (ap (λ (x : Reading). and_then x (joined b (suc k))) (more-shut b (suc k) u.0 [] cs)
-          ∙ (joined-shut b k u.0 (norm []) cs ∙ ap (λ (x : List Range). Ok (x, symbols 0 (u.0 + len_utf8 93) cs)) norm-nil))))),
+          ∙ (ap (λ (x : Reading). and_then x (joined b (suc k))) (more_shut b (suc k) u.0 [] cs)
+          ∙ (joined_shut b k u.0 (norm []) cs ∙ ap (λ (x : List Range). Ok (x, symbols 0 (u.0 + len_utf8 93) cs)) norm_nil))))),
     )
 
 -- ---- the whole text
@@ -348,27 +348,27 @@ members_before : (rs : List Range) (t : List ℕ) → (x : List ℕ) × (members
 members_before [] t = (94 ∷ (ranges_text whole_ranges ++ 93 ∷ t), whole_before t)
 members_before (r ∷ rs) t = (pair_text r.0 r.1 ++ 93 ∷ (ranges_text rs ++ t), ranges_before r rs t)
 
-whole-open : (w : List ℕ) → bracket_of (91 ∷ w) ≡ outermost (suc (size (91 ∷ w))) 0 (symbols 0 1 w)
+whole_open : (w : List ℕ) → bracket_of (91 ∷ w) ≡ outermost (suc (size (91 ∷ w))) 0 (symbols 0 1 w)
 unfolding symbols
-whole-open w = refl
+whole_open w = refl
 
-outer-plain : (n p q : ℕ) (x : List ℕ) → outermost n p (symbols 0 q (91 ∷ x)) ≡ marked false (body (bracket n) n (symbols 0 q (91 ∷ x)))
+outer_plain : (n p q : ℕ) (x : List ℕ) → outermost n p (symbols 0 q (91 ∷ x)) ≡ marked false (body (bracket n) n (symbols 0 q (91 ∷ x)))
 unfolding symbols
-outer-plain n p q x = refl
+outer_plain n p q x = refl
 
-outer-caret : (n p q : ℕ) (x : List ℕ) → outermost n p (symbols 0 q (94 ∷ x)) ≡ marked true (body (bracket n) n (symbols 0 (q + len_utf8 94) x))
+outer_caret : (n p q : ℕ) (x : List ℕ) → outermost n p (symbols 0 q (94 ∷ x)) ≡ marked true (body (bracket n) n (symbols 0 (q + len_utf8 94) x))
 unfolding symbols
-outer-caret n p q x = refl
+outer_caret n p q x = refl
 
 outer_read : (rs : List Range) (negated : Bool) (n p q : ℕ) → IsNormal rs → length rs ≤ suc (suc (suc n)) → outermost (suc (suc (suc n))) p (symbols 0 q ((caret_text negated ++ members_text rs) ++ 93 ∷ [])) ≡ Ok (rs, negated)
 outer_read rs true n p q h le =
     let u = all_read rs n (q + len_utf8 94) [] h le in
-    outer-caret (suc (suc (suc n))) p q (members_text rs ++ 93 ∷ []) ∙ ap (marked true) u.1
+    outer_caret (suc (suc (suc n))) p q (members_text rs ++ 93 ∷ []) ∙ ap (marked true) u.1
 outer_read rs false n p q h le =
     let k = suc (suc (suc n)) in
     let m = members_before rs (93 ∷ []) in
     let u = all_read rs n q [] h le in
-    ap (λ x. outermost k p (symbols 0 q x)) m.1 ∙ (outer-plain k p q m.0 ∙ (ap (λ x. marked false (body (bracket k) k (symbols 0 q x))) (sym m.1) ∙ ap (marked false) u.1))
+    ap (λ x. outermost k p (symbols 0 q x)) m.1 ∙ (outer_plain k p q m.0 ∙ (ap (λ x. marked false (body (bracket k) k (symbols 0 q x))) (sym m.1) ∙ ap (marked false) u.1))
 
 ranges_len : (rs : List Range) → length rs ≤ length (ranges_text rs)
 ranges_len [] = omega arith
@@ -389,4 +389,4 @@ class_read rs negated h =
     let m = members_len rs in
     let a : length u ≡ length (caret_text negated) + length (members_text rs) = length-append (caret_text negated) (members_text rs) in
     let k : suc (size t) ≡ suc (suc (suc (length u))) = omega (arith, n) in
-    whole-open (u ++ 93 ∷ []) ∙ (ap (λ x. outermost x 0 (symbols 0 1 (u ++ 93 ∷ []))) k ∙ outer_read rs negated (length u) 0 1 h (omega arith))
+    whole_open (u ++ 93 ∷ []) ∙ (ap (λ x. outermost x 0 (symbols 0 1 (u ++ 93 ∷ []))) k ∙ outer_read rs negated (length u) 0 1 h (omega arith))

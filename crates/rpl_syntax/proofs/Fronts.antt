@@ -117,22 +117,22 @@ letter_first : (n r : List ℕ) → begins is_letter n ≡ true → gap false (n
 letter_first [] r h = absurd (cc)
 letter_first (b ∷ s) r h = let p = letter_no_gap b h in rw (p.0, p.1) refl
 
-stands-letter : (s : List ℕ) → begins is_letter s ≡ true → stands s ≡ name_stands s
+stands_letter : (s : List ℕ) → begins is_letter s ≡ true → stands s ≡ name_stands s
 unfolding stands
-stands-letter [] h = absurd (cc)
-stands-letter (b ∷ bs) h = rw h refl
+stands_letter [] h = absurd (cc)
+stands_letter (b ∷ bs) h = rw h refl
 
 name_here : (s : List ℕ) (n : ℕ) → begins is_letter s ≡ true → is_keyword (first_name s) ≡ false → qualifies s (run is_word s) ≡ false → n ≡ run is_word s → 0 < n → n ≤ length s → IsToken s (record { kind = K.Name; start = 0; end = n })
 unfolding name_stands
 name_here s n h k q e lt le =
     let z : n - 0 ≡ n = omega arith in
-    record { forward = lt; inside = le; stands = rw (drop_zero s, stands-letter s h, z, e, k, q) refl }
+    record { forward = lt; inside = le; stands = rw (drop_zero s, stands_letter s h, z, e, k, q) refl }
 
 pair_here : (s : List ℕ) (n : ℕ) → begins is_letter s ≡ true → is_keyword (first_name s) ≡ false → qualifies s (run is_word s) ≡ true → n ≡ past is_word s (run is_word s + 1) → 0 < n → n ≤ length s → IsToken s (record { kind = K.Qualified; start = 0; end = n })
 unfolding name_stands
 pair_here s n h k q e lt le =
     let z : n - 0 ≡ n = omega arith in
-    record { forward = lt; inside = le; stands = rw (drop_zero s, stands-letter s h, z, e, k, q) refl }
+    record { forward = lt; inside = le; stands = rw (drop_zero s, stands_letter s h, z, e, k, q) refl }
 
 no_dot : (n r : List ℕ) → begins (λ b. nat_eq b 46) r ≡ false → has (n ++ r) (length n) 46 ≡ false
 no_dot [] [] h = refl

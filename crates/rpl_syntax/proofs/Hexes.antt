@@ -8,7 +8,7 @@ use Rattle.std.proofs.lemmas.Bool.{cases_Bool, lt-ltb, and_parts, and_from}
 use Rattle.std.proofs.lemmas.Bool.Decides.{nat_tests}
 use Rattle.rpl_text.specs.Characters.{is_char}
 use Rattle.rpl_text.specs.Escapes.{hex, numbered, escape}
-use Rattle.rpl_text.proofs.Hex.{hex-cons}
+use Rattle.rpl_text.proofs.Hex.{hex_cons}
 use Rattle.rpl_lexer.specs.Written.{is_bare, Writes, nothing, bare, escaped}
 use Rattle.rpl_syntax.specs.Printed.{digit_char, quoted_char, quoted, four_digits}
 
@@ -21,7 +21,7 @@ upper_digit d lt = grind (arith, nat_tests)
 -- one digit more
 hex_step : (k v w d : ℕ) (r : List ℕ) → digit_value w ≡ d → d < 16 → hex (suc k) v (w ∷ r) ≡ hex k (16 * v + d) r
 hex_step k v w d r e lt =
-    hex-cons k v w r ∙ (ap (λ x. if nat_lt x 16 then hex k (16 * v + x) r else None) e ∙ ap (λ b. if b then hex k (16 * v + d) r else None) (lt-ltb d 16 lt))
+    hex_cons k v w r ∙ (ap (λ x. if nat_lt x 16 then hex k (16 * v + x) r else None) e ∙ ap (λ b. if b then hex k (16 * v + d) r else None) (lt-ltb d 16 lt))
 
 four_value : (v n : ℕ) → n < 65536 → 16 * (16 * (16 * (16 * v + n / 4096) + n / 256 % 16) + n / 16 % 16) + n % 16 ≡ 65536 * v + n
 four_value v n lt = omega arith
@@ -38,19 +38,19 @@ four_hex k v n r lt =
     ∙ (hex_step k _ _ (n % 16) r (upper_digit (n % 16) d) d
     ∙ ap (λ x. hex k x r) (four_value v n lt))))
 
-hex-zero : (v : ℕ) (r : List ℕ) → hex 0 v r ≡ Some v
+hex_zero : (v : ℕ) (r : List ℕ) → hex 0 v r ≡ Some v
 unfolding hex
-hex-zero v r = refl
+hex_zero v r = refl
 
 -- ---- quoted characters
 
-escape-point : (r : List ℕ) → escape (85 ∷ r) ≡ numbered 8 0x10_ffff (hex 8 0 r)
+escape_point : (r : List ℕ) → escape (85 ∷ r) ≡ numbered 8 0x10_ffff (hex 8 0 r)
 unfolding escape
-escape-point r = refl
+escape_point r = refl
 
-escape-byte : (r : List ℕ) → escape (120 ∷ r) ≡ numbered 2 0x7f (hex 2 0 r)
+escape_byte : (r : List ℕ) → escape (120 ∷ r) ≡ numbered 2 0x7f (hex 2 0 r)
 unfolding escape
-escape-byte r = refl
+escape_byte r = refl
 
 -- the digits of `\U`
 unfoldable pub point_digits : ℕ → List ℕ
@@ -67,8 +67,8 @@ unfolding point_digits
 point_read c r h =
     let m : c ≤ 0x10_ffff = let l = char_last c h in grind (arith, nat_tests) in
     let e : 65536 * (65536 * 0 + c / 65536) + c % 65536 ≡ c = omega arith in
-    escape-point (point_digits c ++ r)
-    ∙ (ap (numbered 8 0x10_ffff) (four_hex 4 0 (c / 65536) _ (omega arith) ∙ (four_hex 0 _ (c % 65536) r (omega arith) ∙ (hex-zero _ r ∙ ap (λ x. Some x) e)))
+    escape_point (point_digits c ++ r)
+    ∙ (ap (numbered 8 0x10_ffff) (four_hex 4 0 (c / 65536) _ (omega arith) ∙ (four_hex 0 _ (c % 65536) r (omega arith) ∙ (hex_zero _ r ∙ ap (λ x. Some x) e)))
     ∙ numbered_is 8 0x10_ffff c h (char_last c h))
 
 byte_read : (c : ℕ) → c < 128 → escape (120 ∷ digit_char 97 (c / 16) ∷ digit_char 97 (c % 16) ∷ []) ≡ Some (c, 3)
@@ -78,8 +78,8 @@ byte_read c lt =
     let e : 16 * (16 * 0 + c / 16) + c % 16 ≡ c = omega arith in
     let h : is_char c ≡ true = grind (arith, nat_tests) in
     let l : nat_le c 0x7f ≡ true = grind (arith, nat_tests) in
-    escape-byte _
-    ∙ (ap (numbered 2 0x7f) (hex_step 1 0 _ (c / 16) _ (lower_digit (c / 16) a) a ∙ (hex_step 0 _ _ (c % 16) [] (lower_digit (c % 16) b) b ∙ (hex-zero _ [] ∙ ap (λ x. Some x) e)))
+    escape_byte _
+    ∙ (ap (numbered 2 0x7f) (hex_step 1 0 _ (c / 16) _ (lower_digit (c / 16) a) a ∙ (hex_step 0 _ _ (c % 16) [] (lower_digit (c % 16) b) b ∙ (hex_zero _ [] ∙ ap (λ x. Some x) e)))
     ∙ numbered_is 2 0x7f c h l)
 
 one_letter : (c l : ℕ) (w cs : List ℕ) → escape (l ∷ []) ≡ Some (c, 1) → Writes w cs → Writes (92 ∷ l ∷ w) (c ∷ cs)

@@ -33,13 +33,13 @@ record Digits (n : ℕ) (ds : List ℕ) : Type 0 where
   some : 0 < length ds
   value : value 0 ds ≡ n
 
-value-push : (k d : ℕ) (ds : List ℕ) → value k (ds ++ d ∷ []) ≡ value k ds * 10 + (d - 48)
-value-push k d [] = refl
-value-push k d (b ∷ bs) = value-push (k * 10 + (b - 48)) d bs
+value_push : (k d : ℕ) (ds : List ℕ) → value k (ds ++ d ∷ []) ≡ value k ds * 10 + (d - 48)
+value_push k d [] = refl
+value_push k d (b ∷ bs) = value_push (k * 10 + (b - 48)) d bs
 
-each-push : (d : ℕ) (ds : List ℕ) → each is_digit ds ≡ true → is_digit d ≡ true → each is_digit (ds ++ d ∷ []) ≡ true
-each-push d [] h e = and_from (is_digit d) true e refl
-each-push d (b ∷ bs) h e = let p = and_parts (is_digit b) (each is_digit bs) h in and_from (is_digit b) (each is_digit (bs ++ d ∷ [])) p.0 (each-push d bs p.1 e)
+each_push : (d : ℕ) (ds : List ℕ) → each is_digit ds ≡ true → is_digit d ≡ true → each is_digit (ds ++ d ∷ []) ≡ true
+each_push d [] h e = and_from (is_digit d) true e refl
+each_push d (b ∷ bs) h e = let p = and_parts (is_digit b) (each is_digit bs) h in and_from (is_digit b) (each is_digit (bs ++ d ∷ [])) p.0 (each_push d bs p.1 e)
 
 digit_is : (d : ℕ) → d < 10 → is_digit (48 + d) ≡ true
 digit_is d lt = grind (arith, nat_tests)
@@ -51,9 +51,9 @@ more_digits : (n : ℕ) (ds : List ℕ) → 10 ≤ n → Digits (n / 10) ds → 
 more_digits n ds ge h =
     let v = h.value in
     record {
-      digits = each-push (48 + n % 10) ds h.digits (digit_is (n % 10) (omega arith));
+      digits = each_push (48 + n % 10) ds h.digits (digit_is (n % 10) (omega arith));
       some = omega (arith, length-append ds ((48 + n % 10) ∷ []));
-      value = value-push 0 (48 + n % 10) ds ∙ omega arith;
+      value = value_push 0 (48 + n % 10) ds ∙ omega arith;
     }
 
 small : (n : ℕ) → n ≤ 255 → n < 2 ^ 64

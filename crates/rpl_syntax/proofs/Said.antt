@@ -20,7 +20,7 @@ use Rattle.rpl_lexer.specs.Payloads.{span, inner, unescaped, decoded}
 use Rattle.rpl_lexer.specs.Said.{Payload, payload}
 use Rattle.rpl_lexer.specs.Said as P
 use Rattle.rpl_lexer.proofs.Cuts.{one_cut}
-use Rattle.rpl_lexer.proofs.Decoding.{decoded-cons, decoded-nil, decoded-skip}
+use Rattle.rpl_lexer.proofs.Decoding.{decoded_cons, decoded_nil, decoded_skip}
 use Rattle.rpl_lexer.proofs.Edges.{token_cuttable}
 use Rattle.rpl_lexer.proofs.Longest.{longest}
 use Rattle.rpl_syntax.specs.declared.token.Token.{Token}
@@ -113,13 +113,13 @@ if_scalars true x y h k = h
 if_scalars false x y h k = k
 
 decoded_scalars : (k : ℕ) (cs : List ℕ) → all_scalars cs ≡ true → all_scalars (decoded k cs) ≡ true
-decoded_scalars k [] h = ap all_scalars (decoded-nil k)
-decoded_scalars (suc k) (c ∷ cs) h = ap all_scalars (decoded-skip k c cs) ∙ decoded_scalars k cs (and_parts (scalar c) (all_scalars cs) h).1
+decoded_scalars k [] h = ap all_scalars (decoded_nil k)
+decoded_scalars (suc k) (c ∷ cs) h = ap all_scalars (decoded_skip k c cs) ∙ decoded_scalars k cs (and_parts (scalar c) (all_scalars cs) h).1
 decoded_scalars zero (c ∷ cs) h =
     let p = and_parts (scalar c) (all_scalars cs) h in
     let e = unescaped (escape cs) (λ k. decoded k cs) in
     let r = c ∷ decoded 0 cs in
-    ap all_scalars (decoded-cons c cs)
+    ap all_scalars (decoded_cons c cs)
     ∙ if_scalars (nat_eq c 34) [] (if nat_eq c 92 then e else r) refl
     (if_scalars (nat_eq c 92) e r (unescaped_scalars (escape cs) (λ k. decoded k cs) (escape_given cs) (λ k. decoded_scalars k cs p.1)) (and_from (scalar c) (all_scalars (decoded 0 cs)) p.0 (decoded_scalars 0 cs p.1)))
 

@@ -9,13 +9,13 @@ use Rattle.std.proofs.Math.Seq.{take-append-add}
 use Rattle.rpl_text.specs.Places.{at, index, IsPlace}
 use Rattle.rpl_text.proofs.Walks.{at_positive, index_le, drop_at_char, scalars_drop}
 
-pub at-drop : (t : List ℕ) (j n : ℕ) → at t (j + n) ≡ at t j + at (drop j t) n
-at-drop [] zero n = refl
-at-drop [] (suc j) n = refl
-at-drop (c ∷ cs) zero n = let e : zero + n ≡ n = omega arith in ap (at (c ∷ cs)) e ∙ sym (zero-add (at (c ∷ cs) n))
-at-drop (c ∷ cs) (suc j) n =
+pub at_drop : (t : List ℕ) (j n : ℕ) → at t (j + n) ≡ at t j + at (drop j t) n
+at_drop [] zero n = refl
+at_drop [] (suc j) n = refl
+at_drop (c ∷ cs) zero n = let e : zero + n ≡ n = omega arith in ap (at (c ∷ cs)) e ∙ sym (zero-add (at (c ∷ cs) n))
+at_drop (c ∷ cs) (suc j) n =
     let e : suc j + n ≡ suc (j + n) = omega arith in
-    let h = at-drop cs j n in
+    let h = at_drop cs j n in
     ap (at (c ∷ cs)) e ∙ ap (λ k. len_utf8 c + k) h ∙ sym (add_assoc (len_utf8 c) (at cs j) (at (drop j cs) n))
 
 -- of two characters the one with the lower place has the lower number
@@ -23,7 +23,7 @@ pub at_order : (t : List ℕ) (i j : ℕ) → i ≤ length t → at t i ≤ at t
 at_order t i j le h = elim (cases_lt j i) [
   | inl lt ↦
       let e : j + (i - j) ≡ i = omega arith in
-      let d = at-drop t j (i - j) in
+      let d = at_drop t j (i - j) in
       let n : at (drop j t) (i - j) ≡ 0 = omega (arith, ap (at t) e) in
       let z = at_positive (drop j t) (i - j) (omega (arith, length-drop j t)) n in
       absurd (omega arith)
@@ -53,7 +53,7 @@ slice_chars bs from to u p q le =
     let rest : drop from bs ≡ encode_utf8_all (drop i t) = ap (λ x. drop x bs) (sym p) ∙ ap (drop (at t i)) (sym (encodes-chars bs u)) ∙ drop_at_char t i in
     let order : i ≤ j = at_order t i j (index_le t from) (omega arith) in
     let whole : i + (j - i) ≡ j = omega arith in
-    let size : to - from ≡ at (drop i t) (j - i) = omega (arith, at-drop t i (j - i), ap (at t) whole) in
+    let size : to - from ≡ at (drop i t) (j - i) = omega (arith, at_drop t i (j - i), ap (at t) whole) in
     ap (λ x. chars (take (to - from) x)) rest ∙ ap (λ n. chars (take n (encode_utf8_all (drop i t)))) size
     ∙ ap chars (take_at_char (drop i t) (j - i))
     ∙ chars-encodes (take (j - i) (drop i t)) (scalars_take (drop i t) (j - i) (scalars_drop t i (scalars-chars bs u)))

@@ -8,8 +8,8 @@ use Rattle.std.proofs.lemmas.Str.{encode_ascii, inside_one, length-encode, len_u
 use Rattle.rpl_text.specs.Escapes.{hex, numbered, is_kept, escape, shifted, placed, escape_from}
 use Rattle.rpl_text.specs.Characters.{is_char}
 use Rattle.rpl_text.specs.Places.{at, index, IsPlace}
-use Rattle.rpl_text.proofs.Cuts.{at-drop}
-use Rattle.rpl_text.proofs.Hex.{hex-cons, hex-nil}
+use Rattle.rpl_text.proofs.Cuts.{at_drop}
+use Rattle.rpl_text.proofs.Hex.{hex_cons, hex_nil}
 use Rattle.rpl_text.proofs.Walks.{at_zero, at_suc, drop_at_char, cut_place, get_some}
 
 -- the bytes of a character that isn't ASCII begin with a byte that isn't
@@ -38,19 +38,19 @@ no_digit : (c : ℕ) → 128 ≤ c → 16 ≤ digit_value c
 no_digit c h = grind (arith, nat_tests)
 
 hex_high : (n v c : ℕ) (cs : List ℕ) → 128 ≤ c → hex (suc n) v (c ∷ cs) ≡ None
-hex_high n v c cs h = hex-cons n v c cs ∙ ap (λ t. if t then hex n (16 * v + digit_value c) cs else None) (le-ltb (digit_value c) 16 (no_digit c h))
+hex_high n v c cs h = hex_cons n v c cs ∙ ap (λ t. if t then hex n (16 * v + digit_value c) cs else None) (le-ltb (digit_value c) 16 (no_digit c h))
 
-hex-zero : (v : ℕ) (cs : List ℕ) → hex 0 v cs ≡ Some v
+hex_zero : (v : ℕ) (cs : List ℕ) → hex 0 v cs ≡ Some v
 unfolding hex
-hex-zero v cs = refl
+hex_zero v cs = refl
 
 -- digits over the bytes of a text and over its characters
-hex-encode : (n v : ℕ) (cs : List ℕ) → hex n v (encode_utf8_all cs) ≡ hex n v cs
-hex-encode zero v cs = hex-zero v (encode_utf8_all cs) ∙ sym (hex-zero v cs)
-hex-encode (suc n) v [] = refl
-hex-encode (suc n) v (c ∷ cs) = elim (cases_lt c 128) [
-  | inl lt ↦ ap (λ x. hex (suc n) v (x ++ encode_utf8_all cs)) (encode_ascii c lt) ∙ hex-cons n v c (encode_utf8_all cs)
-      ∙ ap (λ x. if nat_lt (digit_value c) 16 then x else None) (hex-encode n (16 * v + digit_value c) cs) ∙ sym (hex-cons n v c cs)
+hex_encode : (n v : ℕ) (cs : List ℕ) → hex n v (encode_utf8_all cs) ≡ hex n v cs
+hex_encode zero v cs = hex_zero v (encode_utf8_all cs) ∙ sym (hex_zero v cs)
+hex_encode (suc n) v [] = refl
+hex_encode (suc n) v (c ∷ cs) = elim (cases_lt c 128) [
+  | inl lt ↦ ap (λ x. hex (suc n) v (x ++ encode_utf8_all cs)) (encode_ascii c lt) ∙ hex_cons n v c (encode_utf8_all cs)
+      ∙ ap (λ x. if nat_lt (digit_value c) 16 then x else None) (hex_encode n (16 * v + digit_value c) cs) ∙ sym (hex_cons n v c cs)
   | inr ge ↦ let l = lead_of c (encode_utf8_all cs) (encode_utf8_all (c ∷ cs)) ge refl in
       ap (hex (suc n) v) l.is ∙ hex_high n v l.byte l.rest l.high ∙ sym (hex_high n v c cs ge)
 ]
@@ -67,27 +67,27 @@ by_letter c two four eight =
     else (if nat_eq c 85 then numbered 8 0x10_ffff eight
     else None))))))
 
-pub escape-cons : (c : ℕ) (cs : List ℕ) → escape (c ∷ cs) ≡ by_letter c (hex 2 0 cs) (hex 4 0 cs) (hex 8 0 cs)
+pub escape_cons : (c : ℕ) (cs : List ℕ) → escape (c ∷ cs) ≡ by_letter c (hex 2 0 cs) (hex 4 0 cs) (hex 8 0 cs)
 unfolding escape
-escape-cons c cs = refl
+escape_cons c cs = refl
 
-pub escape-nil : escape [] ≡ None
+pub escape_nil : escape [] ≡ None
 unfolding escape
-escape-nil = refl
+escape_nil = refl
 
 letter_high : (c : ℕ) (x y z : Option ℕ) → 128 ≤ c → by_letter c x y z ≡ None
 letter_high c x y z h = grind (arith, nat_tests)
 
-pub escape-encode : (cs : List ℕ) → escape (encode_utf8_all cs) ≡ escape cs
-escape-encode [] = refl
-escape-encode (c ∷ cs) = elim (cases_lt c 128) [
-  | inl lt ↦ ap (λ x. escape (x ++ encode_utf8_all cs)) (encode_ascii c lt) ∙ escape-cons c (encode_utf8_all cs)
-      ∙ ap (λ x. by_letter c x (hex 4 0 (encode_utf8_all cs)) (hex 8 0 (encode_utf8_all cs))) (hex-encode 2 0 cs)
-      ∙ ap₂ (λ x y. by_letter c (hex 2 0 cs) x y) (hex-encode 4 0 cs) (hex-encode 8 0 cs)
-      ∙ sym (escape-cons c cs)
+pub escape_encode : (cs : List ℕ) → escape (encode_utf8_all cs) ≡ escape cs
+escape_encode [] = refl
+escape_encode (c ∷ cs) = elim (cases_lt c 128) [
+  | inl lt ↦ ap (λ x. escape (x ++ encode_utf8_all cs)) (encode_ascii c lt) ∙ escape_cons c (encode_utf8_all cs)
+      ∙ ap (λ x. by_letter c x (hex 4 0 (encode_utf8_all cs)) (hex 8 0 (encode_utf8_all cs))) (hex_encode 2 0 cs)
+      ∙ ap₂ (λ x y. by_letter c (hex 2 0 cs) x y) (hex_encode 4 0 cs) (hex_encode 8 0 cs)
+      ∙ sym (escape_cons c cs)
   | inr ge ↦ let l = lead_of c (encode_utf8_all cs) (encode_utf8_all (c ∷ cs)) ge refl in
-      ap escape l.is ∙ escape-cons l.byte l.rest ∙ letter_high l.byte (hex 2 0 l.rest) (hex 4 0 l.rest) (hex 8 0 l.rest) l.high
-      ∙ sym (escape-cons c cs ∙ letter_high c (hex 2 0 cs) (hex 4 0 cs) (hex 8 0 cs) ge)
+      ap escape l.is ∙ escape_cons l.byte l.rest ∙ letter_high l.byte (hex 2 0 l.rest) (hex 4 0 l.rest) (hex 8 0 l.rest) l.high
+      ∙ sym (escape_cons c cs ∙ letter_high c (hex 2 0 cs) (hex 4 0 cs) (hex 8 0 cs) ge)
 ]
 
 -- the first n characters are ASCII, and there are so many
@@ -95,11 +95,11 @@ pub record Plain (cs : List ℕ) (n : ℕ) : Type 0 where
   pub bytes : at cs n ≡ n
   pub inside : n ≤ length cs
 
-plain-zero : (cs : List ℕ) → Plain cs 0
-plain-zero cs = record { bytes = at_zero cs; inside = omega arith }
+plain_zero : (cs : List ℕ) → Plain cs 0
+plain_zero cs = record { bytes = at_zero cs; inside = omega arith }
 
-plain-cons : (c n : ℕ) (cs : List ℕ) → c < 128 → Plain cs n → Plain (c ∷ cs) (suc n)
-plain-cons c n cs lt p = let l = len_utf8_ascii c lt in record { bytes = omega (arith, p.bytes); inside = omega (arith, p.inside) }
+plain_cons : (c n : ℕ) (cs : List ℕ) → c < 128 → Plain cs n → Plain (c ∷ cs) (suc n)
+plain_cons c n cs lt p = let l = len_utf8_ascii c lt in record { bytes = omega (arith, p.bytes); inside = omega (arith, p.inside) }
 
 none_some : {P : Type 0} (w : ℕ) → None ≡ Some w → P
 none_some w e = absurd (cc)
@@ -114,13 +114,13 @@ one_more : (n : ℕ) → 1 + n ≡ suc n
 one_more n = omega arith
 
 hex_plain : (n v w : ℕ) (cs : List ℕ) → hex n v cs ≡ Some w → Plain cs n
-hex_plain zero v w cs e = plain-zero cs
-hex_plain (suc n) v w [] e = let f = sym (hex-nil n v) ∙ e in absurd (cc)
+hex_plain zero v w cs e = plain_zero cs
+hex_plain (suc n) v w [] e = let f = sym (hex_nil n v) ∙ e in absurd (cc)
 hex_plain (suc n) v w (c ∷ cs) e =
-    let f = sym (hex-cons n v c cs) ∙ e in
+    let f = sym (hex_cons n v c cs) ∙ e in
     elim (cases_lt c 128) [
       | inl lt ↦ elim (cases_lt (digit_value c) 16) [
-        | inl d ↦ plain-cons c n cs lt (hex_plain n (16 * v + digit_value c) w cs (sym (ap (λ t. if t then hex n (16 * v + digit_value c) cs else None) (lt-ltb (digit_value c) 16 d)) ∙ f))
+        | inl d ↦ plain_cons c n cs lt (hex_plain n (16 * v + digit_value c) w cs (sym (ap (λ t. if t then hex n (16 * v + digit_value c) cs else None) (lt-ltb (digit_value c) 16 d)) ∙ f))
         | inr d ↦ none_some w (sym (ap (λ t. if t then hex n (16 * v + digit_value c) cs else None) (le-ltb (digit_value c) 16 d)) ∙ f)
       ]
       | inr ge ↦ none_some w (sym (hex_high n v c cs ge) ∙ e)
@@ -144,16 +144,16 @@ kept_below : (d : ℕ) → is_kept d ≡ true → d < 128
 kept_below d t = grind (arith, nat_tests)
 
 plain_one : (d c v n : ℕ) (cs : List ℕ) → d < 128 → ◌≡◌ {A = Option (ℕ × ℕ)} (Some (v, 1)) (Some (c, n)) → Plain (d ∷ cs) n
-plain_one d c v n cs lt e = subst (Plain (d ∷ cs)) (second (v, 1) c n e) (plain-cons d 0 cs lt (plain-zero cs))
+plain_one d c v n cs lt e = subst (Plain (d ∷ cs)) (second (v, 1) c n e) (plain_cons d 0 cs lt (plain_zero cs))
 
 plain_more : (d k last c n : ℕ) (cs : List ℕ) → d < 128 → numbered k last (hex k 0 cs) ≡ Some (c, n) → Plain (d ∷ cs) n
-plain_more d k last c n cs lt e = let p = numbered_plain k last c n cs (hex k 0 cs) refl e in subst (Plain (d ∷ cs)) (sym p.0) (plain-cons d k cs lt p.1)
+plain_more d k last c n cs lt e = let p = numbered_plain k last c n cs (hex k 0 cs) refl e in subst (Plain (d ∷ cs)) (sym p.0) (plain_cons d k cs lt p.1)
 
 -- an escape is spelled in ASCII, and ends inside its text
 pub escape_plain : (cs : List ℕ) (c n : ℕ) → escape cs ≡ Some (c, n) → Plain cs n
-escape_plain [] c n e = none_pair c n (sym escape-nil ∙ e)
+escape_plain [] c n e = none_pair c n (sym escape_nil ∙ e)
 escape_plain (d ∷ cs) c n e =
-    let s = sym (escape-cons d cs) ∙ e in
+    let s = sym (escape_cons d cs) ∙ e in
     elim (if_cases (is_kept d) _ _ _ s) [
       | inl h ↦ plain_one d c d n cs (kept_below d h.0) h.1
       | inr s1 ↦ elim (if_cases (nat_eq d 110) _ _ _ s1.1) [
@@ -181,7 +181,7 @@ moved : (t : List ℕ) (j q : ℕ) (o : Option (ℕ × ℕ)) → at t j ≡ q �
 moved t j q None a e = refl
 moved t j q (Some (c, n)) a e =
     let p = escape_plain (drop j t) c n e in
-    ap (λ k. Some (c, k)) (ap (λ k. k + n) (sym a) ∙ sym (ap (λ k. at t j + k) p.bytes) ∙ sym (at-drop t j n))
+    ap (λ k. Some (c, k)) (ap (λ k. k + n) (sym a) ∙ sym (ap (λ k. at t j + k) p.bytes) ∙ sym (at_drop t j n))
 
 pub get_inside : (bs : List ℕ) (p c : ℕ) → slice_get bs p ≡ Some c → (p < length bs) × (get_or bs p 0 ≡ c)
 get_inside [] p c e = absurd (cc)
@@ -214,7 +214,7 @@ escape_same bs p u g =
     let s = stood bs p 92 u g (omega arith) in
     let t = chars bs in
     let i = index t p in
-    ap (λ l. shifted (p + 1) (escape l)) s.behind ∙ ap (shifted (p + 1)) (escape-encode (drop (i + 1) t))
+    ap (λ l. shifted (p + 1) (escape l)) s.behind ∙ ap (shifted (p + 1)) (escape_encode (drop (i + 1) t))
     ∙ moved t (i + 1) (p + 1) (escape (drop (i + 1) t)) s.next refl
 
 -- the front of a list from a number on

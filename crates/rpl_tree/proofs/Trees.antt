@@ -18,8 +18,8 @@ trees_enough (suc m) (suc n) name (x ∷ ns) hm hn =
     rw (below, behind) refl
 
 -- the first node over the nodes below it, and the trees of the others
-pub forest_of-cons : (name : ℕ → List ℕ) (x : Node) (ns : List Node) → forest_of name (x ∷ ns) ≡ node_as name x x.note (forest_of name (take x.below ns)) (forest_of name (drop x.below ns))
-forest_of-cons name x ns =
+pub forest_of_cons : (name : ℕ → List ℕ) (x : Node) (ns : List Node) → forest_of name (x ∷ ns) ≡ node_as name x x.note (forest_of name (take x.below ns)) (forest_of name (drop x.below ns))
+forest_of_cons name x ns =
     let below = trees_enough (length ns) (length (take x.below ns)) name (take x.below ns) (omega (arith, length-take x.below ns)) (omega arith) in
     let behind = trees_enough (length ns) (length (drop x.below ns)) name (drop x.below ns) (omega (arith, length-drop x.below ns)) (omega arith) in
     rw (below, behind) refl

@@ -17,7 +17,7 @@ use Rattle.std.proofs.lemmas.Str.{length-encode, len_utf8_ascii, len_utf8_bounds
 use Rattle.std.proofs.Math.Utf8.{scalar}
 use Rattle.rpl_text.specs.Escapes.{hex, numbered, is_kept, escape}
 use Rattle.rpl_text.specs.Characters.{is_char}
-use Rattle.rpl_text.proofs.Escaped.{escape-cons, escape-nil, escape_plain}
+use Rattle.rpl_text.proofs.Escaped.{escape_cons, escape_nil, escape_plain}
 use Rattle.rpl_lexer.specs.Cut.{IsToken, Chain, Done}
 use Rattle.rpl_lexer.specs.Payloads.{decoded, inner, text_of, keyword_of, punct_of, unescaped}
 use Rattle.rpl_lexer.specs.declared.token.Token.{Token}
@@ -27,7 +27,7 @@ use Rattle.rpl_lexer.specs.declared.keyword.Keyword.{Keyword}
 use Rattle.rpl_lexer.specs.declared.keyword.Keyword.TheVariants as W
 use Rattle.rpl_lexer.specs.declared.punct.Punct.{Punct}
 use Rattle.rpl_lexer.specs.declared.punct.Punct.TheVariants as P
-use Rattle.rpl_lexer.proofs.Decoding.{decoded-nil, decoded-skip, decoded-cons}
+use Rattle.rpl_lexer.proofs.Decoding.{decoded_nil, decoded_skip, decoded_cons}
 use Rattle.rpl_lexer.proofs.Edges.{token_cuttable}
 use Rattle.rpl_lexer.proofs.Spans.{drop_zero, left, right}
 use Rattle.rpl_unittest.specs.Comments as S
@@ -71,9 +71,9 @@ kept_below : (d : ℕ) → is_kept d ≡ true → d < 128
 kept_below d t = grind (arith, nat_tests)
 
 escape_short : (cs : List ℕ) (c n : ℕ) → escape cs ≡ Some (c, n) → len_utf8 c ≤ 1 + n
-escape_short [] c n e = no_pair c n (sym escape-nil ∙ e)
+escape_short [] c n e = no_pair c n (sym escape_nil ∙ e)
 escape_short (d ∷ cs) c n e =
-    either (is_kept d) _ _ _ (sym (escape-cons d cs) ∙ e) (λ t h. one d c n (kept_below d t) h)
+    either (is_kept d) _ _ _ (sym (escape_cons d cs) ∙ e) (λ t h. one d c n (kept_below d t) h)
     (λ e1. either (nat_eq d 110) _ _ _ e1 (λ t h. one 10 c n (omega arith) h)
     (λ e2. either (nat_eq d 114) _ _ _ e2 (λ t h. one 13 c n (omega arith) h)
     (λ e3. either (nat_eq d 116) _ _ _ e3 (λ t h. one 9 c n (omega arith) h)
@@ -82,15 +82,15 @@ escape_short (d ∷ cs) c n e =
     (λ e6. either (nat_eq d 85) _ _ _ e6 (λ t h. more 8 0x10_ffff c n (hex 8 0 cs) (omega arith) h)
     (λ e7. no_pair c n e7)))))))
 
-bytes-cons : (c : ℕ) (cs : List ℕ) → bytes (c ∷ cs) ≡ len_utf8 c + bytes cs
-bytes-cons c cs = length-append (encode_utf8 c) (encode_utf8_all cs) ∙ ap (λ n. n + bytes cs) (length-encode c)
+bytes_cons : (c : ℕ) (cs : List ℕ) → bytes (c ∷ cs) ≡ len_utf8 c + bytes cs
+bytes_cons c cs = length-append (encode_utf8 c) (encode_utf8_all cs) ∙ ap (λ n. n + bytes cs) (length-encode c)
 
-bytes-drop : (k : ℕ) (cs : List ℕ) → k ≤ length cs → k + bytes (drop k cs) ≤ bytes cs
-bytes-drop zero cs le = let e = ap bytes (drop_zero cs) in omega (arith, e)
-bytes-drop (suc k) [] le = absurd (omega arith)
-bytes-drop (suc k) (c ∷ cs) le =
-    let i = bytes-drop k cs (omega arith) in
-    let b = len_utf8_bounds c in omega (arith, i, bytes-cons c cs, b.0)
+bytes_drop : (k : ℕ) (cs : List ℕ) → k ≤ length cs → k + bytes (drop k cs) ≤ bytes cs
+bytes_drop zero cs le = let e = ap bytes (drop_zero cs) in omega (arith, e)
+bytes_drop (suc k) [] le = absurd (omega arith)
+bytes_drop (suc k) (c ∷ cs) le =
+    let i = bytes_drop k cs (omega arith) in
+    let b = len_utf8_bounds c in omega (arith, i, bytes_cons c cs, b.0)
 
 -- what an escape stands for, and what is read after it
 escaped : (cs : List ℕ) (o : Option (ℕ × ℕ)) → escape cs ≡ o
@@ -99,8 +99,8 @@ escaped cs None e ih = omega arith
 escaped cs (Some (c, k)) e ih =
     let s = escape_short cs c k e in
     let p = escape_plain cs c k e in
-    let d = bytes-drop k cs p.inside in
-    let i = ih k in omega (arith, s, d, i, bytes-cons c (decoded k cs))
+    let d = bytes_drop k cs p.inside in
+    let i = ih k in omega (arith, s, d, i, bytes_cons c (decoded k cs))
 
 -- a character at the front, where what is after it is no longer for being read
 fronted : (c : ℕ) (cs : List ℕ) (quote slash : Bool) → ((k : ℕ) → bytes (decoded k cs) ≤ bytes (drop k cs))
@@ -109,17 +109,17 @@ fronted : (c : ℕ) (cs : List ℕ) (quote slash : Bool) → ((k : ℕ) → byte
 fronted c cs true slash ih = omega arith
 fronted c cs false true ih =
     let e = escaped cs (escape cs) refl ih in
-    let b = len_utf8_bounds c in omega (arith, e, b.0, bytes-cons c cs)
+    let b = len_utf8_bounds c in omega (arith, e, b.0, bytes_cons c cs)
 fronted c cs false false ih =
     let i = ih 0 in
-    let z = ap bytes (drop_zero cs) in omega (arith, i, z, bytes-cons c cs, bytes-cons c (decoded 0 cs))
+    let z = ap bytes (drop_zero cs) in omega (arith, i, z, bytes_cons c cs, bytes_cons c (decoded 0 cs))
 
 decoded_short : (k : ℕ) (cs : List ℕ) → bytes (decoded k cs) ≤ bytes (drop k cs)
-decoded_short k [] = let e = ap bytes (decoded-nil k) in omega (arith, e)
+decoded_short k [] = let e = ap bytes (decoded_nil k) in omega (arith, e)
 decoded_short (suc k) (c ∷ cs) =
-    subst (λ x. bytes x ≤ bytes (drop k cs)) (sym (decoded-skip k c cs)) (decoded_short k cs)
+    subst (λ x. bytes x ≤ bytes (drop k cs)) (sym (decoded_skip k c cs)) (decoded_short k cs)
 decoded_short zero (c ∷ cs) =
-    subst (λ x. bytes x ≤ bytes (c ∷ cs)) (sym (decoded-cons c cs))
+    subst (λ x. bytes x ≤ bytes (c ∷ cs)) (sym (decoded_cons c cs))
     (fronted c cs (nat_eq c 34) (nat_eq c 92) (λ k. decoded_short k cs))
 
 -- a text has no more bytes than what it is a token of
@@ -368,7 +368,7 @@ longer c cs [] s n e h =
     let k = length-slice_split is_end (encode_utf8_all cs) in absurd (omega (arith, l, k))
 longer c cs (f ∷ fs) s n e h =
     let z = over (encode_utf8 c) (encode_utf8_all cs) f fs (char_no_end c n) e in
-    let k = bytes-cons c cs in
+    let k = bytes_cons c cs in
     subst (AreParts (bytes (c ∷ cs))) (sym z) (
       (with_char c f s h.0.0, omega (arith, k, h.0.1, length-append (encode_utf8 c) f, length-encode c)),
       parts_up (bytes cs) (bytes (c ∷ cs)) fs (omega (arith, k)) h.1,
@@ -377,7 +377,7 @@ longer c cs (f ∷ fs) s n e h =
 ended : (c : ℕ) (cs : List ℕ) → c ≡ 10 → AreParts (bytes cs) (slice_split is_end (encode_utf8_all cs))
     → AreParts (bytes (c ∷ cs)) (slice_split is_end (encode_utf8_all (c ∷ cs)))
 ended c cs e h =
-    let k = bytes-cons 10 cs in
+    let k = bytes_cons 10 cs in
     let rest = encode_utf8_all cs in
     let front : encode_utf8 10 ++ rest ≡ 10 ∷ rest = ap (λ x. x ++ rest) (encode_ascii 10 (omega arith)) in
     let z : slice_split is_end (encode_utf8 10 ++ rest) ≡ [] ∷ slice_split is_end rest = ap (slice_split is_end) front in

@@ -1,20 +1,20 @@
 use Rattle.std.proofs.Common.{◌≤◌, ◌∙◌, ap, length, sym, arith, string_bytes}
 use Rattle.std.proofs.lemmas.List.{length-map}
 use Rattle.rosie_prepare.specs.Views.{ready_seen}
-use Rattle.rosie_prepare.proofs.Passing.{bodies-rows_of, told_own}
+use Rattle.rosie_prepare.proofs.Passing.{bodies_rows_of, told_own}
 use Rattle.rpl_core.specs.Numbers.{instr_of}
 use Rattle.rpl_core.specs.Program.{code_of, instructions, labels_of, sets_of}
 use Rattle.rpl_core.specs.Table.{bodies_of}
 use Rattle.rosie_cli.specs.Plans.{whole_answer}
 use Rattle.rosie_cli.specs.inside.Planning.{due_of}
 use Rattle.rosie_cli.proofs.Expanded.{plain_plan, coded_plan, long_plan}
-use Rattle.rosie_cli.proofs.Made.{told-made}
+use Rattle.rosie_cli.proofs.Made.{told_made}
 use Rattle.rosie_cli.proofs.expand_plan.plan_text.Goals as goal
 
 pub returns-then-not-wants_code-clause-makes : goal.returns-then-not-wants_code-clause-makes
 returns-then-not-wants_code-clause-makes c = λ p is.
     let ready = c.args.ready.now in
-    plain_plan (ready_seen ready) (bodies_of ready.rules) (bodies-rows_of ready.rules) (string_bytes c.in_ok-text.text)
+    plain_plan (ready_seen ready) (bodies_of ready.rules) (bodies_rows_of ready.rules) (string_bytes c.in_ok-text.text)
     c.in_ok-text.ensures p c.args.wants_code c.if-not-wants_code.true is
 
 pub returns-in_ok-push_program-in-Ok-clause-makes : goal.returns-in_ok-push_program-in-Ok-clause-makes
@@ -24,7 +24,7 @@ returns-in_ok-push_program-in-Ok-clause-makes c = λ p is.
     let long = length-map (code_of program) (instr_of (sets_of program) (labels_of program)) in
     let within = c.in-Ok.ensures.fits in
     let fits : length (instructions program) ≤ 1048576 = omega (arith, long, within) in
-    coded_plan (ready_seen ready) (bodies_of ready.rules) (bodies-rows_of ready.rules) (string_bytes c.in_ok-text.text)
+    coded_plan (ready_seen ready) (bodies_of ready.rules) (bodies_rows_of ready.rules) (string_bytes c.in_ok-text.text)
     c.in_ok-text.ensures p c.args.wants_code c.if-not-wants_code.false is (instructions program)
     c.in-Ok.ensures.code fits
     ∙ ap whole_answer (sym c.in_ok-push_program-in-Ok.ensures)
@@ -32,8 +32,8 @@ returns-in_ok-push_program-in-Ok-clause-makes c = λ p is.
 pub returns-in-Err-clause-makes : goal.returns-in-Err-clause-makes
 returns-in-Err-clause-makes c = λ p is.
     let ready = c.args.ready.now in
-    told-made c.in-Err.fault c.uncompiled.result p c.uncompiled.ensures
-    (λ long. long_plan (ready_seen ready) (bodies_of ready.rules) (bodies-rows_of ready.rules)
+    told_made c.in-Err.fault c.uncompiled.result p c.uncompiled.ensures
+    (λ long. long_plan (ready_seen ready) (bodies_of ready.rules) (bodies_rows_of ready.rules)
     (string_bytes c.in_ok-text.text) c.in_ok-text.ensures p c.args.wants_code c.if-not-wants_code.false is
     (c.in-Err.ensures.too_long long))
 

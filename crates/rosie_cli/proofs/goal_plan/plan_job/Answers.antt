@@ -5,14 +5,14 @@ use Rattle.rosie_jobs.specs.Makers.{Matches, Traces}
 use Rattle.rosie_run.specs.Inputs.{names_of}
 use Rattle.rosie_cli.specs.Planned.{full_names, input_names}
 use Rattle.rosie_cli.specs.Plans.{Samples}
-use Rattle.rosie_cli.proofs.Limits.{reads-same}
+use Rattle.rosie_cli.proofs.Limits.{reads_same}
 use Rattle.rosie_cli.proofs.goal_plan.plan_job.Goals as goal
 
 pub returns-in_ok-job-in-Match : goal.returns-in_ok-job-in-Match
 returns-in_ok-job-in-Match c = λ rules named.
     let m = c.in-Match in
     rw m.is
-    (reads-same (Matches m.settings (job_of c.args.job)) (matcher_of c.in_ok-job-in-Match.job) m.settings.whole
+    (reads_same (Matches m.settings (job_of c.args.job)) (matcher_of c.in_ok-job-in-Match.job) m.settings.whole
     (input_names m.inputs) (names_of encode_utf8_all c.in_ok-names-in-Match.names) c.in_ok-job-in-Match.ensures.maker
     c.in_ok-names-in-Match.ensures)
 
@@ -21,7 +21,7 @@ returns-in_ok-names-in-Trace c = λ rules named.
     let m = c.in-Trace in
     let job = job_of c.args.job in
     rw m.is
-    (reads-same (Traces m.limit (full_names rules) job) (tracer_of c.new-job.result) m.whole
+    (reads_same (Traces m.limit (full_names rules) job) (tracer_of c.new-job.result) m.whole
     (input_names m.inputs) (names_of encode_utf8_all c.in_ok-names-in-Trace.names)
     (c.new-job.ensures.maker ∙ ap (λ x. Traces m.limit x job) (sym named)) c.in_ok-names-in-Trace.ensures)
 

@@ -7,7 +7,7 @@ use Rattle.rpl_package.specs.Names.{all_listed}
 use Rattle.rpl_package.specs.Sets.{set_seen}
 use Rattle.rosie_cli.specs.Listing.{Lists}
 use Rattle.rosie_cli.specs.Plans.{whole_answer}
-use Rattle.rosie_cli.proofs.Made.{due-plans, leaves-through, plans-through}
+use Rattle.rosie_cli.proofs.Made.{due_plans, leaves_through, plans_through}
 use Rattle.rosie_cli.proofs.list_plan.plan_list.Goals as goal
 
 pub returns-clause-plans : goal.returns-clause-plans
@@ -25,12 +25,12 @@ returns-in_err-ready-clause-plans g c = λ p t is.
     let u = c.in_err-ready.field-0.0 in
     let e = c.in_err-ready.ensures in
     let told = told_bytes g.F.Source.tells _ (subst (IsTold g.F.Source.tells) is.asked t) in
-    plans-through c.from_residual.result u p c.from_residual.ensures.1
-    (due-plans u p Lists is.packages (λ line plan x. x) (e.prepares told is.packages is.comes)
+    plans_through c.from_residual.result u p c.from_residual.ensures.1
+    (due_plans u p Lists is.packages (λ line plan x. x) (e.prepares told is.packages is.comes)
     (subst (IsAsked u) (sym is.asked) (e.asked told)) is.lists)
 
 pub returns-in_err-ready-clause-leaves : goal.returns-in_err-ready-clause-leaves
 returns-in_err-ready-clause-leaves g c =
     let e = c.in_err-ready.ensures in
-    leaves-through g.F.Source c.from_residual.result _ _ e.taken e.tree c.in_err-ready.field-0.0
+    leaves_through g.F.Source c.from_residual.result _ _ e.taken e.tree c.in_err-ready.field-0.0
     c.from_residual.ensures.1 e.cause

@@ -1,4 +1,4 @@
-use Rattle.rosie_cli.proofs.Sampled.{request-sample}
+use Rattle.rosie_cli.proofs.Sampled.{request_sample}
 use Rattle.rosie_cli.proofs.sample_plan.plan_sample.Goals as goal
 
 pub returns-clause-plans : goal.returns-clause-plans
@@ -6,7 +6,7 @@ returns-clause-plans g c = λ p t is.
     c.plan_goal.ensures.plans p t (record {
       ready = is.ready;
       prepares =
-          request-sample c.in_ok-roots.roots c.args.folders.now c.pattern.result.now _ p.asked is.ready
+          request_sample c.in_ok-roots.roots c.args.folders.now c.pattern.result.now _ p.asked is.ready
           c.in_ok-roots.ensures c.pattern.ensures is.prepares;
       runs = is.runs;
     })

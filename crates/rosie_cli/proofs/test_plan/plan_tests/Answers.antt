@@ -1,6 +1,6 @@
 use Rattle.std.proofs.Common.{◌≡◌, ◌∙◌, ap}
 use Rattle.rosie_cli.specs.Testing.{tried}
-use Rattle.rosie_cli.proofs.Made.{due-plans, leaves-through, plans-through}
+use Rattle.rosie_cli.proofs.Made.{due_plans, leaves_through, plans_through}
 use Rattle.rosie_cli.proofs.Tested.{tests_tell}
 use Rattle.rosie_cli.proofs.test_plan.plan_tests.Goals as goal
 
@@ -14,12 +14,12 @@ returns-in_err-suite-clause-plans g c = λ p told is.
     let t = tests_tell g.F.Source.tells _ c.args.folders.now c.args.file c.args.budget p.asked is.suite is.comes told in
     let u = c.in_err-suite.field-0.0 in
     let e = c.in_err-suite.ensures in
-    plans-through c.from_residual.result u p c.from_residual.ensures.1
-    (due-plans u p (λ r plan. plan ≡ tried r) is.suite (λ line plan x. x) (e.prepares t p.asked is.suite is.comes)
+    plans_through c.from_residual.result u p c.from_residual.ensures.1
+    (due_plans u p (λ r plan. plan ≡ tried r) is.suite (λ line plan x. x) (e.prepares t p.asked is.suite is.comes)
     (e.asked t p.asked is.suite is.comes) is.tries)
 
 pub returns-in_err-suite-clause-leaves : goal.returns-in_err-suite-clause-leaves
 returns-in_err-suite-clause-leaves g c =
     let e = c.in_err-suite.ensures in
-    leaves-through g.F.Source c.from_residual.result _ _ e.taken e.tree c.in_err-suite.field-0.0
+    leaves_through g.F.Source c.from_residual.result _ _ e.taken e.tree c.in_err-suite.field-0.0
     c.from_residual.ensures.1 e.cause

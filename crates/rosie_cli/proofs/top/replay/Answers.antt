@@ -2,21 +2,21 @@ use Rattle.std.proofs.Common.{subst}
 use Rattle.rosie_run.specs.declared.tool.Tool.TheVariants.{Rosie}
 use Rattle.rosie_cli.specs.Plans.{Planned}
 use Rattle.rosie_cli.specs.Report.{KnowsInputs}
-use Rattle.rosie_cli.proofs.Calls.{answers-of}
+use Rattle.rosie_cli.proofs.Calls.{answers_of}
 use Rattle.rosie_cli.proofs.Paying.{pays_session}
-use Rattle.rosie_cli.proofs.Whole.{session-goes, session-runs}
+use Rattle.rosie_cli.proofs.Whole.{session_goes, session_runs}
 use Rattle.rosie_cli.proofs.top.replay.Goals as goal
 
 pub returns-clause-answers : goal.returns-clause-answers
 returns-clause-answers g c =
     let e = c.run_session-run.ensures in
     let rest = g.I.Source.rest c.args.inputs.now.input.now in
-    answers-of _ c.run_session-run.result _ _ (c.finish.ensures.closes Rosie c.run_session-run.new.outputs.steps.now) e.cause e.sinks
+    answers_of _ c.run_session-run.result _ _ (c.finish.ensures.closes Rosie c.run_session-run.new.outputs.steps.now) e.cause e.sinks
     c.finish.ensures.cause
     (λ p t s inputs.
     let tells = subst (λ (q : Planned). KnowsInputs q.plan g.F.Source.tells g.I.Source.tells rest) s.plan inputs in
-    session-runs c.run_session-run.result _ p s.loading _ _ _ _ _ s.plan (e.runs tells.0 s.loading s.loads tells.1))
+    session_runs c.run_session-run.result _ p s.loading _ _ _ _ _ s.plan (e.runs tells.0 s.loading s.loads tells.1))
     (λ p t s inputs.
     let tells = subst (λ (q : Planned). KnowsInputs q.plan g.F.Source.tells g.I.Source.tells rest) s.plan inputs in
-    session-goes c.run_session-run.result p _ (e.rest tells.0))
+    session_goes c.run_session-run.result p _ (e.rest tells.0))
     (λ p s. pays_session _ _ p s)

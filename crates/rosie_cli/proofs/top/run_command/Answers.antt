@@ -1,12 +1,12 @@
 use Rattle.rosie_run.specs.declared.tool.Tool.TheVariants.{Rosie}
-use Rattle.rosie_cli.proofs.Calls.{answers-by, answers-of}
+use Rattle.rosie_cli.proofs.Calls.{answers_by, answers_of}
 use Rattle.rosie_cli.proofs.Paying.{pays_planned}
-use Rattle.rosie_cli.proofs.Whole.{session-reads, session-works}
+use Rattle.rosie_cli.proofs.Whole.{session-reads, session_works}
 use Rattle.rosie_cli.proofs.top.run_command.Goals as goal
 
 pub returns-in-Repl-clause-answers : goal.returns-in-Repl-clause-answers
 returns-in-Repl-clause-answers g c =
-    answers-by _ _ (λ p is. rw c.in-Repl.is at is) c.replay.ensures.answers
+    answers_by _ _ (λ p is. rw c.in-Repl.is at is) c.replay.ensures.answers
 
 pub returns-in-Repl-clause-unread : goal.returns-in-Repl-clause-unread
 returns-in-Repl-clause-unread g c = λ p t is n.
@@ -15,10 +15,10 @@ returns-in-Repl-clause-unread g c = λ p t is n.
 pub returns-in_default-clause-answers : goal.returns-in_default-clause-answers
 returns-in_default-clause-answers g c =
     let e = c.run_planned-run.ensures in
-    answers-of _ c.run_planned-run.result _ _ (c.finish.ensures.closes Rosie c.run_planned-run.new.outputs.steps.now) e.cause e.sinks
+    answers_of _ c.run_planned-run.result _ _ (c.finish.ensures.closes Rosie c.run_planned-run.new.outputs.steps.now) e.cause e.sinks
     c.finish.ensures.cause (λ p t is inputs. e.runs p t is inputs) (λ p t is inputs. e.rest p t is inputs)
     (λ p is. pays_planned c.args.command c.args.command.what _ p is)
 
 pub returns-in-Repl-clause-unrun : goal.returns-in-Repl-clause-unrun
 returns-in-Repl-clause-unrun g c = λ p t is n.
-    let s = rw c.in-Repl.is at is in absurd (session-works p s.loading s.plan n)
+    let s = rw c.in-Repl.is at is in absurd (session_works p s.loading s.plan n)

@@ -7,31 +7,31 @@ use Rattle.rosie_cli.specs.Plans.{inputs_of}
 use Rattle.rosie_cli.specs.Report.{KnowsInputs}
 use Rattle.rosie_cli.specs.inside.Planning.{plan_of, IsSaid}
 use Rattle.rosie_unittest.specs.Seen.{bench_of, trials_of}
-use Rattle.rosie_cli.proofs.Whole.{match-runs, names-go, said-goes, test-runs, told-names, unread-names}
+use Rattle.rosie_cli.proofs.Whole.{match_runs, names_go, said_goes, test_runs, told_names, unread_names}
 use Rattle.rosie_cli.proofs.top.run_plan.Goals as goal
 
 pub returns-in-Answer-clause-rest : goal.returns-in-Answer-clause-rest
 returns-in-Answer-clause-rest g c = λ knows.
-    said-goes c.say.result (plan_of c.args.plan.now) _
+    said_goes c.say.result (plan_of c.args.plan.now) _
     (subst (λ x. IsSaid (plan_of x)) (sym c.in-Answer.is) tt)
 
 pub returns-in-Write-clause-rest : goal.returns-in-Write-clause-rest
 returns-in-Write-clause-rest g c = λ knows.
-    said-goes c.say-in-Write.result (plan_of c.args.plan.now) _
+    said_goes c.say-in-Write.result (plan_of c.args.plan.now) _
     (subst (λ x. IsSaid (plan_of x)) (sym c.in-Write.is) tt)
 
 pub returns-in-Test-clause-runs : goal.returns-in-Test-clause-runs
 returns-in-Test-clause-runs g c = λ knows.
-    test-runs c.run.result _ (bench_of c.in-Test.suite) (trials_of c.in-Test.suite) (plan_of c.args.plan.now)
+    test_runs c.run.result _ (bench_of c.in-Test.suite) (trials_of c.in-Test.suite) (plan_of c.args.plan.now)
     (g.F.Source.tree c.args.inputs.now.files.now) _ _ _ _ (ap plan_of c.in-Test.is) c.run.ensures.runs
 
 pub returns-in-Test-clause-rest : goal.returns-in-Test-clause-rest
 returns-in-Test-clause-rest g c = λ knows.
-    said-goes c.run.result (plan_of c.args.plan.now) _ (subst (λ x. IsSaid (plan_of x)) (sym c.in-Test.is) tt)
+    said_goes c.run.result (plan_of c.args.plan.now) _ (subst (λ x. IsSaid (plan_of x)) (sym c.in-Test.is) tt)
 
 pub returns-in-Sample-clause-rest : goal.returns-in-Sample-clause-rest
 returns-in-Sample-clause-rest g c = λ knows.
-    said-goes c.run-in-Sample.result (plan_of c.args.plan.now) _
+    said_goes c.run-in-Sample.result (plan_of c.args.plan.now) _
     (subst (λ x. IsSaid (plan_of x)) (sym c.in-Sample.is) tt)
 
 pub returns-in-Match-clause-runs : goal.returns-in-Match-clause-runs
@@ -40,11 +40,11 @@ returns-in-Match-clause-runs g c = λ knows.
     let rest = g.I.Source.rest c.args.inputs.now.input.now in
     let tells = subst (λ x. KnowsInputs (plan_of x) g.F.Source.tells g.I.Source.tells rest) m.is knows in
     rw (ap (λ (r : Reading). r.tool) c.reading-reading.ensures) at
-    (match-runs c.run_inputs.result _ (matcher_of m.job) m.whole (names_of encode_utf8_all m.names)
+    (match_runs c.run_inputs.result _ (matcher_of m.job) m.whole (names_of encode_utf8_all m.names)
     (names_of encode_utf8_all c.as_slice-names.result.now) _ (plan_of c.args.plan.now)
     (g.F.Source.tree c.args.inputs.now.files.now) _ _ _ _ (ap plan_of m.is)
     (ap (names_of encode_utf8_all) c.as_slice-names.ensures) c.reading-reading.ensures
-    (c.run_inputs.ensures.runs (told-names _ _ _ _ (ap (names_of encode_utf8_all) c.as_slice-names.ensures) tells)))
+    (c.run_inputs.ensures.runs (told_names _ _ _ _ (ap (names_of encode_utf8_all) c.as_slice-names.ensures) tells)))
 
 pub returns-in-Trace-clause-runs : goal.returns-in-Trace-clause-runs
 returns-in-Trace-clause-runs g c = λ knows.
@@ -52,24 +52,24 @@ returns-in-Trace-clause-runs g c = λ knows.
     let rest = g.I.Source.rest c.args.inputs.now.input.now in
     let tells = subst (λ x. KnowsInputs (plan_of x) g.F.Source.tells g.I.Source.tells rest) m.is knows in
     rw (ap (λ (r : Reading). r.tool) c.reading-reading-in-Trace.ensures) at
-    (match-runs c.run_inputs-in-Trace.result _ (tracer_of m.job) m.whole (names_of encode_utf8_all m.names)
+    (match_runs c.run_inputs-in-Trace.result _ (tracer_of m.job) m.whole (names_of encode_utf8_all m.names)
     (names_of encode_utf8_all c.as_slice-names-in-Trace.result.now) _ (plan_of c.args.plan.now)
     (g.F.Source.tree c.args.inputs.now.files.now) _ _ _ _ (ap plan_of m.is)
     (ap (names_of encode_utf8_all) c.as_slice-names-in-Trace.ensures) c.reading-reading-in-Trace.ensures
     (c.run_inputs-in-Trace.ensures.runs
-    (told-names _ _ _ _ (ap (names_of encode_utf8_all) c.as_slice-names-in-Trace.ensures) tells)))
+    (told_names _ _ _ _ (ap (names_of encode_utf8_all) c.as_slice-names-in-Trace.ensures) tells)))
 
 pub returns-in-Match-clause-unread : goal.returns-in-Match-clause-unread
 returns-in-Match-clause-unread g c = λ n.
     let m = c.in-Match in
-    c.run_inputs.ensures.unread (unread-names (plan_of c.args.plan.now) (names_of encode_utf8_all m.names)
+    c.run_inputs.ensures.unread (unread_names (plan_of c.args.plan.now) (names_of encode_utf8_all m.names)
     (names_of encode_utf8_all c.as_slice-names.result.now) (ap (λ x. inputs_of (plan_of x)) m.is)
     (ap (names_of encode_utf8_all) c.as_slice-names.ensures) n)
 
 pub returns-in-Trace-clause-unread : goal.returns-in-Trace-clause-unread
 returns-in-Trace-clause-unread g c = λ n.
     let m = c.in-Trace in
-    c.run_inputs-in-Trace.ensures.unread (unread-names (plan_of c.args.plan.now) (names_of encode_utf8_all m.names)
+    c.run_inputs-in-Trace.ensures.unread (unread_names (plan_of c.args.plan.now) (names_of encode_utf8_all m.names)
     (names_of encode_utf8_all c.as_slice-names-in-Trace.result.now) (ap (λ x. inputs_of (plan_of x)) m.is)
     (ap (names_of encode_utf8_all) c.as_slice-names-in-Trace.ensures) n)
 
@@ -79,9 +79,9 @@ returns-in-Match-clause-rest g c = λ knows.
     let rest = g.I.Source.rest c.args.inputs.now.input.now in
     let tells = subst (λ x. KnowsInputs (plan_of x) g.F.Source.tells g.I.Source.tells rest) m.is knows in
     let same = ap (names_of encode_utf8_all) c.as_slice-names.ensures in
-    names-go c.run_inputs.result (plan_of c.args.plan.now) (names_of encode_utf8_all m.names)
+    names_go c.run_inputs.result (plan_of c.args.plan.now) (names_of encode_utf8_all m.names)
     (names_of encode_utf8_all c.as_slice-names.result.now) _ (ap (λ x. inputs_of (plan_of x)) m.is) same
-    (c.run_inputs.ensures.rest (told-names _ _ _ _ same tells))
+    (c.run_inputs.ensures.rest (told_names _ _ _ _ same tells))
 
 pub returns-in-Trace-clause-rest : goal.returns-in-Trace-clause-rest
 returns-in-Trace-clause-rest g c = λ knows.
@@ -89,6 +89,6 @@ returns-in-Trace-clause-rest g c = λ knows.
     let rest = g.I.Source.rest c.args.inputs.now.input.now in
     let tells = subst (λ x. KnowsInputs (plan_of x) g.F.Source.tells g.I.Source.tells rest) m.is knows in
     let same = ap (names_of encode_utf8_all) c.as_slice-names-in-Trace.ensures in
-    names-go c.run_inputs-in-Trace.result (plan_of c.args.plan.now) (names_of encode_utf8_all m.names)
+    names_go c.run_inputs-in-Trace.result (plan_of c.args.plan.now) (names_of encode_utf8_all m.names)
     (names_of encode_utf8_all c.as_slice-names-in-Trace.result.now) _ (ap (λ x. inputs_of (plan_of x)) m.is) same
-    (c.run_inputs-in-Trace.ensures.rest (told-names _ _ _ _ same tells))
+    (c.run_inputs-in-Trace.ensures.rest (told_names _ _ _ _ same tells))

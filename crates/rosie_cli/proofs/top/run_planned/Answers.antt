@@ -1,11 +1,11 @@
 use Rattle.std.proofs.Common.{sym, subst}
 use Rattle.std.specs.List.{Contains}
 use Rattle.std.specs.Prelude.{string_bytes}
-use Rattle.rosie_run.proofs.Pieces.{fronts-none}
+use Rattle.rosie_run.proofs.Pieces.{fronts_none}
 use Rattle.rosie_cli.specs.Plans.{IsIdlePlan, LeavesInput, refusal}
 use Rattle.rosie_cli.specs.Report.{KnowsInputs}
 use Rattle.rosie_cli.specs.inside.Planning.{plan_of}
-use Rattle.rosie_cli.proofs.Whole.{planned-runs, planned-goes, refused-runs, said-goes, unread}
+use Rattle.rosie_cli.proofs.Whole.{planned_runs, planned_goes, refused_runs, said_goes, unread}
 use Rattle.rosie_cli.proofs.top.run_planned.Goals as goal
 
 pub returns-in-Ok-clause-runs : goal.returns-in-Ok-clause-runs
@@ -14,7 +14,7 @@ returns-in-Ok-clause-runs g c = λ p t is inputs.
     let left = e.leaves in
     let same = (e.plans p t is).0 in
     let rest = g.I.Source.rest c.args.inputs.now.input.now in
-    planned-runs c.run_plan.result _ p (plan_of c.in-Ok.plan) _ _ _ _ _ _ _ _ same left.tree left.cause.faults
+    planned_runs c.run_plan.result _ p (plan_of c.in-Ok.plan) _ _ _ _ _ _ _ _ same left.tree left.cause.faults
     left.cause.opens left.taken
     (c.run_plan.ensures.runs (subst (λ x. KnowsInputs x g.F.Source.tells g.I.Source.tells rest) same inputs))
 
@@ -22,23 +22,23 @@ pub returns-in-Ok-clause-rest : goal.returns-in-Ok-clause-rest
 returns-in-Ok-clause-rest g c = λ p t is inputs.
     let same = (c.in-Ok.ensures.plans p t is).0 in
     let rest = g.I.Source.rest c.args.inputs.now.input.now in
-    planned-goes c.run_plan.result p (plan_of c.in-Ok.plan) _ same
+    planned_goes c.run_plan.result p (plan_of c.in-Ok.plan) _ same
     (c.run_plan.ensures.rest (subst (λ x. KnowsInputs x g.F.Source.tells g.I.Source.tells rest) same inputs))
 
 pub returns-in-NoMemory-clause-runs : goal.returns-in-NoMemory-clause-runs
-returns-in-NoMemory-clause-runs g c = λ p t is inputs. fronts-none _ _ _
+returns-in-NoMemory-clause-runs g c = λ p t is inputs. fronts_none _ _ _
 
 pub returns-in-Refused-clause-runs : goal.returns-in-Refused-clause-runs
 returns-in-Refused-clause-runs g c = λ p t is inputs.
     let plans = rw c.in-Refused.is at (c.in-Err.ensures.plans p t is) in
-    refused-runs c.refuse.result _ p (string_bytes c.in-Refused.line) _ _ _ _ _ plans.0
+    refused_runs c.refuse.result _ p (string_bytes c.in-Refused.line) _ _ _ _ _ plans.0
     (c.refuse.ensures.runs c.args.outputs.now.steps.now)
 
 pub returns-in-Refused-clause-rest : goal.returns-in-Refused-clause-rest
 returns-in-Refused-clause-rest g c = λ p t is inputs.
     let plan = refusal (string_bytes c.in-Refused.line) in
     let plans = rw c.in-Refused.is at (c.in-Err.ensures.plans p t is) in
-    planned-goes c.refuse.result p plan _ plans.0 (said-goes c.refuse.result plan _ tt)
+    planned_goes c.refuse.result p plan _ plans.0 (said_goes c.refuse.result plan _ tt)
 
 pub returns-in-ReadFault-clause-runs : goal.returns-in-ReadFault-clause-runs
 returns-in-ReadFault-clause-runs g c = λ p t is inputs.

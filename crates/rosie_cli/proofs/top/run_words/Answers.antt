@@ -2,14 +2,14 @@ use Rattle.std.proofs.Common.{refl}
 use Rattle.std.specs.Prelude.{Err, string_bytes}
 use Rattle.rosie_run.specs.Outputs.{failures, shown}
 use Rattle.rosie_run.specs.declared.ended.Ended.TheVariants as E
-use Rattle.rosie_run.proofs.Pieces.{fronts-none}
+use Rattle.rosie_run.proofs.Pieces.{fronts_none}
 use Rattle.rosie_words.specs.Reading.{words_of}
 use Rattle.rosie_run.specs.declared.tool.Tool.TheVariants.{Rosie}
 use Rattle.rosie_cli.specs.Plans.{refusal}
 use Rattle.rosie_cli.specs.Words.{asked}
-use Rattle.rosie_cli.proofs.Calls.{answers-by, answers-of, untouched-cause}
+use Rattle.rosie_cli.proofs.Calls.{answers_by, answers_of, untouched_cause}
 use Rattle.rosie_cli.proofs.Paying.{promise_holds}
-use Rattle.rosie_cli.proofs.Whole.{do-goes-on, do-planned, planned-goes, refused-plan, refused-runs, said-goes}
+use Rattle.rosie_cli.proofs.Whole.{do_goes_on, do_planned, planned_goes, refused_plan, refused_runs, said_goes}
 use Rattle.rosie_cli.proofs.top.run_words.Goals as goal
 
 pub returns-in-Refuse-clause-answers : goal.returns-in-Refuse-clause-answers
@@ -18,41 +18,41 @@ returns-in-Refuse-clause-answers g c =
     let a = asked (words_of c.args.words.now) in
     let e = rw c.in-Refuse.is at c.in-Ok.ensures in
     let r = c.refuse-run.result in
-    answers-of _ r _ _ (c.finish.ensures.closes Rosie c.args.outputs.now.steps.now) (untouched-cause r c.refuse-run.ensures.no_cut _ _)
+    answers_of _ r _ _ (c.finish.ensures.closes Rosie c.args.outputs.now.steps.now) (untouched_cause r c.refuse-run.ensures.no_cut _ _)
     c.refuse-run.ensures.sinks c.finish.ensures.cause
-    (λ p known is inputs. refused-runs r _ p text _ _ _ _ _ (refused-plan a text _ p e is)
+    (λ p known is inputs. refused_runs r _ p text _ _ _ _ _ (refused_plan a text _ p e is)
     (c.refuse-run.ensures.runs c.args.outputs.now.steps.now))
-    (λ p known is inputs. planned-goes r p (refusal text) _ (refused-plan a text _ p e is) (said-goes r (refusal text) _ tt))
+    (λ p known is inputs. planned_goes r p (refusal text) _ (refused_plan a text _ p e is) (said_goes r (refusal text) _ tt))
     (λ p is. promise_holds a _ p is)
 
 pub returns-in-Err-clause-answers : goal.returns-in-Err-clause-answers
 returns-in-Err-clause-answers g c =
-    answers-of _ (Err E.NoMemory) (shown g.O.Sink g.E.Sink c.args.outputs.now.out.now c.args.outputs.now.err.now c.args.outputs.now.steps.now)
+    answers_of _ (Err E.NoMemory) (shown g.O.Sink g.E.Sink c.args.outputs.now.out.now c.args.outputs.now.err.now c.args.outputs.now.steps.now)
     (failures g.O.Sink g.E.Sink c.args.outputs.now.out.now c.args.outputs.now.err.now) (c.finish-in-Err.ensures.closes Rosie c.args.outputs.now.steps.now)
-    (untouched-cause (Err E.NoMemory) tt _ _) (refl, refl) c.finish-in-Err.ensures.cause
-    (λ p known is inputs. fronts-none _ _ _) (λ p known is inputs. tt)
+    (untouched_cause (Err E.NoMemory) tt _ _) (refl, refl) c.finish-in-Err.ensures.cause
+    (λ p known is inputs. fronts_none _ _ _) (λ p known is inputs. tt)
     (λ p is. promise_holds (asked (words_of c.args.words.now)) _ p is)
 
 pub returns-in-Do-clause-answers : goal.returns-in-Do-clause-answers
 returns-in-Do-clause-answers g c =
     let a = asked (words_of c.args.words.now) in
     let e = rw c.in-Do.is at c.in-Ok.ensures in
-    answers-by _ _ (λ p is. do-planned a c.in-Do.command _ p e is)
+    answers_by _ _ (λ p is. do_planned a c.in-Do.command _ p e is)
     c.run_command.ensures.answers
 
 pub returns-in-Do-clause-untouched : goal.returns-in-Do-clause-untouched
 returns-in-Do-clause-untouched g c = λ refused.
     let e = rw c.in-Do.is at c.in-Ok.ensures in
-    absurd (do-goes-on (asked (words_of c.args.words.now)) c.in-Do.command e refused)
+    absurd (do_goes_on (asked (words_of c.args.words.now)) c.in-Do.command e refused)
 
 pub returns-in-Do-clause-unread : goal.returns-in-Do-clause-unread
 returns-in-Do-clause-unread g c = λ p files is.
     let a = asked (words_of c.args.words.now) in
     let e = rw c.in-Do.is at c.in-Ok.ensures in
-    c.run_command.ensures.unread p files (do-planned a c.in-Do.command _ p e is)
+    c.run_command.ensures.unread p files (do_planned a c.in-Do.command _ p e is)
 
 pub returns-in-Do-clause-unrun : goal.returns-in-Do-clause-unrun
 returns-in-Do-clause-unrun g c = λ p files is.
     let a = asked (words_of c.args.words.now) in
     let e = rw c.in-Do.is at c.in-Ok.ensures in
-    c.run_command.ensures.unrun p files (do-planned a c.in-Do.command _ p e is)
+    c.run_command.ensures.unrun p files (do_planned a c.in-Do.command _ p e is)

@@ -1,6 +1,6 @@
 use Rattle.std.proofs.Common.{sym}
 use Rattle.std.proofs.lemmas.Str.{is_utf8-from_IsUtf8, IsUtf8-from_ascii}
-use Rattle.rosie_io.proofs.Texts.{is_utf8-false}
+use Rattle.rosie_io.proofs.Texts.{is_utf8_false}
 use Rattle.rosie_io.proofs.reader.is_text.Goals as goal
 
 pub returns-then-is_ascii : goal.returns-then-is_ascii
@@ -10,4 +10,4 @@ pub returns-in-Ok : goal.returns-in-Ok
 returns-in-Ok c = sym (is_utf8-from_IsUtf8 c.args.bytes.now c.in-Ok.ensures.cases.1)
 
 pub returns-in-Err : goal.returns-in-Err
-returns-in-Err c = sym (is_utf8-false c.args.bytes.now (λ u. absurd (c.in-Err.ensures.cases.0 u)))
+returns-in-Err c = sym (is_utf8_false c.args.bytes.now (λ u. absurd (c.in-Err.ensures.cases.0 u)))

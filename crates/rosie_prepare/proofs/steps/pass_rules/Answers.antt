@@ -1,7 +1,7 @@
 use Rattle.std.proofs.Common.{◌≡◌, sym, ◌∙◌, ap}
 use Rattle.std.specs.Prelude.{None}
 use Rattle.rosie_prepare.specs.Lines.{check_line, expand_line}
-use Rattle.rosie_prepare.proofs.Passing.{blocks-rows_of, bodies-rows_of, due_through, found_due, none_mapped, passes}
+use Rattle.rosie_prepare.proofs.Passing.{blocks_rows_of, bodies_rows_of, due_through, found_due, none_mapped, passes}
 use Rattle.rosie_prepare.proofs.Passing.{rules_found}
 use Rattle.rosie_prepare.specs.Prepared.{blocks, bodies, table_too_large, table_unsound}
 use Rattle.rosie_prepare.specs.inside.Steps.{Tells}
@@ -20,8 +20,8 @@ returns-in_err-rules-2-clause-prepares c =
     (found_due p (table_unsound p) p r (table_too_large p) u
     (none_mapped (expand_line p) (table_too_large p) c.in_ok-rules.ensures.exactly)
     (rules_found (bodies_in rules) (bodies (table_of p)) (blocks_in rules) (blocks (table_of p))
-    (sym (bodies-rows_of (rules_of rules)) ∙ ap bodies table) (check_line p) (λ line. Tells line u)
-    (sym (blocks-rows_of (rules_of rules)) ∙ ap blocks table) c.in_err-rules-2.ensures.exactly) due)
+    (sym (bodies_rows_of (rules_of rules)) ∙ ap bodies table) (check_line p) (λ line. Tells line u)
+    (sym (blocks_rows_of (rules_of rules)) ∙ ap blocks table) c.in_err-rules-2.ensures.exactly) due)
 
 pub returns-clause-prepares : goal.returns-clause-prepares
 returns-clause-prepares c =
@@ -32,5 +32,5 @@ returns-clause-prepares c =
     (none_mapped (expand_line p) (table_too_large p) c.in_ok-rules.ensures.exactly)
     (λ d. none_mapped (check_line p) (table_unsound p d)
     (rules_found (bodies_in rules) (bodies (table_of p)) (blocks_in rules) (blocks (table_of p))
-    (sym (bodies-rows_of (rules_of rules)) ∙ ap bodies table) (check_line p) (λ line. line ≡ None)
-    (sym (blocks-rows_of (rules_of rules)) ∙ ap blocks table) c.in_ok-rules-2.ensures.exactly d)) due
+    (sym (bodies_rows_of (rules_of rules)) ∙ ap bodies table) (check_line p) (λ line. line ≡ None)
+    (sym (blocks_rows_of (rules_of rules)) ∙ ap blocks table) c.in_ok-rules-2.ensures.exactly d)) due

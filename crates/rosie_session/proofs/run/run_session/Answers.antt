@@ -3,13 +3,13 @@ use Rattle.rosie_io.specs.Reader.{Reader}
 use Rattle.rosie_repl.specs.States.{session_of}
 use Rattle.rosie_run.specs.Going.{StoodAt}
 use Rattle.rosie_run.specs.Sources.{moment_of}
-use Rattle.rosie_run.proofs.Breaking.{memory-runs, runs-weaken}
-use Rattle.rosie_run.proofs.FromLines.{some-left}
+use Rattle.rosie_run.proofs.Breaking.{memory_runs, runs_weaken}
+use Rattle.rosie_run.proofs.FromLines.{some_left}
 use Rattle.rosie_session.specs.Replay.{pieces_of, replay}
 use Rattle.rosie_session.specs.Where.{InSession}
 use Rattle.rosie_session.specs.declared.run.Kept.{Kept}
 use Rattle.rosie_session.specs.inside.Passing.{IsOver, LeavesSession, name_of}
-use Rattle.rosie_session.proofs.Passing.{session-cause, session-rest, session-stood, turns-begun}
+use Rattle.rosie_session.proofs.Passing.{session_cause, session_rest, session_stood, turns_begun}
 use Rattle.rosie_session.proofs.run.run_session.Goals as goal
 
 pub returns-clause-runs : goal.returns-clause-runs
@@ -21,14 +21,14 @@ returns-clause-runs g c = λ it w is t.
     let e = ap (λ (x : Kept). x.reader) n.kept ∙ k.reader in
     let fresh = ap (λ (r : Reader). r.held) e in
     let parts = ap (λ (r : Reader). r.whole) e in
-    let all = turns-begun g.I.Source w s _ e refl refl (ap (λ (x : Kept). session_of x.state) n.kept ∙ k.state) in
+    let all = turns_begun g.I.Source w s _ e refl refl (ap (λ (x : Kept). session_of x.state) n.kept ∙ k.state) in
     let over : IsOver g.F.Source g.I.Source w s =
     record { input = it; loads = rw (n.files, n.folders) is; told = rw (all, n.input) t } in
-    let ran = runs-weaken _ c.run_pieces.result _
+    let ran = runs_weaken _ c.run_pieces.result _
     (StoodAt (λ how i. LeavesSession g.F.Source g.I.Source how s z i) (name_of z.kept.now.unread))
     (InSession w (g.I.Source.rest s.input.now) (moment_of g.I.Source s.input.now) (moment_of g.I.Source z.input.now)
     (moment_of g.F.Source s.files.now) (moment_of g.F.Source z.files.now)) _ _
-    (session-stood g.F.Source g.I.Source s z fresh parts w over all)
+    (session_stood g.F.Source g.I.Source s z fresh parts w over all)
     (c.run_pieces.ensures.runs (replay w (g.I.Source.rest s.input.now))
     (record { loading = w; over = over; is = ap pieces_of (sym all) })) in
     rw (n.input, n.files) at ran
@@ -37,18 +37,18 @@ pub returns-clause-cause : goal.returns-clause-cause
 returns-clause-cause g c =
     let n = c.new-lines.ensures in
     let e = ap (λ (x : Kept). x.reader) n.kept ∙ c.in_ok-kept.ensures.reader in
-    rw (n.input, n.files) at (session-cause g.F.Source g.I.Source c.new-lines.result c.run_pieces.new.pieces
+    rw (n.input, n.files) at (session_cause g.F.Source g.I.Source c.new-lines.result c.run_pieces.new.pieces
     (ap (λ (r : Reader). r.held) e) (ap (λ (r : Reader). r.whole) e) c.run_pieces.result c.run_pieces.ensures.left)
 
 pub returns-clause-rest : goal.returns-clause-rest
 returns-clause-rest g c = λ it.
     let e = ap (λ (x : Kept). x.reader) c.new-lines.ensures.kept ∙ c.in_ok-kept.ensures.reader in
-    session-rest g.F.Source g.I.Source c.new-lines.result c.run_pieces.new.pieces (ap (λ (r : Reader). r.held) e)
+    session_rest g.F.Source g.I.Source c.new-lines.result c.run_pieces.new.pieces (ap (λ (r : Reader). r.held) e)
     (ap (λ (r : Reader). r.whole) e) c.run_pieces.result it c.run_pieces.ensures.left
 
 pub returns-clause-tree : goal.returns-clause-tree
 returns-clause-tree g c =
-    rw c.new-lines.ensures.files at (some-left c.run_pieces.result _ c.run_pieces.ensures.left).2.tree
+    rw c.new-lines.ensures.files at (some_left c.run_pieces.result _ c.run_pieces.ensures.left).2.tree
 
 pub returns-in_err-kept-clause-runs : goal.returns-in_err-kept-clause-runs
-returns-in_err-kept-clause-runs g c = λ it w is t. memory-runs _ _ _ _ _ c.from_residual.ensures.1
+returns-in_err-kept-clause-runs g c = λ it w is t. memory_runs _ _ _ _ _ c.from_residual.ensures.1

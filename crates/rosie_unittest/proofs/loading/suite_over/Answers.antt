@@ -1,7 +1,7 @@
 use Rattle.std.proofs.Common.{◌≡◌, ◌<◌, ℕ, List, [], ◌∷◌, length, Option, Some, None, refl, sym, ap, subst, ◌∙◌, arith}
 use Rattle.std.specs.Prelude.{Ok, chars, map}
 use Rattle.rosie_prepare.specs.Prepared.{bodies}
-use Rattle.rosie_prepare.proofs.Passing.{bodies-rows_of, due_through, own_through}
+use Rattle.rosie_prepare.proofs.Passing.{bodies_rows_of, due_through, own_through}
 use Rattle.rpl_core.specs.Table.{bodies_of}
 use Rattle.rpl_expand.specs.Sets.{table_of}
 use Rattle.rpl_load_laws.proofs.Lists.{nth_found}
@@ -13,7 +13,7 @@ use Rattle.rpl_scope.specs.Packages.{nth}
 use Rattle.rosie_unittest.specs.Seen.{suite_of}
 use Rattle.rosie_unittest.specs.Suites.{AreTrials}
 use Rattle.rosie_unittest.specs.Tried.{trial_of}
-use Rattle.rosie_unittest.proofs.Loads.{again-tells, bench_with, refused-due, refused-own, tests-due}
+use Rattle.rosie_unittest.proofs.Loads.{again_tells, bench_with, refused_due, refused_own, tests_due}
 use Rattle.rosie_unittest.proofs.loading.suite_over.Goals as goal
 
 pub returns-clause-prepares : goal.returns-clause-prepares
@@ -24,11 +24,11 @@ returns-clause-prepares c = λ r h.
     let name = chars c.in-Some-package.name.now in
     let made = c.in_ok-trials.trials in
     let trials = map (trial_of (bodies_of rules)) made.items in
-    let same : bodies (table_of p) ≡ bodies_of rules = sym (ap bodies c.requires.rows) ∙ bodies-rows_of rules in
+    let same : bodies (table_of p) ≡ bodies_of rules = sym (ap bodies c.requires.rows) ∙ bodies_rows_of rules in
     let tells =
-    again-tells p c.args.file c.args.budget c.args.text.now r m name (sym c.in-Some.ensures.gives)
+    again_tells p c.args.file c.args.budget c.args.text.now r m name (sym c.in-Some.ensures.gives)
     (sym c.in-Some-package.ensures) h in
-    tests-due p m (bench_with c.args.file c.args.budget name) c.args.text.now r c.in_ok-tests.tests trials c.in_ok-tests.ensures.tests
+    tests_due p m (bench_with c.args.file c.args.budget name) c.args.text.now r c.in_ok-tests.tests trials c.in_ok-tests.ensures.tests
     (λ due is. c.in_ok-trials.ensures.trials due (subst (λ R. AreTrials R (own p m) c.in_ok-tests.tests due) same is)) tells
     ∙ ap (λ x. Ok (record { bench = bench_with c.args.file c.args.budget x; trials = trials })) (sym c.in_ok-prefix.ensures)
 
@@ -39,15 +39,15 @@ returns-in_err-tests-clause-prepares c = λ r h.
     let name = chars c.in-Some-package.name.now in
     let u = c.in_err-tests.field-0.0 in
     due_through suite_of c.from_residual-in_err-tests.result u r c.from_residual-in_err-tests.ensures.1
-    (refused-due p m c.args.file c.args.budget name c.args.text.now r u c.in_err-tests.ensures.bad
-    (again-tells p c.args.file c.args.budget c.args.text.now r m name (sym c.in-Some.ensures.gives)
+    (refused_due p m c.args.file c.args.budget name c.args.text.now r u c.in_err-tests.ensures.bad
+    (again_tells p c.args.file c.args.budget c.args.text.now r m name (sym c.in-Some.ensures.gives)
     (sym c.in-Some-package.ensures) h))
 
 pub returns-in_err-tests-clause-own : goal.returns-in_err-tests-clause-own
 returns-in_err-tests-clause-own c =
     let u = c.in_err-tests.field-0.0 in
     own_through c.from_residual-in_err-tests.result u c.from_residual-in_err-tests.ensures.1
-    (refused-own c.args.file c.args.text.now u c.in_err-tests.ensures.bad)
+    (refused_own c.args.file c.args.text.now u c.in_err-tests.ensures.bad)
 
 first_there : (roots : List (Option ℕ)) → 0 < length roots → (o : Option ℕ) × (nth roots 0 ≡ Some o)
 first_there [] h = absurd (omega (arith, h))

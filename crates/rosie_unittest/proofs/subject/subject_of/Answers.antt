@@ -7,7 +7,7 @@ use Rattle.rpl_core.specs.Numbers.{instr_of}
 use Rattle.rpl_core.specs.Program.{instructions}
 use Rattle.rpl_core.specs.Table.{bodies_of}
 use Rattle.rosie_unittest.specs.Tried.{subject_for}
-use Rattle.rosie_unittest.proofs.Tried.{runs-due, long-due, subject-is}
+use Rattle.rosie_unittest.proofs.Tried.{runs_due, long_due, subject_is}
 use Rattle.rosie_unittest.proofs.subject.subject_of.Goals as goal
 
 pub returns-in-Ok-clause-subject : goal.returns-in-Ok-clause-subject
@@ -16,7 +16,7 @@ returns-in-Ok-clause-subject c =
     let p = c.in-Ok.program in
     let t = c.in-Some.target in
     let fits = subst (λ n. n ≤ 1048576) (sym (length-map p.code (instr_of p.sets p.labels))) c.in-Ok.ensures.fits in
-    sym (ap (subject_for R) c.in-Some.is ∙ runs-due R t _ (instructions p) (subject_for R (Some t)) (subject-is R (Some t))
+    sym (ap (subject_for R) c.in-Some.is ∙ runs_due R t _ (instructions p) (subject_for R (Some t)) (subject_is R (Some t))
     c.in_ok-goal.ensures.goal c.in-Ok.ensures.code fits)
 
 pub returns-in-Ok-clause-ready : goal.returns-in-Ok-clause-ready
@@ -32,5 +32,5 @@ pub returns-in-CodeTooLong-clause-subject : goal.returns-in-CodeTooLong-clause-s
 returns-in-CodeTooLong-clause-subject c =
     let R = bodies_of c.args.rules.now in
     let t = c.in-Some.target in
-    sym (ap (subject_for R) c.in-Some.is ∙ long-due R t _ (subject_for R (Some t)) (subject-is R (Some t))
+    sym (ap (subject_for R) c.in-Some.is ∙ long_due R t _ (subject_for R (Some t)) (subject_is R (Some t))
     c.in_ok-goal.ensures.goal (c.in-Err.ensures.too_long c.in-CodeTooLong.is))

@@ -11,7 +11,7 @@ use Rattle.rpl_unittest.specs.declared.test.Test.{Test}
 use Rattle.rosie_unittest.specs.Tried.{subject_for, trial_of}
 use Rattle.rosie_unittest.specs.inside.Ready.{AreBound, AreReady}
 use Rattle.rosie_unittest.specs.declared.trial.Trial.{Trial}
-use Rattle.rosie_unittest.proofs.Tried.{Passed, all-next, bound-next, ready-next, subject-due}
+use Rattle.rosie_unittest.proofs.Tried.{Passed, all_next, bound_next, ready_next, subject_due}
 use Rattle.rosie_unittest.proofs.Owned.{rule_of_own}
 use Rattle.rosie_unittest.proofs.trial.trials_of.Goals as goal
 
@@ -51,15 +51,15 @@ loop-test-preserved c =
     record {
       passed = λ due is.
           subst (λ ts. Passed R target due ts rest) (sym all)
-          (all-next R target due before t (into_iter_items at.test-iterator) rest (subject_for R o) next
-          (at.invariant.passed due is) (λ x h. subject-due R o (target t.name) x (sym found) h));
+          (all_next R target due before t (into_iter_items at.test-iterator) rest (subject_for R o) next
+          (at.invariant.passed due is) (λ x h. subject_due R o (target t.name) x (sym found) h));
       ready =
           subst (λ ts. ∥ AreReady ts ∥₁) (sym all)
-          (ready-next before (trial_of R trial) at.invariant.ready c.with_text-test.ensures.text
+          (ready_next before (trial_of R trial) at.invariant.ready c.with_text-test.ensures.text
           c.in_ok-check_goal.ensures);
       bound =
           subst (λ ts. ∥ AreBound R ts ∥₁) (sym c.in_ok-push.ensures.items)
-          (bound-next R at.trials.items trial at.invariant.bound
+          (bound_next R at.trials.items trial at.invariant.bound
           (rule_of_own p c.args.rules.now c.args.number _ c.args.set.now.built c.requires.rows o c.own-target.ensures));
       short = All-tail IsShort c.in-Some.test rest (subst (All IsShort) steps at.invariant.short);
       left =

@@ -4,7 +4,7 @@ use Rattle.rpl_scope.specs.Packages.{first_rule}
 use Rattle.rpl_scope.specs.Seen.{modules_seen}
 use Rattle.rpl_package.specs.Tables.{rows}
 use Rattle.rpl_package.specs.Targets.{target_by}
-use Rattle.rpl_package.proofs.Numbering.{nth_within, found_in, length-firsts, first_is, room_at}
+use Rattle.rpl_package.proofs.Numbering.{nth_within, found_in, length_firsts, first_is, room_at}
 use Rattle.rpl_package.proofs.resolve.target_in.Goals as goal
 
 pub overflow_cast-result : goal.overflow_cast-result
@@ -38,7 +38,7 @@ returns-in-None-get c =
     let there = found_in ms i c.args.place _ (sym c.in-Some.ensures) in
     let short = nth_within ms i there.0 there.1 in
     let none = c.in-None-get.ensures.lookup.3 in
-    let long = ap length (c.deref.ensures.value ∙ c.requires.firsts) ∙ length-firsts 2 ms in
+    let long = ap length (c.deref.ensures.value ∙ c.requires.firsts) ∙ length_firsts 2 ms in
     absurd (omega (arith, short, none, long))
 
 pub returns-in-Some-get : goal.returns-in-Some-get

@@ -2,7 +2,7 @@ use Rattle.std.proofs.Common.{arith, ◌≡◌, ◌+◌, ◌++◌, length, sym, 
 use Rattle.std.proofs.lemmas.List.{length-append}
 use Rattle.rpl_scope.specs.Seen.{rules_seen, modules_seen}
 use Rattle.rpl_package.specs.Tables.{begun_in, rows_of, rows_from}
-use Rattle.rpl_package.proofs.Rows.{module_step, first_step, length-rows_of}
+use Rattle.rpl_package.proofs.Rows.{module_step, first_step, length_rows_of}
 use Rattle.rpl_package.proofs.table.table_of.Goals as goal
 
 pub loop-module-preserved : goal.loop-module-preserved
@@ -16,7 +16,7 @@ loop-module-preserved c =
     let here = c.in_ok-blocks.ensures.rows ∙ ap (λ r. c.loop-module.rows.items ++ rows_of m.label i 0 b (rules_seen r)) c.deref.ensures.value in
     let begun = c.in_ok-blocks.ensures.blocks ∙ ap (λ r. begun_in b 0 (rules_seen r)) c.deref.ensures.value in
     let count = ap length here ∙ length-append c.loop-module.rows.items (rows_of m.label i 0 b rs) in
-    let few = length-rows_of m.label i 0 b rs in
+    let few = length_rows_of m.label i 0 b rs in
     record {
       from = ap (λ k. k + 1) c.loop-module.invariant.from;
       begun = c.in_ok-blocks.ensures.begun;

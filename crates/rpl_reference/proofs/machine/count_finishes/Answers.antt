@@ -1,7 +1,7 @@
 use Rattle.std.proofs.Common.{◌≡◌, ap, ◌∙◌, arith, map, take, ◌∷◌, [], ◌+◌}
 use Rattle.rpl_core.specs.Forest.{finishes}
 use Rattle.rpl_reference.specs.Answers.{caught_of}
-use Rattle.rpl_reference.proofs.Captures.{finishes-append, map_more}
+use Rattle.rpl_reference.proofs.Captures.{finishes_append, map_more}
 use Rattle.rpl_reference.proofs.machine.count_finishes.Goals as goal
 
 pub loop-one-preserved : goal.loop-one-preserved
@@ -10,6 +10,6 @@ loop-one-preserved c =
     let sum : finishes (map caught_of (take (c.loop-one.one-index + 1) c.args.caught.now))
     ≡ finishes (map caught_of (take c.loop-one.one-index c.args.caught.now))
     + finishes (caught_of c.one-item.result ∷ []) =
-    ap finishes more ∙ finishes-append (map caught_of (take c.loop-one.one-index c.args.caught.now))
+    ap finishes more ∙ finishes_append (map caught_of (take c.loop-one.one-index c.args.caught.now))
     (caught_of c.one-item.result ∷ []) in
     (omega arith, omega arith)

@@ -3,7 +3,7 @@ use Rattle.rosie_io.specs.Gathering.{left}
 use Rattle.rosie_run.specs.Going.{Gives}
 use Rattle.rosie_run.specs.inside.FromLines.{ComesFrom}
 use Rattle.rosie_run.specs.inside.Passing.{kept_err, kept_out}
-use Rattle.rosie_run.proofs.Coming.{IsLater, gives-of, gives-to, goes-of, leaves-of}
+use Rattle.rosie_run.proofs.Coming.{IsLater, gives_of, gives_to, goes_of, leaves_of}
 use Rattle.rosie_run.proofs.lines.SourceLinesPieceSource.next.Goals as goal
 
 pub returns-clause-gives : goal.returns-clause-gives
@@ -19,10 +19,10 @@ returns-clause-gives g c = λ ps comes.
     let err = kept_err z.messages.now.fault (g.J.LineJob.err_text z.job.now) in
     let tool = y.messages.now.tool in
     let now = c.next-found.new.self in
-    let got = gives-of makes tool y.file.now y.reader.now now left0 left1 out err c.args.steps.now c.make_of.new.steps c.next-found.result c.make_of.result m.makes e.numbers (e.passes comes.0) in
-    let goes = goes-of makes tool y.file.now y.reader.now now left0 left1 out err c.args.steps.now c.make_of.new.steps c.next-found.result c.make_of.result m.makes e.numbers in
+    let got = gives_of makes tool y.file.now y.reader.now now left0 left1 out err c.args.steps.now c.make_of.new.steps c.next-found.result c.make_of.result m.makes e.numbers (e.passes comes.0) in
+    let goes = goes_of makes tool y.file.now y.reader.now now left0 left1 out err c.args.steps.now c.make_of.new.steps c.next-found.result c.make_of.result m.makes e.numbers in
     subst (λ x. Gives c.make_of.result x (ComesFrom g.J.LineJob.makes g.S.Source z) out err c.args.steps.now c.make_of.new.steps) (sym comes.1)
-    (gives-to c.make_of.result _ (IsLater makes tool y.file.now y.reader.now now left0 left1 out err c.args.steps.now c.make_of.new.steps) (ComesFrom g.J.LineJob.makes g.S.Source z) out err c.args.steps.now c.make_of.new.steps _ goes
+    (gives_to c.make_of.result _ (IsLater makes tool y.file.now y.reader.now now left0 left1 out err c.args.steps.now c.make_of.new.steps) (ComesFrom g.J.LineJob.makes g.S.Source z) out err c.args.steps.now c.make_of.new.steps _ goes
     (λ on more is. (comes.0, rw (m.same, m.tool, m.same_lines.4, m.reader, m.source, e.keeps.whole, e.keeps.most, on.0) is)) got)
 
 pub returns-clause-left : goal.returns-clause-left
@@ -37,5 +37,5 @@ returns-clause-left g c = λ s n h.
       tree = e.tree ∙ h.tree;
       opens = e.opens ∙ h.opens;
       taken = λ lt. let x = e.reads.taken lt in let later = e.reads.later in let t = h.taken (omega arith) in omega arith;
-      leaves = leaves-of (g.J.LineJob.makes y.job.now) y.messages.now.tool y.file.now y.reader.now c.next-found.new.self (left y.reader.now.held (g.S.Source.rest y.source.now)) (left c.next-found.new.self.held (g.S.Source.rest c.next-found.new.source)) _ _ c.args.steps.now c.make_of.new.steps g.S.Source s.reader.now s.source.now y.source.now c.next-found.new.source n h.leaves h.keeps.whole e.reads e.at_end (λ x. e.ready (inl x)) c.next-found.result c.make_of.result m.makes e.numbers e.passes e.cause e.stops;
+      leaves = leaves_of (g.J.LineJob.makes y.job.now) y.messages.now.tool y.file.now y.reader.now c.next-found.new.self (left y.reader.now.held (g.S.Source.rest y.source.now)) (left c.next-found.new.self.held (g.S.Source.rest c.next-found.new.source)) _ _ c.args.steps.now c.make_of.new.steps g.S.Source s.reader.now s.source.now y.source.now c.next-found.new.source n h.leaves h.keeps.whole e.reads e.at_end (λ x. e.ready (inl x)) c.next-found.result c.make_of.result m.makes e.numbers e.passes e.cause e.stops;
     })

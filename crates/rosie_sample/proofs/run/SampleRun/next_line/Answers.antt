@@ -9,7 +9,7 @@ use Rattle.rosie_run.specs.Report.{is_hit}
 use Rattle.rosie_sample.specs.Counting.{counts_piece, muted}
 use Rattle.rosie_sample.specs.Lines.{next, sample}
 use Rattle.rosie_sample.proofs.Limits.{job_bytes}
-use Rattle.rosie_sample.proofs.Onward.{all-more, bytes-more, hits-more, left-next, one_most}
+use Rattle.rosie_sample.proofs.Onward.{all_more, bytes_more, hits_more, left_next, one_most}
 use Rattle.rosie_sample.proofs.run.SampleRun.next_line.Goals as goal
 
 pub returns-clause-fits : goal.returns-clause-fits
@@ -37,20 +37,20 @@ returns-clause-gives g c = λ ps left.
     let same_length = ap length c.line.ensures in
     let line_short = c.in_ok-advance.ensures.short in
     let short : length line ≤ 64 = omega arith in
-    let step = left-next makes s.lines s.passed s.sample.number line (c.line.ensures ∙ c.in_ok-advance.ensures.line) (is_utf8-from_IsUtf8 line c.line.utf8) short c.requires.more in
+    let step = left_next makes s.lines s.passed s.sample.number line (c.line.ensures ∙ c.in_ok-advance.ensures.line) (is_utf8-from_IsUtf8 line c.line.utf8) short c.requires.more in
     let more = pieces_from makes (reading false) (codes "-") (s.passed + 1) (sample (next s.sample.number) (s.lines - (s.passed + 1))) in
     let moved = ap (λ f. pieces_from f (reading false) (codes "-") (s.passed + 1) (sample (next s.sample.number) (s.lines - (s.passed + 1)))) (sym c.in_ok-mark.ensures.same)
     ∙ ap (λ x. pieces_from (makes_of (matcher_of c.answer.new.self)) (reading false) (codes "-") (s.passed + 1) (sample x (s.lines - (s.passed + 1)))) (sym c.in_ok-advance.ensures.number) in
     record {
       piece = muted p;
       more = map muted more ++ counts_piece s.lines ((left.done ++ p ∷ []) ++ more) ∷ [];
-      is = all-more s.lines left.done _ more p ps step left.is;
+      is = all_more s.lines left.done _ more p ps step left.is;
       made = record { marks = m.marks; writes = refl; tells = m.tells };
       steps = c.in_ok-mark.ensures.steps;
       comes = record {
         done = left.done ++ p ∷ [];
-        matched = hits-more left.done p s.matched _ left.matched (ap (λ x. s.matched + x) (c.one_if_hit.ensures ∙ ap (λ k. cond (is_hit k) 1 0) m.marks));
-        bytes = bytes-more left.done p s.bytes _ left.bytes (ap (λ x. s.bytes + length x) (c.out.ensures ∙ m.writes));
+        matched = hits_more left.done p s.matched _ left.matched (ap (λ x. s.matched + x) (c.one_if_hit.ensures ∙ ap (λ k. cond (is_hit k) 1 0) m.marks));
+        bytes = bytes_more left.done p s.bytes _ left.bytes (ap (λ x. s.bytes + length x) (c.out.ensures ∙ m.writes));
         is = ap (λ xs. map muted xs ++ counts_piece s.lines ((left.done ++ p ∷ []) ++ xs) ∷ []) moved;
       };
     }

@@ -1,7 +1,7 @@
 use Rattle.std.proofs.Common.{subst, sym}
 use Rattle.rpl_core.specs.Table.{bodies_of}
 use Rattle.rosie_unittest.specs.inside.Entries.{AreSound}
-use Rattle.rosie_unittest.proofs.Entries.{sound-next}
+use Rattle.rosie_unittest.proofs.Entries.{sound_next}
 use Rattle.rosie_unittest.proofs.subject.Subjects.place_for.Goals as goal
 
 pub returns-in-Some-get_mut-clause-sound : goal.returns-in-Some-get_mut-clause-sound
@@ -9,7 +9,7 @@ returns-in-Some-get_mut-clause-sound c =
     let R = bodies_of c.args.rules.now in
     let is = c.in_ok-subject.ensures in
     subst (AreSound R) (sym c.in_ok-push.ensures.items)
-    (sound-next R c.make_room.new.self.entries.items (record { target = c.args.target; subject = c.in_ok-subject.subject })
+    (sound_next R c.make_room.new.self.entries.items (record { target = c.args.target; subject = c.in_ok-subject.subject })
     (c.make_room.ensures R c.requires.sound) is.subject is.ready)
 
 pub returns-in_default-get_mut-clause-sound : goal.returns-in_default-get_mut-clause-sound
@@ -17,5 +17,5 @@ returns-in_default-get_mut-clause-sound c =
     let R = bodies_of c.args.rules.now in
     let is = c.in_ok-subject.ensures in
     subst (AreSound R) (sym c.in_ok-push.ensures.items)
-    (sound-next R c.make_room.new.self.entries.items (record { target = c.args.target; subject = c.in_ok-subject.subject })
+    (sound_next R c.make_room.new.self.entries.items (record { target = c.args.target; subject = c.in_ok-subject.subject })
     (c.make_room.ensures R c.requires.sound) is.subject is.ready)
