@@ -8,7 +8,7 @@ use Rattle.rosie_prepare.specs.Answers.{Counts, IsAsked, IsDue}
 use Rattle.rosie_prepare.specs.Prepared.{OrLine}
 use Rattle.rosie_prepare.specs.declared.unready.Unready.{Unready}
 use Rattle.rosie_prepare.specs.declared.unready.Unready.TheVariants.{NoMemory, Refused, ReadFault}
-use Rattle.rosie_prepare.specs.inside.Steps.{IsOwn, Tells}
+use Rattle.rosie_prepare.specs.Steps.{IsOwn, Tells}
 use Rattle.rosie_run.specs.Sources.{Moment, Still, moment_of}
 use Rattle.rpl_codegen.specs.declared.whole.CompileFault.{CompileFault}
 use Rattle.rpl_codegen.specs.declared.whole.CompileFault.TheVariants as C

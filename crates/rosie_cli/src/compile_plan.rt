@@ -2,7 +2,7 @@
 
 ghost use Rattle.std.specs.Prelude.{Ok, IfErr};
 ghost use Rattle.rosie_prepare.specs.Views.{ready_seen, request_seen};
-ghost use Rattle.rosie_prepare.specs.inside.Steps.{IsOwn};
+ghost use Rattle.rosie_prepare.specs.Steps.{IsOwn};
 ghost use Rattle.rpl_package.specs.Asking.{IsTold};
 ghost use Rattle.rosie_cli.specs.Compiling.{Compiles, IsCompiled};
 ghost use Rattle.rosie_cli.specs.Plans.{Planned};

@@ -3,7 +3,7 @@
 ghost use Rattle.std.specs.Prelude.{◌≡◌, Ok, IfErr, IfOk, List, encode_utf8_all};
 ghost use Rattle.rosie_jobs.specs.Jobs.{IsJobOf, job_of, rule_names};
 ghost use Rattle.rosie_prepare.specs.Views.{ready_seen, request_seen};
-ghost use Rattle.rosie_prepare.specs.inside.Steps.{IsOwn};
+ghost use Rattle.rosie_prepare.specs.Steps.{IsOwn};
 ghost use Rattle.rosie_run.specs.Inputs.{names_of};
 ghost use Rattle.rpl_check.specs.Goal.{peg_of};
 ghost use Rattle.rpl_codegen.specs.Compiled.{HasLongCode};

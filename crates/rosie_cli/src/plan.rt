@@ -1,6 +1,6 @@
 //! The plan of a command, made before anything is written.
 
-ghost use Rattle.rosie_prepare.specs.inside.Steps.{Tells};
+ghost use Rattle.rosie_prepare.specs.Steps.{Tells};
 ghost use Rattle.rosie_cli.specs.inside.Planning.{due_of};
 
 use rosie_io::Bytes;

@@ -11,7 +11,7 @@ use Rattle.rosie_prepare.specs.Prepared.{Comes, IsPrepared, OrLine, Ready, Tree,
 use Rattle.rosie_prepare.specs.declared.prepared.Prepared.{Prepared}
 use Rattle.rosie_prepare.specs.declared.unready.Unready.{Unready}
 use Rattle.rosie_prepare.specs.declared.unready.Unready.TheVariants.{NoMemory, Refused, ReadFault}
-use Rattle.rosie_prepare.specs.inside.Steps.{StopsWith}
+use Rattle.rosie_prepare.specs.Steps.{StopsWith}
 use Rattle.rpl_package.proofs.Outcomes.{Follows, same, then_follows, told_lead, told_then, trail}
 use Rattle.rpl_package.specs.Asking.{IsTold, Outcome, and_then, asked_then}
 use Rattle.rpl_package.specs.Loading.{world}

@@ -8,7 +8,7 @@ use Rattle.rosie_prepare.specs.Answers.{IsDue, Prepares}
 use Rattle.rosie_prepare.specs.Prepared.{OrLine, Passes, Ready, TableFacts, bodies, blocks, found, goal_in, ready}
 use Rattle.rosie_prepare.specs.declared.unready.Unready.{Unready}
 use Rattle.rosie_prepare.specs.declared.unready.Unready.TheVariants.{NoMemory, Refused, ReadFault}
-use Rattle.rosie_prepare.specs.inside.Steps.{IsOwn, Tells}
+use Rattle.rosie_prepare.specs.Steps.{IsOwn, Tells}
 use Rattle.rpl_check.proofs.Exists.{facts_same}
 use Rattle.rpl_check.specs.Answers as CA
 use Rattle.rpl_check.specs.Blocks.{first_fault, table_fault}

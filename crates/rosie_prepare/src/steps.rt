@@ -6,7 +6,7 @@ ghost use Rattle.rosie_prepare.specs.Prepared.{Comes, OrLine, Ready, TableComes}
 ghost use Rattle.rosie_prepare.specs.Prepared.{goal_in, table_too_large};
 ghost use Rattle.rosie_prepare.specs.Answers.{Prepares};
 ghost use Rattle.rosie_prepare.specs.Views.{ready_seen};
-ghost use Rattle.rosie_prepare.specs.inside.Steps.{Finds, IsOwn, both_seen};
+ghost use Rattle.rosie_prepare.specs.Steps.{Finds, IsOwn, both_seen};
 ghost use Rattle.rpl_check.specs.Blocks.{first_fault};
 ghost use Rattle.rpl_check.specs.Checked.{IsWhole};
 ghost use Rattle.rpl_check.specs.Facts.{Facts};

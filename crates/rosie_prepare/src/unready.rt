@@ -1,7 +1,7 @@
 // The reasons why there is nothing to run.
 ghost use Rattle.std.specs.Prelude.{Some};
 ghost use Rattle.rosie_prepare.specs.Lines.{load_line};
-ghost use Rattle.rosie_prepare.specs.inside.Steps.{Tells, TellsLoad};
+ghost use Rattle.rosie_prepare.specs.Steps.{Tells, TellsLoad};
 
 use crate::{NoMemory, load_line};
 use rpl_package::{LoadFault, LoadKind};

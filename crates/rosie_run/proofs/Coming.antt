@@ -19,8 +19,8 @@ use Rattle.rosie_run.specs.declared.ended.ReadStop.TheVariants as Y
 use Rattle.rosie_run.specs.declared.lines.Reading.{Reading}
 use Rattle.rosie_run.specs.declared.mark.Mark.{Mark}
 use Rattle.rosie_run.specs.declared.tool.Tool.{Tool}
-use Rattle.rosie_run.specs.inside.FromLines.{LeavesBy, Since, reading_of, to_come}
-use Rattle.rosie_run.specs.inside.Passing.{IsStop, IsStopOrMemory, MakesOf, MakesPiece}
+use Rattle.rosie_run.specs.FromLines.{LeavesBy, Since, reading_of, to_come}
+use Rattle.rosie_run.specs.Passing.{IsStop, IsStopOrMemory, MakesOf, MakesPiece}
 use Rattle.rosie_run.proofs.FromLines.{past_next, since_next, stops_failed, stops_spent}
 use Rattle.rosie_run.proofs.OneLine.{long_is, no_text_is, text_is}
 use Rattle.rosie_run.proofs.Onward.{lines_none, pieces_none}

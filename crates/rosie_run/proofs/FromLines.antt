@@ -19,7 +19,7 @@ use Rattle.rosie_run.specs.declared.lines.SourceLines.{SourceLines}
 use Rattle.rosie_run.specs.declared.tally.Tally.{Tally}
 use Rattle.rosie_run.specs.declared.ended.ReadStop.{ReadStop}
 use Rattle.rosie_run.specs.declared.ended.ReadStop.TheVariants as Y
-use Rattle.rosie_run.specs.inside.FromLines.{IsFailed, IsFresh, IsPast, IsSpent, LeavesLines, Since}
+use Rattle.rosie_run.specs.FromLines.{IsFailed, IsFresh, IsPast, IsSpent, LeavesLines, Since}
 use Rattle.rosie_run.proofs.Onward.{end_next, is_open, passed_cut, passed_next}
 
 reads_on : (tells : Type 0) (h p q : Held) (r0 r1 r2 : List ℕ) (t0 t1 t2 : ℕ) → Reads tells h p r0 r1 t0 t1 → Reads tells p q r1 r2 t1 t2 → Reads tells h q r0 r2 t0 t2

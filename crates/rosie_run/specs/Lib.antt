@@ -16,3 +16,5 @@ pub mod Causes
 pub mod Closing
 pub mod Headline
 pub mod inside
+pub mod Passing
+pub mod FromLines

@@ -1,8 +1,6 @@
 -- Words of private functions alone. No public contract cites them.
 pub mod Causes
-pub mod Passing
 pub mod Going
-pub mod FromLines
 pub mod Reaching
 pub mod Showing
 pub mod Where

@@ -9,7 +9,7 @@ ghost use Rattle.rosie_run.specs.Inputs.{is_standard, left_after};
 ghost use Rattle.rosie_run.specs.Inputs.{AreTold, reads_standard, names_of};
 ghost use Rattle.rosie_run.specs.Sources.{moment_of, span_of};
 ghost use Rattle.rosie_run.specs.inside.SameLines.{SameLines, reading_of};
-ghost use Rattle.rosie_run.specs.inside.Passing.{IsPrepared};
+ghost use Rattle.rosie_run.specs.Passing.{IsPrepared};
 ghost use Rattle.rosie_run.specs.inside.Showing.{shows};
 ghost use Rattle.rosie_run.specs.inside.Where.{RunsFile, RunsOne, RunsSource};
 

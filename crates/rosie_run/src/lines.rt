@@ -6,9 +6,9 @@ ghost use Rattle.rosie_run.specs.Lines.{input_message, line_message};
 ghost use Rattle.rosie_run.specs.Report.{fault_piece};
 ghost use Rattle.rosie_run.specs.Runs.{IsCutOf};
 ghost use Rattle.rosie_run.specs.declared.ended.ReadStop.TheVariants.{ReadFault, Spent};
-ghost use Rattle.rosie_run.specs.inside.FromLines.{ComesFrom, LeavesLines, SameLines};
-ghost use Rattle.rosie_run.specs.inside.Passing.{IsPrepared, IsStop, MakesOf, MakesPiece};
-ghost use Rattle.rosie_run.specs.inside.Passing.{kept_err, kept_out};
+ghost use Rattle.rosie_run.specs.FromLines.{ComesFrom, LeavesLines, SameLines};
+ghost use Rattle.rosie_run.specs.Passing.{IsPrepared, IsStop, MakesOf, MakesPiece};
+ghost use Rattle.rosie_run.specs.Passing.{kept_err, kept_out};
 
 use crate::line_job::{InputLine, LineJob};
 use crate::saying::cut;
@@ -234,7 +234,7 @@ impl<'a, J: LineJob, S: Source> SourceLines<'a, J, S> {
 
 impl<'a, J: LineJob, S: Source> PieceSource for SourceLines<'a, J, S> {
     ghost use Rattle.std.specs.Prelude.{refl};
-    ghost use Rattle.rosie_run.specs.inside.FromLines.{GoesOnFrom, begins_lines};
+    ghost use Rattle.rosie_run.specs.FromLines.{GoesOnFrom, begins_lines};
 
     ghost comes = { λ s ps. ComesFrom J.makes S.Source s ps };
 

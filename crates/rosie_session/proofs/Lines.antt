@@ -21,7 +21,7 @@ use Rattle.rosie_run.specs.declared.ended.Ended.{Ended}
 use Rattle.rosie_run.specs.declared.ended.Ended.TheVariants as E
 use Rattle.rosie_run.specs.declared.ended.ReadStop.TheVariants as Y
 use Rattle.rosie_run.specs.declared.mark.Mark.{Mark}
-use Rattle.rosie_run.specs.inside.Passing.{IsStop, IsStopOrMemory, MakesPiece}
+use Rattle.rosie_run.specs.Passing.{IsStop, IsStopOrMemory, MakesPiece}
 use Rattle.rosie_run.proofs.Onward.{lines_none}
 use Rattle.rpl_package.specs.Asking.{IsTold}
 use Rattle.rosie_session.specs.Loading.{IsLoading, Loading}

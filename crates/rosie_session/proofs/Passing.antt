@@ -28,7 +28,7 @@ use Rattle.rosie_run.specs.declared.ended.ReadStop.TheVariants as Y
 use Rattle.rosie_run.specs.declared.mark.Mark.{Mark}
 use Rattle.rosie_run.specs.declared.tally.Tally.{Tally}
 use Rattle.rosie_run.specs.declared.tool.Tool.TheVariants.{Rosie}
-use Rattle.rosie_run.specs.inside.FromLines.{IsFresh, LeavesBy}
+use Rattle.rosie_run.specs.FromLines.{IsFresh, LeavesBy}
 use Rattle.rosie_run.proofs.Coming.{goes_of, leaves_of}
 use Rattle.rosie_run.proofs.FromLines.{since_next}
 use Rattle.rpl_package.specs.Asking.{IsTold}

@@ -10,7 +10,7 @@ ghost use Rattle.rosie_run.specs.Runs.{GoesOn};
 ghost use Rattle.rosie_run.specs.Sources.{moment_of};
 ghost use Rattle.rosie_run.specs.declared.ended.ReadStop.TheVariants.{ReadFault, Spent};
 ghost use Rattle.rosie_run.specs.declared.tool.Tool.TheVariants.{Rosie};
-ghost use Rattle.rosie_run.specs.inside.Passing.{IsStop, IsStopOrMemory, MakesPiece};
+ghost use Rattle.rosie_run.specs.Passing.{IsStop, IsStopOrMemory, MakesPiece};
 ghost use Rattle.rosie_run.specs.Report.{fault_piece};
 ghost use Rattle.rosie_session.specs.Replay.{edit_turn, session_fault};
 ghost use Rattle.rosie_session.specs.Runs.{RunsSession};

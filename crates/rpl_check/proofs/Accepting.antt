@@ -22,7 +22,7 @@ use Rattle.rpl_check.specs.Faults.{Fault, EmptyLoop, HaltInside, behind_fault, f
 use Rattle.rpl_check.specs.Loops.{has_empty_loop, any_has_empty_loop}
 use Rattle.rpl_check.specs.Blocks.{selves, recursion_of, group_fault, table_fault}
 use Rattle.rpl_check.specs.Laws.{CallsStay}
-use Rattle.rpl_core.specs.inside.Marks.{count}
+use Rattle.rpl_core.specs.Marks.{count}
 use Rattle.rpl_core.specs.Order.{IsInOrder}
 use Rattle.rpl_check.specs.inside.Rounds.{Reach}
 use Rattle.rpl_core.proofs.Counts.{count_lt, count_below}

@@ -8,7 +8,7 @@ use Rattle.rpl_core.specs.View.{core_of}
 use Rattle.rpl_core.specs.declared.rules.Rule.{Rule}
 use Rattle.rpl_compile_laws.specs.Static.{may_be_empty}
 use Rattle.rpl_check.specs.Facts.{calls_here, front_calls_here, any_calls_here, calls_at, passes}
-use Rattle.rpl_core.specs.inside.Marks.{marked}
+use Rattle.rpl_core.specs.Marks.{marked}
 use Rattle.rpl_check.specs.inside.Search.{marked_from}
 use Rattle.rpl_check.specs.inside.Rounds.{CallsBefore}
 use Rattle.rpl_check.specs.inside.Search.{AreClean, calls_within, front_calls_within, each_calls_within, within_or_none}

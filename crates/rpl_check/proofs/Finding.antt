@@ -3,7 +3,7 @@ use Rattle.std.proofs.Common.{◌≡◌, ℕ, ◌-◌, ◌<◌, ◌≤◌, [], �
 use Rattle.std.proofs.lemmas.Bool.{cases_eq, ne_eqb}
 use Rattle.std.proofs.lemmas.Bool.Decides.{nat_tests}
 use Rattle.std.specs.Prelude.{Bool, true, false, ◌||◌, ◌&&◌, ◌⊎◌, not, nat_eq, nat_lt, nat_le}
-use Rattle.rpl_core.specs.inside.Marks.{unmarked, waits}
+use Rattle.rpl_core.specs.Marks.{unmarked, waits}
 use Rattle.rpl_check.specs.inside.Search.{in_block, found, Finds}
 use Rattle.rpl_core.proofs.Marking.{never, not_new, joined, later, more, waits_more, unmarked_less}
 use Rattle.rpl_check.specs.declared.recursion.BlockSearch.{BlockSearch}

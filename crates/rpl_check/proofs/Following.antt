@@ -6,10 +6,10 @@ use Rattle.std.proofs.lemmas.List.{get_or_past}
 use Rattle.std.specs.Prelude.{Bool, true, false, ◌||◌, ◌&&◌, not, nat_lt, nat_le, nat_eq, ◌≢◌, ◌⊎◌}
 use Rattle.rpl_core.specs.Core.{Core}
 use Rattle.rpl_check.specs.Facts.{IsLeast, Follows, calls_at, calls_here}
-use Rattle.rpl_core.specs.inside.Marks.{marked}
+use Rattle.rpl_core.specs.Marks.{marked}
 use Rattle.rpl_check.specs.inside.Search.{marked_from}
 use Rattle.rpl_check.specs.inside.Rounds.{CallsBefore, Reach}
-use Rattle.rpl_core.specs.inside.Marks.{waits}
+use Rattle.rpl_core.specs.Marks.{waits}
 use Rattle.rpl_check.specs.inside.Search.{found, in_block, Finds}
 use Rattle.rpl_check.specs.declared.recursion.BlockSearch.{BlockSearch}
 use Rattle.rpl_core.proofs.Marking.{waits_more}

@@ -10,7 +10,7 @@ use Rattle.rpl_core.specs.View.{core_of}
 use Rattle.rpl_core.specs.declared.rules.Rule.{Rule}
 use Rattle.rpl_check.specs.declared.facts.Fact as F
 use Rattle.rpl_check.specs.Facts.{IsLeast, Solves, passes}
-use Rattle.rpl_core.specs.inside.Marks.{marked}
+use Rattle.rpl_core.specs.Marks.{marked}
 use Rattle.rpl_core.specs.Order.{IsInOrder, AreTogether, block_at, joins_next, same_block}
 use Rattle.rpl_check.specs.inside.Rounds.{test_of, CallsBefore, AreKnown}
 use Rattle.rpl_core.proofs.Bools.{clash}

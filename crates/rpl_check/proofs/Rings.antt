@@ -5,7 +5,7 @@ use Rattle.std.proofs.Math.Seq.{take-append_seam}
 use Rattle.std.proofs.lemmas.List.{get_or-set_other}
 use Rattle.std.specs.Prelude.{Bool, true, false, ◌⊎◌, nat_eq, slice_set}
 use Rattle.rpl_core.specs.Core.{Core}
-use Rattle.rpl_core.specs.inside.Marks.{marked, waits}
+use Rattle.rpl_core.specs.Marks.{marked, waits}
 use Rattle.rpl_core.proofs.Bools.{eq_self, left, right}
 use Rattle.rpl_check.specs.inside.Rounds.{CallsBefore, OverReach}
 use Rattle.rpl_check.specs.inside.Search.{AreLeft}

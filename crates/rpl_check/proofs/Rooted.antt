@@ -2,7 +2,7 @@
 use Rattle.std.proofs.Common.{◌≡◌, ℕ, ◌-◌, ◌≤◌, List, sym, ◌∙◌, subst, ⊎_elim, get_or, arith}
 use Rattle.std.specs.Prelude.{Bool, true, ◌⊎◌, slice_set}
 use Rattle.rpl_core.specs.Core.{Core}
-use Rattle.rpl_core.specs.inside.Marks.{marked}
+use Rattle.rpl_core.specs.Marks.{marked}
 use Rattle.rpl_check.specs.Facts.{calls_at}
 use Rattle.rpl_check.specs.inside.Rings.{AreAbove, AreBelow, root_of}
 use Rattle.rpl_check.specs.inside.Rounds.{OverReach}

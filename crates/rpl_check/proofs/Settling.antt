@@ -8,7 +8,7 @@ use Rattle.rpl_core.specs.Programs.{calls}
 use Rattle.rpl_check.specs.declared.facts.Fact as F
 use Rattle.rpl_check.specs.declared.facts.Fact.TheVariants as V
 use Rattle.rpl_check.specs.Facts.{Solves, passes}
-use Rattle.rpl_core.specs.inside.Marks.{marked, count}
+use Rattle.rpl_core.specs.Marks.{marked, count}
 use Rattle.rpl_check.specs.inside.Rounds.{test_of, IsUnder, IsSettled, CallsBefore, Grows, AreKnown}
 use Rattle.rpl_core.proofs.Counts.{count_lt, count_le, count_all_le}
 use Rattle.rpl_check.proofs.Least.{empty_grows, halt_grows}

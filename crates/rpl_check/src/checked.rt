@@ -10,7 +10,7 @@ ghost use Rattle.rpl_check.specs.Facts.{Facts};
 ghost use Rattle.rpl_check.specs.Blocks.{first_fault};
 ghost use Rattle.rpl_check.specs.Faults.{goal_fault};
 ghost use Rattle.rpl_check.specs.Goal.{peg_of};
-ghost use Rattle.rpl_core.specs.inside.Marks.{marked};
+ghost use Rattle.rpl_core.specs.Marks.{marked};
 ghost use Rattle.rpl_core.specs.Order.{IsInOrder};
 
 use crate::behinds::first_cause;
@@ -39,7 +39,7 @@ impl Model for Checked {
     ghost use Rattle.rpl_core.specs.contracts.peg.Peg as e;
     ghost use Rattle.rpl_core.specs.declared.rules.Rule.{Rule};
     ghost use Rattle.rpl_check.specs.inside.Accepted.{IsAccepted};
-    ghost use Rattle.rpl_core.specs.inside.Marks.{marked};
+    ghost use Rattle.rpl_core.specs.Marks.{marked};
 
     ghost Value = { List Rule };
 

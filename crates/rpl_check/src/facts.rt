@@ -4,7 +4,7 @@ ghost use Rattle.rpl_core.specs.Listed.{bodies_in};
 ghost use Rattle.rpl_core.specs.View.{core_of, cores};
 ghost use Rattle.rpl_compile_laws.specs.Static as S;
 ghost use Rattle.rpl_check.specs.Facts.{passes};
-ghost use Rattle.rpl_core.specs.inside.Marks.{marked};
+ghost use Rattle.rpl_core.specs.Marks.{marked};
 ghost use Rattle.rpl_check.specs.inside.Rounds.{test_of};
 
 use rpl_core::{Peg, Rules};

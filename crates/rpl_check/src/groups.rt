@@ -7,7 +7,7 @@ ghost use Rattle.rpl_check.specs.Blocks.{group_fault, recursion_of, selves, tabl
 ghost use Rattle.rpl_check.specs.Causes.{body_cause};
 ghost use Rattle.rpl_check.specs.Faults.{behind_at, first_from, halt_at, has_halt_inside, loop_at};
 ghost use Rattle.rpl_check.specs.Loops.{has_empty_loop};
-ghost use Rattle.rpl_core.specs.inside.Marks.{marked};
+ghost use Rattle.rpl_core.specs.Marks.{marked};
 ghost use Rattle.rpl_core.specs.Order.{IsInOrder};
 ghost use Rattle.rpl_check.specs.inside.Rounds.{CallsBefore, OverReach};
 

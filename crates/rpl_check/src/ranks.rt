@@ -9,7 +9,7 @@ ghost use Rattle.std.specs.Prelude.{◌≡◌, ◌+◌, ◌-◌, ◌<◌, ◌≤
 ghost use Rattle.rpl_check.specs.Facts.{calls_at};
 ghost use Rattle.rpl_check.specs.inside.Ranks.{Falls, rank_of};
 ghost use Rattle.rpl_check.specs.inside.Search.{AreClean};
-ghost use Rattle.rpl_core.specs.inside.Marks.{waits};
+ghost use Rattle.rpl_core.specs.Marks.{waits};
 
 use crate::NoMemory;
 use crate::recursion::Block;

@@ -6,7 +6,7 @@ ghost use Rattle.rpl_compile_laws.specs.Static as E;
 ghost use Rattle.rpl_check.specs.Facts.{any_calls_here, calls_at, calls_here};
 ghost use Rattle.rpl_check.specs.Facts.{front_calls_here};
 ghost use Rattle.rpl_check.specs.Blocks as B;
-ghost use Rattle.rpl_core.specs.inside.Marks.{marked};
+ghost use Rattle.rpl_core.specs.Marks.{marked};
 ghost use Rattle.rpl_check.specs.inside.Rounds.{OverReach};
 ghost use Rattle.rpl_check.specs.inside.Search.{AreClean, AreLeft, Finds, Lists};
 ghost use Rattle.rpl_check.specs.inside.Search.{marked_from};

@@ -5,7 +5,7 @@
 ghost use Rattle.std.specs.Prelude.{◌≡◌, ◌-◌, ◌<◌, ◌≤◌, ◌⊎◌, ℕ, false, slice_index_or, true};
 ghost use Rattle.rpl_check.specs.inside.Rings.{AreAbove, AreBelow};
 ghost use Rattle.rpl_check.specs.inside.Search.{AreLeft};
-ghost use Rattle.rpl_core.specs.inside.Marks.{marked};
+ghost use Rattle.rpl_core.specs.Marks.{marked};
 
 use crate::NoMemory;
 use crate::facts::is_marked;

@@ -2,7 +2,7 @@
 ghost use Rattle.std.specs.Prelude.{◌≡◌, ℕ, ◌<◌, false, true, length, slice_get, IfOk, OnOk};
 ghost use Rattle.rpl_core.specs.Listed.{blocks_in, bodies_in, rules_of};
 ghost use Rattle.rpl_check.specs.Facts.{IsLeast, Solves, passes};
-ghost use Rattle.rpl_core.specs.inside.Marks.{count, marked};
+ghost use Rattle.rpl_core.specs.Marks.{count, marked};
 ghost use Rattle.rpl_core.specs.Order.{IsInOrder};
 ghost use Rattle.rpl_check.specs.inside.Groups.{Adds, AreSome, IsWithin};
 ghost use Rattle.rpl_check.specs.inside.Rounds.{AreKnown, CallsBefore, IsSettled, test_of};

@@ -2,7 +2,7 @@
 use Rattle.std.proofs.Common.{◌≡◌, ℕ, zero, suc, ◌+◌, ◌<◌, refl, ap, subst, ⊎_elim, inl, inr, arith}
 use Rattle.std.proofs.lemmas.Bool.{cases_lt}
 use Rattle.std.specs.Prelude.{Bool, true, false, ◌||◌, ◌⊎◌, nat_eq}
-use Rattle.rpl_core.specs.inside.Marks.{count}
+use Rattle.rpl_core.specs.Marks.{count}
 use Rattle.rpl_core.proofs.Bools.{right, eq_of, eq_self}
 use Rattle.rpl_core.proofs.Counts.{count_lt, count_all_le}
 

@@ -2,7 +2,7 @@
 use Rattle.std.proofs.Common.{◌≡◌, ℕ, zero, suc, ◌<◌, List, [], ◌∷◌, ◌++◌, length, get_or, set, refl, ap, ◌∙◌, arith}
 use Rattle.std.proofs.Math.Bool.{or-false}
 use Rattle.std.specs.Prelude.{Bool, true, false, ◌||◌, ◌&&◌, not, nat_eq}
-use Rattle.rpl_core.specs.inside.Marks.{unmarked, waits}
+use Rattle.rpl_core.specs.Marks.{unmarked, waits}
 
 pub never : (m b : Bool) → m ≡ (m || (b && false))
 never true b = refl

@@ -8,7 +8,7 @@ use Rattle.std.specs.Ordering.{nat_cmp}
 use Rattle.std.specs.Prelude.{Bool, true, false, ◌||◌, ◌&&◌, not, nat_eq, cond}
 use Rattle.rpl_core.specs.Marked.{has}
 use Rattle.rpl_core.specs.inside.Searching.{Finds}
-use Rattle.rpl_core.specs.inside.Marks.{waits}
+use Rattle.rpl_core.specs.Marks.{waits}
 use Rattle.rpl_core.proofs.Bools.{eq_of}
 use Rattle.rpl_core.proofs.Marking.{later, more, not_new, waits_more}
 use Rattle.rpl_core.specs.declared.reach.RuleSearch.{RuleSearch}

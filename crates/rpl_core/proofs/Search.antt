@@ -16,7 +16,7 @@ use Rattle.rpl_core.specs.View.{core_of}
 use Rattle.rpl_core.specs.declared.rules.Rule.{Rule}
 use Rattle.rpl_core.specs.Marked.{CallsAreRules, HasReached, has}
 use Rattle.rpl_core.specs.inside.Searching.{Finds, Reached}
-use Rattle.rpl_core.specs.inside.Marks.{waits}
+use Rattle.rpl_core.specs.Marks.{waits}
 use Rattle.rpl_core.specs.declared.reach.RuleSearch.{RuleSearch}
 use Rattle.rpl_core.proofs.Marking.{waits_more}
 

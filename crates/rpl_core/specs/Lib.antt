@@ -20,3 +20,4 @@ pub mod Listed
 pub mod Captures
 pub mod Marked
 pub mod inside
+pub mod Marks

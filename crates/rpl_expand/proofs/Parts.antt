@@ -8,7 +8,7 @@ use Rattle.rpl_core.specs.Core.{Core, Seq, Call, Cores, NoMore, Then}
 use Rattle.rpl_syntax.specs.declared.expr.Expr.{Expr}
 use Rattle.rpl_syntax.specs.View.{expr_of, exprs_all}
 use Rattle.rpl_macro.specs.declared.casing.Casing.{Casing}
-use Rattle.rpl_forms.specs.inside.Counting.{seen, seen_all}
+use Rattle.rpl_forms.specs.Counting.{seen, seen_all}
 use Rattle.rpl_expand.specs.inside.Items.{alone, prefix_at, between}
 use Rattle.rpl_expand.specs.Expansion.{Scope, core, cores, spaced, is_prefix}
 use Rattle.rpl_forms.specs.Forms.{seq_of, spaced_by, joined}

@@ -3,7 +3,7 @@ use Rattle.std.proofs.Common.{◌≡◌, ◌≢◌, ℕ, List, refl, ap, ◌∙�
 use Rattle.std.specs.Prelude.{Bool, true, false, Option, Some, None}
 use Rattle.regex_class.specs.Ranges.{Range}
 use Rattle.rpl_core.specs.Core.{Core, Set, Start, End}
-use Rattle.rpl_forms.specs.inside.Counting.{seen}
+use Rattle.rpl_forms.specs.Counting.{seen}
 use Rattle.rpl_forms.specs.Forms.{repeated, empty}
 use Rattle.rpl_forms.specs.Inlining.{Inners}
 use Rattle.rpl_macro.specs.Casings.{keeps_text}

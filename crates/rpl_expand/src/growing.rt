@@ -2,7 +2,7 @@
 ghost use Rattle.std.specs.Prelude.{◌≡◌, ◌++◌, ◌∷◌, ◌<◌, [], IfOk, OnOk, length};
 ghost use Rattle.rpl_core.specs.Listed.{rules_of};
 ghost use Rattle.rpl_core.specs.Table.{IsNew, names_of};
-ghost use Rattle.rpl_forms.specs.inside.Counting.{KnowsInners};
+ghost use Rattle.rpl_forms.specs.Counting.{KnowsInners};
 ghost use Rattle.rpl_forms.specs.Rows.{inners_of};
 
 use crate::NoMemory;

@@ -15,7 +15,7 @@ ghost use Rattle.rpl_expand.specs.Table.{captured, has_root, row_of};
 ghost use Rattle.rpl_expand.specs.Bound.{AreBound, IsOver, MakeTrees};
 ghost use Rattle.rpl_expand.specs.inside.Scopes.{scope_seen};
 ghost use Rattle.rpl_expand.specs.inside.Statements.{statement_seen};
-ghost use Rattle.rpl_forms.specs.inside.Counting.{Counts, KnowsInners};
+ghost use Rattle.rpl_forms.specs.Counting.{Counts, KnowsInners};
 ghost use Rattle.rpl_forms.specs.Inlining.{Inners};
 ghost use Rattle.rpl_forms.specs.Rows.{inners_of, row_at, rows_of};
 ghost use Rattle.rpl_macro.specs.declared.casing.Casing.TheVariants.{Plain};

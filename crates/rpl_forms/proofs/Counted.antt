@@ -5,7 +5,7 @@ use Rattle.std.specs.Prelude.{Bool, true, false, min, max}
 use Rattle.std.proofs.lemmas.Bool.{cases_order}
 use Rattle.rpl_core.specs.Core.{Core, Seq, Many, Capture, Cores, NoMore, Then}
 use Rattle.rpl_macro.specs.declared.casing.Casing.{Casing}
-use Rattle.rpl_forms.specs.inside.Counting.{CountsAll, Adds, seen, seen_all}
+use Rattle.rpl_forms.specs.Counting.{CountsAll, Adds, seen, seen_all}
 use Rattle.rpl_forms.specs.Forms.{pair, or_nothing, copies, sets, text_core, endless, cooked_endless, cooked_turns}
 use Rattle.rpl_forms.specs.Forms.{cooked_bounded, passed, found, kept, mark_name}
 use Rattle.rpl_forms.specs.Inlining.{Inners}

@@ -8,8 +8,8 @@ use Rattle.std.proofs.lemmas.Option.{slice_get_within, get_or_from_slice_get}
 use Rattle.rpl_core.specs.Core.{Core}
 use Rattle.rpl_core.specs.View.{core_of}
 use Rattle.rpl_core.specs.declared.rules.Rule.{Rule}
-use Rattle.rpl_forms.specs.inside.Counting.{CountsOne, beyond, in_block, counted, KnowsInners, KnowsNext}
-use Rattle.rpl_forms.specs.inside.Counting as C
+use Rattle.rpl_forms.specs.Counting.{CountsOne, beyond, in_block, counted, KnowsInners, KnowsNext}
+use Rattle.rpl_forms.specs.Counting as C
 use Rattle.rpl_forms.specs.Inlining.{Inners, inner}
 use Rattle.rpl_forms.specs.Rows.{Row, row_at, rows_of, inners_from, inners_of}
 use Rattle.rpl_forms.specs.declared.size.Inner.{Inner}

@@ -4,7 +4,7 @@ use Rattle.std.specs.Prelude.{Bool, true, false, Option, Some, None}
 use Rattle.rpl_core.specs.Core.{Core, Set, Seq, Choice, Many, And, Capture, Note, Cores, NoMore, Then}
 use Rattle.rpl_macro.specs.declared.casing.Casing.{Casing}
 use Rattle.rpl_macro.specs.Casings.{set_in, single}
-use Rattle.rpl_forms.specs.inside.Counting.{seen, seen_all}
+use Rattle.rpl_forms.specs.Counting.{seen, seen_all}
 use Rattle.rpl_forms.specs.Forms.{pair, or_nothing, copies, seq_of, sets, text_core, endless, repeat}
 use Rattle.rpl_forms.specs.Forms.{cooked_turns, cooked_repeat, repeated}
 use Rattle.rpl_forms.specs.Inlining.{Inners, inlined, inlined_all}

@@ -8,7 +8,7 @@ use Rattle.std.proofs.lemmas.Option.{slice_get_within, slice_get-map}
 use Rattle.rpl_core.specs.Core.{Core, Call}
 use Rattle.rpl_core.specs.View.{core_of}
 use Rattle.rpl_core.specs.declared.rules.Rule.{Rule}
-use Rattle.rpl_forms.specs.inside.Counting.{Counts, CountsOne, beyond, in_block, counted, KnowsInners, known_of, IsFirst}
+use Rattle.rpl_forms.specs.Counting.{Counts, CountsOne, beyond, in_block, counted, KnowsInners, known_of, IsFirst}
 use Rattle.rpl_forms.specs.Inlining.{Inners, inner, inlined, called}
 use Rattle.rpl_forms.specs.declared.size.Inner.{Inner}
 use Rattle.rpl_forms.specs.Rows.{Row, row_at, rows_of, inners_from, inners_of}

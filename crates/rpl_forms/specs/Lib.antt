@@ -2,5 +2,5 @@ pub mod Sizes
 pub mod Inlining
 pub mod Forms
 pub mod Table
-pub mod inside
 pub mod Rows
+pub mod Counting

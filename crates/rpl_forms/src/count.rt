@@ -5,7 +5,7 @@ ghost use Rattle.rpl_core.specs.Core as C;
 ghost use Rattle.rpl_core.specs.Core.{Core, Cores};
 ghost use Rattle.rpl_macro.specs.declared.casing.Casing.{Casing};
 ghost use Rattle.rpl_forms.specs.Forms.{macro_core};
-ghost use Rattle.rpl_forms.specs.inside.Counting.{Adds, Counts, CountsAll, KnowsInners, seen};
+ghost use Rattle.rpl_forms.specs.Counting.{Adds, Counts, CountsAll, KnowsInners, seen};
 ghost use Rattle.rpl_forms.specs.Forms as F;
 ghost use Rattle.rpl_forms.specs.Inlining.{Inners};
 ghost use Rattle.rpl_forms.specs.Sizes.{deep, nodes};

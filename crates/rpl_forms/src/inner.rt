@@ -6,9 +6,9 @@ ghost use Rattle.std.specs.Prelude.{length, slice_get, take};
 ghost use Rattle.rpl_core.specs.Core as C;
 ghost use Rattle.rpl_core.specs.Listed.{rules_of};
 ghost use Rattle.rpl_core.specs.View.{core_of, cores, listed};
-ghost use Rattle.rpl_forms.specs.inside.Counting.{Counts, CountsAll, IsFirst, KnowsInners};
-ghost use Rattle.rpl_forms.specs.inside.Counting.{KnowsNext, known_of};
-ghost use Rattle.rpl_forms.specs.inside.Counting.{seen, seen_all};
+ghost use Rattle.rpl_forms.specs.Counting.{Counts, CountsAll, IsFirst, KnowsInners};
+ghost use Rattle.rpl_forms.specs.Counting.{KnowsNext, known_of};
+ghost use Rattle.rpl_forms.specs.Counting.{seen, seen_all};
 ghost use Rattle.rpl_forms.specs.Inlining.{Inners, called, inlined, inlined_all, inner};
 ghost use Rattle.rpl_forms.specs.Rows.{inners_of};
 

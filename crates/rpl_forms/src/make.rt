@@ -4,7 +4,7 @@ ghost use Rattle.rpl_core.specs.Core as C;
 ghost use Rattle.rpl_core.specs.Core.{Core};
 ghost use Rattle.rpl_core.specs.Listed.{rules_of};
 ghost use Rattle.rpl_core.specs.View.{core_of, cores, listed};
-ghost use Rattle.rpl_forms.specs.inside.Counting.{KnowsInners, seen};
+ghost use Rattle.rpl_forms.specs.Counting.{KnowsInners, seen};
 ghost use Rattle.rpl_forms.specs.Forms as F;
 ghost use Rattle.rpl_forms.specs.Inlining.{Inners};
 ghost use Rattle.rpl_forms.specs.Rows.{inners_of};

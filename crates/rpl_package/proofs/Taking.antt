@@ -15,7 +15,7 @@ use Rattle.rpl_scope.specs.Packages.{Module, nth}
 use Rattle.rpl_scope.specs.Seen.{module_seen, modules_seen}
 use Rattle.rpl_scope.specs.declared.fault.Stop.{Stop}
 use Rattle.rpl_scope.specs.declared.module.Module.{Module as Declared}
-use Rattle.rpl_scope.specs.inside.Taken.{Grows, HasAll}
+use Rattle.rpl_scope.specs.Taken.{Grows, HasAll}
 use Rattle.rpl_scope.proofs.Stops.{stops}
 use Rattle.rpl_scope.proofs.Taken.{grows, has_more, plain_taken}
 use Rattle.rpl_package.specs.Asking.{IsTold, MayStop, Outcome}

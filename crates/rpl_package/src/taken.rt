@@ -4,7 +4,7 @@ ghost use Rattle.rpl_package.specs.inside.Taken.{is_plain};
 ghost use Rattle.rpl_scope.specs.Faults.{Gives};
 ghost use Rattle.rpl_scope.specs.Imports.{take_in};
 ghost use Rattle.rpl_scope.specs.Seen.{module_seen, modules_seen};
-ghost use Rattle.rpl_scope.specs.inside.Taken.{HasAll};
+ghost use Rattle.rpl_scope.specs.Taken.{HasAll};
 
 use crate::opening::Importer;
 use rpl_scope::{Loaded, Module, Stop, take_in};

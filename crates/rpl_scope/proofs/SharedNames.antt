@@ -19,7 +19,7 @@ use Rattle.rpl_scope.specs.declared.module.Entry.{Entry}
 use Rattle.rpl_scope.specs.Seen.{rules_seen}
 use Rattle.rpl_scope.specs.declared.module.Rule.{Rule as DeclaredRule}
 use Rattle.rpl_scope.specs.inside.Held.{AreDisjoint, AreNames, held}
-use Rattle.rpl_scope.specs.inside.Taken.{taken_names, taken_entry}
+use Rattle.rpl_scope.specs.Taken.{taken_names, taken_entry}
 use Rattle.rpl_scope.proofs.Checking.{front}
 use Rattle.rpl_scope.proofs.Maps.{apart_end, at_place, finds, nth_is}
 

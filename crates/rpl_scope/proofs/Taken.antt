@@ -12,7 +12,7 @@ use Rattle.rpl_scope.specs.declared.fault.LoadKind.TheVariants.{Duplicate}
 use Rattle.rpl_scope.specs.declared.module.Entry.{Entry}
 use Rattle.rpl_scope.specs.declared.module.Prefix.{Prefix}
 use Rattle.rpl_scope.specs.declared.module.Referent.TheVariants.{Of}
-use Rattle.rpl_scope.specs.inside.Taken.{Grows, HasAll, HasName, HasNames, StandsFor}
+use Rattle.rpl_scope.specs.Taken.{Grows, HasAll, HasName, HasNames, StandsFor}
 use Rattle.rpl_scope.proofs.Growing.{both, first_last, first_more}
 
 has_on : (i : ℕ) (r : ℕ × Rule) (m n : Module) → Grows m n → HasName i r m → HasName i r n

@@ -8,3 +8,4 @@ pub mod Pairs
 pub mod Seen
 pub mod Statements
 pub mod inside
+pub mod Taken

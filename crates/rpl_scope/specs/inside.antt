@@ -1,4 +1,3 @@
 -- Words of the private contracts: nothing here is needed to read what the crate promises.
 pub mod Held
 pub mod Numbers
-pub mod Taken

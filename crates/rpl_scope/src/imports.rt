@@ -11,7 +11,7 @@ ghost use Rattle.rpl_scope.specs.Imports.{is_same};
 ghost use Rattle.rpl_scope.specs.Packages.{first_of};
 ghost use Rattle.rpl_scope.specs.declared.fault.Stop.TheVariants.{Memory as OutOfMemory};
 ghost use Rattle.rpl_scope.specs.Seen.{module_seen, modules_seen, rule_seen, rules_seen};
-ghost use Rattle.rpl_scope.specs.inside.Taken.{taken_names, taken_entry};
+ghost use Rattle.rpl_scope.specs.Taken.{taken_names, taken_entry};
 
 use crate::NoMemory;
 use crate::enter::rules_so_far;

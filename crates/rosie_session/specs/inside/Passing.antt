@@ -24,8 +24,8 @@ use Rattle.rosie_run.specs.declared.ended.Ended.TheVariants as E
 use Rattle.rosie_run.specs.declared.ended.ReadStop.TheVariants.{ReadFault}
 use Rattle.rosie_run.specs.declared.mark.Mark.{Mark}
 use Rattle.rosie_run.specs.declared.tool.Tool.TheVariants.{Rosie}
-use Rattle.rosie_run.specs.inside.FromLines.{LeavesBy, Since, begins_since}
-use Rattle.rosie_run.specs.inside.Passing.{SaysFault}
+use Rattle.rosie_run.specs.FromLines.{LeavesBy, Since, begins_since}
+use Rattle.rosie_run.specs.Passing.{SaysFault}
 use Rattle.rpl_package.specs.Asking.{IsTold}
 use Rattle.rosie_session.specs.Loading.{IsLoading, Loading}
 use Rattle.rosie_session.specs.Replay.{Turn, asked_by, edit_turn, pieces_of, turns_from}

@@ -2,7 +2,7 @@
 use Rattle.std.specs.Prelude.{◌≡◌, ℕ, ◌+◌, ◌-◌, ◌<◌, ◌≤◌, Bool, true, false, List, length, Option}
 use Rattle.rpl_core.specs.Listed.{bodies_in, rules_of}
 use Rattle.rpl_core.specs.Order.{joins_next}
-use Rattle.rpl_core.specs.inside.Marks.{marked}
+use Rattle.rpl_core.specs.Marks.{marked}
 use Rattle.rpl_check.specs.declared.facts.Fact as F
 use Rattle.rpl_check.specs.declared.group.Group.{Group}
 use Rattle.rpl_check.specs.inside.Rounds.{Grows, IsUnder, test_of}

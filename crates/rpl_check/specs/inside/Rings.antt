@@ -1,7 +1,7 @@
 -- Rules of a block that a root of theirs reaches, and that reach it.
 use Rattle.std.specs.Prelude.{◌≡◌, ℕ, ◌+◌, ◌-◌, ◌≤◌, Bool, true, List, slice_index_or}
 use Rattle.rpl_core.specs.Core.{Core}
-use Rattle.rpl_core.specs.inside.Marks.{marked}
+use Rattle.rpl_core.specs.Marks.{marked}
 use Rattle.rpl_check.specs.inside.Rounds.{OverReach}
 
 -- the root of a rule, where the list has the places of the roots in a block that begins at a

@@ -7,7 +7,7 @@ use Rattle.rpl_compile_laws.specs.Static.{may_halt}
 use Rattle.rpl_check.specs.declared.facts.Fact as F
 use Rattle.rpl_check.specs.declared.facts.Fact.TheVariants as V
 use Rattle.rpl_check.specs.Facts.{Solves, IsLeast, Follows, passes}
-use Rattle.rpl_core.specs.inside.Marks.{marked}
+use Rattle.rpl_core.specs.Marks.{marked}
 
 -- the test of a fact
 abbrev pub test_of : F.Fact → (ℕ → Bool) → Core → Bool

@@ -4,7 +4,7 @@ use Rattle.std.specs.Prelude.{List, length, Option, Some, None, slice_index_or}
 use Rattle.rpl_core.specs.Core.{Core, Set, Seq, Choice, Many, Not, And, Behind, Call, Capture, Note, Start, End, Halt}
 use Rattle.rpl_core.specs.Core.{Cores, NoMore, Then}
 use Rattle.rpl_compile_laws.specs.Static.{may_be_empty, all_may_be_empty, any_may_be_empty}
-use Rattle.rpl_core.specs.inside.Marks.{marked, unmarked, waits}
+use Rattle.rpl_core.specs.Marks.{marked, unmarked, waits}
 use Rattle.rpl_check.specs.inside.Rounds.{OverReach}
 use Rattle.rpl_check.specs.declared.recursion.BlockSearch.{BlockSearch}
 

@@ -4,7 +4,7 @@ use Rattle.std.specs.Ordering.{nat_cmp}
 use Rattle.std.specs.Prelude.{◌≡◌, ℕ, ◌+◌, Bool, true, ◌||◌, ◌&&◌, not, ◌⊎◌, List, length, Some, slice_get}
 use Rattle.rpl_core.specs.Core.{Core}
 use Rattle.rpl_core.specs.Programs.{calls, Reaches}
-use Rattle.rpl_core.specs.inside.Marks.{waits}
+use Rattle.rpl_core.specs.Marks.{waits}
 use Rattle.rpl_core.specs.Marked.{has}
 use Rattle.rpl_core.specs.declared.reach.RuleSearch.{RuleSearch}
 

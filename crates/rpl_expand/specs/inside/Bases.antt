@@ -2,7 +2,7 @@
 use Rattle.std.specs.Prelude.{Bool}
 use Rattle.rpl_core.specs.Core.{Core, Cores}
 use Rattle.rpl_core.specs.Listed.{rules_of}
-use Rattle.rpl_forms.specs.inside.Counting.{KnowsInners, seen, seen_all}
+use Rattle.rpl_forms.specs.Counting.{KnowsInners, seen, seen_all}
 use Rattle.rpl_forms.specs.Inlining.{Inners}
 use Rattle.rpl_forms.specs.Rows.{inners_of}
 use Rattle.rpl_syntax.specs.Expression.{Expr, Exprs}

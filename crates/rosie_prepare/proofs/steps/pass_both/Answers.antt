@@ -7,7 +7,7 @@ use Rattle.rosie_prepare.proofs.Passing.{none_then, own_through, passes, ready_i
 use Rattle.rosie_prepare.proofs.Passing.{tells_second, told_own}
 use Rattle.rosie_prepare.specs.Prepared.{blocks, bodies, goal_in, ready, table_too_large, table_unsound, too_large}
 use Rattle.rosie_prepare.specs.Prepared.{unsound}
-use Rattle.rosie_prepare.specs.inside.Steps.{Tells}
+use Rattle.rosie_prepare.specs.Steps.{Tells}
 use Rattle.rpl_check.specs.Faults.{goal_fault}
 use Rattle.rpl_check.specs.Goal.{peg_of}
 use Rattle.rpl_core.specs.Listed.{blocks_in, bodies_in, rules_of}

@@ -4,7 +4,7 @@ use Rattle.rosie_prepare.specs.Lines.{check_line, expand_line}
 use Rattle.rosie_prepare.proofs.Passing.{blocks_rows_of, bodies_rows_of, due_through, found_due, none_mapped, passes}
 use Rattle.rosie_prepare.proofs.Passing.{rules_found}
 use Rattle.rosie_prepare.specs.Prepared.{blocks, bodies, table_too_large, table_unsound}
-use Rattle.rosie_prepare.specs.inside.Steps.{Tells}
+use Rattle.rosie_prepare.specs.Steps.{Tells}
 use Rattle.rpl_core.specs.Listed.{blocks_in, bodies_in, rules_of}
 use Rattle.rpl_expand.specs.Sets.{table_of}
 use Rattle.rpl_package.specs.Sets.{set_seen}

@@ -2,7 +2,7 @@ use Rattle.std.proofs.Common.{◌+◌, ◌∙◌, drop, sym, ap}
 use Rattle.std.specs.Prelude.{◌||◌, ◌&&◌}
 use Rattle.rpl_compile_laws.specs.Static.{all_may_be_empty, any_may_be_empty, may_be_empty}
 use Rattle.rpl_core.specs.View.{cores}
-use Rattle.rpl_core.specs.inside.Marks.{marked}
+use Rattle.rpl_core.specs.Marks.{marked}
 use Rattle.rpl_core.proofs.Walk.{drop_here, seq_core, choice_core}
 use Rattle.rpl_check.proofs.facts.+empty.Goals as goal
 

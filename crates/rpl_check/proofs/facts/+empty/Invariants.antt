@@ -1,7 +1,7 @@
 use Rattle.std.proofs.Common.{◌≡◌, drop}
 use Rattle.rpl_compile_laws.specs.Static.{all_may_be_empty, any_may_be_empty}
 use Rattle.rpl_core.specs.View.{cores}
-use Rattle.rpl_core.specs.inside.Marks.{marked}
+use Rattle.rpl_core.specs.Marks.{marked}
 use Rattle.rpl_check.proofs.facts.+empty.Given as goal
 
 abbrev pub invariant-all_may_be_empty-loop-part : goal.invariant-all_may_be_empty-loop-part

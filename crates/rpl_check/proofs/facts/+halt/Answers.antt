@@ -2,7 +2,7 @@ use Rattle.std.proofs.Common.{◌+◌, ◌∙◌, drop, sym, ap}
 use Rattle.std.specs.Prelude.{◌||◌}
 use Rattle.rpl_compile_laws.specs.Static.{any_may_halt, may_halt}
 use Rattle.rpl_core.specs.View.{cores}
-use Rattle.rpl_core.specs.inside.Marks.{marked}
+use Rattle.rpl_core.specs.Marks.{marked}
 use Rattle.rpl_core.proofs.Walk.{drop_here, seq_core, choice_core}
 use Rattle.rpl_check.proofs.facts.+halt.Goals as goal
 

@@ -1,7 +1,7 @@
 use Rattle.std.proofs.Common.{◌≡◌, drop}
 use Rattle.rpl_compile_laws.specs.Static.{any_may_halt}
 use Rattle.rpl_core.specs.View.{cores}
-use Rattle.rpl_core.specs.inside.Marks.{marked}
+use Rattle.rpl_core.specs.Marks.{marked}
 use Rattle.rpl_check.proofs.facts.+halt.Given as goal
 
 abbrev pub invariant-any_may_halt-loop-part : goal.invariant-any_may_halt-loop-part

@@ -2,7 +2,7 @@ use Rattle.std.proofs.Common.{◌≡◌, ◌-◌, ◌≤◌}
 use Rattle.rpl_core.specs.Listed.{rules_of}
 use Rattle.rpl_core.specs.Table.{bodies_of}
 use Rattle.rpl_check.specs.Faults.{first_from, halt_at}
-use Rattle.rpl_core.specs.inside.Marks.{marked}
+use Rattle.rpl_core.specs.Marks.{marked}
 use Rattle.rpl_check.proofs.groups.check_halts.Given as goal
 
 abbrev pub invariant-loop-number : goal.invariant-loop-number

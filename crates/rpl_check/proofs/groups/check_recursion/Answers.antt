@@ -1,6 +1,6 @@
 use Rattle.rpl_core.specs.Listed.{rules_of}
 use Rattle.rpl_core.specs.Table.{blocks_of, bodies_of}
-use Rattle.rpl_core.specs.inside.Marks.{marked}
+use Rattle.rpl_core.specs.Marks.{marked}
 use Rattle.rpl_check.proofs.Firsts.{alone}
 use Rattle.rpl_check.proofs.groups.check_recursion.Goals as goal
 

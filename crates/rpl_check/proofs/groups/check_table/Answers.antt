@@ -6,7 +6,7 @@ use Rattle.rpl_core.specs.Table.{blocks_of, bodies_of}
 use Rattle.rpl_core.specs.declared.rules.Rule.{Rule}
 use Rattle.rpl_check.specs.Answers.{fault_named}
 use Rattle.rpl_check.specs.Blocks.{group_fault, fault_from, table_fault}
-use Rattle.rpl_core.specs.inside.Marks.{marked}
+use Rattle.rpl_core.specs.Marks.{marked}
 use Rattle.rpl_check.proofs.Firsts.{group_first, groups_done, due_first, none_first}
 use Rattle.rpl_check.proofs.Grouping.{group_calls}
 use Rattle.rpl_check.proofs.groups.check_table.Goals as goal

@@ -2,7 +2,7 @@ use Rattle.std.proofs.Common.{◌≡◌, ◌-◌, ◌≤◌, length}
 use Rattle.rpl_core.specs.Listed.{rules_of}
 use Rattle.rpl_core.specs.Table.{blocks_of, bodies_of}
 use Rattle.rpl_check.specs.Blocks.{group_fault, table_fault, fault_from}
-use Rattle.rpl_core.specs.inside.Marks.{marked}
+use Rattle.rpl_core.specs.Marks.{marked}
 use Rattle.rpl_check.specs.inside.Rounds.{CallsBefore, OverReach}
 use Rattle.rpl_check.proofs.groups.check_table.Given as goal
 

@@ -1,7 +1,7 @@
 use Rattle.std.proofs.Common.{◌≡◌, drop}
 use Rattle.rpl_check.specs.Loops.{any_has_empty_loop}
 use Rattle.rpl_core.specs.View.{cores}
-use Rattle.rpl_core.specs.inside.Marks.{marked}
+use Rattle.rpl_core.specs.Marks.{marked}
 use Rattle.rpl_check.proofs.inside.+empty_loop.Given as goal
 
 abbrev pub invariant-any_has_empty_loop-loop-part : goal.invariant-any_has_empty_loop-loop-part

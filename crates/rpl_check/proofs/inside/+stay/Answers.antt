@@ -3,7 +3,7 @@ use Rattle.std.specs.Prelude.{not}
 use Rattle.rpl_core.specs.View.{core_of}
 use Rattle.rpl_compile_laws.specs.Static.{may_halt, predicates_stay}
 use Rattle.rpl_check.proofs.Stay.{body_stays}
-use Rattle.rpl_core.specs.inside.Marks.{marked}
+use Rattle.rpl_core.specs.Marks.{marked}
 use Rattle.rpl_core.proofs.Walk.{seq_core, choice_core}
 use Rattle.rpl_check.proofs.inside.+stay.Goals as goal
 

@@ -1,7 +1,7 @@
 use Rattle.std.proofs.Common.{◌≡◌, drop}
 use Rattle.rpl_compile_laws.specs.Static.{all_predicates_stay}
 use Rattle.rpl_core.specs.View.{cores}
-use Rattle.rpl_core.specs.inside.Marks.{marked}
+use Rattle.rpl_core.specs.Marks.{marked}
 use Rattle.rpl_check.proofs.inside.+stay.Given as goal
 
 abbrev pub invariant-all_predicates_stay-loop-part : goal.invariant-all_predicates_stay-loop-part

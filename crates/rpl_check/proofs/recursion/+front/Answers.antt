@@ -1,6 +1,6 @@
 use Rattle.std.proofs.Common.{◌∙◌, ap}
 use Rattle.rpl_compile_laws.specs.Static.{may_be_empty}
-use Rattle.rpl_core.specs.inside.Marks.{marked}
+use Rattle.rpl_core.specs.Marks.{marked}
 use Rattle.rpl_check.specs.inside.Search.{marked_from}
 use Rattle.rpl_check.specs.inside.Search.{calls_within, within_or_none}
 use Rattle.rpl_core.proofs.Walk.{seq_core, choice_core}

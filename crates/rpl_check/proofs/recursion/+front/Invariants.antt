@@ -2,7 +2,7 @@ use Rattle.std.proofs.Common.{◌≡◌, drop}
 use Rattle.std.specs.Prelude.{◌||◌}
 use Rattle.rpl_core.specs.View.{cores}
 use Rattle.rpl_compile_laws.specs.Static.{all_may_be_empty, any_may_be_empty}
-use Rattle.rpl_core.specs.inside.Marks.{marked}
+use Rattle.rpl_core.specs.Marks.{marked}
 use Rattle.rpl_check.specs.inside.Search.{marked_from}
 use Rattle.rpl_check.specs.inside.Search.{each_calls_within, front_calls_within, within_or_none}
 use Rattle.rpl_check.proofs.recursion.+front.Given as goal

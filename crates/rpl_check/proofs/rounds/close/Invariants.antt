@@ -1,5 +1,5 @@
 use Rattle.std.proofs.Common.{◌-◌, length}
-use Rattle.rpl_core.specs.inside.Marks.{marked, count}
+use Rattle.rpl_core.specs.Marks.{marked, count}
 use Rattle.rpl_check.specs.inside.Groups.{Adds}
 use Rattle.rpl_check.proofs.rounds.close.Given as goal
 

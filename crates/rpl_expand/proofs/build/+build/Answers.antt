@@ -8,7 +8,7 @@ use Rattle.rpl_core.specs.View.{core_of, cores, listed}
 use Rattle.rpl_syntax.specs.Expression.{Expr}
 use Rattle.rpl_syntax.specs.View.{expr_of, exprs_all}
 use Rattle.rpl_syntax.proofs.Rows.{cooked_view, raw_view, choice_view}
-use Rattle.rpl_forms.specs.inside.Counting.{seen, seen_all}
+use Rattle.rpl_forms.specs.Counting.{seen, seen_all}
 use Rattle.rpl_forms.specs.Forms as F
 use Rattle.rpl_forms.specs.Rows.{inners_of}
 use Rattle.rpl_forms.proofs.Seen.{seen_text, seen_seq, seen_choice, seen_repeated}

@@ -1,7 +1,7 @@
 use Rattle.std.proofs.Common.{◌≡◌, drop}
 use Rattle.rpl_core.specs.Listed.{rules_of}
 use Rattle.rpl_core.specs.View.{cores, listed}
-use Rattle.rpl_forms.specs.inside.Counting.{seen_all}
+use Rattle.rpl_forms.specs.Counting.{seen_all}
 use Rattle.rpl_forms.specs.Forms as F
 use Rattle.rpl_forms.specs.Rows.{inners_of}
 use Rattle.rpl_expand.specs.inside.Scopes.{scope_seen}

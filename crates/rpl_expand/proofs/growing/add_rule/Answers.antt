@@ -1,6 +1,6 @@
 use Rattle.std.proofs.Common.{◌+◌, ◌∷◌, [], length, sym, ap, ◌∙◌, subst, length-append}
 use Rattle.rpl_core.specs.Listed.{rules_of}
-use Rattle.rpl_forms.specs.inside.Counting.{KnowsInners}
+use Rattle.rpl_forms.specs.Counting.{KnowsInners}
 use Rattle.rpl_forms.specs.Rows.{inners_of}
 use Rattle.rpl_forms.proofs.InnerCounts.{as_many, knows_pushed}
 use Rattle.rpl_expand.proofs.growing.add_rule.Goals as goal

@@ -6,7 +6,7 @@ use Rattle.rpl_macro.specs.declared.casing.Casing.{Casing}
 use Rattle.rpl_syntax.specs.Expression as X
 use Rattle.rpl_syntax.specs.View.{expr_of, exprs_all}
 use Rattle.rpl_syntax.proofs.Rows.{cooked_view, raw_view, choice_view}
-use Rattle.rpl_forms.specs.inside.Counting.{Adds, Counts, seen, seen_all}
+use Rattle.rpl_forms.specs.Counting.{Adds, Counts, seen, seen_all}
 use Rattle.rpl_expand.specs.inside.Items.{between}
 use Rattle.rpl_expand.specs.Expansion.{Scope, core, cores, spaced, is_cooked}
 use Rattle.rpl_forms.specs.Forms.{seq_of, repeated}

@@ -1,6 +1,6 @@
 use Rattle.std.proofs.Common.{drop}
 use Rattle.rpl_macro.specs.declared.casing.Casing.{Casing}
-use Rattle.rpl_forms.specs.inside.Counting.{Adds, KnowsInners, seen_all}
+use Rattle.rpl_forms.specs.Counting.{Adds, KnowsInners, seen_all}
 use Rattle.rpl_forms.specs.Inlining.{Inners}
 use Rattle.rpl_expand.specs.inside.Scopes.{scope_seen}
 use Rattle.rpl_expand.proofs.Parts.{parts, items}

@@ -1,6 +1,6 @@
 use Rattle.std.proofs.Common.{subst}
 use Rattle.rpl_core.specs.Core.{Then}
-use Rattle.rpl_forms.specs.inside.Counting.{Adds}
+use Rattle.rpl_forms.specs.Counting.{Adds}
 use Rattle.rpl_expand.specs.inside.Items.{between}
 use Rattle.rpl_expand.proofs.measure.add_item.Goals as goal
 

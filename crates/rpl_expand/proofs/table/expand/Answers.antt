@@ -2,7 +2,7 @@ use Rattle.std.proofs.Common.{◌≡◌, ℕ, ◌<◌, ◌≤◌, ◌+◌, ◌++
 use Rattle.std.proofs.Common.{subst, arith, length-append, append-nil}
 use Rattle.rpl_core.specs.Listed.{rules_of}
 use Rattle.rpl_macro.specs.declared.casing.Casing.TheVariants.{Plain}
-use Rattle.rpl_forms.specs.inside.Counting.{KnowsInners}
+use Rattle.rpl_forms.specs.Counting.{KnowsInners}
 use Rattle.rpl_forms.specs.Rows.{inners_of, row_at, rows_of}
 use Rattle.rpl_core.specs.declared.rules.Rule.{Rule}
 use Rattle.rpl_package.specs.Roots.{Packages}

@@ -1,6 +1,6 @@
 use Rattle.std.proofs.Common.{◌≡◌, ◌≤◌, ◌++◌, length}
 use Rattle.rpl_core.specs.Listed.{rules_of}
-use Rattle.rpl_forms.specs.inside.Counting.{KnowsInners}
+use Rattle.rpl_forms.specs.Counting.{KnowsInners}
 use Rattle.rpl_forms.specs.Rows.{inners_of, rows_of}
 use Rattle.rpl_package.specs.Sets.{set_seen}
 use Rattle.rpl_expand.specs.Faults.{table_fault}

@@ -9,7 +9,7 @@ use Rattle.rpl_macro.proofs.Names.{chars_low, encode_low}
 use Rattle.rpl_syntax.specs.View.{expr_of}
 use Rattle.rpl_package.specs.Sets.{set_seen}
 use Rattle.rpl_expand.specs.Expansion.{core}
-use Rattle.rpl_forms.specs.inside.Counting.{KnowsInners, seen}
+use Rattle.rpl_forms.specs.Counting.{KnowsInners, seen}
 use Rattle.rpl_forms.specs.Rows.{inners_of}
 use Rattle.rpl_expand.specs.Faults.{size_fault}
 use Rattle.rpl_expand.specs.Answers.{Answers, IsDue, fault_named}

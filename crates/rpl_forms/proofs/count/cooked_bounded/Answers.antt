@@ -1,5 +1,5 @@
 use Rattle.std.proofs.Common.{◌≡◌, ◌-◌, refl, sym, ap, ◌∙◌, subst, arith}
-use Rattle.rpl_forms.specs.inside.Counting.{Counts}
+use Rattle.rpl_forms.specs.Counting.{Counts}
 use Rattle.rpl_forms.specs.Forms.{empty, cooked_turns, cooked_bounded}
 use Rattle.rpl_forms.proofs.Counted.{bounded_some, bounded_none}
 use Rattle.rpl_forms.proofs.count.cooked_bounded.Goals as goal

@@ -1,5 +1,5 @@
 use Rattle.std.proofs.Common.{sym, subst}
-use Rattle.rpl_forms.specs.inside.Counting.{Counts}
+use Rattle.rpl_forms.specs.Counting.{Counts}
 use Rattle.rpl_forms.specs.Forms.{cooked_endless}
 use Rattle.rpl_forms.proofs.Counted.{cooked_more}
 use Rattle.rpl_forms.proofs.count.cooked_endless.Goals as goal

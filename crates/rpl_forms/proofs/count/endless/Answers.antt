@@ -1,6 +1,6 @@
 use Rattle.std.proofs.Common.{sym, subst}
 use Rattle.rpl_core.specs.Core.{Many}
-use Rattle.rpl_forms.specs.inside.Counting.{Counts}
+use Rattle.rpl_forms.specs.Counting.{Counts}
 use Rattle.rpl_forms.specs.Forms.{endless}
 use Rattle.rpl_forms.proofs.Counted.{endless_more}
 use Rattle.rpl_forms.proofs.count.endless.Goals as goal

@@ -1,6 +1,6 @@
 use Rattle.std.proofs.Common.{sym, subst}
 use Rattle.rpl_core.specs.Core.{Call, Note}
-use Rattle.rpl_forms.specs.inside.Counting.{Counts, seen}
+use Rattle.rpl_forms.specs.Counting.{Counts, seen}
 use Rattle.rpl_forms.specs.Forms.{halt_rule}
 use Rattle.rpl_forms.proofs.Seen.{seen_pair, seen_note}
 use Rattle.rpl_forms.proofs.count.error.Goals as goal

@@ -1,5 +1,5 @@
 use Rattle.std.proofs.Common.{sym, subst}
-use Rattle.rpl_forms.specs.inside.Counting.{Counts}
+use Rattle.rpl_forms.specs.Counting.{Counts}
 use Rattle.rpl_forms.specs.Forms.{mark_name}
 use Rattle.rpl_syntax.specs.declared.expr.Mark.TheVariants.{Hit}
 use Rattle.rpl_forms.proofs.Counted.{seen_found}

@@ -2,7 +2,7 @@ use Rattle.std.proofs.Common.{◌+◌, drop, sym, ap, ◌∙◌, subst}
 use Rattle.std.proofs.lemmas.List.{drop_all}
 use Rattle.rpl_core.specs.View.{core_of, cores}
 use Rattle.rpl_core.proofs.Walk.{drop_here, seq_core, choice_core}
-use Rattle.rpl_forms.specs.inside.Counting.{Adds, Counts, seen, seen_all}
+use Rattle.rpl_forms.specs.Counting.{Adds, Counts, seen, seen_all}
 use Rattle.rpl_forms.proofs.Counted.{adds_done, seen_nothing}
 use Rattle.rpl_forms.proofs.Seen.{seen_seq, seen_choice, seen_then}
 use Rattle.rpl_forms.proofs.inner.+weigh.Goals as goal

@@ -1,6 +1,6 @@
 use Rattle.std.proofs.Common.{drop}
 use Rattle.rpl_core.specs.View.{cores}
-use Rattle.rpl_forms.specs.inside.Counting.{Adds, KnowsInners, seen_all}
+use Rattle.rpl_forms.specs.Counting.{Adds, KnowsInners, seen_all}
 use Rattle.rpl_forms.specs.Inlining.{Inners}
 use Rattle.rpl_forms.proofs.inner.+weigh.Given as goal
 

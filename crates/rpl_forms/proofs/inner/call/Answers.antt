@@ -3,7 +3,7 @@ use Rattle.std.specs.Prelude.{IfOk, slice_get}
 use Rattle.rpl_core.specs.Core as C
 use Rattle.rpl_core.specs.Listed.{rules_of}
 use Rattle.rpl_core.specs.View.{core_of}
-use Rattle.rpl_forms.specs.inside.Counting.{seen}
+use Rattle.rpl_forms.specs.Counting.{seen}
 use Rattle.rpl_forms.specs.Inlining.{called}
 use Rattle.rpl_forms.specs.Rows.{inners_of}
 use Rattle.rpl_forms.proofs.Standing.{whole_inners}

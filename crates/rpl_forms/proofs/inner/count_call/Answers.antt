@@ -1,6 +1,6 @@
 use Rattle.std.proofs.Common.{sym, ap, ◌∙◌, subst, refl}
 use Rattle.rpl_core.specs.Core as C
-use Rattle.rpl_forms.specs.inside.Counting.{Counts, seen}
+use Rattle.rpl_forms.specs.Counting.{Counts, seen}
 use Rattle.rpl_forms.specs.Inlining.{called}
 use Rattle.rpl_forms.proofs.Standing.{stands, stays}
 use Rattle.rpl_forms.proofs.inner.count_call.Goals as goal

@@ -1,7 +1,7 @@
 use Rattle.std.proofs.Common.{◌≡◌, ◌<◌, ◌+◌, [], length, take, sym, ap, ◌∙◌, subst, arith}
 use Rattle.std.specs.Option.{option_copied}
 use Rattle.rpl_core.specs.Listed.{rules_of}
-use Rattle.rpl_forms.specs.inside.Counting.{KnowsInners}
+use Rattle.rpl_forms.specs.Counting.{KnowsInners}
 use Rattle.rpl_forms.specs.Rows.{inners_of}
 use Rattle.rpl_forms.proofs.Standing.{whole_inners}
 use Rattle.rpl_forms.proofs.InnerCounts.{inners_turn, as_many_first, knows_none, rule_there}

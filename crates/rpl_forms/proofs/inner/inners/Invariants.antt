@@ -1,6 +1,6 @@
 use Rattle.std.proofs.Common.{◌≡◌, take, length}
 use Rattle.rpl_core.specs.Listed.{rules_of}
-use Rattle.rpl_forms.specs.inside.Counting.{KnowsInners}
+use Rattle.rpl_forms.specs.Counting.{KnowsInners}
 use Rattle.rpl_forms.specs.Rows.{inners_of}
 use Rattle.rpl_forms.proofs.inner.inners.Given as goal
 

@@ -1,6 +1,6 @@
 use Rattle.std.proofs.Common.{Some, None, sym, subst}
 use Rattle.rpl_core.specs.View.{core_of}
-use Rattle.rpl_forms.specs.inside.Counting.{KnowsNext, nothing, stands}
+use Rattle.rpl_forms.specs.Counting.{KnowsNext, nothing, stands}
 use Rattle.rpl_forms.specs.Inlining.{inner, inlined}
 use Rattle.rpl_forms.specs.declared.size.Inner.{Inner}
 use Rattle.rpl_forms.proofs.inner.next_inner.Goals as goal

@@ -1,6 +1,6 @@
 use Rattle.std.proofs.Common.{◌++◌, ◌∷◌, [], length, sym, ap, ◌∙◌, subst}
 use Rattle.rpl_core.specs.View.{core_of}
-use Rattle.rpl_forms.specs.inside.Counting.{KnowsInners}
+use Rattle.rpl_forms.specs.Counting.{KnowsInners}
 use Rattle.rpl_forms.specs.Inlining.{inner}
 use Rattle.rpl_forms.proofs.InnerCounts.{knows_more}
 use Rattle.rpl_forms.proofs.inner.push_inner.Goals as goal

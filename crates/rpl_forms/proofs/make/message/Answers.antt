@@ -1,7 +1,7 @@
 use Rattle.std.proofs.Common.{sym, ap, ◌∙◌}
 use Rattle.std.proofs.lemmas.Result.{IfOk-weaker}
 use Rattle.rpl_core.specs.Core as C
-use Rattle.rpl_forms.specs.inside.Counting.{seen}
+use Rattle.rpl_forms.specs.Counting.{seen}
 use Rattle.rpl_macro.proofs.Rows.{no_text}
 use Rattle.rpl_forms.proofs.make.message.Goals as goal
 

@@ -7,7 +7,7 @@ use Rattle.rpl_scope.specs.Faults.{Gives, StopIs}
 use Rattle.rpl_scope.specs.Imports.{take_in}
 use Rattle.rpl_scope.specs.Statements.{statements}
 use Rattle.rpl_scope.specs.Seen.{module_seen, modules_seen}
-use Rattle.rpl_scope.specs.inside.Taken.{HasAll}
+use Rattle.rpl_scope.specs.Taken.{HasAll}
 use Rattle.rpl_scope.proofs.Checking.{front}
 use Rattle.rpl_package.specs.Built.{Becomes, IsAsked, on, same as stays}
 use Rattle.rpl_package.specs.Loading.{Stock, is_loading, world, walk}

@@ -2,7 +2,7 @@ use Rattle.std.proofs.Common.{◌≡◌, ◌+◌, ◌*◌, drop}
 use Rattle.std.specs.Prelude.{Ok}
 use Rattle.std.specs.List.{All}
 use Rattle.rpl_scope.specs.Seen.{module_seen, modules_seen}
-use Rattle.rpl_scope.specs.inside.Taken.{HasAll}
+use Rattle.rpl_scope.specs.Taken.{HasAll}
 use Rattle.rpl_package.specs.Asking.{IsTold}
 use Rattle.rpl_package.specs.Loading.{import_entries}
 use Rattle.rpl_package.specs.Built.{Becomes}

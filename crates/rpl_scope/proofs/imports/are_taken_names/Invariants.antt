@@ -1,7 +1,7 @@
 use Rattle.std.proofs.Common.{◌≡◌, ◌≤◌, drop}
 use Rattle.rpl_scope.specs.Imports.{numbered}
 use Rattle.rpl_scope.specs.Seen.{rules_seen}
-use Rattle.rpl_scope.specs.inside.Taken.{taken_names}
+use Rattle.rpl_scope.specs.Taken.{taken_names}
 use Rattle.rpl_scope.proofs.imports.are_taken_names.Given as goal
 
 abbrev pub invariant-loop-number : goal.invariant-loop-number

@@ -1,7 +1,7 @@
 use Rattle.std.proofs.Common.{refl, sym, ap₂, ◌∙◌}
 use Rattle.rpl_scope.specs.Imports.{numbered}
 use Rattle.rpl_scope.specs.Seen.{module_seen, rules_seen}
-use Rattle.rpl_scope.specs.inside.Taken.{taken_names}
+use Rattle.rpl_scope.specs.Taken.{taken_names}
 use Rattle.rpl_scope.proofs.SharedNames.{all_shared}
 use Rattle.rpl_scope.proofs.imports.share_names.Goals as goal
 

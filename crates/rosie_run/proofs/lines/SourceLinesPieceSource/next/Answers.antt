@@ -1,8 +1,8 @@
 use Rattle.std.proofs.Common.{◌∙◌, inl, sym, subst, arith}
 use Rattle.rosie_io.specs.Gathering.{left}
 use Rattle.rosie_run.specs.Going.{Gives}
-use Rattle.rosie_run.specs.inside.FromLines.{ComesFrom}
-use Rattle.rosie_run.specs.inside.Passing.{kept_err, kept_out}
+use Rattle.rosie_run.specs.FromLines.{ComesFrom}
+use Rattle.rosie_run.specs.Passing.{kept_err, kept_out}
 use Rattle.rosie_run.proofs.Coming.{IsLater, gives_of, gives_to, goes_of, leaves_of}
 use Rattle.rosie_run.proofs.lines.SourceLinesPieceSource.next.Goals as goal
 

@@ -1,7 +1,7 @@
 use Rattle.std.proofs.Common.{◌+◌, ◌<◌, ◌≤◌, get_or, sym, ap, subst, ◌∙◌, drop, length, arith}
 use Rattle.std.proofs.lemmas.List.{drop_all, get_or_default}
 use Rattle.std.specs.Prelude.{nat_eq}
-use Rattle.rpl_core.specs.inside.Marks.{waits}
+use Rattle.rpl_core.specs.Marks.{waits}
 use Rattle.rpl_core.proofs.Bools.{either, eq_of}
 use Rattle.rpl_core.proofs.Walk.{drop_here}
 use Rattle.rpl_check.specs.inside.Ranks.{rank_of}

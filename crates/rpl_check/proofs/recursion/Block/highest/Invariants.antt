@@ -1,6 +1,6 @@
 use Rattle.std.proofs.Common.{◌≡◌, ℕ, ◌≤◌, drop}
 use Rattle.std.specs.Prelude.{true}
-use Rattle.rpl_core.specs.inside.Marks.{waits}
+use Rattle.rpl_core.specs.Marks.{waits}
 use Rattle.rpl_check.specs.inside.Ranks.{rank_of}
 use Rattle.rpl_check.proofs.recursion.Block.highest.Given as goal
 

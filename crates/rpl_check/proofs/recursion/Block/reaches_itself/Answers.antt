@@ -1,7 +1,7 @@
 use Rattle.std.proofs.Common.{◌-◌, ◌∙◌, ap, length, arith, refl}
 use Rattle.std.proofs.lemmas.List.{get_or_read, nil_from_length, length-replicate}
 use Rattle.std.specs.Prelude.{false}
-use Rattle.rpl_core.specs.inside.Marks.{marked}
+use Rattle.rpl_core.specs.Marks.{marked}
 use Rattle.rpl_check.specs.declared.recursion.BlockSearch.{BlockSearch}
 use Rattle.rpl_check.proofs.Following.{follow_begins, follow_on}
 use Rattle.rpl_check.proofs.Rings.{itself_is}

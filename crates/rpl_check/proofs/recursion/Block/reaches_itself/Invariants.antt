@@ -1,5 +1,5 @@
 use Rattle.std.proofs.Common.{◌+◌, ◌-◌, length}
-use Rattle.rpl_core.specs.inside.Marks.{unmarked}
+use Rattle.rpl_core.specs.Marks.{unmarked}
 use Rattle.rpl_check.proofs.Following.{Followed}
 use Rattle.rpl_check.specs.inside.Within.{table_of, empty_in}
 use Rattle.rpl_check.proofs.recursion.Block.reaches_itself.Given as goal

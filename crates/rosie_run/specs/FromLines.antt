@@ -14,7 +14,7 @@ use Rattle.rosie_run.specs.declared.ended.ReadStop.TheVariants as Y
 use Rattle.rosie_run.specs.declared.lines.Reading.{Reading}
 use Rattle.rosie_run.specs.declared.lines.SourceLines.{SourceLines}
 use Rattle.rosie_run.specs.declared.tool.Tool.{Tool}
-use Rattle.rosie_run.specs.inside.Passing.{IsPrepared}
+use Rattle.rosie_run.specs.Passing.{IsPrepared}
 use Rattle.rosie_io.specs.Counts.{Rose}
 use Rattle.std.specs.Prelude.{◌≡◌, ◌+◌, ◌-◌, ◌<◌, ◌^◌, ◌≤◌, List, [], false, length, true, ℕ}
 use Rattle.std.proofs.Math.Path.{refl, sym, ◌∙◌}

@@ -1,2 +1,0 @@
--- Words of private functions alone. No public contract cites them.
-pub mod Steps
