@@ -288,8 +288,8 @@ pub unread_names : (plan : Plan) (names names' : List (List ℕ)) → inputs_of 
     → LeavesInput plan → reads_standard names' ≡ false
 unread_names plan names names' e f n = ap reads_standard (f ∙ sym e) ∙ n
 
-pub session-reads : (p : Planned) (w : Loading) → p ≡ session_planned w → LeavesInput p.plan → ⊥
-session-reads p w is n =
+pub session_takes_input : (p : Planned) (w : Loading) → p ≡ session_planned w → LeavesInput p.plan → ⊥
+session_takes_input p w is n =
     false≢true (sym (subst (λ (q : Planned). LeavesInput q.plan) is n) ∙ session_reads)
 
 -- a session runs its lines

@@ -1,7 +1,7 @@
 use Rattle.rosie_run.specs.declared.tool.Tool.TheVariants.{Rosie}
 use Rattle.rosie_cli.proofs.Calls.{answers_by, answers_of}
 use Rattle.rosie_cli.proofs.Paying.{pays_planned}
-use Rattle.rosie_cli.proofs.Whole.{session-reads, session_works}
+use Rattle.rosie_cli.proofs.Whole.{session_takes_input, session_works}
 use Rattle.rosie_cli.proofs.top.run_command.Goals as goal
 
 pub returns-in-Repl-clause-answers : goal.returns-in-Repl-clause-answers
@@ -10,7 +10,7 @@ returns-in-Repl-clause-answers g c =
 
 pub returns-in-Repl-clause-unread : goal.returns-in-Repl-clause-unread
 returns-in-Repl-clause-unread g c = λ p t is n.
-    let s = rw c.in-Repl.is at is in absurd (session-reads p s.loading s.plan n)
+    let s = rw c.in-Repl.is at is in absurd (session_takes_input p s.loading s.plan n)
 
 pub returns-in_default-clause-answers : goal.returns-in_default-clause-answers
 returns-in_default-clause-answers g c =
