@@ -91,6 +91,8 @@ install: build
 	install -m 644 $(MODULES:%=tools/%) $(SHARE)/rosie/tools
 	install -m 644 tools/rosie.sh tools/rosie.fish $(SHARE)/rosie
 	install -m 644 $(DOCUMENTS) $(SHARE)/doc/rosie
+	install -d $(SHARE)/doc/rosie/packages
+	install -m 644 docs/packages/*.md $(SHARE)/doc/rosie/packages
 	install -m 644 examples/README.md examples/*.rpl examples/*.log $(SHARE)/rosie/examples
 	install -m 644 examples/fixtures/* $(SHARE)/rosie/examples/fixtures
 	for v in vim/vimfiles nvim/site; do for f in $(VIM); do \
