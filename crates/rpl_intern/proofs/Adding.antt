@@ -33,7 +33,7 @@ some_at (x ∷ xs) zero lt = (x, refl)
 some_at (x ∷ xs) (suc k) lt = some_at xs k (omega arith)
 
 -- what is in a list stays where it is when more comes after
-front_stays : {A : Type 0} (xs ys : List A) (k : ℕ) (x : A) → slice_get xs k ≡ Some x → slice_get (xs ++ ys) k ≡ Some x
+pub front_stays : {A : Type 0} (xs ys : List A) (k : ℕ) (x : A) → slice_get xs k ≡ Some x → slice_get (xs ++ ys) k ≡ Some x
 front_stays [] ys k x e = absurd (cc)
 front_stays (y ∷ xs) ys zero x e = e
 front_stays (y ∷ xs) ys (suc k) x e = front_stays xs ys k x e

@@ -83,7 +83,7 @@ module _ {A : Type 0} where
   abbrev Once : List A → Type 0
   Once t = (i j : ℕ) (x : A) → slice_get t i ≡ Some x → slice_get t j ≡ Some x → i ≡ j
 
-  at_end : (t : List A) (y : A) (i : ℕ) (x : A) → slice_get (t ++ y ∷ []) i ≡ Some x
+  pub at_end : (t : List A) (y : A) (i : ℕ) (x : A) → slice_get (t ++ y ∷ []) i ≡ Some x
       → (slice_get t i ≡ Some x) ⊎ ((i ≡ length t) × (y ≡ x))
   at_end [] y zero x e = inr (refl, cc)
   at_end [] y (suc i) x e = absurd (cc)

@@ -2,8 +2,8 @@
 //! refer to.
 //!
 //! For code that makes a program: the compiler, and the reader and writer of code files. The tables
-//! find a set or a text by its hash, and number them in the order of their first use, so that each
-//! code has exactly one program (`table_law`).
+//! find a set or a text by its order, so that no choice of them makes a search slow, and number
+//! them in the order of their first use, so that each code has exactly one program (`table_law`).
 #![tactic(auto)]
 
 mod draft;

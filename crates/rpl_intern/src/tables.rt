@@ -1,22 +1,22 @@
-// Tables that store each set and each text once, and find it by its hash.
-ghost use Rattle.std.specs.Prelude.{◌≡◌, [], ◌∷◌, IfOk, OnErr, Some, chars, length, slice_get};
-ghost use Rattle.std.specs.Prelude.{List, take, ⊤};
+// Tables that store each set and each text once, and find it by its order.
+ghost use Rattle.std.specs.Prelude.{◌≡◌, ◌-◌, [], ◌∷◌, ◌++◌, IfOk, IfSome, IsTrue, OnErr, OnOk};
+ghost use Rattle.std.specs.Prelude.{List, Some, chars, length, slice_get, take, ⊤};
 ghost use Rattle.std.specs.Bool.{Decides};
+ghost use Rattle.std.specs.List.{Contains};
 ghost use Rattle.rpl_classes.specs.Sets.{IsNormal};
 ghost use Rattle.rpl_intern.specs.Uses.{Keeps};
 
 use crate::NoMemory;
-use indexmap::IndexSet;
 use regex_class::ClassRange;
 use rpl_classes::Set;
 use rpl_core::{Labels, Sets};
 use rpl_text::Chars;
 use std::alloc::Global;
-use std::hash::Hash;
+use std::collections::BTreeMap;
 use std::marker::Model;
 
 /// An element of a table's rows.
-pub trait Piece: Copy + Eq + Hash {
+pub trait Piece: Copy + Ord {
     /// The property that every row has.
     ghost is_row: { List Self → Type 0 };
 
@@ -44,7 +44,13 @@ impl Piece for char {
 /// elements.
 #[derive(Drop)]
 pub struct Table<T: Piece> {
-    known: IndexSet<Vec<T>>,
+    rows: Vec<Vec<T>>,
+
+    // The number of each row, found by the order of rows: no choice of rows makes a search slow.
+    numbers: BTreeMap<Vec<T>, usize>,
+
+    // The number of the row that was asked for last. Code often uses one set many times in a row.
+    recent: usize,
 }
 
 /// A table of sets, each stored as its ranges.
@@ -56,12 +62,14 @@ pub type LabelTable = Table<char>;
 impl<T: Piece> Model for Table<T> {
     ghost use Rattle.std.specs.Prelude.{List, map};
     ghost use Rattle.std.specs.List.{All};
+    ghost use Rattle.rpl_intern.specs.inside.Numbers.{IsNumbered};
 
     ghost Value = { List (List T) };
 
-    ghost view = { λ a. map (λ v. v.items) a.known.keys };
+    ghost view = { λ a. map (λ v. v.items) a.rows.items };
 
-    ghost invariant = { λ a. All T.is_row (map (λ v. v.items) a.known.keys) };
+    ghost invariant = { λ a. All T.is_row (map (λ v. v.items) a.rows.items)
+        × IsNumbered T.cmp (map (λ v. v.items) a.rows.items) a.numbers };
 }
 
 impl<T: Piece> Table<T> {
@@ -70,19 +78,42 @@ impl<T: Piece> Table<T> {
         ensures { result ≡ [] }
     {
         Table {
-            known: IndexSet::new(alloc),
+            rows: Vec::new(alloc),
+            numbers: BTreeMap::new(alloc),
+            recent: 0,
         }
     }
 
     /// Returns the number of the row, and adds the row if it is new. When memory runs out, nothing
     /// changes.
-    fn keep_row(&mut self, row: Vec<T>) -> Result<usize, NoMemory>
+    fn keep_row(&mut self, alloc: Global, row: Vec<T>) -> Result<usize, NoMemory>
         requires { T.is_row row.items }
         ensures kept { IfOk result (λ k. Keeps self.old (row.items ∷ []) self.new) }
         ensures number { IfOk result (λ k. slice_get self.new k ≡ Some row.items) }
         ensures err { OnErr result (self.new ≡ self.old) }
     {
-        let (number, _) = self.known.insert_full(row)?;
+        match self.numbers.get(&row).copied() {
+            Some(number) => {
+                self.recent = number;
+                Ok(number)
+            }
+            None => self.add(alloc, row),
+        }
+    }
+
+    /// Adds a new row, and returns its number. When memory runs out, nothing changes.
+    fn add(&mut self, alloc: Global, row: Vec<T>) -> Result<usize, NoMemory>
+        requires is_row { T.is_row row.items }
+        requires is_new { Contains self.old row.items → ⊥ }
+        ensures added { OnOk result (self.new ≡ self.old ++ row.items ∷ []) }
+        ensures number { IfOk result (λ k. k ≡ length self.old) }
+        ensures err { OnErr result (self.new ≡ self.old) }
+    {
+        let number = self.rows.len();
+        self.rows.reserve(1)?;
+        self.numbers.insert(Vec::from_slice(alloc, &row)?, number)?;
+        self.rows.push_reserved(row);
+        self.recent = number;
         Ok(number)
     }
 
@@ -90,18 +121,54 @@ impl<T: Piece> Table<T> {
     pub(crate) fn len(&self) -> usize
         ensures { result ≡ length self.now }
     {
-        self.known.len()
+        self.rows.len()
     }
 
     /// Removes all rows after the first `count`.
     pub(crate) fn truncate(&mut self, count: usize)
         ensures { self.new ≡ take count self.old }
     {
-        self.known.truncate(count);
+        while self.len() > count {
+            self.remove_last();
+        }
+    }
+
+    /// Removes the last row.
+    fn remove_last(&mut self)
+        ensures { self.new ≡ take (length self.old - 1) self.old }
+    {
+        if let Some(row) = self.rows.pop() {
+            self.numbers.remove(&row);
+        }
     }
 }
 
+/// Whether both are the same ranges. All are compared without a branch for each, so that the
+/// compiler compares several at once: a pattern of a few bytes can have a million copies of a set.
+fn are_same(a: &[ClassRange], b: &[ClassRange]) -> bool
+    ensures { IsTrue result → a.now ≡ b.now }
+{
+    if a.len() != b.len() {
+        return false;
+    }
+    let mut difference = 0;
+    for index in 0..a.len() {
+        difference |= (a[index].0 ^ b[index].0) | (a[index].1 ^ b[index].1);
+    }
+    difference == 0
+}
+
 impl Table<ClassRange> {
+    /// Returns the number of the set if it is the one that was asked for last.
+    fn again(&self, ranges: &[ClassRange]) -> Option<usize>
+        ensures { IfSome result (λ k. slice_get self.now k ≡ Some ranges.now) }
+    {
+        match self.rows.get(self.recent) {
+            Some(row) if are_same(row, ranges) => Some(self.recent),
+            _ => None,
+        }
+    }
+
     /// Returns the number of the set, and adds the set if it is new. When memory runs out, nothing
     /// changes.
     pub fn keep(&mut self, alloc: Global, set: &Set) -> Result<usize, NoMemory>
@@ -109,7 +176,11 @@ impl Table<ClassRange> {
         ensures number { IfOk result (λ k. slice_get self.new k ≡ Some set.now) }
         ensures err { OnErr result (self.new ≡ self.old) }
     {
-        self.keep_row(Vec::from_slice(alloc, set.ranges())?)
+        let ranges = set.ranges();
+        match self.again(ranges) {
+            Some(number) => Ok(number),
+            None => self.keep_row(alloc, Vec::from_slice(alloc, ranges)?),
+        }
     }
 
     /// Returns all sets in the form that the machine takes.
@@ -117,7 +188,7 @@ impl Table<ClassRange> {
         ensures { IfOk result (λ sets. sets ≡ self.now) }
     {
         let mut sets = Sets::new(alloc);
-        for ranges in self.known.as_slice() {
+        for ranges in &self.rows {
             sets.push(Set::from_ranges(alloc, ranges)?)?;
         }
         Ok(sets)
@@ -154,7 +225,7 @@ impl Table<char> {
         ensures number { IfOk result (λ k. slice_get self.new k ≡ Some label.now) }
         ensures err { OnErr result (self.new ≡ self.old) }
     {
-        self.keep_row(characters(alloc, label.as_str())?)
+        self.keep_row(alloc, characters(alloc, label.as_str())?)
     }
 
     /// Returns all texts in the form that the program takes.
@@ -162,7 +233,7 @@ impl Table<char> {
         ensures { IfOk result (λ labels. labels ≡ self.now) }
     {
         let mut labels = Labels::new(alloc);
-        for characters in self.known.as_slice() {
+        for characters in &self.rows {
             labels.push(text(alloc, characters)?)?;
         }
         Ok(labels)
