@@ -7,7 +7,7 @@ COLUMNS_PROGRAM = crates/rosie_columns/out/rosie_columns
 DOCUMENTS = docs/COMMAND.md docs/COLUMNS.md docs/LANGUAGE.md docs/TUTORIAL.md docs/RECIPES.md docs/MESSAGES.md CHANGELOG.md SECURITY.md LICENSE docs/COMING-FROM.md docs/PACKAGES.md docs/SCALE.md
 TOOLS = rosie-at rosie-try rosie-why rosie-parallel
 # What the tools share. They look for it beside themselves, and then in share/rosie/tools.
-MODULES = advice.tsv rosie_advice.py rosie_messages.py rosie_reasons.py rosie_rpl.py rosie_why.py
+MODULES = advice.tsv rosie_advice.py rosie_findings.py rosie_messages.py rosie_reasons.py rosie_rpl.py rosie_why.py
 VIM = syntax/rpl.vim ftdetect/rpl.vim ftplugin/rpl.vim compiler/rosie.vim
 # Emacs finds a package in the folder of this name at its start, below /usr and /usr/local.
 EMACS = emacs/site-lisp/elpa/rpl-mode-1.0

@@ -542,7 +542,7 @@ def regular_bracket(case, groups):
             if ESCAPES[first[1:]][1] is None:
                 return None
             parts.append(ESCAPES[first[1:]][1])
-        elif first in ("[", "]"):
+        elif first in ("[", "]") or re.match(r"\\[0-9A-Za-z]", first) and first[1] not in "nrtxuU":
             return None
         else:
             single += escaped(first)

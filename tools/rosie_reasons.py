@@ -9,7 +9,7 @@ import re
 
 from rosie_advice import table
 from rosie_rpl import tokens
-from rosie_why import lines_of, others, ranges, set_in_words
+from rosie_why import lines_of, others, quoted, ranges, set_in_words
 
 MOST_HINTS = 2
 # Lines of a run for which another run is asked where else the pattern matches.
@@ -75,10 +75,6 @@ def holds(members, number):
 def one_character(members):
     """The character that a set alone has, or None."""
     return chr(int(members, 16)) if re.fullmatch(r"[0-9a-f]+", members) else None
-
-
-def quoted(text):
-    return '"' + text.replace("\\", "\\\\").replace('"', '\\"').replace("\t", "\\t").replace("\r", "\\r").replace("\n", "\\n") + '"'
 
 
 def written(sets):

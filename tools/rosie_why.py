@@ -1,6 +1,6 @@
-"""Says why a pattern doesn't match a line, by the trace that rosie prints of it.
+"""Reads why a pattern doesn't match a line from the trace that rosie prints of it.
 
-`rosie-why` prints these findings, and `rosie-try` shows them under a line. Needs Python 3.9, and nothing beside it.
+`rosie_findings` makes of it what users read. Needs Python 3.9, and nothing beside it.
 Lines, patterns and file names are bytes all through: what a user typed comes out as it went in.
 """
 import os
@@ -93,6 +93,12 @@ def set_in_words(members):
     return in_words(parts)
 
 
+def quoted(text):
+    """A text as a pattern has it."""
+    escapes = {"\\": "\\\\", '"': '\\"', "\t": "\\t", "\r": "\\r", "\n": "\\n"}
+    return '"' + "".join(escapes.get(sign) or (f"\\x{ord(sign):02x}" if sign < " " else sign) for sign in text) + '"'
+
+
 class Step:
     """One evaluation of a trace: its depth, what it is, where it begins, and where it ends or None where it failed."""
 
@@ -130,12 +136,12 @@ class Reading:
     """What the trace of one line comes to: the furthest place where something was wanted, and what each rule wanted there.
 
     `missed` are the evaluations that failed there, `taken` the repetitions that had ended there, and `choices` the places of all
-    choices that took something.
+    choices that took something. Of a search, `begun` is the place where the pattern was tried.
     """
 
-    def __init__(self):
+    def __init__(self, begun=None):
         self.furthest, self.groups, self.missed, self.taken, self.choices = 0, {}, [], [], []
-        self.hidden, self.stack, self.repetitions = None, [], []
+        self.hidden, self.stack, self.repetitions, self.begun = None, [], [], begun
 
     def take(self, words):
         """Reads one evaluation."""
@@ -188,11 +194,64 @@ class Reading:
         for (names, is_not), words in self.groups.items():
             yield names, "where stands what `!` refuses" if is_not else f"where {joined(words, 'or')} was wanted"
 
+    def result(self):
+        return self
+
+    def add_wanted(self, other):
+        """Adds what another reading wanted at its place."""
+        for key, words in other.groups.items():
+            group = self.groups.setdefault(key, [])
+            group += [what for what in words if what not in group]
+
+    def is_nowhere(self):
+        """Whether a search found no place where the pattern begins."""
+        return self.begun is not None and self.furthest <= self.begun
+
     def sentences(self, length):
         """A line for each rule that wanted something at the furthest place of a line of this length."""
         place = "the end of the line" if self.furthest > length else f"byte {self.furthest}"
+        if self.begun is not None:
+            place += f", from byte {self.begun} on"
+        head = "tried at each character" if self.is_nowhere() else f"furthest: {place}"
         for names, what in self.places():
-            yield f"furthest: {place}, in {names}, {what}"
+            yield f"{head}, in {names}, {what}"
+
+
+class Search:
+    """What the trace of a search comes to: the reading of the place from which it came furthest, the first of several.
+
+    Where it begins nowhere, the reading has what was wanted at any place. The trace is that of `find:`, which tries the
+    pattern at each place under a `!` of its own.
+    """
+
+    def __init__(self):
+        self.best, self.now, self.depth = None, None, None
+
+    def take(self, words):
+        """Reads one evaluation: the start of a try, or a part of one."""
+        depth = int(words[0])
+        if self.depth is not None and depth > self.depth:
+            if self.now:
+                self.now.take([b"%d" % (depth - self.depth - 1), *words[1:]])
+            return
+        self.end_try()
+        # After the last try `find:` matches the pattern itself, which fails there as it did before.
+        if words[1] == b"not" or words[1:3] == [b"capture", b"find.*"]:
+            self.depth = depth
+            self.now = Reading(int(words[-2])) if words[1] == b"not" else None
+
+    def end_try(self):
+        now, best = self.now, self.best
+        if now and now.groups:
+            if best is None or now.furthest - now.begun > best.furthest - best.begun:
+                self.best = now
+            elif best.is_nowhere():
+                best.add_wanted(now)
+        self.now = self.depth = None
+
+    def result(self):
+        self.end_try()
+        return self.best
 
 
 def is_inside(byte):
@@ -234,21 +293,40 @@ class Failed(Exception):
         self.told, self.status = told, status
 
 
-class Asked:
-    """A pattern, with the options of the words, and the program to ask."""
+WHOLE, FIXED = ("-w", "--wholefile"), ("-F", "--fixed-strings")
 
-    def __init__(self, pattern, options=(), limit=None, program=None):
-        self.pattern, self.options, self.limit = pattern, list(options), limit
-        self.whole = any(option in ("-w", "--wholefile") for option in self.options)
+
+class Asked:
+    """A pattern, the options of the words, and the program to ask; with `search` the pattern may stand anywhere in a line."""
+
+    def __init__(self, pattern, options=(), limit=None, program=None, search=False):
+        self.pattern, self.options, self.limit, self.search = pattern, list(options), limit, search
+        self.whole = self.has(WHOLE)
         self.program = program or os.environ.get("ROSIE") or "rosie"
+
+    def has(self, names):
+        return any(option in names for option in self.options)
+
+    def without(self, *names):
+        return [option for option in self.options if option not in names]
 
     def but_whole(self):
         """The same of single lines."""
-        options = [option for option in self.options if option not in ("-w", "--wholefile")]
-        return Asked(self.pattern, options, self.limit, self.program)
+        return Asked(self.pattern, self.without(*WHOLE), self.limit, self.program)
 
     def words(self, command, *options):
         return [self.program, command, *options, *self.options, "--", self.pattern, "-"]
+
+    def answer_words(self):
+        """The words that say of each line whether it matches, and its steps."""
+        return self.words("grep" if self.search else "match", "-o", "bool", "--steps")
+
+    def trace_words(self):
+        limit = [f"--limit={self.limit}"] if self.limit else []
+        if not self.search:
+            return self.words("trace", *limit)
+        text = quoted(self.pattern) if self.has(FIXED) else f"({self.pattern}\n)"
+        return [self.program, "trace", *limit, *self.without(*FIXED), "--", f"find:{text}", "-"]
 
     def run(self, words, data, read):
         """Runs the program on these bytes. `read` takes its output; what it wrote to standard error comes with its status."""
@@ -262,9 +340,9 @@ class Asked:
 
     def core(self):
         """What the pattern and its rules stand for, as `expand` prints it; nothing where that is too long."""
-        options = [option for option in self.options if option not in ("-w", "--wholefile")]
         output = []
-        self.run([self.program, "expand", *options, "--", self.pattern], b"", lambda out: output.append(out.read()))
+        words = [self.program, "expand", *self.without(*WHOLE), "--", self.pattern]
+        self.run(words, b"", lambda out: output.append(out.read()))
         return output[0].decode("utf-8", "replace") if len(output[0]) < 1 << 20 else ""
 
     def place_of_hit(self, text):
@@ -288,7 +366,7 @@ class Answers:
 
     def __init__(self, asked, data):
         answers = []
-        told, status = asked.run(asked.words("match", "-o", "bool", "--steps"), data, answers.extend)
+        told, status = asked.run(asked.answer_words(), data, answers.extend)
         steps = [int(line[6:]) for line in told.splitlines() if line.startswith(b"steps ")]
         self.told = [line for line in told.splitlines() if not line.startswith(b"steps ")]
         if status not in (0, 1, 3):
@@ -332,8 +410,7 @@ class Why:
         if not left:
             return None
         data = lines[0] if self.asked.whole else b"".join(lines[number - 1] + b"\n" for number, _ in left)
-        limit = [f"--limit={self.asked.limit}"] if self.asked.limit else []
-        told, status = self.asked.run(self.asked.words("trace", *limit), data, lambda out: self.read_traces(out, left, found))
+        told, status = self.asked.run(self.asked.trace_words(), data, lambda out: self.read_traces(out, left, found))
         stopped = re.search(rb"^rosie: -:(\d+): trace too long$", told, re.MULTILINE)
         if stopped:
             return int(stopped[1])
@@ -341,12 +418,12 @@ class Why:
             raise Failed(told, status)
         return None
 
-    @staticmethod
-    def read_traces(out, left, found):
-        reading = None
+    def read_traces(self, out, left, found):
+        readings = {}
         for line in out:
             words = line.split()
             if words[0] == b"line":
-                reading = found[left[int(words[1]) - 1][0]] = Reading()
+                reading = readings[left[int(words[1]) - 1][0]] = Search() if self.asked.search else Reading()
             else:
                 reading.take(words)
+        found.update((number, reading.result()) for number, reading in readings.items())

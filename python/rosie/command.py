@@ -92,15 +92,23 @@ class Command:
     def __init__(self, path: Optional[Path] = None, libpath: Union[None, str, Sequence[Path]] = None) -> None:
         self.path = find_command(path)
         self.libpath = self._folders(libpath)
-        # What starts the command.
-        self.words = [self.path]
+        self._limits: "list[str]" = []
         self.timeout: Optional[float] = None
 
     def limit(self, seconds: int, mebibytes: int) -> None:
         """Bounds each run from here on: the seconds of a processor, and the memory."""
         limits = f'ulimit -t {int(seconds)}; ulimit -v {int(mebibytes) * 1024}; exec "$0" "$@"'
-        self.words = ["/bin/sh", "-c", limits, self.path]
+        self._limits = ["/bin/sh", "-c", limits]
         self.timeout = 10 * seconds
+
+    def bounded(self, words: Iterable[str]) -> "list[str]":
+        """These words of another program, with the bounds of this command."""
+        return [*self._limits, *words]
+
+    @property
+    def words(self) -> "list[str]":
+        """What starts the command."""
+        return self.bounded([self.path])
 
     def _folders(self, libpath: Union[None, str, Sequence[Path]]) -> "list[str]":
         if libpath is None:

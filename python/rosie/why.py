@@ -1,8 +1,8 @@
 """Why lines don't match: what `rosie-why` says of them."""
 from __future__ import annotations
 
+import json
 import os
-import re
 import subprocess
 from typing import Dict, List, NamedTuple, Optional, Sequence
 
@@ -14,40 +14,40 @@ SECONDS = 10
 class Reason(NamedTuple):
     """How far a pattern came on a line.
 
-    `at` is the place in bytes from 0, where it is known, and `told` has sentences that say what was wanted there.
+    `at` is the place in bytes from 0, where there is one, and `told` has sentences that say what was wanted there, and
+    what helps.
     """
 
     at: Optional[int]
     told: List[str]
 
 
-def reasons(command: Command, words: Sequence[str], pattern: str, lines: Sequence[bytes]) -> Dict[int, Reason]:
-    """The reasons for the lines that the pattern doesn't match at their start, by their places in the list.
+def reasons(command: Command, words: Sequence[str], pattern: str, lines: Sequence[bytes],
+            search: bool = False) -> Dict[int, Reason]:
+    """The reasons for the lines that the pattern doesn't match, by their places in the list.
 
-    `words` are options of `trace`. There is none where the tool isn't there, or where it takes too long.
+    `words` are options of `trace`. With `search` the pattern may match anywhere in a line, otherwise at its start.
+    There is none where the tool isn't there, or where it takes too long.
     """
     tool = find_tool("rosie-why", command.path)
     if tool is None or not lines:
         return {}
-    made = [tool, *checked_words([*words, *command.libpath_words, "--", pattern])]
+    asked = ["-o", "json", *(["--grep"] if search else []), *words, *command.libpath_words, "--", pattern]
     try:
-        done = subprocess.run(made, input=b"\n".join(lines) + b"\n", capture_output=True, timeout=SECONDS, check=False,
-                              env=dict(os.environ, ROSIE=command.path, COLUMNS="200"))
+        done = subprocess.run(command.bounded([tool, *checked_words(asked)]), input=b"\n".join(lines) + b"\n",
+                              capture_output=True, timeout=SECONDS, check=False,
+                              env=dict(os.environ, ROSIE=command.path))
     except (OSError, subprocess.TimeoutExpired):
         return {}
-    return read_reasons(done.stdout.decode("utf-8", "replace"), lines)
+    return read_reasons(done.stdout.decode("utf-8", "replace"), len(lines))
 
 
-def read_reasons(written: str, lines: Sequence[bytes]) -> Dict[int, Reason]:
-    """The reasons in what the tool wrote: of each line its number, and what follows up to the excerpt of the line."""
+def read_reasons(written: str, count: int) -> Dict[int, Reason]:
+    """The reasons in what the tool wrote: an object for each line, up to where it was stopped."""
     found: Dict[int, Reason] = {}
-    for number, text in re.findall(r"^line (\d+): (.*\n(?:(?!line \d+: ).*\n)*)", written, re.MULTILINE):
-        index = int(number) - 1
-        if index >= len(lines):
-            continue
-        head, *more = text.rstrip("\n").split("\n")
-        told = [line for line in more if line and not line.startswith("  ")]
-        place = re.search(r"^furthest: (?:byte (\d+)|the end of the line)", text, re.MULTILINE)
-        at = None if place is None else int(place.group(1)) - 1 if place.group(1) else len(lines[index])
-        found[index] = Reason(at, told or [head])
+    for line in written.split("\n")[:-1]:
+        made = json.loads(line)
+        if 0 < made["line"] <= count:
+            at = None if made["at"] is None else made["at"] - 1
+            found[made["line"] - 1] = Reason(at, [*made["told"], *(f"hint: {hint}" for hint in made["hints"])])
     return found

@@ -66,6 +66,13 @@ class Answers(unittest.TestCase):
         self.assertEqual({number: reason["at"] for number, reason in found.items()}, {1: 2, 2: 0, 3: 2})
         self.assertIn("a digit", " ".join(found[1]["told"]))
 
+    def test_why_anywhere(self):
+        found = self.call("why", pattern='{"ab" [0-9]}', lines="é ab\nxabx\né", failed=[0, 1, 2],
+                          search=True)["reasons"]
+        self.assertEqual({number: reason["at"] for number, reason in found.items()}, {0: 4, 1: 3, 2: None})
+        self.assertIn("from byte 2 on", " ".join(found[1]["told"]))
+        self.assertIn('each character, in the pattern, where "a" was wanted', " ".join(found[2]["told"]))
+
     def test_tests(self):
         rules = RULES + '-- test day accepts "2024-03", "x"\n-- test level rejects "a"\n'
         self.assertEqual(self.call("test", rules=rules),

@@ -133,7 +133,8 @@ class Work:
         numbers = [number for number in asked.get("failed", ()) if isinstance(number, int) and 0 <= number < len(lines)]
         failed = numbers[:MOST_REASONS]
         words = root_words([text_in(asked, "rules")], [])
-        found = reasons(self.command, words, text_in(asked, "pattern"), [lines[number] for number in failed])
+        found = reasons(self.command, words, text_in(asked, "pattern"), [lines[number] for number in failed],
+                        bool(asked.get("search")))
         made = {}
         for index, reason in found.items():
             line = lines[failed[index]]
