@@ -8,7 +8,7 @@ use Rattle.rosie_run.specs.Sources.{Moment, Still}
 use Rattle.rosie_run.specs.declared.ended.Ended.{Ended}
 use Rattle.rosie_run.specs.declared.ended.Ended.TheVariants as E
 use Rattle.rosie_run.specs.declared.tally.Tally.{Tally}
-use Rattle.rosie_run.proofs.Headlines.{headline, output_cause, reads_cause}
+use Rattle.rosie_run.proofs.Headlines.{came_of, headline, output_cause, reads_cause}
 use Rattle.rosie_run.specs.Causes.{OutputCause, ReadsCause}
 use Rattle.rosie_run.specs.Headline.{Headline}
 use Rattle.rpl_package.specs.Asking.{IsTold}
@@ -17,7 +17,7 @@ use Rattle.rosie_cli.specs.Promises.{IsPromised}
 use Rattle.rosie_cli.specs.Report.{KnowsInputs, report}
 use Rattle.rosie_cli.specs.Rosie.{Answers, Call, Comes, report_of, where_of}
 use Rattle.rosie_cli.proofs.Promised.{no_fault, no_stop}
-use Rattle.rosie_cli.proofs.Whole.{answers_all, completes_if, not_spent, read_of}
+use Rattle.rosie_cli.proofs.Whole.{answers_all, completes_if, not_spent}
 
 module _ (c : Call) (r : Result Tally Ended) (mid : Texts) (failed : Failures)
     (closes : Closes r c.answer c.run.tells mid c.run.after)
@@ -52,7 +52,7 @@ module _ (c : Call) (r : Result Tally Ended) (mid : Texts) (failed : Failures)
   answers_of = record {
     headline = headline_of;
     read = λ p h came asks.
-        read_of r c.answer c.run.tells mid c.run.after _ closes came (rest p h.files h.is h.inputs) asks;
+        came_of r c.answer c.run.tells mid c.run.after _ closes came (rest p h.files h.is h.inputs) asks;
     answers = λ p h u.
         answers_all c.run.tells (report_of c p) (where_of c p) c.run.before c.run.after c.run.input.before
         c.run.input.after c.run.files.before c.run.files.after c.failed.out c.fails.out c.failed.err c.fails.err

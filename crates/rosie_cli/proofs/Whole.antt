@@ -6,17 +6,15 @@ use Rattle.std.specs.List.{Contains}
 use Rattle.std.proofs.lemmas.Bool.{false≢true}
 use Rattle.rosie_io.specs.Counts.{Rose}
 use Rattle.rosie_run.specs.Causes.{ReadsCause, OutputCause}
-use Rattle.rosie_run.specs.Headline.{CameToEnd, AreShort, Headline, IsComplete}
+use Rattle.rosie_run.specs.Headline.{AreShort, Headline, IsComplete}
 use Rattle.rosie_run.specs.Inputs.{AreTold, inputs_pieces, is_standard, reads_standard}
 use Rattle.rosie_run.specs.Outputs.{Telling, Texts}
-use Rattle.rosie_run.specs.Report.{Piece, has, is_stop, is_fault, stop_piece, flags_status}
+use Rattle.rosie_run.specs.Report.{Piece, has, is_stop, is_fault, stop_piece}
 use Rattle.rosie_run.specs.Runs.{Breaks, Runs, IsCutOf, GoesOn}
 use Rattle.rosie_run.specs.Sources.{Moment, RoseIn, Span}
 use Rattle.rosie_run.specs.Where.{Nowhere, not_opened, opened, InInputs, in_file, in_standard, in_loading, in_inputs}
-use Rattle.rosie_run.specs.Closing.{Closes, stop_status}
 use Rattle.rosie_run.specs.declared.lines.Reading.{Reading}
 use Rattle.rosie_run.specs.declared.ended.Ended.{Ended}
-use Rattle.rosie_run.specs.declared.ended.Ended.TheVariants as E
 use Rattle.rosie_run.specs.declared.ended.ReadStop.{ReadStop}
 use Rattle.rosie_run.specs.declared.ended.ReadStop.TheVariants as Y
 use Rattle.rosie_run.specs.declared.status.Status.{Status}
@@ -155,21 +153,6 @@ unread e W p tree path i f a fits is some rose =
     let all = pieces p.plan tree i.before.rest in
     breaks_cut W e Y.ReadFault path all [] all (stood p tree i f) a a is refl (has_nil is_stop)
     (wrote_none W a a refl fits) (in_loading some refl rose refl)
-
--- the standard input was read where the run came to its end
-read_flags : (s f h : Bool) → CameToEnd (flags_status s f h) → s ≡ false
-read_flags true f h is = absurd is
-read_flags false f h is = refl
-
-read_why : (why : ReadStop) → CameToEnd (stop_status why) → ⊥
-read_why Y.ReadFault is = is
-read_why Y.Spent is = is
-
-pub read_of : (r : Result Tally Ended) (s : Status) (W : Telling) (b d : Texts) (P : Type 0) → Closes r s W b d → CameToEnd s → GoesOn r P → P
-read_of (Ok tally) s W b d P c is goes = elim c.1 [ inl e ↦ goes (read_flags tally.stop tally.fault tally.hit (subst CameToEnd e is)) | inr e ↦ absurd (subst CameToEnd e is) ]
-read_of (Err E.NoMemory) s W b d P c is goes = absurd (subst CameToEnd c.1 is)
-read_of (Err E.WriteFault) s W b d P c is goes = absurd (subst CameToEnd c.1 is)
-read_of (Err (E.Cut why text)) s W b d P c is goes = elim c.3 [ inl e ↦ absurd (read_why why (subst CameToEnd e.0 is)) | inr e ↦ absurd (subst CameToEnd e.0 is) ]
 
 -- the standard input is among the inputs where one of them has its name
 or_true : (b c : Bool) → c ≡ true → cond b true c ≡ true

@@ -19,7 +19,7 @@ use Rattle.rosie_run.specs.declared.lines.SourceLines.{SourceLines}
 use Rattle.rosie_run.specs.declared.tally.Tally.{Tally}
 use Rattle.rosie_run.specs.declared.ended.ReadStop.{ReadStop}
 use Rattle.rosie_run.specs.declared.ended.ReadStop.TheVariants as Y
-use Rattle.rosie_run.specs.FromLines.{IsFailed, IsFresh, IsPast, IsSpent, LeavesLines, Since}
+use Rattle.rosie_run.specs.FromLines.{IsFailed, IsFresh, IsPast, IsSpent, LeavesLines, Since, to_give}
 use Rattle.rosie_run.proofs.Onward.{end_next, is_open, passed_cut, passed_next}
 
 reads_on : (tells : Type 0) (h p q : Held) (r0 r1 r2 : List ℕ) (t0 t1 t2 : ℕ) → Reads tells h p r0 r1 t0 t1 → Reads tells p q r1 r2 t1 t2 → Reads tells h q r0 r2 t0 t2
@@ -93,9 +93,10 @@ some_left (Err E.NoMemory) L h = (WantsMemory, h.0, h.1)
 some_left (Err E.WriteFault) L h = (Going, h.0, h.1)
 some_left (Err (E.Cut why text)) L h = (CutBy why, h.0, h.1)
 
-module _ {J S : Type 0} (makes : J → Makes) (G : Ghosts S) (s z : SourceLines J S) (fresh : IsFresh s.reader.now.held) where
+module _ {J S : Type 0} (makes : J → Makes) (says : J → List (List ℕ) → List ℕ) (G : Ghosts S) (s z : SourceLines J S)
+    (fresh : IsFresh s.reader.now.held) where
   abbrev L : How → ℕ → Type 0
-  L how k = LeavesLines makes G how s z k
+  L how k = LeavesLines makes says G how s z k
 
   still : G.faults z.source.now ≡ G.faults s.source.now → G.failed_opens z.source.now ≡ G.failed_opens s.source.now → Still (moment_of G s.source.now) (moment_of G z.source.now)
   still f o = record { faults = f; opens = o }
@@ -105,7 +106,7 @@ module _ {J S : Type 0} (makes : J → Makes) (G : Ghosts S) (s z : SourceLines 
   ok_cause false k g e = let h = e refl in still h.leaves.faults h.opens
 
   -- the counts of the source
-  pub lines_cause : (r : Result Tally Ended) → LeavesRun r (λ how k. LeavesLines makes G how s z k) → FilesCause r (moment_of G s.source.now) (moment_of G z.source.now)
+  pub lines_cause : (r : Result Tally Ended) → LeavesRun r (λ how k. LeavesLines makes says G how s z k) → FilesCause r (moment_of G s.source.now) (moment_of G z.source.now)
   lines_cause (Ok tally) h = ok_cause tally.stop h.0 h.1 h.2
   lines_cause (Err E.NoMemory) h = still h.1.leaves h.1.opens
   lines_cause (Err E.WriteFault) h = still h.1.leaves.faults h.1.opens
@@ -113,11 +114,18 @@ module _ {J S : Type 0} (makes : J → Makes) (G : Ghosts S) (s z : SourceLines 
   lines_cause (Err (E.Cut Y.Spent text)) h = (still h.1.leaves.faults h.1.opens, h.1.leaves.many fresh)
 
   -- at its end nothing is left
-  pub lines_rest : (r : Result Tally Ended) → G.tells → LeavesRun r (λ how k. LeavesLines makes G how s z k) → GoesOn r (G.rest z.source.now ≡ [])
+  pub lines_rest : (r : Result Tally Ended) → G.tells → LeavesRun r (λ how k. LeavesLines makes says G how s z k) → GoesOn r (G.rest z.source.now ≡ [])
   lines_rest (Ok tally) t h = λ goes. (h.2 goes).leaves.rest t fresh
   lines_rest (Err e) t h = tt
 
+  -- and what is said at the end is so by all its lines
+  pub lines_last : (r : Result Tally Ended) → G.tells → LeavesRun r (λ how k. LeavesLines makes says G how s z k)
+      → GoesOn r ((more : List (List ℕ)) → says z.job.now more
+      ≡ says s.job.now (to_give s.reader.now (left s.reader.now.held (G.rest s.source.now)) ++ more))
+  lines_last (Ok tally) t h = λ goes. (h.2 goes).last t
+  lines_last (Err e) t h = tt
+
   -- where reading stood
-  pub lines_stood : (name : List ℕ) → G.tells → (why : ReadStop) (file : List ℕ) (k : ℕ) → StoodAt (λ how n. LeavesLines makes G how s z n) name why file k → InNamed name s.reader.now.whole (moment_of G s.source.now) (moment_of G z.source.now) why file k
+  pub lines_stood : (name : List ℕ) → G.tells → (why : ReadStop) (file : List ℕ) (k : ℕ) → StoodAt (λ how n. LeavesLines makes says G how s z n) name why file k → InNamed name s.reader.now.whole (moment_of G s.source.now) (moment_of G z.source.now) why file k
   lines_stood name t Y.ReadFault file k h = (h.0, h.1.leaves.stood t fresh)
   lines_stood name t Y.Spent file k h = (h.0, h.1.leaves.stood t fresh)

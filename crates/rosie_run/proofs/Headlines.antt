@@ -5,8 +5,8 @@ use Rattle.std.proofs.lemmas.Bool.{false≢true}
 use Rattle.rosie_io.specs.Counts.{Rose, capped}
 use Rattle.std.proofs.Math.Seq.{take-append_seam, take-append-add, take-length}
 use Rattle.rosie_run.specs.Causes.{OutputCause, ReadsCause}
-use Rattle.rosie_run.specs.Runs.{SourcesCause, WritesCause, CutShort, Runs}
-use Rattle.rosie_run.specs.Headline.{IsBehind, Reported, Left, in_the_run, at_the_end, Headline, IsComplete}
+use Rattle.rosie_run.specs.Runs.{SourcesCause, WritesCause, CutShort, GoesOn, Runs}
+use Rattle.rosie_run.specs.Headline.{IsBehind, Reported, Left, in_the_run, at_the_end, CameToEnd, Headline, IsComplete}
 use Rattle.rosie_run.specs.Outputs.{Telling, Texts, Wrote, IsFront, Fronts}
 use Rattle.rosie_run.specs.Report.{Piece, costs, outs, errs, up_to_stop, has, is_hit, is_stop, is_fault, flags_status}
 use Rattle.rosie_run.specs.Tallies.{tally_of}
@@ -133,6 +133,28 @@ reads_cause (Err (E.Cut Y.Spent text)) s W b d i0 i1 f0 f1 c h = by c.3 where
   by : ((s ≡ Spent) × (W.err → d.err ≡ b.err ++ string_bytes text)) ⊎ ((s ≡ WriteFault) × (W.err → IsFront b.err d.err (string_bytes text))) → ReadsCause s i0 i1 f0 f1
   by (inl e) = subst (λ x. ReadsCause x i0 i1 f0 f1) (sym e.0) h
   by (inr e) = subst (λ x. ReadsCause x i0 i1 f0 f1) (sym e.0) (few_of i0 i1 h.0, few_of f0 f1 h.1)
+
+-- a run that came to its end went on
+end_flags : (s f h : Bool) → CameToEnd (flags_status s f h) → s ≡ false
+end_flags true f h is = absurd is
+end_flags false f h is = refl
+
+end_why : (why : ReadStop) → CameToEnd (stop_status why) → ⊥
+end_why Y.ReadFault is = is
+end_why Y.Spent is = is
+
+pub came_of : (r : Result Tally Ended) (s : Status) (W : Telling) (b d : Texts) (P : Type 0) → Closes r s W b d
+    → CameToEnd s → GoesOn r P → P
+came_of (Ok tally) s W b d P c is goes = elim c.1 [
+  | inl e ↦ goes (end_flags tally.stop tally.fault tally.hit (subst CameToEnd e is))
+  | inr e ↦ absurd (subst CameToEnd e is)
+]
+came_of (Err E.NoMemory) s W b d P c is goes = absurd (subst CameToEnd c.1 is)
+came_of (Err E.WriteFault) s W b d P c is goes = absurd (subst CameToEnd c.1 is)
+came_of (Err (E.Cut why text)) s W b d P c is goes = elim c.3 [
+  | inl e ↦ absurd (end_why why (subst CameToEnd e.0 is))
+  | inr e ↦ absurd (subst CameToEnd e.0 is)
+]
 
 -- where nothing goes wrong there is an answer
 hit_by : (s : Bool) (f : Bool) (h : Bool) → s ≡ false → f ≡ false → (answer : Status) → answer ≡ flags_status s f h → (ps : List Piece) → has is_hit ps ≡ h → IsComplete answer ps

@@ -6,6 +6,7 @@ use Rattle.rosie_io.specs.Lines.{lines}
 use Rattle.rosie_io.specs.Reader.{Reader}
 use Rattle.rosie_io.specs.declared.outside.Source.{Ghosts}
 use Rattle.rosie_run.specs.Going.{AtEnd, CutBy, Going, How, WantsMemory}
+use Rattle.rosie_run.specs.Given.{is_given}
 use Rattle.rosie_run.specs.Lines.{Makes, passed, pieces_from}
 use Rattle.rosie_run.specs.Report.{Piece}
 use Rattle.rosie_run.specs.Sources.{TookMany, moment_of}
@@ -16,7 +17,8 @@ use Rattle.rosie_run.specs.declared.lines.SourceLines.{SourceLines}
 use Rattle.rosie_run.specs.declared.tool.Tool.{Tool}
 use Rattle.rosie_run.specs.Passing.{IsPrepared}
 use Rattle.rosie_io.specs.Counts.{Rose}
-use Rattle.std.specs.Prelude.{◌≡◌, ◌+◌, ◌-◌, ◌<◌, ◌^◌, ◌≤◌, List, [], false, length, true, ℕ}
+use Rattle.std.specs.List.{filter}
+use Rattle.std.specs.Prelude.{◌≡◌, ◌++◌, ◌+◌, ◌-◌, ◌<◌, ◌^◌, ◌≤◌, List, [], false, length, true, ℕ}
 use Rattle.std.proofs.Math.Path.{refl, sym, ◌∙◌}
 use Rattle.std.proofs.Math.Nat.{le_refl, zero-add}
 use Rattle.std.proofs.lemmas.Bool.{false≢true}
@@ -47,6 +49,16 @@ ComesFrom makes G s ps =
     G.tells
     × (ps ≡ to_come (makes s.job.now) s.messages.now.tool s.file.now s.reader.now
     (left s.reader.now.held (G.rest s.source.now)))
+
+-- the lines that are still to be given
+abbrev pub to_give : Reader → List ℕ → List (List ℕ)
+to_give reader left0 = filter (is_given reader.most) (lines reader.whole left0)
+
+-- what is said at the end is what it was to be where the run began, if these lines were to be given then and are now
+abbrev pub SaysBy : How → (begin now : List (List ℕ) → List ℕ) → (first left : List (List ℕ)) → Type 0
+SaysBy Going begin now first left = (more : List (List ℕ)) → now (left ++ more) ≡ begin (first ++ more)
+SaysBy AtEnd begin now first left = (more : List (List ℕ)) → now more ≡ begin (first ++ more)
+SaysBy _ begin now first left = Unit {0}
 
 -- a reader that has read nothing yet
 abbrev pub IsFresh : Held → Type 0
@@ -84,14 +96,17 @@ LeavesBy (CutBy Y.ReadFault) G r q a b k = IsFailed G r a b k
 LeavesBy (CutBy Y.Spent) G r q a b k = IsSpent G r a b k
 
 -- what stays, and what is left by how far it came
-pub record LeavesLines {J S : Type 0} (makes : J → Makes) (G : Ghosts S) (how : How) (s z : SourceLines J S) (k : ℕ)
-    : Type 0 where
+pub record LeavesLines {J S : Type 0} (makes : J → Makes) (says : J → List (List ℕ) → List ℕ) (G : Ghosts S)
+    (how : How) (s z : SourceLines J S) (k : ℕ) : Type 0 where
   pub same : makes z.job.now ≡ makes s.job.now
   pub keeps : Keeps s.reader.now z.reader.now
   pub tool : z.messages.now.tool ≡ s.messages.now.tool
   pub tree : G.tree z.source.now ≡ G.tree s.source.now
   pub opens : G.failed_opens z.source.now ≡ G.failed_opens s.source.now
   pub taken : G.taken z.source.now < 2 ^ 64 - 1 → G.taken s.source.now ≤ G.taken z.source.now
+  pub last : G.tells → SaysBy how (says s.job.now) (says z.job.now)
+      (to_give s.reader.now (left s.reader.now.held (G.rest s.source.now)))
+      (to_give z.reader.now (left z.reader.now.held (G.rest z.source.now)))
   pub leaves : LeavesBy how G s.reader.now z.reader.now s.source.now z.source.now k
 
 -- nothing is left where it begins
@@ -109,14 +124,15 @@ begins_since G r a = record {
   at_end = λ t opened ended. absurd (false≢true (sym opened ∙ ended));
 }
 
-pub begins_lines : {J S : Type 0} (makes : J → Makes) (G : Ghosts S) (s : SourceLines J S)
-    → LeavesLines makes G Going s s 0
-begins_lines makes G s = record {
+pub begins_lines : {J S : Type 0} (makes : J → Makes) (says : J → List (List ℕ) → List ℕ) (G : Ghosts S)
+    (s : SourceLines J S) → LeavesLines makes says G Going s s 0
+begins_lines makes says G s = record {
   same = refl;
   keeps = record { whole = refl; most = refl };
   tool = refl;
   tree = refl;
   opens = refl;
   taken = λ _. le_refl (G.taken s.source.now);
+  last = λ _ _. refl;
   leaves = begins_since G s.reader.now s.source.now;
 }

@@ -4,6 +4,7 @@ pub mod Tallies
 pub mod Report
 pub mod Lines
 pub mod Inputs
+pub mod Given
 pub mod Outputs
 pub mod Sources
 pub mod Course

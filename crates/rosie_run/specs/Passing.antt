@@ -3,6 +3,7 @@ use Rattle.rosie_io.specs.declared.reader.Line.{Line}
 use Rattle.rosie_io.specs.declared.reader.Line.TheVariants as L
 use Rattle.rosie_io.specs.declared.reader.LineFault.{LineFault}
 use Rattle.rosie_io.specs.declared.reader.LineFault.TheVariants as F
+use Rattle.rosie_run.specs.Going.{OnPiece}
 use Rattle.rosie_run.specs.Lines.{Makes, input_message, line_message}
 use Rattle.rosie_run.specs.Made.{IsMade}
 use Rattle.rosie_run.specs.Report.{Piece, fault_piece}
@@ -13,7 +14,7 @@ use Rattle.rosie_run.specs.declared.ended.ReadStop.TheVariants as Y
 use Rattle.rosie_run.specs.declared.lines.Messages.{Messages}
 use Rattle.rosie_run.specs.declared.mark.Mark.{Mark}
 use Rattle.rosie_run.specs.declared.tool.Tool.{Tool}
-use Rattle.std.specs.Prelude.{◌+◌, ◌≡◌, Err, IsErrAnd, List, None, Ok, Option, Result, Some, String, [], codes}
+use Rattle.std.specs.Prelude.{◌+◌, ◌≡◌, ◌∷◌, Err, IsErrAnd, List, None, Ok, Option, Result, Some, String, [], codes}
 use Rattle.std.specs.Prelude.{string_bytes, ℕ}
 
 -- the texts of the last piece, by what is kept of a fault
@@ -64,3 +65,9 @@ MakesOf (Ok L.Text) result makes tool file n line out err steps0 steps1 =
 MakesOf (Ok L.End) result makes tool file n line out err steps0 steps1 = (result ≡ Ok None) × (steps1 ≡ steps0)
 MakesOf (Err fault) result makes tool file n line out err steps0 steps1 =
     SaysFault fault result tool file out err steps0 steps1
+
+-- what is said at the end: of the lines from this one on, or as before where no line of text was passed
+abbrev pub SaysOf : Result Line LineFault → Result (Option Mark) Ended → (now old : List (List ℕ) → List ℕ)
+    → (line : List ℕ) → Type 0
+SaysOf (Ok L.Text) result now old line = OnPiece result ((more : List (List ℕ)) → now more ≡ old (line ∷ more))
+SaysOf _ result now old line = now ≡ old

@@ -1,10 +1,12 @@
 // The run over the inputs, one after the other.
-ghost use Rattle.std.specs.Prelude.{◌≡◌, ◌-◌, ◌^◌, ◌<◌, ◌≤◌, [], Err, true, false};
+ghost use Rattle.std.specs.Prelude.{◌≡◌, ◌++◌, ◌-◌, ◌^◌, ◌<◌, ◌≤◌, List, ℕ, [], Err, true, false};
 ghost use Rattle.std.specs.Prelude.{encode_utf8_all, IfOk};
 ghost use Rattle.rosie_io.specs.Answering.{Keeps};
+ghost use Rattle.rosie_io.specs.Opening.{file_of};
 ghost use Rattle.rosie_run.specs.Devices.{InputsCause, OutputsCause, RunsInputs, SameInputs};
 ghost use Rattle.rosie_run.specs.Devices.{SameOutputs, course};
 ghost use Rattle.rosie_run.specs.Runs.{FilesCause, GoesOn};
+ghost use Rattle.rosie_run.specs.Given.{bytes_given, file_given, inputs_given, one_given};
 ghost use Rattle.rosie_run.specs.Inputs.{is_standard, left_after};
 ghost use Rattle.rosie_run.specs.Inputs.{AreTold, reads_standard, names_of};
 ghost use Rattle.rosie_run.specs.Sources.{moment_of, span_of};
@@ -56,6 +58,9 @@ fn run_source<J: LineJob, S: Source, O: Sink, E: Sink, L: Ledger>(
         file.now
         (span_of S.Source source.old source.new)
         (shows lines.old.messages.now.tool O.Sink E.Sink outputs.old outputs.new) }
+    ensures last { S.tells → GoesOn result ((more : List (List ℕ)) →
+        J.last_text lines.new.job.now more ≡ J.last_text lines.old.job.now
+        (bytes_given (reading_of lines.old) (S.rest source.old) ++ more)) }
     ensures rest { S.tells → GoesOn result (S.rest source.new ≡ []) }
     ensures cause { FilesCause result (moment_of S.Source source.old)
         (moment_of S.Source source.new) }
@@ -83,6 +88,9 @@ fn run_file<J: LineJob, F: Files, O: Sink, E: Sink, L: Ledger>(
         path.now
         (F.tree files.old) (span_of F.Source files.old files.new)
         (shows lines.old.messages.now.tool O.Sink E.Sink outputs.old outputs.new) }
+    ensures last { F.tells → GoesOn result ((more : List (List ℕ)) →
+        J.last_text lines.new.job.now more ≡ J.last_text lines.old.job.now
+        (file_given (reading_of lines.old) (file_of path.now (F.tree files.old)) ++ more)) }
     ensures cause { FilesCause result (moment_of F.Source files.old)
         (moment_of F.Source files.new) }
     ensures idle { J.idle → outputs.new.steps.now ≡ outputs.old.steps.now }
@@ -128,6 +136,12 @@ fn run_one<J: LineJob, F: Files, I: Source, O: Sink, E: Sink, L: Ledger>(
         read.old
         (course lines.old.messages.now.tool F.Source I.Source O.Sink E.Sink inputs.old inputs.new
         outputs.old outputs.new) }
+    ensures last { (is_standard name.now ≡ false → F.tells) →
+        (is_standard name.now ≡ true → I.tells) →
+        (read.old ≡ true → I.rest inputs.old.input.now ≡ []) → GoesOn result
+        ((more : List (List ℕ)) → J.last_text lines.new.job.now more
+        ≡ J.last_text lines.old.job.now (one_given (reading_of lines.old)
+        (F.tree inputs.old.files.now) (I.rest inputs.old.input.now) name.now ++ more)) }
     ensures rest { (is_standard name.now ≡ true → I.tells) →
         (read.old ≡ true → I.rest inputs.old.input.now ≡ []) → GoesOn result
         (I.rest inputs.new.input.now ≡ left_after name.now (I.rest inputs.old.input.now)) }
@@ -180,6 +194,10 @@ pub fn run_inputs<J: LineJob, F: Files, I: Source, O: Sink, E: Sink, L: Ledger>(
         (names_of encode_utf8_all wanted.entry.names.now)
         (course wanted.entry.reading.tool F.Source I.Source O.Sink E.Sink inputs.old inputs.new
         outputs.old outputs.new) }
+    ensures last { AreTold (names_of encode_utf8_all wanted.entry.names.now) F.tells I.tells →
+        GoesOn result (J.last_text job.new [] ≡ J.last_text job.old (inputs_given
+        wanted.entry.reading (F.tree inputs.old.files.now) (I.rest inputs.old.input.now)
+        (names_of encode_utf8_all wanted.entry.names.now))) }
     ensures rest { AreTold (names_of encode_utf8_all wanted.entry.names.now) F.tells I.tells →
         GoesOn result
         (reads_standard (names_of encode_utf8_all wanted.entry.names.now) ≡ true →

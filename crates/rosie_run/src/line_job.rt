@@ -1,5 +1,6 @@
 // The work of a command on each line.
-ghost use Rattle.std.specs.Prelude.{◌≡◌, ◌≤◌, ◌^◌, ◌+◌, ℕ, List, length, IfOk, OnOk, IsTrue};
+ghost use Rattle.std.specs.Prelude.{◌≡◌, ◌≤◌, ◌^◌, ◌+◌, ◌∷◌, [], ℕ, List, length, IfOk, OnOk};
+ghost use Rattle.std.specs.Prelude.{IsTrue};
 ghost use Rattle.std.specs.Str.{IsAscii};
 ghost use Rattle.rosie_run.specs.Made.{IsMade};
 ghost use Rattle.rosie_run.specs.Report.{Piece};
@@ -36,6 +37,9 @@ pub trait LineJob {
 
     ghost err_text: { Self → List ℕ };
 
+    /// What it says at the end, where these lines are still to be given to it.
+    ghost last_text: { Self → List (List ℕ) → List ℕ } = { λ _ _. [] };
+
     /// Makes the piece of a line.
     fn answer<L: Ledger>(
         &mut self,
@@ -47,6 +51,8 @@ pub trait LineJob {
         ensures same { makes self.new ≡ makes self.old }
         ensures made { IfOk result (λ mark. IsMade mark (out_text self.new) (err_text self.new)
             (makes self.old line.entry.file.now line.entry.number line.entry.text.now)) }
+        ensures last { OnOk result ((more : List (List ℕ)) → last_text self.new more
+            ≡ last_text self.old (line.entry.text.now ∷ more)) }
         ensures steps { OnOk result (steps.new ≡ steps.old
             + (makes self.old line.entry.file.now line.entry.number line.entry.text.now).cost) }
         ensures idle { idle → steps.new ≡ steps.old };

@@ -8,7 +8,7 @@ ghost use Rattle.rosie_run.specs.Runs.{IsCutOf};
 ghost use Rattle.rosie_run.specs.declared.ended.ReadStop.TheVariants.{ReadFault, Spent};
 ghost use Rattle.rosie_run.specs.FromLines.{ComesFrom, LeavesLines, SameLines};
 ghost use Rattle.rosie_run.specs.Passing.{IsPrepared, IsStop, MakesOf, MakesPiece};
-ghost use Rattle.rosie_run.specs.Passing.{kept_err, kept_out};
+ghost use Rattle.rosie_run.specs.Passing.{SaysOf, kept_err, kept_out};
 
 use crate::line_job::{InputLine, LineJob};
 use crate::saying::cut;
@@ -200,6 +200,8 @@ impl<'a, J: LineJob, S: Source> SourceLines<'a, J, S> {
         ensures tool { self.new.messages.now.tool ≡ self.old.messages.now.tool }
         ensures prepared { OnPiece result (IsPrepared self.new.messages.now self.new.file.now) }
         ensures says { IfErr result (IsSaidBy self.old.messages.now.tool self.old.file.now) }
+        ensures last { SaysOf found result (J.last_text self.new.job.now)
+            (J.last_text self.old.job.now) self.old.reader.now.text }
         ensures idle { J.idle → steps.new ≡ steps.old }
         ensures makes { MakesOf found result (J.makes self.old.job.now)
             self.old.messages.now.tool self.old.file.now self.old.reader.now.number
@@ -240,7 +242,7 @@ impl<'a, J: LineJob, S: Source> PieceSource for SourceLines<'a, J, S> {
 
     ghost same = { λ s z. SameLines s z };
 
-    ghost leaves = { λ how s z k. LeavesLines J.makes S.Source how s z k };
+    ghost leaves = { λ how s z k. LeavesLines J.makes J.last_text S.Source how s z k };
 
     ghost goes_on = { λ s. GoesOnFrom s };
 
@@ -283,5 +285,5 @@ impl<'a, J: LineJob, S: Source> PieceSource for SourceLines<'a, J, S> {
         }
     }
 
-    ghost begins = { λ s. ((refl, refl, refl, refl, refl), begins_lines J.makes S.Source s) };
+    ghost begins = { λ s. ((refl, refl, refl, refl, refl), begins_lines J.makes J.last_text S.Source s) };
 }

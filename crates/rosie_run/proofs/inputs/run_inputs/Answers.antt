@@ -1,10 +1,11 @@
-use Rattle.std.proofs.Common.{refl, ap, ◌∙◌, arith}
+use Rattle.std.proofs.Common.{refl, ap, sym, ◌∙◌, arith}
 use Rattle.std.specs.Prelude.{encode_utf8_all}
 use Rattle.rosie_io.specs.Reader.{Reader}
 use Rattle.rosie_run.proofs.Pieces.{fronts_none}
 use Rattle.rosie_run.specs.Inputs.{is_standard, names_of}
 use Rattle.rosie_run.specs.declared.lines.Messages.{Messages}
 use Rattle.rosie_run.specs.Sources.{moment, moment_of}
+use Rattle.rosie_run.proofs.Giving.{goes_stopped, says_end, says_on}
 use Rattle.rosie_run.proofs.Inward.{names_next, names_none, not_standard, told_one, once_on, untouched_on, reached_start, reached_on, part_goes, reached_stop, reached_break, reached_end}
 use Rattle.rosie_run.proofs.inputs.run_inputs.Goals as goal
 
@@ -19,6 +20,7 @@ inputs-init g c = record {
   tool = ap (λ (x : Messages). x.tool) c.new-lines.ensures.messages ∙ c.new-messages.ensures;
   idle = λ _. refl;
   reached = λ k. reached_start _ _ _ _ _ _ _ _ _ _ refl refl (g.met.O.Sink.number_fits c.args.outputs.now.out.now) c.new-tally.ensures;
+  last = λ k. refl;
   once = λ k e. absurd (cc);
   untouched = λ _. refl;
   unread = λ _. refl;
@@ -51,6 +53,19 @@ inputs-preserved g c =
           let told = told_one encode_utf8_all c.args.wanted.names.now c.inputs.name-index c.text_of.result.now _ g.F.Source.tells g.I.Source.tells next k in
           let w = rw (i.same, i.tree, i.parts, i.most, i.tool) at (e.runs told.0 told.1 (i.once k)) in
           reached_on _ _ _ _ _ _ (g.I.Source.rest c.inputs.inputs.input.now) c.text_of.result.now _ _ c.inputs.read c.inputs.tally _ _ (i.reached k) next _ c.in-Ok-run_one.part c.and-tally.result w c.and-tally.ensures (g.I.Source.rest c.run_one.new.inputs.input.now) c.run_one.new.read c.if-tally.false (e.rest told.1 (i.once k)) e.reads (λ n. (e.stays n).0);
+      last = λ k.
+          let told = told_one encode_utf8_all c.args.wanted.names.now c.inputs.name-index c.text_of.result.now _
+          g.F.Source.tells g.I.Source.tells next k in
+          let w = rw (i.same, i.tree, i.parts, i.most, i.tool) at (e.runs told.0 told.1 (i.once k)) in
+          let off = part_goes _ _ _ _ _ _ (g.I.Source.rest c.inputs.inputs.input.now) c.text_of.result.now _ _
+          c.inputs.read c.inputs.tally _ _ (i.reached k) next _ c.in-Ok-run_one.part c.and-tally.result w
+          c.and-tally.ensures c.if-tally.false in
+          says_on c.args.wanted.reading (g.F.Source.tree c.args.inputs.now.files.now)
+          (g.J.LineJob.last_text c.new-lines.result.job.now) _ (g.J.LineJob.last_text c.inputs.lines.job.now)
+          (g.J.LineJob.last_text c.run_one.new.lines.job.now) (g.I.Source.rest c.inputs.inputs.input.now)
+          (g.I.Source.rest c.run_one.new.inputs.input.now) c.text_of.result.now _ _ next
+          (e.rest told.1 (i.once k) off)
+          (rw (i.tree, i.parts, i.most, i.tool) at (e.last told.0 told.1 (i.once k) off)) (i.last k);
       once = λ k is.
           let told = told_one encode_utf8_all c.args.wanted.names.now c.inputs.name-index c.text_of.result.now _ g.F.Source.tells g.I.Source.tells next k in
           let w = rw (i.same, i.tree, i.parts, i.most, i.tool) at (e.runs told.0 told.1 (i.once k)) in
@@ -103,3 +118,15 @@ pub returns-in-Err-clause-unread : goal.returns-in-Err-clause-unread
 returns-in-Err-clause-unread g c = λ n.
     let next = names_next (encode_utf8_all) c.args.wanted.names.now c.inputs.name-index c.name-item.result c.text_of.result.now c.inputs-test.true c.name-item.is c.text_of.ensures in
     (c.in-Err.ensures.stays (not_standard (encode_utf8_all) c.args.wanted.names.now c.inputs.name-index c.text_of.result.now _ next n)).1 ∙ c.inputs.invariant.unread n
+
+pub returns-then-tally-clause-last : goal.returns-then-tally-clause-last
+returns-then-tally-clause-last g c = λ k. goes_stopped c.and-tally.result _ c.if-tally.true
+
+pub returns-clause-last : goal.returns-clause-last
+returns-clause-last g c = λ k goes.
+    let back = names_none encode_utf8_all c.args.wanted.names.now c.inputs.name-index c.inputs-test.false in
+    let ends = says_end c.args.wanted.reading (g.F.Source.tree c.args.inputs.now.files.now)
+    (g.J.LineJob.last_text c.new-lines.result.job.now) _ (g.J.LineJob.last_text c.inputs.lines.job.now)
+    (g.I.Source.rest c.inputs.inputs.input.now) _ back (c.inputs.invariant.last k) in
+    rw (c.job-1.given.1 (sym (c.inputs.invariant.same_lines.0 ∙ c.new-lines.ensures.same_job)))
+    (rw c.new-lines.ensures.job at ends)

@@ -1,6 +1,7 @@
 use Rattle.std.proofs.Common.{◌≡◌, ◌-◌, ◌^◌, ◌≤◌, ◌<◌, true, false, [], drop}
 use Rattle.std.specs.Prelude.{encode_utf8_all}
 use Rattle.rosie_run.specs.Devices.{SameInputs, SameOutputs}
+use Rattle.rosie_run.specs.Given.{inputs_given}
 use Rattle.rosie_run.specs.Inputs.{AreTold, names_of, reads_standard}
 use Rattle.rosie_run.specs.Outputs.{telling, texts}
 use Rattle.rosie_run.specs.inside.Reaching.{Reached}
@@ -21,6 +22,13 @@ invariant-inputs g l = record {
   reached : AreTold (names_of encode_utf8_all l.fn.wanted.names.now) g.F.Source.tells g.I.Source.tells → Reached (telling l.fn.wanted.reading.tool g.O.Sink g.E.Sink) (g.J.LineJob.makes l.initial.lines.job.now) l.fn.wanted.reading (g.F.Source.tree l.initial.inputs.files.now)
       (g.I.Source.rest l.initial.inputs.input.now) (g.I.Source.rest l.inputs.input.now) (names_of encode_utf8_all l.fn.wanted.names.now) (names_of encode_utf8_all (drop l.name-index l.fn.wanted.names.now)) l.read l.tally
       (texts g.O.Sink.written g.O.Sink.number g.E.Sink.written l.initial.outputs.out.now l.initial.outputs.err.now l.initial.outputs.steps.now) (texts g.O.Sink.written g.O.Sink.number g.E.Sink.written l.outputs.out.now l.outputs.err.now l.outputs.steps.now);
+  last : AreTold (names_of encode_utf8_all l.fn.wanted.names.now) g.F.Source.tells g.I.Source.tells
+      → g.J.LineJob.last_text l.lines.job.now
+      (inputs_given l.fn.wanted.reading (g.F.Source.tree l.initial.inputs.files.now)
+      (g.I.Source.rest l.inputs.input.now) (names_of encode_utf8_all (drop l.name-index l.fn.wanted.names.now)))
+      ≡ g.J.LineJob.last_text l.initial.lines.job.now
+      (inputs_given l.fn.wanted.reading (g.F.Source.tree l.initial.inputs.files.now)
+      (g.I.Source.rest l.initial.inputs.input.now) (names_of encode_utf8_all l.fn.wanted.names.now));
   once : AreTold (names_of encode_utf8_all l.fn.wanted.names.now) g.F.Source.tells g.I.Source.tells → l.read ≡ true → g.I.Source.rest l.inputs.input.now ≡ [];
   untouched : l.read ≡ false → l.inputs.input.now ≡ l.initial.inputs.input.now;
   unread : reads_standard (names_of encode_utf8_all l.fn.wanted.names.now) ≡ false → l.inputs.input.now ≡ l.initial.inputs.input.now;

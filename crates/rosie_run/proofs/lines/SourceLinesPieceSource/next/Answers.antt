@@ -1,8 +1,9 @@
 use Rattle.std.proofs.Common.{◌∙◌, inl, sym, subst, arith}
 use Rattle.rosie_io.specs.Gathering.{left}
 use Rattle.rosie_run.specs.Going.{Gives}
-use Rattle.rosie_run.specs.FromLines.{ComesFrom}
+use Rattle.rosie_run.specs.FromLines.{ComesFrom, to_give}
 use Rattle.rosie_run.specs.Passing.{kept_err, kept_out}
+use Rattle.rosie_run.proofs.Giving.{says_of}
 use Rattle.rosie_run.proofs.Coming.{IsLater, gives_of, gives_to, goes_of, leaves_of}
 use Rattle.rosie_run.proofs.lines.SourceLinesPieceSource.next.Goals as goal
 
@@ -37,5 +38,13 @@ returns-clause-left g c = λ s n h.
       tree = e.tree ∙ h.tree;
       opens = e.opens ∙ h.opens;
       taken = λ lt. let x = e.reads.taken lt in let later = e.reads.later in let t = h.taken (omega arith) in omega arith;
+      last = λ t.
+          says_of y.reader.now c.next-found.new.self (left y.reader.now.held (g.S.Source.rest y.source.now))
+          (left c.next-found.new.self.held (g.S.Source.rest c.next-found.new.source)) e.keeps.whole e.keeps.most
+          (g.J.LineJob.last_text s.job.now) (g.J.LineJob.last_text y.job.now)
+          (g.J.LineJob.last_text c.make_of.new.self.job.now)
+          (to_give s.reader.now (left s.reader.now.held (g.S.Source.rest s.source.now))) (h.last t) _ _ c.args.steps.now
+          c.make_of.new.steps c.next-found.result c.make_of.result (g.J.LineJob.makes y.job.now) y.messages.now.tool
+          y.file.now m.makes (e.passes t) m.last;
       leaves = leaves_of (g.J.LineJob.makes y.job.now) y.messages.now.tool y.file.now y.reader.now c.next-found.new.self (left y.reader.now.held (g.S.Source.rest y.source.now)) (left c.next-found.new.self.held (g.S.Source.rest c.next-found.new.source)) _ _ c.args.steps.now c.make_of.new.steps g.S.Source s.reader.now s.source.now y.source.now c.next-found.new.source n h.leaves h.keeps.whole e.reads e.at_end (λ x. e.ready (inl x)) c.next-found.result c.make_of.result m.makes e.numbers e.passes e.cause e.stops;
     })
