@@ -4,7 +4,7 @@ BIN = $(DESTDIR)$(PREFIX)/bin
 SHARE = $(DESTDIR)$(PREFIX)/share
 PROGRAM = crates/rosie/out/rosie
 COLUMNS_PROGRAM = crates/rosie_columns/out/rosie_columns
-DOCUMENTS = docs/COMMAND.md docs/COLUMNS.md docs/LANGUAGE.md docs/TUTORIAL.md docs/RECIPES.md docs/MESSAGES.md CHANGELOG.md SECURITY.md LICENSE docs/COMING-FROM.md docs/PACKAGES.md docs/SCALE.md
+DOCUMENTS = docs/COMMAND.md docs/COLUMNS.md docs/LANGUAGE.md docs/TUTORIAL.md docs/RECIPES.md docs/MESSAGES.md docs/HINTS.md CHANGELOG.md SECURITY.md LICENSE docs/COMING-FROM.md docs/PACKAGES.md docs/SCALE.md
 TOOLS = rosie-at rosie-try rosie-why rosie-parallel
 # What the tools share. They look for it beside themselves, and then in share/rosie/tools.
 MODULES = advice.tsv rosie_advice.py rosie_findings.py rosie_messages.py rosie_reasons.py rosie_rpl.py rosie_why.py
