@@ -15,8 +15,8 @@ def main(words: Optional[List[str]] = None) -> int:
     parser = argparse.ArgumentParser(prog="rosie-lsp",
                                      description="A language server for RPL, over standard input and output.")
     parser.add_argument("--libpath",
-                        help="folders with : between them, in which packages are looked for beside a file's own")
-    parser.add_argument("--stdio", action="store_true", help="taken, since some editors give it; there is no other way")
+                        help="also look for packages in these folders, separated by colons")
+    parser.add_argument("--stdio", action="store_true", help="accepted for editors that pass it; there is no other way")
     asked = parser.parse_args(words)
     try:
         return Server(sys.stdin.buffer, sys.stdout.buffer, asked.libpath.split(":") if asked.libpath else None).run()

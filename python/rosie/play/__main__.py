@@ -16,9 +16,9 @@ def parsed(words: Optional[List[str]]) -> argparse.Namespace:
     """The words of the command line."""
     parser = argparse.ArgumentParser(prog="rosie-play",
                                      description="Opens a page in the browser for making patterns by trying them.")
-    parser.add_argument("--libpath", help="folders with : between them, in which packages are looked for")
-    parser.add_argument("--port", type=int, default=0, help="the port on 127.0.0.1; by default any that is free")
-    parser.add_argument("--no-browser", action="store_true", help="print the address, and open nothing")
+    parser.add_argument("--libpath", help="look for packages in these folders, separated by colons")
+    parser.add_argument("--port", type=int, default=0, help="the port on 127.0.0.1; by default any free port")
+    parser.add_argument("--no-browser", action="store_true", help="print the address, but don't open the browser")
     return parser.parse_args(words)
 
 
