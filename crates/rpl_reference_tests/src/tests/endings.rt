@@ -1,12 +1,13 @@
 // The result of a goal: the verdict of the check and the compiler, and its ending on a line by
 // its meaning and by both machines.
 ghost use Rattle.std.specs.Prelude.{◌≡◌, ◌<◌};
+ghost use Rattle.rpl_machine.specs.Known.{IsMemoOf};
 
 use crate::tests::shown::{show_match, show_outcome, show_plain};
 use rpl_check::{CheckFault, check, check_pattern};
 use rpl_codegen::compile;
 use rpl_core::{Peg, Program, Rules, calls_are_rules, is_in_order};
-use rpl_machine::{Answer, Scratch, Steps, run};
+use rpl_machine::{Answer, Memo, Scratch, Steps, run};
 use rpl_reference::{Outcome, Over, evaluate};
 use rpl_text::Text;
 use std::alloc::{AllocError, Global};
@@ -16,8 +17,10 @@ use std::sync::ledger::{Blank, Ledger};
 /// The most steps that a run may make.
 const BUDGET: u64 = 100_000;
 
-/// The most turns and calls that may be nested.
+/// The most turns and calls that may be nested, on a short text and on one of up to 140 characters.
 const DEPTH: u32 = 40;
+
+const LONG_DEPTH: u32 = 180;
 
 /// An answer as text, and its cost: work, or steps. It is `open` if it isn't found within the
 /// depth or the budget.
@@ -55,7 +58,8 @@ pub(crate) fn meant(
         rules,
         text: &chars,
     };
-    let outcome = evaluate(&over, DEPTH, goal, 0)?;
+    let depth = if chars.len() < 40 { DEPTH } else { LONG_DEPTH };
+    let outcome = evaluate(&over, depth, goal, 0)?;
     let cost = match &outcome {
         Outcome::Open => 0,
         Outcome::Fail { work } | Outcome::At { work, .. } | Outcome::HaltAt { work, .. } => *work,
@@ -124,15 +128,33 @@ fn answer_on<L: Ledger>(
     run(program, line, BUDGET, scratch, &mut steps).ok()
 }
 
-/// Returns the ending of the machine, with its steps. If it has no answer, the ending is `open`
-/// too.
-pub(crate) fn real(
+/// Returns the answer of the machine, if it has one, with what the memo knows of the program.
+fn learned_on<L: Ledger>(
+    program: &Program,
+    line: Text<'_>,
+    memo: &mut Memo,
+    scratch: &mut Scratch,
+    blank: Blank,
+) -> Option<Answer>
+    requires name { blank.name ≡ L.name }
+    requires parts { blank.parts ≡ L.parts }
+    requires some { 0 < blank.parts }
+    requires memo { IsMemoOf program.now memo.old }
+    ensures { IsMemoOf program.now memo.new }
+{
+    let mut steps = Steps::<L>::new(blank);
+    memo.run(program, line, BUDGET, scratch, &mut steps).ok()
+}
+
+/// Returns the ending of an answer of the machine. Without an answer the ending is `open` too.
+fn make_ending(
     alloc: Global,
     program: &Program,
     line: &str,
-    scratch: &mut Scratch,
+    answer: Option<Answer>,
+    scratch: &Scratch,
 ) -> Result<Ending, AllocError> {
-    match answer_on::<Brand>(program, Text::new(line), scratch, Blank::new(1)) {
+    match answer {
         Some(Answer::At { place, steps }) => {
             let shown = show_match(alloc, program, line, scratch.captures(), place)?;
             Ok(Ending { shown, cost: steps })
@@ -143,4 +165,39 @@ pub(crate) fn real(
         }
         None => open(alloc),
     }
+}
+
+/// Returns the ending of the machine, with its steps.
+pub(crate) fn real(
+    alloc: Global,
+    program: &Program,
+    line: &str,
+    scratch: &mut Scratch,
+) -> Result<Ending, AllocError> {
+    let answer = answer_on::<Brand>(program, Text::new(line), scratch, Blank::new(1));
+    make_ending(alloc, program, line, answer, scratch)
+}
+
+/// Returns whether two endings are the same, after the same number of steps.
+fn is_same(one: &Ending, other: &Ending) -> bool {
+    one.cost == other.cost && one.shown.as_str() == other.shown.as_str()
+}
+
+/// Returns whether two runs of the machine end as `due`, if they share what they learn of the
+/// program's searches: the first run learns it, and the second one uses it.
+pub(crate) fn is_learned(
+    alloc: Global,
+    program: &Program,
+    line: &str,
+    scratch: &mut Scratch,
+    due: &Ending,
+) -> Result<bool, AllocError> {
+    let Ok(mut memo) = Memo::new(alloc) else {
+        return Ok(false);
+    };
+    let answer = learned_on::<Brand>(program, Text::new(line), &mut memo, scratch, Blank::new(1));
+    let first = make_ending(alloc, program, line, answer, scratch)?;
+    let answer = learned_on::<Brand>(program, Text::new(line), &mut memo, scratch, Blank::new(1));
+    let second = make_ending(alloc, program, line, answer, scratch)?;
+    Ok(is_same(&first, due) && is_same(&second, due))
 }

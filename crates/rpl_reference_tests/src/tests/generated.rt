@@ -1,6 +1,6 @@
 // Two thousand generated patterns and texts, tried by their meaning, by the plain machine and
 // by the machine.
-use crate::tests::endings::{Judged, judge, meant, plain, real};
+use crate::tests::endings::{Judged, is_learned, judge, meant, plain, real};
 use crate::tests::made::{Made, generator, make};
 use rpl_machine::Scratch;
 use std::alloc::{AllocError, Global};
@@ -9,7 +9,8 @@ use std::test::Fail;
 const COUNT: u32 = 2_000;
 
 /// Returns the ending that is meant, if both machines answer it in the same number of steps,
-/// and that number is at most four times the work plus two. Returns an empty text if not.
+/// whether or not they know the searches of the program, and that number is at most four times
+/// the work plus two. Returns an empty text if not.
 fn agreed(alloc: Global, made: Made, scratch: &mut Scratch) -> Result<String, AllocError> {
     let Made { rules, goal, text } = made;
     let meant = meant(alloc, &rules, &goal, text.as_str())?;
@@ -18,6 +19,9 @@ fn agreed(alloc: Global, made: Made, scratch: &mut Scratch) -> Result<String, Al
     };
     let plain = plain(alloc, &program, text.as_str())?;
     let real = real(alloc, &program, text.as_str(), scratch)?;
+    if !is_learned(alloc, &program, text.as_str(), scratch, &plain)? {
+        return Ok(String::new(alloc));
+    }
     if plain.shown.as_str() == meant.shown.as_str()
         && real.shown.as_str() == meant.shown.as_str()
         && real.cost == plain.cost
@@ -28,15 +32,25 @@ fn agreed(alloc: Global, made: Made, scratch: &mut Scratch) -> Result<String, Al
     Ok(String::new(alloc))
 }
 
-/// The number of endings of each kind.
+/// The number of endings of each kind, and of those on long texts.
 #[derive(Drop)]
 struct Endings {
     failed: u32,
     matched: u32,
     captured: u32,
+    long_failed: u32,
+    long_matched: u32,
 }
 
 impl Endings {
+    fn add_long(&mut self, shown: &str) {
+        let count = match shown {
+            "fail" => &mut self.long_failed,
+            _ => &mut self.long_matched,
+        };
+        *count = count.saturating_add(1);
+    }
+
     fn add(&mut self, shown: &str) {
         let count = match shown {
             "fail" => &mut self.failed,
@@ -58,13 +72,20 @@ fn machines_answer_what_is_meant(rt: HostRuntime) -> Result<(), Fail> {
         failed: 0,
         matched: 0,
         captured: 0,
+        long_failed: 0,
+        long_matched: 0,
     };
     for number in 0..COUNT {
         let made = make(rt.alloc(), &mut random)?;
+        let is_long = made.text.len() >= 40;
         let shown = agreed(rt.alloc(), made, &mut scratch)?;
         assert!(rt; !shown.is_empty(), "{number}");
         endings.add(shown.as_str());
+        if is_long {
+            endings.add_long(shown.as_str());
+        }
     }
     assert!(rt; endings.failed > 300 && endings.matched > 300 && endings.captured > 100);
+    assert!(rt; endings.long_failed > 50 && endings.long_matched > 50);
     Ok(())
 }

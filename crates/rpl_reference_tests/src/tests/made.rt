@@ -2,10 +2,11 @@
 // their parts: `S` is a set, `P` the pattern made last, and `C` a call of a rule. An entry that
 // is twice in a table is taken more often.
 //
-// A goal of `make` has a meaning on every text. A repeated body begins with a set, so each turn
-// takes a character. A rule does too, so calls end. No halt is inside a predicate, since all
-// predicates are leaves if there are halts. In a goal of `make_wild` anything may be wrong,
-// even the order of the table.
+// A goal of `make` has a meaning on every text. A repeated body has a set that it can't leave out,
+// so each turn takes a character. A rule begins with a set, so calls end. No halt is inside a
+// predicate, since all predicates are leaves if there are halts. One text in nine is long; its goal
+// calls no rule, since a rule that calls itself in two ways can take ever more steps, twice as many
+// for each character. In a goal of `make_wild` anything may be wrong, even the order of the table.
 use crate::tests::names::is_new;
 use rand::RngExt;
 use rand::seq::IndexedRandom;
@@ -16,7 +17,7 @@ use rpl_text::Chars;
 use std::alloc::{AllocError, Global};
 
 /// The sets, each by its first and its last character.
-static SETS: [[char; 2]; 9] = [
+static SETS: [[char; 2]; 10] = [
     ['a', 'a'],
     ['a', 'a'],
     ['b', 'b'],
@@ -26,10 +27,14 @@ static SETS: [[char; 2]; 9] = [
     ['a', 'b'],
     ['b', 'c'],
     ['a', '\u{e9}'],
+    ['\u{e9}', '\u{1f642}'],
 ];
 
-/// The letters of the texts.
+/// The letters of the short texts.
 static LETTERS: [&str; 5] = ["a", "a", "b", "c", "\u{e9}"];
+
+/// The letters of the long texts, in which they have one to four bytes.
+static WIDE_LETTERS: [&str; 6] = ["a", "b", "c", "\u{e9}", "\u{20ac}", "\u{1f642}"];
 
 /// Patterns without parts.
 static LEAVES: [&str; 16] = [
@@ -74,8 +79,22 @@ static JOINS: [&str; 6] = [
     "P P seq2 C choice2",
 ];
 
-/// Patterns that take nothing, or that look ahead.
-static PREDICATES: [&str; 4] = ["P not", "P and", "P not not", "P not S seq2"];
+/// Patterns that look ahead. The last one searches, for what its second part matches.
+static PREDICATES: [&str; 5] = [
+    "P not",
+    "P and",
+    "P not not",
+    "P not S seq2",
+    "P not any seq2 many P seq2",
+];
+
+/// Templates for a goal that searches: for a part, for a set, and for a text between two parts.
+static SEARCHES: [&str; 4] = [
+    "P not any seq2 many P seq2",
+    "S not any seq2 many P seq2 cap:*",
+    "S S S choice3 not any seq2 many P seq2",
+    "P P choice2 not any seq2 many S cap:x seq2",
+];
 
 /// Patterns that end the match.
 static HALTS: [&str; 4] = [
@@ -158,6 +177,11 @@ fn set(alloc: Global, random: &mut Pcg32) -> Result<Peg, AllocError> {
     Ok(Peg::Set(Set::range(alloc, low, high)?))
 }
 
+/// Returns the set of all characters.
+fn any(alloc: Global) -> Result<Peg, AllocError> {
+    Ok(Peg::Set(Set::range(alloc, '\0', '\u{10ffff}')?))
+}
+
 /// Returns a call of a rule, or a set if there is no rule.
 fn call(alloc: Global, random: &mut Pcg32, limits: Limits) -> Result<Peg, AllocError> {
     if limits.rules == 0 {
@@ -234,6 +258,7 @@ fn fill(
         let peg = match word {
             "S" => set(alloc, random)?,
             "C" => call(alloc, random, limits)?,
+            "any" => any(alloc)?,
             "P" => match parts.pop() {
                 Some(part) => part,
                 None => set(alloc, random)?,
@@ -318,6 +343,27 @@ fn text(alloc: Global, random: &mut Pcg32) -> Result<String, AllocError> {
     Ok(text)
 }
 
+/// Returns a text of 40 to 140 letters, in runs of equal ones.
+fn long_text(alloc: Global, random: &mut Pcg32) -> Result<String, AllocError> {
+    let mut text = String::new(alloc);
+    let mut letter = "a";
+    for _ in 0..random.random_range(40..141) {
+        if random.random_range(0..5) == 0 {
+            letter = pick(random, &WIDE_LETTERS);
+        }
+        text.push_str(letter)?;
+    }
+    Ok(text)
+}
+
+/// Returns the template of the next goal.
+fn goal_template(random: &mut Pcg32, limits: Limits) -> &'static str {
+    if !limits.may_halt && random.random_range(0..2) == 0 {
+        return pick(random, &SEARCHES);
+    }
+    pick(random, &GOALS)
+}
+
 /// Returns the next goal, with its rules and a text.
 pub(crate) fn make(alloc: Global, random: &mut Pcg32) -> Result<Made, AllocError> {
     let limits = Limits {
@@ -325,9 +371,13 @@ pub(crate) fn make(alloc: Global, random: &mut Pcg32) -> Result<Made, AllocError
         may_halt: random.random_range(0..3) == 0,
     };
     let rules = rules(alloc, random, limits)?;
-    let last = pick(random, &GOALS);
+    let last = goal_template(random, limits);
     let goal = pattern(alloc, random, limits, last)?;
-    let text = text(alloc, random)?;
+    let text = if limits.rules == 0 && random.random_range(0..3) == 0 {
+        long_text(alloc, random)?
+    } else {
+        text(alloc, random)?
+    };
     Ok(Made { rules, goal, text })
 }
 
