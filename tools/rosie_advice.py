@@ -15,7 +15,7 @@ import re
 import subprocess
 import time
 
-from rosie_rpl import KEYWORDS, items, statement_end, tokens, wrong_place
+from rosie_rpl import CLOSERS, KEYWORDS, comments, items, statement_end, tokens, wrong_place
 
 HERE = os.path.dirname(os.path.realpath(__file__))
 COMMANDS = "match grep test list expand trace sample repl compile class".split()
@@ -365,6 +365,16 @@ def alternation(case, groups):
 
 
 @detector
+def escaped_sign(case, groups):
+    """A backslash before a sign, which isn't in what was a bracket: then the next of its signs is a `]`."""
+    found = re.compile(r'\\([^\w\s\\"])').match(case.text, case.place)
+    if not found or case.text[: case.place].endswith('"'):
+        return None
+    was_bracket = re.compile(r"(?:\\.|[^\[\]\\])*\]", re.DOTALL).match(case.text, found.end())
+    return None if was_bracket else [found[0], found[1]]
+
+
+@detector
 def later_rule(case, groups):
     statement = re.compile(r"[A-Za-z]\w*").match(case.window.lstrip())
     is_own = statement and statement[0] == groups[0]
@@ -467,8 +477,18 @@ def on_what(what):
     return look
 
 
-for kind in ("empty group", "open group", "other close", "extra close", "colon"):
+for kind in ("empty group", "open group", "other close", "extra close", "colon", "second quantifier"):
     DETECTORS[kind.replace(" ", "_")] = on_what(kind)
+
+
+@detector
+def hidden_close(case, groups):
+    """An open group whose close is in a comment."""
+    if case.what != "open group":
+        return None
+    sign = case.text[case.place]
+    after = [token for token in comments(case.window) if token.start > case.place - case.start]
+    return [sign, CLOSERS[sign]] if any(CLOSERS[sign] in token.text for token in after) else None
 
 
 @detector

@@ -58,18 +58,26 @@ def qualified_parts(token):
     return [Token("name", first, token.start), Token("sign", ".", dot), Token("name", second, dot + 1)]
 
 
-def tokens(text):
-    """All tokens but blanks and comments. What is none is a token `bad` of one byte."""
-    at, found = 0, []
+def pieces(text):
+    """All tokens, blanks and comments among them. What is none is a token `bad` of one byte."""
+    at = 0
     while at < len(text):
         end = bracket_end(text, at) if text[at] == "[" else None
-        if end:
-            found.append(Token("bracket", text[at:end], at))
-            at = end
-            continue
-        match = TOKEN.match(text, at)
-        token = Token(match.lastgroup, match[0], at)
+        match = None if end else TOKEN.match(text, at)
+        token = Token(match.lastgroup, match[0], at) if match else Token("bracket", text[at:end], at)
         at = token.end
+        yield token
+
+
+def comments(text):
+    """The comments of a text, as tokens."""
+    return [token for token in pieces(text) if token.kind == "blank" and token.text.startswith("--")]
+
+
+def tokens(text):
+    """All tokens but blanks and comments."""
+    found = []
+    for token in pieces(text):
         if token.kind != "blank":
             found += qualified_parts(token) if token.kind == "qualified" else [token]
     for token in found:
@@ -95,7 +103,7 @@ class Reader:
     """Reads expressions and statements from tokens."""
 
     def __init__(self, found):
-        self.found = found
+        self.found, self.groups = found, []
 
     def token(self, i):
         return self.found[i] if i < len(self.found) else Token("end", "", 0)
@@ -112,7 +120,8 @@ class Reader:
         while self.begins_item(i):
             i = self.item(i)
         if i == begun:
-            raise Wrong(i, self.why_no_item(i, begun, opened), opened)
+            what = self.why_no_item(i, begun, opened)
+            raise Wrong(i, what, i - 1 if what == "open group" else opened)
         return i
 
     def begins_item(self, i):
@@ -121,10 +130,21 @@ class Reader:
             return True
         return (token.kind == "name" or token.is_sign("~")) and not binds(self.found, i)
 
+    def left_open(self):
+        """How many more groups are opened than closed."""
+        return sum(token.is_sign("({") - token.is_sign(")}") for token in self.found)
+
     def why_no_item(self, i, begun, opened):
         token = self.token(i)
+        # A brace too many beside a sign of a choice is what is wrong, and not the choice.
+        if token.is_sign("/&") and i and self.token(i - 1).is_sign("({") and self.left_open() > 0:
+            return "open group"
+        if token.is_sign(")}") and i and self.token(i - 1).is_sign("/&") and self.left_open() < 0:
+            return "extra close"
         if token.is_quantifier():
             return "nothing to repeat"
+        if token.is_sign(",:="):
+            return self.why_not_on(i)
         if token.kind in ("number", "keyword", "bad"):
             return token.kind
         if token.is_sign(")}") and begun and self.token(begun - 1) is self.token(opened if opened is not None else -1):
@@ -141,7 +161,8 @@ class Reader:
         if self.token(i).is_quantifier():
             i += 1
             if self.token(i).is_quantifier():
-                raise Wrong(i, "second quantifier")
+                is_open = self.left_open() > 0 and self.groups
+                raise Wrong(i, "open group" if is_open else "second quantifier", self.groups[-1] if is_open else None)
         return i
 
     def needed_item(self, i):
@@ -153,7 +174,9 @@ class Reader:
         token = self.token(i)
         if not token.is_sign("({"):
             return i + 1
+        self.groups.append(i)
         closed = self.expression(i + 1, i)
+        self.groups.pop()
         if self.token(closed).is_sign(CLOSERS[token.text]):
             return closed + 1
         if self.token(closed).is_sign(")}"):

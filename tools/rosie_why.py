@@ -297,7 +297,7 @@ WHOLE, FIXED = ("-w", "--wholefile"), ("-F", "--fixed-strings")
 
 
 class Asked:
-    """A pattern, the options of the words, and the program to ask; with `search` the pattern may stand anywhere in a line."""
+    """A pattern, the options of the words, and the program to ask; with `search` it may stand anywhere in a line."""
 
     def __init__(self, pattern, options=(), limit=None, program=None, search=False):
         self.pattern, self.options, self.limit, self.search = pattern, list(options), limit, search
