@@ -5,6 +5,8 @@ SHARE = $(DESTDIR)$(PREFIX)/share
 PROGRAM = crates/rosie/out/rosie
 COLUMNS_PROGRAM = crates/rosie_columns/out/rosie_columns
 DOCUMENTS = docs/COMMAND.md docs/COLUMNS.md docs/LANGUAGE.md docs/TUTORIAL.md docs/RECIPES.md docs/MESSAGES.md docs/HINTS.md CHANGELOG.md SECURITY.md LICENSE docs/COMING-FROM.md docs/PACKAGES.md docs/SCALE.md
+# The programs whose words Tab completes.
+COMPLETED = rosie rosie-columns rosie-try rosie-play rosie-lsp
 TOOLS = rosie-at rosie-try rosie-why rosie-parallel
 # What the tools share. They look for it beside themselves, and then in share/rosie/tools.
 MODULES = advice.tsv rosie_advice.py rosie_findings.py rosie_messages.py rosie_reasons.py rosie_rpl.py rosie_why.py
@@ -105,7 +107,7 @@ install: build
 	for d in $$(cd python && find rosie -type d ! -name __pycache__); do \
 		install -d $(SHARE)/rosie/python/$$d && install -m 644 $$(find python/$$d -maxdepth 1 -type f) $(SHARE)/rosie/python/$$d || exit 1; done
 	install -m 644 python/README.md $(SHARE)/rosie/python
-	for p in rosie rosie-columns; do \
+	for p in $(COMPLETED); do \
 		install -m 644 completions/$$p.bash $(SHARE)/bash-completion/completions/$$p && \
 		install -m 644 completions/_$$p $(SHARE)/zsh/site-functions/_$$p && \
 		install -m 644 completions/$$p.fish $(SHARE)/fish/vendor_completions.d/$$p.fish || exit 1; done
@@ -118,7 +120,7 @@ uninstall:
 	rm -f $(BIN)/rosie $(BIN)/rosie-columns $(TOOLS:%=$(BIN)/%) $(SHARE)/man/man1/rosie.1 $(SHARE)/man/man1/rosie-columns.1 \
 		$(TOOLS:%=$(SHARE)/man/man1/%.1)
 	rm -f $(SHARE)/man/man7/rosie-language.7
-	for p in rosie rosie-columns; do rm -f $(SHARE)/bash-completion/completions/$$p \
+	for p in $(COMPLETED); do rm -f $(SHARE)/bash-completion/completions/$$p \
 		$(SHARE)/zsh/site-functions/_$$p $(SHARE)/fish/vendor_completions.d/$$p.fish; done
 	rm -f $(VIM:%=$(SHARE)/vim/vimfiles/%) $(VIM:%=$(SHARE)/nvim/site/%)
 	rm -rf $(SHARE)/rosie $(SHARE)/doc/rosie $(SHARE)/$(EMACS)
