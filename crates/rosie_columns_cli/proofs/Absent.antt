@@ -4,7 +4,8 @@ use Rattle.std.proofs.lemmas.Bool.{cases_lt}
 use Rattle.std.proofs.Math.Seq.{drop-cons}
 use Rattle.std.proofs.lemmas.List.{drop_all, drop-drop}
 use Rattle.rpl_columns.specs.declared.column.Column.{Column}
-use Rattle.rosie_columns_cli.specs.Absent.{absent_line, absent_text, unfound}
+use Rattle.rosie_columns_cli.specs.Absent.{absent_line, absent_text}
+use Rattle.rosie_columns_cli.specs.inside.Marks.{unfound}
 
 unfound_next : (cs : List Column) (marks : List Bool) (i : ℕ) (c : Column) (d : Bool) → i < length cs → i < length marks → c ≡ get_or cs i c → unfound (drop i cs) (drop i marks) ≡ unfound (c ∷ drop (i + 1) cs) (get_or marks i d ∷ drop (i + 1) marks)
 unfound_next cs marks i c d lt lm is =

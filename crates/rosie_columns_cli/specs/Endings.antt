@@ -15,3 +15,8 @@ number_of (Ran status) = code_of status
 abbrev pub ending_of : Status → Bool → Ending
 ending_of S.Matched true = Absent
 ending_of status absent = Ran status
+
+-- how the run of an ending ended
+abbrev pub status_in : Ending → Status
+status_in Absent = S.Matched
+status_in (Ran status) = status

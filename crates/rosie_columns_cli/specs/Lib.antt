@@ -3,5 +3,7 @@ pub mod Endings
 pub mod Faults
 pub mod Lines
 pub mod Piped
-pub mod Views
+pub mod Report
+pub mod RosieColumns
 pub mod Words
+pub mod inside

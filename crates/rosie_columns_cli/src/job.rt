@@ -1,6 +1,8 @@
 // The output for a line: a row, or a message.
-ghost use Rattle.std.specs.Prelude.{◌≡◌, ◌++◌, IfOk, OnOk};
-ghost use Rattle.rosie_columns_cli.specs.Absent.{absent_line, absent_text, unfound};
+ghost use Rattle.std.specs.Prelude.{◌≡◌, ◌++◌, IfOk, OnOk, map};
+ghost use Rattle.rpl_columns.specs.Nodes.{seen};
+ghost use Rattle.rosie_columns_cli.specs.Absent.{absent_line, absent_text};
+ghost use Rattle.rosie_columns_cli.specs.inside.Marks.{noted, unfound};
 
 use crate::NoMemory;
 use rosie_run::{InputLine, LineJob, Mark, Tool, line_message};
@@ -23,7 +25,10 @@ pub struct ColumnsJob<'a> {
 }
 
 /// Records which columns take a node of the tree.
-fn note_found(found: &mut [bool], columns: &[Column], tree: Tree<'_>) {
+fn note_found(found: &mut [bool], columns: &[Column], tree: Tree<'_>)
+    ensures { found.new ≡ noted columns.now found.old
+        (map (seen tree.entry.line.now) tree.entry.nodes.now) }
+{
     let count = found.len().min(columns.len());
     for index in 0..count {
         if !found[index] {
@@ -63,10 +68,13 @@ fn absent_lines(alloc: Global, columns: &[Column], found: &[bool]) -> Result<Vec
 }
 
 impl<'a> ColumnsJob<'a> {
-    ghost use Rattle.rosie_columns_cli.specs.Views.{found_of, sheet_of};
+    ghost use Rattle.std.specs.Prelude.{false, length, replicate};
+    ghost use Rattle.rosie_columns_cli.specs.inside.Marks.{found_of, sheet_of};
 
     pub fn new(alloc: Global, sheet: &'a Sheet) -> Result<ColumnsJob<'a>, NoMemory>
-        ensures { IfOk result (λ job. sheet_of job ≡ sheet.entry.now) }
+        ensures sheet { IfOk result (λ job. sheet_of job ≡ sheet.entry.now) }
+        ensures found { IfOk result (λ job. found_of job
+            ≡ replicate (length sheet.entry.now.columns) false) }
     {
         let count = sheet.columns.as_slice().len();
         Ok(ColumnsJob {
@@ -90,14 +98,19 @@ impl<'a> ColumnsJob<'a> {
 }
 
 impl LineJob for ColumnsJob<'_> {
-    ghost use Rattle.std.specs.Prelude.{string_bytes};
+    ghost use Rattle.std.specs.Prelude.{string_bytes, ⊤};
     ghost use Rattle.rosie_columns_cli.specs.Lines.{makes};
+    ghost use Rattle.rosie_columns_cli.specs.inside.Marks.{said_after};
 
     ghost makes = { λ j. makes j.sheet.now };
+
+    ghost idle = { ⊤ };
 
     ghost out_text = { λ j. j.row.items };
 
     ghost err_text = { λ j. string_bytes j.message };
+
+    ghost last_text = { λ j lines. said_after j.sheet.now j.found.items lines };
 
     fn answer<L: Ledger>(
         &mut self,

@@ -1,5 +1,22 @@
 // The top call.
-ghost use Rattle.std.specs.Prelude.{◌≡◌};
+ghost use Rattle.std.specs.Prelude.{◌≡◌, ◌≢◌, ◌∷◌, [], ℕ, List, Ok, true, false, IfErr, IfOk};
+ghost use Rattle.rpl_columns.specs.Rows.{header};
+ghost use Rattle.rosie_run.specs.Causes.{Flushes};
+ghost use Rattle.rosie_run.specs.Devices.{InputsCause, OutputsCause, SameInputs, SameOutputs};
+ghost use Rattle.rosie_run.specs.Devices.{course};
+ghost use Rattle.rosie_run.specs.Inputs.{AreTold, reads_standard};
+ghost use Rattle.rosie_run.specs.Outputs.{shown, telling};
+ghost use Rattle.rosie_run.specs.Report.{Piece, stop_piece};
+ghost use Rattle.rosie_run.specs.Runs.{GoesOn, IsNoCut, Runs, WritesCause};
+ghost use Rattle.rosie_run.specs.Where.{Nowhere};
+ghost use Rattle.rosie_run.specs.declared.tool.Tool.TheVariants.{RosieColumns};
+ghost use Rattle.rosie_columns_cli.specs.Endings.{status_in};
+ghost use Rattle.rosie_columns_cli.specs.Faults.{refusal};
+ghost use Rattle.rosie_columns_cli.specs.Report.{by_lines, header_text, inputs_of, last_text};
+ghost use Rattle.rosie_columns_cli.specs.RosieColumns.{Answers, IsRefused, call, names};
+ghost use Rattle.rosie_columns_cli.specs.Words.{reading, words_of};
+ghost use Rattle.rosie_columns_cli.specs.declared.fault.WordFault.TheVariants as V;
+ghost use Rattle.rosie_columns_cli.specs.inside.Running.{RunsAsked, RunsRows, call_over};
 
 use crate::NoMemory;
 use crate::ending::Ending;
@@ -10,7 +27,7 @@ use rosie_io::{Files, Sink, Source};
 use rosie_run::{
     Ended, Inputs, Mark, Outputs, Reading, Tally, Tool, Wanted, finish, run_inputs, say,
 };
-use rpl_columns::{Sheet, put_header};
+use rpl_columns::put_header;
 use rpl_machine::Steps;
 use std::alloc::Global;
 use std::sync::ledger::Ledger;
@@ -40,59 +57,114 @@ fn outputs_of<'a, O: Sink, E: Sink, L: Ledger>(
 /// The greatest number of bytes in a line: that of an answer of `rosie`.
 const MAX_LINE_BYTES: usize = 67_108_864;
 
-/// The result of a run over the inputs.
-#[derive(Drop)]
-struct Ran {
-    tally: Tally,
-    /// Whether, for some column, no tree had a node.
-    is_absent: bool,
+/// Returns how the inputs are read.
+fn by_lines() -> Reading
+    ensures { result ≡ by_lines }
+{
+    Reading {
+        tool: Tool::RosieColumns,
+        whole: false,
+        most: MAX_LINE_BYTES,
+    }
 }
 
 /// Returns the header, or nothing if none is wanted.
-fn header_of(alloc: Global, sheet: &Sheet, no_header: bool) -> Result<Vec<u8>, NoMemory> {
+fn header_of(alloc: Global, asked: &Asked) -> Result<Vec<u8>, NoMemory>
+    ensures { IfOk result (λ text. text.items ≡ header_text asked.now) }
+{
     let mut header = Vec::new(alloc);
-    if !no_header {
-        put_header(&mut header, sheet)?;
+    if !asked.no_header {
+        put_header(&mut header, &asked.sheet)?;
     }
     Ok(header)
 }
 
-/// Returns the text for the end of a run: the columns that no tree had, if there was a tree.
-fn last_text(alloc: Global, job: &ColumnsJob<'_>, is_hit: bool) -> Result<Vec<u8>, NoMemory> {
-    if is_hit {
-        job.absent()
-    } else {
-        Ok(Vec::new(alloc))
+/// Writes the row or the message of each line. If there was a tree, it sets `last` to the text for
+/// the end of the run: the columns that no tree had.
+fn run_rows<F: Files, I: Source, O: Sink, E: Sink, L: Ledger>(
+    alloc: Global,
+    asked: &Asked,
+    last: &mut Vec<u8>,
+    inputs: &mut Inputs<'_, F, I>,
+    outputs: &mut Outputs<'_, O, E, L>,
+) -> Result<Tally, Ended>
+    requires { last.old.items ≡ [] }
+    ensures same_inputs { SameInputs inputs.old inputs.new }
+    ensures same_outputs { SameOutputs outputs.old outputs.new }
+    ensures runs { RunsRows result asked.now (course RosieColumns F.Source I.Source O.Sink E.Sink
+        inputs.old inputs.new outputs.old outputs.new) }
+    ensures last { AreTold (inputs_of asked.now) F.tells I.tells → GoesOn result (last.new.items
+        ≡ last_text asked.now (F.tree inputs.old.files.now) (I.rest inputs.old.input.now)) }
+    ensures rest { AreTold (inputs_of asked.now) F.tells I.tells → GoesOn result
+        (reads_standard (inputs_of asked.now) ≡ true → I.rest inputs.new.input.now ≡ []) }
+    ensures unread { reads_standard (inputs_of asked.now) ≡ false →
+        inputs.new.input.now ≡ inputs.old.input.now }
+    ensures idle { outputs.new.steps.now ≡ outputs.old.steps.now }
+    ensures cause { InputsCause F.Source I.Source result inputs.old inputs.new }
+    ensures sinks { OutputsCause O.Sink E.Sink result outputs.old outputs.new }
+{
+    let Ok(mut job) = ColumnsJob::new(alloc, &asked.sheet) else {
+        return Err(Ended::NoMemory);
+    };
+    let names = asked.names.as_slice();
+    let reading = by_lines();
+    let tally = match run_inputs(alloc, &mut job, Wanted { names, reading }, inputs, outputs) {
+        Ok(tally) => tally,
+        Err(ended) => return Err(ended),
+    };
+    if !tally.hit {
+        return Ok(tally);
     }
+    let Ok(text) = job.absent() else {
+        return Err(Ended::NoMemory);
+    };
+    *last = text;
+    Ok(tally)
 }
 
-/// Writes the header, a row for each tree of the inputs, and the columns that no tree had.
+/// Writes the header, the rows, and at the end the columns that no tree had, which it leaves in
+/// `last`.
 fn run_asked<F: Files, I: Source, O: Sink, E: Sink, L: Ledger>(
     alloc: Global,
     asked: &Asked,
+    last: &mut Vec<u8>,
     inputs: &mut Inputs<'_, F, I>,
     outputs: &mut Outputs<'_, O, E, L>,
-) -> Result<Ran, Ended> {
-    let header = header_of(alloc, &asked.sheet, asked.no_header)?;
-    let first = say(outputs.out, outputs.err, &header, &[], Mark::Miss)?;
-    let mut job = ColumnsJob::new(alloc, &asked.sheet)?;
-    let reading = Reading {
-        tool: Tool::RosieColumns,
-        whole: false,
-        most: MAX_LINE_BYTES,
+) -> Result<Tally, Ended>
+    requires { last.old.items ≡ [] }
+    ensures same_inputs { SameInputs inputs.old inputs.new }
+    ensures same_outputs { SameOutputs outputs.old outputs.new }
+    ensures runs { RunsAsked result asked.now (course RosieColumns F.Source I.Source O.Sink E.Sink
+        inputs.old inputs.new outputs.old outputs.new) }
+    ensures last { AreTold (inputs_of asked.now) F.tells I.tells → GoesOn result (last.new.items
+        ≡ last_text asked.now (F.tree inputs.old.files.now) (I.rest inputs.old.input.now)) }
+    ensures rest { AreTold (inputs_of asked.now) F.tells I.tells → GoesOn result
+        (reads_standard (inputs_of asked.now) ≡ true → I.rest inputs.new.input.now ≡ []) }
+    ensures unread { reads_standard (inputs_of asked.now) ≡ false →
+        inputs.new.input.now ≡ inputs.old.input.now }
+    ensures idle { outputs.new.steps.now ≡ outputs.old.steps.now }
+    ensures cause { InputsCause F.Source I.Source result inputs.old inputs.new }
+    ensures sinks { OutputsCause O.Sink E.Sink result outputs.old outputs.new }
+{
+    let Ok(header) = header_of(alloc, asked) else {
+        return Err(Ended::NoMemory);
     };
-    let names = asked.names.as_slice();
-    let rest = run_inputs(alloc, &mut job, Wanted { names, reading }, inputs, outputs)?;
-    let tally = first.and(rest);
+    let first = match say(outputs.out, outputs.err, &header, &[], Mark::Miss) {
+        Ok(first) => first,
+        Err(ended) => return Err(ended),
+    };
+    let rows = match run_rows(alloc, asked, last, inputs, outputs) {
+        Ok(rows) => rows,
+        Err(ended) => return Err(ended),
+    };
+    let tally = first.and(rows);
     if tally.stop {
-        let is_absent = false;
-        return Ok(Ran { tally, is_absent });
+        return Ok(tally);
     }
-    let text = last_text(alloc, &job, tally.hit)?;
-    let last = say(outputs.out, outputs.err, &[], &text, Mark::Miss)?;
-    let is_absent = !text.is_empty();
-    let tally = tally.and(last);
-    Ok(Ran { tally, is_absent })
+    match say(outputs.out, outputs.err, &[], last, Mark::Miss) {
+        Ok(end) => Ok(tally.and(end)),
+        Err(ended) => Err(ended),
+    }
 }
 
 /// Refuses the command line.
@@ -101,34 +173,72 @@ fn refuse<O: Sink, E: Sink>(
     fault: WordFault,
     out: &mut O,
     err: &mut E,
-) -> Result<Tally, Ended> {
+) -> Result<Tally, Ended>
+    ensures runs { (ps : List Piece) (n : ℕ) →
+        (fault ≢ V.NoMemory → ps ≡ stop_piece (refusal fault) ∷ []) → Runs result
+        (telling RosieColumns O.Sink E.Sink) ps Nowhere
+        (shown O.Sink E.Sink out.old err.old n)
+        (shown O.Sink E.Sink out.new err.new n) }
+    ensures stops { IfOk result (λ tally. tally.stop ≡ true) }
+    ensures no_cut { IfErr result IsNoCut }
+    ensures sinks { WritesCause result (O.faults out.old) (O.faults out.new) (E.faults err.old)
+        (E.faults err.new) }
+{
     if let WordFault::NoMemory = fault {
         return Err(Ended::NoMemory);
     }
-    let text = refusal(alloc, &fault)?;
-    say(out, err, &[], text.as_bytes(), Mark::Stop)
-}
-
-/// Ends a run over the inputs.
-fn end<O: Sink, E: Sink>(out: &mut O, err: &mut E, run: Result<Ran, Ended>) -> Ending {
-    match run {
-        Ok(ran) => Ending::of(finish(out, err, Ok(ran.tally)), ran.is_absent),
-        Err(ended) => Ending::Ran(finish(out, err, Err(ended))),
+    match refusal(alloc, &fault) {
+        Ok(text) => say(out, err, &[], text.as_bytes(), Mark::Stop),
+        Err(_) => Err(Ended::NoMemory),
     }
 }
 
 /// Runs what the words ask for, and ends the run.
+fn answer<F: Files, I: Source, O: Sink, E: Sink, L: Ledger>(
+    alloc: Global,
+    asked: &Asked,
+    inputs: &mut Inputs<'_, F, I>,
+    outputs: &mut Outputs<'_, O, E, L>,
+) -> Ending
+    ensures same_inputs { SameInputs inputs.old inputs.new }
+    ensures same_outputs { SameOutputs outputs.old outputs.new }
+    ensures answers { Answers (call_over (Ok asked.now) F.Source I.Source O.Sink E.Sink
+        inputs.old inputs.new outputs.old outputs.new result) }
+    ensures unread { reads_standard (inputs_of asked.now) ≡ false →
+        inputs.new.input.now ≡ inputs.old.input.now }
+    ensures idle { outputs.new.steps.now ≡ outputs.old.steps.now }
+    ensures out_flushed { Flushes O.Sink (status_in result) outputs.new.out.now }
+    ensures err_flushed { Flushes E.Sink (status_in result) outputs.new.err.now }
+{
+    let mut last = Vec::new(alloc);
+    let run = run_asked(alloc, asked, &mut last, inputs, outputs);
+    let status = finish(outputs.out, outputs.err, run);
+    Ending::of(status, !last.is_empty())
+}
+
+/// Runs the program over inputs and outputs as one value each.
 fn run_words<F: Files, I: Source, O: Sink, E: Sink, L: Ledger>(
     alloc: Global,
     words: &[String],
     inputs: &mut Inputs<'_, F, I>,
     outputs: &mut Outputs<'_, O, E, L>,
-) -> Ending {
+) -> Ending
+    ensures same_inputs { SameInputs inputs.old inputs.new }
+    ensures same_outputs { SameOutputs outputs.old outputs.new }
+    ensures answers { Answers (call_over (reading (words_of words.now))
+        F.Source I.Source O.Sink E.Sink
+        inputs.old inputs.new outputs.old outputs.new result) }
+    ensures unread { reads_standard (names (reading (words_of words.now))) ≡ false →
+        inputs.new.input.now ≡ inputs.old.input.now }
+    ensures untouched { IsRefused (reading (words_of words.now)) →
+        (inputs.new.files.now ≡ inputs.old.files.now) ×
+        (inputs.new.input.now ≡ inputs.old.input.now) }
+    ensures idle { outputs.new.steps.now ≡ outputs.old.steps.now }
+    ensures out_flushed { Flushes O.Sink (status_in result) outputs.new.out.now }
+    ensures err_flushed { Flushes E.Sink (status_in result) outputs.new.err.now }
+{
     match read_words(alloc, words) {
-        Ok(asked) => {
-            let run = run_asked(alloc, &asked, inputs, outputs);
-            end(outputs.out, outputs.err, run)
-        }
+        Ok(asked) => answer(alloc, &asked, inputs, outputs),
         Err(fault) => {
             let run = refuse(alloc, fault, outputs.out, outputs.err);
             Ending::Ran(finish(outputs.out, outputs.err, run))
@@ -146,7 +256,27 @@ pub fn columns<F: Files, I: Source, O: Sink, E: Sink, L: Ledger>(
     out: &mut O,
     err: &mut E,
     steps: &mut Steps<L>,
-) -> Ending {
+) -> Ending
+    // What the call writes, answers and reads, by the report of what the words ask for:
+    // `specs/RosieColumns.antt`.
+    ensures answers { Answers (call (reading (words_of words.now)) F.Source I.Source O.Sink E.Sink
+        files.old files.new input.old input.new out.old out.new err.old err.new steps.old steps.new
+        result) }
+
+    // If standard input isn't among the inputs, nothing of it is read. A command line that is
+    // refused opens nothing.
+    ensures unread { reads_standard (names (reading (words_of words.now))) ≡ false →
+        input.new ≡ input.old }
+    ensures untouched { IsRefused (reading (words_of words.now)) → (files.new ≡ files.old) ×
+        (input.new ≡ input.old) }
+
+    // It takes no step of the machine.
+    ensures idle { steps.new ≡ steps.old }
+
+    // All is flushed, unless a write failed or memory ran out.
+    ensures out_flushed { Flushes O.Sink (status_in result) out.new }
+    ensures err_flushed { Flushes E.Sink (status_in result) err.new }
+{
     let mut inputs = Inputs { files, input };
     let mut outputs = outputs_of(out, err, steps);
     run_words(alloc, words, &mut inputs, &mut outputs)

@@ -1,5 +1,6 @@
 use Rattle.std.proofs.Common.{◌<◌, ◌+◌, ◌++◌, arith, ap, sym, ◌∙◌, drop, length, Vec, Global, ℕ, List}
-use Rattle.rosie_columns_cli.specs.Absent.{absent_text, unfound}
+use Rattle.rosie_columns_cli.specs.Absent.{absent_text}
+use Rattle.rosie_columns_cli.specs.inside.Marks.{unfound}
 use Rattle.rosie_columns_cli.proofs.Absent.{bare_next, marked_next, text_end, text_on, unfound_end}
 use Rattle.rosie_columns_cli.proofs.job.absent_lines.Goals as goal
 use Rattle.rosie_columns_cli.proofs.job.absent_lines.Goals.{then-not-found-index+in_ok-push_absent, else-not-found-index}

@@ -1,5 +1,6 @@
 use Rattle.std.proofs.Common.{◌≡◌, ◌++◌, drop}
-use Rattle.rosie_columns_cli.specs.Absent.{absent_text, unfound}
+use Rattle.rosie_columns_cli.specs.Absent.{absent_text}
+use Rattle.rosie_columns_cli.specs.inside.Marks.{unfound}
 use Rattle.rosie_columns_cli.proofs.job.absent_lines.Given as goal
 
 -- the lines that are written, and those that are left
