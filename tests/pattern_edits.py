@@ -1,8 +1,8 @@
 """Edits of right patterns, and which hints are right after each: tests/run_messages tries them.
 
-An edit drops, doubles or swaps a character or a word of a pattern, or puts one in. What it touched says which remedies
-are right: a hint on quotes where a quote was touched, one on groups where a brace was, and so on. RIGHT_TABLE says it of
-each habit of tools/advice.tsv.
+An edit drops, doubles or swaps a character or a word of a pattern, or puts one in. What it touched says which
+remedies are right: a hint on quotes where a quote was touched, one on groups where a brace was, and so on.
+RIGHT_TABLE says it of each habit of tools/advice.tsv.
 """
 import re
 
