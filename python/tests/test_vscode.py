@@ -1,6 +1,6 @@
 """The folder for VS Code: its manifest, and its client of rosie-lsp in Node with a stand-in for the editor.
 
-VS Code itself isn't run. What its schema of a manifest asks of the fields that stand here is checked by hand.
+VS Code itself isn't run. SCHEMA is a schema of our own, of the fields of a manifest that are used here.
 """
 import json
 import os
@@ -85,6 +85,57 @@ const until = async test => {
 """
 
 
+TEXT, TEXTS = {"type": str}, {"type": list, "items": {"type": str}}
+PROPERTY = {"type": dict, "required": ["type", "default", "description"], "properties": {
+    "type": {"type": str, "enum": ["string", "array", "boolean", "number"]}, "items": {"type": dict, "properties": {
+        "type": {"type": str, "enum": ["string"]}}}, "default": {}, "description": TEXT}}
+CONTRIBUTES = {
+    "languages": {"type": list, "items": {"type": dict, "required": ["id"], "properties": {
+        "id": {"type": str, "pattern": r"[a-z]+"}, "aliases": TEXTS,
+        "extensions": {"type": list, "items": {"type": str, "pattern": r"\.[a-z]+"}},
+        "configuration": {"type": str, "pattern": r"\./[\w./-]+\.json"}}}},
+    "grammars": {"type": list, "items": {"type": dict, "required": ["language", "scopeName", "path"], "properties": {
+        "language": TEXT, "scopeName": {"type": str, "pattern": r"(source|text)(\.[a-z]+)+"},
+        "path": {"type": str, "pattern": r"\./[\w./-]+\.json"}}}},
+    "commands": {"type": list, "items": {"type": dict, "required": ["command", "title"], "properties": {
+        "command": {"type": str, "pattern": r"[a-z]+\.[A-Za-z]+"}, "title": TEXT, "category": TEXT}}},
+    "menus": {"type": dict, "properties": {"commandPalette": {"type": list, "items": {
+        "type": dict, "required": ["command"], "properties": {"command": TEXT, "when": TEXT}}}}},
+    "configuration": {"type": dict, "required": ["title", "properties"], "properties": {
+        "title": TEXT, "properties": {"type": dict, "values": PROPERTY}}}}
+SCHEMA = {"type": dict, "required": ["name", "version", "publisher", "engines"], "properties": {
+    "name": {"type": str, "pattern": r"[a-z0-9][a-z0-9-]*"}, "displayName": TEXT, "description": TEXT, "license": TEXT,
+    "version": {"type": str, "pattern": r"\d+\.\d+\.\d+"}, "publisher": {"type": str, "pattern": r"[a-z0-9][a-z0-9-]*"},
+    "engines": {"type": dict, "required": ["vscode"], "properties": {
+        "vscode": {"type": str, "pattern": r"\^1\.\d+\.\d+"}}},
+    "categories": {"type": list, "items": {"type": str, "enum": [
+        "Programming Languages", "Snippets", "Linters", "Themes", "Debuggers", "Formatters", "Keymaps", "Other"]}},
+    "keywords": TEXTS, "activationEvents": {"type": list, "items": {"type": str, "pattern": r"on[A-Z]\w*:[\w.]+"}},
+    "main": {"type": str, "pattern": r"\./[\w./-]+\.js"}, "contributes": {"type": dict, "properties": CONTRIBUTES}}}
+
+
+def schema_faults(value, schema, place="it"):
+    """What a value has that its schema doesn't allow, each with its place."""
+    if not isinstance(value, schema.get("type", object)):
+        return [f"{place} is of another type"]
+    found = []
+    if "enum" in schema and value not in schema["enum"]:
+        found.append(f"{place} is {value!r}")
+    if "pattern" in schema and not re.fullmatch(schema["pattern"], value):
+        found.append(f"{place} is {value!r}")
+    for number, item in enumerate(value if "items" in schema else []):
+        found += schema_faults(item, schema["items"], f"{place}[{number}]")
+    if isinstance(value, dict):
+        found += [f"{place} lacks {name}" for name in schema.get("required", []) if name not in value]
+        known = schema.get("properties", {})
+        for name, each in value.items():
+            if name not in known and "values" not in schema:
+                found.append(f"{place} has {name}")
+            else:
+                found += schema_faults(each, known.get(name, schema.get("values")), f"{place}.{name}")
+    return found
+
+
 def read(name):
     """A file of the folder, as JSON."""
     return json.loads(Path(FOLDER, name).read_text(encoding="utf-8"))
@@ -93,17 +144,24 @@ def read(name):
 class Manifest(unittest.TestCase):
     """What stands in package.json."""
 
-    def test_fields(self):
-        made = read("package.json")
-        self.assertRegex(made["name"], r"^[a-z0-9][a-z0-9-]*$")
-        self.assertRegex(made["publisher"], r"^[a-z0-9][a-z0-9-]*$")
-        self.assertRegex(made["version"], r"^\d+\.\d+\.\d+$")
-        self.assertRegex(made["engines"]["vscode"], r"^\^1\.\d+\.\d+$")
-        self.assertLessEqual(set(made), {"name", "displayName", "description", "version", "publisher", "license",
-                                         "engines",
-                                         "categories", "keywords", "activationEvents", "main", "contributes"})
-        self.assertLessEqual(set(made["categories"]), {"Programming Languages", "Linters", "Snippets", "Other"})
-        self.assertEqual(set(made["contributes"]), {"languages", "grammars", "commands", "menus", "configuration"})
+    def test_schema(self):
+        self.assertEqual(schema_faults(read("package.json"), SCHEMA), [])
+
+    def test_what_the_schema_refuses(self):
+        for change, fault in (
+                (lambda made: made.pop("publisher"), "it lacks publisher"),
+                (lambda made: made.update(version="1.0"), "it.version is '1.0'"),
+                (lambda made: made.update(keywords="rosie"), "it.keywords is of another type"),
+                (lambda made: made.update(scripts={}), "it has scripts"),
+                (lambda made: made["categories"].append("Languages"), "it.categories[2] is 'Languages'"),
+                (lambda made: made["contributes"]["grammars"][0].pop("path"), "it.contributes.grammars[0] lacks path"),
+                (lambda made: made["contributes"]["commands"][0].update(icon="x"),
+                 "it.contributes.commands[0] has icon"),
+                (lambda made: made["contributes"]["configuration"]["properties"]["rosie.server"].update(type="text"),
+                 "it.contributes.configuration.properties.rosie.server.type is 'text'")):
+            made = read("package.json")
+            change(made)
+            self.assertEqual(schema_faults(made, SCHEMA), [fault])
 
     def test_what_it_names(self):
         given = read("package.json")["contributes"]
