@@ -3,7 +3,7 @@ import doctest
 import os
 import unittest
 
-from helper import PYTHON
+from helper import PYTHON, TOP
 
 import rosie
 
@@ -14,6 +14,11 @@ class Documents(unittest.TestCase):
     def test_readme(self):
         found = doctest.testfile(os.path.join(PYTHON, "README.md"), module_relative=False)
         self.assertGreater(found.attempted, 10)
+        self.assertEqual(found.failed, 0)
+
+    def test_front_page(self):
+        found = doctest.testfile(os.path.join(TOP, "README.md"), module_relative=False)
+        self.assertGreater(found.attempted, 2)
         self.assertEqual(found.failed, 0)
 
     def test_docstrings(self):
