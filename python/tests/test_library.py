@@ -15,7 +15,7 @@ import threading
 import time
 import unittest
 
-from helper import EXAMPLES, PYTHON, alive, children, command
+from helper import COLUMNS, EXAMPLES, PYTHON, alive, children, command
 
 import rosie
 from rosie.tree import read_deep_tree, read_tree, record_of, write_tree
@@ -336,6 +336,19 @@ class Lines(unittest.TestCase):
         self.assertEqual([(fault.number, fault.cause) for fault in faults], [(3, "not UTF-8")])
         with self.assertRaises(rosie.LineFault):
             list(pattern.records(lines))
+
+    def test_records_are_those_of_rosie_columns(self):
+        if not os.access(COLUMNS, os.X_OK):
+            self.skipTest("rosie-columns isn't built")
+        with open(os.path.join(EXAMPLES, "fixtures", "nginx_access.log"), "rb") as file:
+            text = file.read() + b"no line of nginx\n" + '203.0.113.9 - "é\\x22" '.encode()
+        for pattern in ("nginx.access_line", "nginx.access_lean", "{word.any}", "num.int"):
+            printed = command("match", "--libpath", EXAMPLES, pattern, text=text).stdout
+            done = subprocess.run([COLUMNS, "-o", "json"], input=printed, capture_output=True, check=True)
+            wanted = [json.loads(line) for line in done.stdout.splitlines()]
+            made = list(rosie.Pattern(pattern, libpath=[EXAMPLES]).records(io.BytesIO(text)))
+            self.assertEqual([list(record.items()) for record in made], [list(record.items()) for record in wanted])
+            self.assertGreater(len(made), 2)
 
     def test_code_that_the_command_refuses(self):
         pattern = rosie.Pattern('"a"')
