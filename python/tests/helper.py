@@ -6,8 +6,8 @@ import sys
 PYTHON = os.path.dirname(os.path.dirname(os.path.abspath(__file__)))
 TOP = os.path.dirname(PYTHON)
 PROGRAM = os.path.abspath(os.environ.get("ROSIE", os.path.join(TOP, "crates", "rosie", "out", "rosie")))
-COLUMNS = os.path.abspath(os.environ.get("ROSIE_COLUMNS",
-                                          os.path.join(TOP, "crates", "rosie_columns", "out", "rosie_columns")))
+BUILT_COLUMNS = os.path.join(TOP, "crates", "rosie_columns", "out", "rosie_columns")
+COLUMNS = os.path.abspath(os.environ.get("ROSIE_COLUMNS", BUILT_COLUMNS))
 os.environ["ROSIE"] = PROGRAM
 EXAMPLES = os.path.join(TOP, "examples")
 sys.path.insert(0, PYTHON)

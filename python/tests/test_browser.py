@@ -112,16 +112,16 @@ class Browser(unittest.TestCase):
         self.fail(f"it never came: {script}")
 
     def settled(self):
-        """Waits for the answers to what was typed."""
-        time.sleep(0.1)
+        """Waits for the answers to what was typed: the page asks for them after a timer, which ends before this one."""
+        self.driver.execute_async_script("setTimeout(arguments[0], 100)")
         self.until("document.body.dataset.done && document.body.dataset.done === document.body.dataset.turn")
 
     def find(self, selector):
         return self.driver.find_element(By.CSS_SELECTOR, selector)
 
     def texts(self, selector):
-        return [element.get_attribute("textContent") for element in self.driver.find_elements(By.CSS_SELECTOR,
-                                                                                              selector)]
+        return self.driver.execute_script(
+            "return [...document.querySelectorAll(arguments[0])].map(e => e.textContent)", selector)
 
     def type(self, field, text):
         """Types a text in place of what is in a field."""
@@ -154,6 +154,7 @@ class Browser(unittest.TestCase):
 
     def test_a_fault_and_its_caret(self):
         self.type("pattern", '"ab" [a-zA-Z]')
+        self.until("document.querySelector('#pattern-fault pre')")
         told = self.find("#pattern-fault pre").get_attribute("textContent").split("\n")
         self.assertEqual(told[0], "(pattern):1:8: bad range")
         self.assertEqual(told[1][told[2].index("^"):], "-zA-Z]")
