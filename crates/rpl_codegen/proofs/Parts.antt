@@ -1,6 +1,5 @@
 -- The parts of a sequence or a choice, one after the other.
 use Rattle.std.proofs.Common.{◌≡◌, ℕ, ◌+◌, ◌<◌, List, [], ◌∷◌, length, drop, get_or, refl, ap, ◌∙◌, arith, length-drop}
-use Rattle.std.specs.Prelude.{Bool, true, false, ◌&&◌, if◌then◌else◌, Option, Some, None, is_some}
 use Rattle.std.proofs.lemmas.List.{drop_all, nil_from_length}
 use Rattle.rpl_core.specs.Code.{code, code_first, tested_choice}
 use Rattle.rpl_core.specs.Core.{Choice, NoMore}
@@ -8,7 +7,6 @@ use Rattle.rpl_core.specs.declared.peg.Peg.{Peg}
 use Rattle.rpl_core.specs.declared.peg.Peg.TheViews as V
 use Rattle.rpl_core.specs.declared.peg.Pegs.{Pegs}
 use Rattle.rpl_core.specs.Head.{head}
-use Rattle.regex_class.specs.Ranges.{Range}
 use Rattle.rpl_core.specs.View.{core_of, cores, listed}
 use Rattle.rpl_core.proofs.Rows.{choice_view}
 use Rattle.rpl_core.proofs.Walk.{drop_here}
@@ -43,12 +41,3 @@ no_parts ps none = choice_view ps ∙ ap (λ l. Choice (cores l)) (nil_from_leng
 -- a part of a slice that is the list
 pub part_of : (row ps : List Peg) (k : ℕ) (p : Peg) → row ≡ ps → p ≡ get_or row k p → p ≡ get_or ps k p
 part_of row ps k p e is = is ∙ ap (λ l. get_or l k p) e
-
--- a part with its test, if it has a head
-pub tried_is : (o : Option (List Range)) (b : Bool) (n a : ℕ) → b ≡ is_some o → a ≡ (if b then 3 else 2) → tried_len o n ≡ n + a
-tried_is None b n a e f = let g : a ≡ 2 = f ∙ ap (λ x. if x then 3 else 2) e in omega (arith, g)
-tried_is (Some s) b n a e f = let g : a ≡ 3 = f ∙ ap (λ x. if x then 3 else 2) e in omega (arith, g)
-
-pub and_assoc : (a b c : Bool) → ((a && b) && c) ≡ (a && (b && c))
-and_assoc true b c = refl
-and_assoc false b c = refl

@@ -4,5 +4,4 @@ pub mod Nodes
 pub mod Taken
 pub mod Written
 pub mod Laid
-pub mod Gathered
 pub mod Starts

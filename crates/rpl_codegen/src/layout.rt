@@ -47,7 +47,7 @@ impl Layout {
             ++ bodies_nodes (has reached.now) (bodies_of (rules_of rules.now)) 0)) }
     {
         let mut starts = Starts::new(alloc);
-        let shape = measure(alloc, measured, goal)?;
+        let shape = measure(alloc, measured, goal, false)?;
         let mut next = capped(shape.size, 1);
         let count = rules.len();
         let mut number = next_in(reached, 0, count);
@@ -91,7 +91,7 @@ fn rule_size(
 {
     match rules.get(number) {
         Some(rule) => {
-            let shape = measure(alloc, measured, &rule.body)?;
+            let shape = measure(alloc, measured, &rule.body, false)?;
             Ok(capped(shape.size, 1))
         }
         None => Ok(0),

@@ -9,6 +9,7 @@
 
 mod compiling;
 mod head;
+mod heads;
 mod layout;
 mod next;
 mod size;

@@ -2,20 +2,18 @@
 // written: its number of instructions, and the head that is tested before it.
 ghost use Rattle.std.specs.Option.{option_copied};
 ghost use Rattle.std.specs.Prelude.{◌≡◌, ◌+◌, ◌-◌, ◌*◌, ◌<◌, ◌≤◌, [], ◌++◌, IfOk, OnOk, None, Some};
-ghost use Rattle.std.specs.Prelude.{drop, false};
-ghost use Rattle.std.specs.Prelude.{if◌then◌else◌, length, min, option_map, take};
+ghost use Rattle.std.specs.Prelude.{IsTrue, length, min, option_map, take};
 ghost use Rattle.rpl_classes.specs.Norm.{norm};
 ghost use Rattle.rpl_core.specs.Head as H;
 ghost use Rattle.rpl_core.specs.View.{core_of, cores};
-ghost use Rattle.rpl_codegen.specs.inside.Gathered.{Gathers};
 ghost use Rattle.rpl_codegen.specs.inside.Nodes.{behind_nodes, choice_nodes, inner_nodes, nodes_in};
 ghost use Rattle.rpl_codegen.specs.inside.Nodes.{numbered_nodes, part_nodes, parts_nodes};
 ghost use Rattle.rpl_codegen.specs.inside.Nodes.{tested_nodes};
-ghost use Rattle.rpl_codegen.specs.inside.Sizes.{len, len_all, len_first};
+ghost use Rattle.rpl_codegen.specs.inside.Sizes.{len, len_all, len_first, tried_len};
 
 use crate::NoMemory;
 use crate::head::lone_set;
-use regex_class::ClassRange;
+use crate::heads::Heads;
 use rpl_classes::Set;
 use rpl_core::Peg;
 use std::alloc::Global;
@@ -105,12 +103,10 @@ impl Nodes {
     }
 }
 
-/// The results of measuring patterns: their nodes, and the ranges of heads that are part of a
-/// larger head.
+/// The results of measuring patterns: their nodes.
 #[derive(Drop)]
 pub(crate) struct Measured {
     pub(crate) nodes: Vec<Node>,
-    ranges: Vec<ClassRange>,
 }
 
 impl Measured {
@@ -120,40 +116,67 @@ impl Measured {
     {
         Measured {
             nodes: Vec::new(alloc),
-            ranges: Vec::new(alloc),
         }
     }
 }
 
-/// The number of instructions of a pattern, or the first number past the limit, and whether it has
-/// a head. One walk computes both, since each level needs both from the level below.
-#[derive(Clone, Copy)]
+/// The number of instructions of a pattern, or the first number past the limit, and its head if it
+/// has one. One walk computes both, since each level needs both from the level below. A head that
+/// is not wanted, since no test needs it, may be missing.
+#[derive(Drop)]
 pub(crate) struct Shape {
     pub(crate) size: u32,
-    has_head: bool,
+    head: Option<Set>,
+}
+
+impl Shape {
+    /// Returns the number of instructions of a part of a choice that other parts follow, with the
+    /// instructions around it.
+    fn tried_size(&self) -> u32
+        requires { self.now.size ≤ 1048577 }
+        ensures { result ≡ min 1048577 (tried_len self.now.head self.now.size) }
+    {
+        match self.head {
+            Some(_) => capped(self.size, 3),
+            None => capped(self.size, 2),
+        }
+    }
 }
 
 /// Returns the shape of a pattern without a head.
 fn headless(size: u32) -> Shape
     ensures size { result.size ≡ size }
-    ensures head { result.has_head ≡ false }
+    ensures head { result.head ≡ None }
 {
-    Shape {
-        size,
-        has_head: false,
-    }
+    Shape { size, head: None }
 }
 
-/// Adds the nodes of the pattern and of all patterns in it, and the ranges of its head if it has
-/// one. If it has none, unused ranges may have been added.
+/// Returns the shape of a set, which is its own head. They share the ranges.
+fn set_shape(alloc: Global, set: &Set, wanted: bool) -> Result<Shape, NoMemory>
+    ensures size { IfOk result (λ s. s.size ≡ 1) }
+    ensures head { IfOk result (λ s. IsTrue wanted → s.head ≡ Some set.now) }
+{
+    if !wanted {
+        return Ok(headless(1));
+    }
+    Ok(Shape {
+        size: 1,
+        head: Some(set.copy(alloc)?),
+    })
+}
+
+/// Adds the nodes of the pattern and of all patterns in it.
 #[cycle(measure)]
-pub(crate) fn measure(alloc: Global, measured: &mut Measured, peg: &Peg) -> Result<Shape, NoMemory>
+pub(crate) fn measure(
+    alloc: Global,
+    measured: &mut Measured,
+    peg: &Peg,
+    wanted: bool,
+) -> Result<Shape, NoMemory>
     ensures nodes { OnOk result (measured.new.nodes.items ≡ measured.old.nodes.items
         ++ nodes_in (core_of peg.now)) }
     ensures size { IfOk result (λ s. s.size ≡ min 1048577 (len (core_of peg.now))) }
-    ensures head { IfOk result (λ s.
-        Gathers measured.old.ranges.items measured.new.ranges.items (H.head (core_of peg.now))
-        s.has_head) }
+    ensures head { IfOk result (λ s. IsTrue wanted → s.head ≡ H.head (core_of peg.now)) }
 {
     let place = measured.nodes.len();
     measured.nodes.push(Node {
@@ -161,7 +184,7 @@ pub(crate) fn measure(alloc: Global, measured: &mut Measured, peg: &Peg) -> Resu
         part: 0,
         head: None,
     })?;
-    let shape = measure_inner(alloc, measured, peg)?;
+    let shape = measure_inner(alloc, measured, peg, wanted)?;
     measured.nodes[place] = Node {
         size: shape.size,
         part: 0,
@@ -178,13 +201,12 @@ fn measure_part(
     measured: &mut Measured,
     part: &Peg,
     number: usize,
+    wanted: bool,
 ) -> Result<Shape, NoMemory>
     ensures nodes { OnOk result (measured.new.nodes.items ≡ measured.old.nodes.items
         ++ part_nodes (len (core_of part.now)) (numbered_nodes number (core_of part.now))) }
     ensures size { IfOk result (λ s. s.size ≡ min 1048577 (len (core_of part.now))) }
-    ensures head { IfOk result (λ s.
-        Gathers measured.old.ranges.items measured.new.ranges.items (H.head (core_of part.now))
-        s.has_head) }
+    ensures head { IfOk result (λ s. IsTrue wanted → s.head ≡ H.head (core_of part.now)) }
 {
     let place = measured.nodes.len();
     measured.nodes.push(Node {
@@ -192,94 +214,73 @@ fn measure_part(
         part: number,
         head: None,
     })?;
-    let shape = measure_inner(alloc, measured, part)?;
+    let shape = measure_inner(alloc, measured, part, wanted)?;
     if shape.size == 0 {
         measured.nodes.truncate(place);
-    } else {
-        measured.nodes[place] = Node {
-            size: shape.size,
-            part: number,
-            head: None,
-        };
+        return Ok(shape);
     }
+    measured.nodes[place] = Node {
+        size: shape.size,
+        part: number,
+        head: None,
+    };
     Ok(shape)
 }
 
-/// Adds the nodes of a part of a choice that other parts follow. Its node has its head.
+/// Adds the nodes of a part of a choice that other parts follow, and its head to the heads of the
+/// choice. Its node has its head. Returns the number of its instructions with those around it.
 #[cycle(measure)]
-fn measure_tried(alloc: Global, measured: &mut Measured, part: &Peg) -> Result<Shape, NoMemory>
+fn measure_tried(
+    alloc: Global,
+    measured: &mut Measured,
+    heads: &mut Heads,
+    part: &Peg,
+) -> Result<u32, NoMemory>
     ensures nodes { OnOk result (measured.new.nodes.items
         ≡ measured.old.nodes.items ++ tested_nodes (core_of part.now)) }
-    ensures size { IfOk result (λ s. s.size ≡ min 1048577 (len (core_of part.now))) }
-    ensures head { IfOk result (λ s.
-        Gathers measured.old.ranges.items measured.new.ranges.items (H.head (core_of part.now))
-        s.has_head) }
+    ensures size { IfOk result (λ n. n
+        ≡ min 1048577 (tried_len (H.head (core_of part.now)) (len (core_of part.now)))) }
+    ensures heads { OnOk result (option_map norm heads.new
+        ≡ option_map norm (H.both_heads heads.old (H.head (core_of part.now)))) }
 {
     let place = measured.nodes.len();
-    let start = measured.ranges.len();
     measured.nodes.push(Node {
         size: 0,
         part: 0,
         head: None,
     })?;
-    let shape = measure_inner(alloc, measured, part)?;
-    let head = join(alloc, &mut measured.ranges, start, shape.has_head)?;
+    let shape = measure_inner(alloc, measured, part, true)?;
+    heads.add(alloc, shape.head.as_ref())?;
+    let tried = shape.tried_size();
+    let Shape { size, head } = shape;
     measured.nodes[place] = Node {
-        size: shape.size,
+        size,
         part: 0,
         head,
     };
-    Ok(shape)
+    Ok(tried)
 }
 
-/// Replaces the ranges from `start` on by their normal form, and returns their set. If no head was
-/// found, removes the ranges and returns no set.
-fn join(
-    alloc: Global,
-    ranges: &mut Vec<ClassRange>,
-    start: usize,
-    found: bool,
-) -> Result<Option<Set>, NoMemory>
-    requires { start ≤ length ranges.old.items }
-    ensures set { IfOk result (λ h. h ≡ (if found then Some (norm (drop start ranges.old.items))
-        else None)) }
-    ensures ranges { OnOk result (ranges.new.items
-        ≡ take start ranges.old.items
-        ++ (if found then norm (drop start ranges.old.items) else [])) }
-{
-    if !found {
-        ranges.truncate(start);
-        return Ok(None);
-    }
-    let set = Set::from_ranges(alloc, &ranges[start..])?;
-    ranges.truncate(start);
-    ranges.extend_from_slice(set.ranges())?;
-    Ok(Some(set))
-}
-
-/// Adds the nodes of the patterns in this one, and the ranges of its head.
+/// Adds the nodes of the patterns in this one.
 #[cycle(measure)]
-fn measure_inner(alloc: Global, measured: &mut Measured, peg: &Peg) -> Result<Shape, NoMemory>
+fn measure_inner(
+    alloc: Global,
+    measured: &mut Measured,
+    peg: &Peg,
+    wanted: bool,
+) -> Result<Shape, NoMemory>
     ensures nodes { OnOk result (measured.new.nodes.items ≡ measured.old.nodes.items
         ++ inner_nodes (core_of peg.now)) }
     ensures size { IfOk result (λ s. s.size ≡ min 1048577 (len (core_of peg.now))) }
-    ensures head { IfOk result (λ s.
-        Gathers measured.old.ranges.items measured.new.ranges.items (H.head (core_of peg.now))
-        s.has_head) }
+    ensures head { IfOk result (λ s. IsTrue wanted → s.head ≡ H.head (core_of peg.now)) }
 {
     match peg {
-        Peg::Set(set) => {
-            measured.ranges.extend_from_slice(set.ranges())?;
-            Ok(Shape {
-                size: 1,
-                has_head: true,
-            })
-        }
+        Peg::Set(set) => set_shape(alloc, set, wanted),
         Peg::Call(_) | Peg::Note(_) | Peg::Start | Peg::End | Peg::Halt => Ok(headless(1)),
-        Peg::Seq(parts) => measure_all(alloc, measured, parts.as_slice()),
-        Peg::Choice(parts) => measure_first(alloc, measured, parts.as_slice()),
+        Peg::Seq(parts) => measure_all(alloc, measured, parts.as_slice(), wanted),
+        Peg::Choice(parts) => measure_first(alloc, measured, parts.as_slice(), wanted),
         Peg::Many(body) => {
-            let inner = measure(alloc, measured, body)?;
+            let inner = measure(alloc, measured, body, false)?;
             if lone_set(body).is_some() {
                 Ok(headless(1))
             } else {
@@ -287,7 +288,7 @@ fn measure_inner(alloc: Global, measured: &mut Measured, peg: &Peg) -> Result<Sh
             }
         }
         Peg::Not(body) => {
-            let inner = measure(alloc, measured, body)?;
+            let inner = measure(alloc, measured, body, false)?;
             if lone_set(body).is_some() {
                 Ok(headless(2))
             } else {
@@ -295,15 +296,15 @@ fn measure_inner(alloc: Global, measured: &mut Measured, peg: &Peg) -> Result<Sh
             }
         }
         Peg::And(body) => {
-            let inner = measure(alloc, measured, body)?;
+            let inner = measure(alloc, measured, body, false)?;
             Ok(headless(capped(inner.size, 3)))
         }
         Peg::Behind { least, most, body } => measure_behind(alloc, measured, *least, *most, body),
         Peg::Capture(_, body) => {
-            let inner = measure(alloc, measured, body)?;
+            let Shape { size, head } = measure(alloc, measured, body, wanted)?;
             Ok(Shape {
-                size: capped(inner.size, 2),
-                has_head: inner.has_head,
+                size: capped(size, 2),
+                head,
             })
         }
     }
@@ -323,72 +324,73 @@ fn measure_behind(
         ++ behind_nodes (most + 1 - least) (nodes_in (core_of body.now))) }
     ensures size { IfOk result (λ s. s.size ≡ min 1048577
         ((most + 1 - least) * (len (core_of body.now) + 3) + 1)) }
-    ensures head { IfOk result (λ s.
-        Gathers measured.old.ranges.items measured.new.ranges.items None s.has_head) }
+    ensures head { IfOk result (λ s. s.head ≡ None) }
 {
     if least > most {
         return Ok(headless(1));
     }
-    let inner = measure(alloc, measured, body)?;
+    let inner = measure(alloc, measured, body, false)?;
     Ok(headless(behind_size(inner.size, least, most)))
 }
 
 /// Measures a sequence of parts. Its head is that of the first part.
 #[cycle(measure)]
-fn measure_all(alloc: Global, measured: &mut Measured, parts: &[Peg]) -> Result<Shape, NoMemory>
+fn measure_all(
+    alloc: Global,
+    measured: &mut Measured,
+    parts: &[Peg],
+    wanted: bool,
+) -> Result<Shape, NoMemory>
     ensures nodes { OnOk result (measured.new.nodes.items
         ≡ measured.old.nodes.items ++ parts_nodes 0 (cores parts.now)) }
     ensures size { IfOk result (λ s. s.size ≡ min 1048577 (len_all (cores parts.now))) }
-    ensures head { IfOk result (λ s.
-        Gathers measured.old.ranges.items measured.new.ranges.items (H.first_head (cores parts.now))
-        s.has_head) }
+    ensures head { IfOk result (λ s. IsTrue wanted → s.head ≡ H.first_head (cores parts.now)) }
 {
     if parts.is_empty() {
         return Ok(headless(0));
     }
-    let first = measure_part(alloc, measured, &parts[0], 0)?;
-    let kept = measured.ranges.len();
+    let first = measure_part(alloc, measured, &parts[0], 0, wanted)?;
     let mut total = first.size;
     for number in 1..parts.len() {
-        let part = measure_part(alloc, measured, &parts[number], number)?;
-        measured.ranges.truncate(kept);
+        let part = measure_part(alloc, measured, &parts[number], number, false)?;
         total = capped(total, part.size);
     }
     Ok(Shape {
         size: total,
-        has_head: first.has_head,
+        head: first.head,
     })
 }
 
 /// Measures a choice of parts. It has a head if each part has one.
 #[cycle(measure)]
-fn measure_first(alloc: Global, measured: &mut Measured, parts: &[Peg]) -> Result<Shape, NoMemory>
+fn measure_first(
+    alloc: Global,
+    measured: &mut Measured,
+    parts: &[Peg],
+    wanted: bool,
+) -> Result<Shape, NoMemory>
     ensures nodes { OnOk result (measured.new.nodes.items
         ≡ measured.old.nodes.items ++ choice_nodes (cores parts.now)) }
     ensures size { IfOk result (λ s. s.size ≡ min 1048577 (len_first (cores parts.now))) }
-    ensures head { IfOk result (λ s.
-        Gathers measured.old.ranges.items measured.new.ranges.items
-        (option_map norm (H.all_heads (cores parts.now))) s.has_head) }
+    ensures head { IfOk result (λ s. IsTrue wanted
+        → s.head ≡ option_map norm (H.all_heads (cores parts.now))) }
 {
+    let mut heads = Heads::new(alloc, wanted);
     if parts.is_empty() {
-        return Ok(Shape {
-            size: 1,
-            has_head: true,
-        });
+        let head = heads.set(alloc)?;
+        return Ok(Shape { size: 1, head });
     }
     let last = parts.len() - 1;
     let mut total = 0;
-    let mut all = true;
     for number in 0..last {
-        let tried = measure_tried(alloc, measured, &parts[number])?;
-        let around = if tried.has_head { 3 } else { 2 };
-        total = capped(total, capped(tried.size, around));
-        all = all && tried.has_head;
+        let tried = measure_tried(alloc, measured, &mut heads, &parts[number])?;
+        total = capped(total, tried);
     }
-    let end = measure(alloc, measured, &parts[last])?;
-    all = all && end.has_head;
+    let end = measure(alloc, measured, &parts[last], wanted)?;
+    heads.add(alloc, end.head.as_ref())?;
+    let head = heads.set(alloc)?;
     Ok(Shape {
         size: capped(total, end.size),
-        has_head: all,
+        head,
     })
 }
