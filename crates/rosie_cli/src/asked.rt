@@ -18,7 +18,8 @@ pub(crate) enum Asked {
     Do(Command),
 }
 
-/// Returns the text for words that are no command: the line of the fault, and the usage text.
+/// Returns the text for words that are not a command: the line that reports the fault, and the
+/// usage text.
 fn usage_text(alloc: Global, fault: &UsageFault) -> Result<String, NoMemory>
     ensures { IfOk result (λ text. (fault.now ≢ E.NoMemory) ×
         (string_bytes text ≡ fault_line fault.now ++ usage)) }

@@ -15,7 +15,7 @@ use rpl_codefile::write_code;
 use rpl_codegen::compile;
 use std::alloc::Global;
 
-/// Plans the code file of a pattern that is prepared.
+/// Plans the code file of a prepared pattern.
 fn plan_file(alloc: Global, ready: &Prepared) -> Result<Plan, Unready>
     requires { IsReady ready.now }
     ensures makes { Makes result (Compiles (Ok (ready_seen ready.now))) }

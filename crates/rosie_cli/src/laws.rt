@@ -3,21 +3,22 @@
 ghost use Rattle.rosie_cli.specs.Laws.{HaveOneReport, OnePlan, PromiseLaw, RunsWhatIsCompiled};
 ghost use Rattle.rosie_cli.specs.Laws.{SafeLaw, SomePlan, WordsHavePlans};
 
-/// Proves that over each tree of files any words have exactly one plan. So has each command, if
-/// the pattern of `compile` consists of characters, as a pattern from the command line does.
+/// Proves that over each tree of files any words have exactly one plan. The same holds for each
+/// command if the pattern of `compile` consists of characters, as a pattern from the command
+/// line does.
 pub fn one_plan()
     ensures only { OnePlan }
     ensures some { SomePlan }
     ensures words { WordsHavePlans }
 {}
 
-/// Proves for any words that no line and no test is reported to exceed a budget that pays for it,
-/// and that a code written as a file is safe.
+/// Proves for any words that no line and no test is reported to exceed a budget that pays for
+/// it, and that code written as a file is safe.
 pub fn promise_law()
     ensures { PromiseLaw }
 {}
 
-/// Proves that `compile` writes, for a pattern, the spelling of a safe code. `match` runs it as
+/// Proves that `compile` writes, for a pattern, the spelling of safe code. `match` runs it as
 /// the code of that pattern, so the report is the same with the file as with the pattern.
 pub fn compiled_is_run()
     ensures safe { SafeLaw }

@@ -3,12 +3,11 @@
 //! memory.
 //!
 //! `specs/Rosie.antt` states the result of a call, sentence by sentence: what each answer says
-//! of the plan of the words over the tree of files (`specs/Planned.antt`), and of the report of
-//! that plan (`specs/Plans.antt`). Each command is a case of `IsPlanned` and an arm of
-//! `plan_command`, which calls a module of the command's own; the commands that run a pattern
-//! on lines share `goal_plan`. Planning only reads files, and nothing is written before the
-//! plan is made. A session, [`session`], has no plan, since it reads its files as its lines
-//! arrive.
+//! about the plan of the words over the tree of files (`specs/Planned.antt`), and about the
+//! report of that plan (`specs/Plans.antt`). Each command is a case of `IsPlanned` and an arm of
+//! `plan_command`, which calls a module of the command's own; the commands that run a pattern on
+//! lines share `goal_plan`. Planning only reads files, and nothing is written before the plan is
+//! made. A session, [`session`], has no plan, since it reads its files as its lines arrive.
 #![tactic(auto)]
 
 mod asked;

@@ -6,7 +6,7 @@ ghost use Rattle.rosie_cli.specs.Options.{settings_of};
 use rosie_jobs::Settings;
 use rosie_words::Command;
 
-/// Returns the settings of a command for lines.
+/// Returns a command's settings for lines.
 pub(crate) fn settings_of(command: &Command) -> Settings
     ensures { result ≡ settings_of command.now }
 {

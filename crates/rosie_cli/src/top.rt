@@ -40,7 +40,7 @@ use rpl_print::text_of;
 use std::alloc::Global;
 use std::sync::ledger::Ledger;
 
-/// Returns the way in which the lines of an input are read.
+/// Returns how the lines of an input are read.
 fn reading(whole: bool) -> Reading
     ensures { result ≡ reading whole }
 {
@@ -51,8 +51,8 @@ fn reading(whole: bool) -> Reading
     }
 }
 
-/// Puts the outputs of a run together from their parts. This is a call because the checker can
-/// prove nothing of three references in one value that is made in place.
+/// Returns the outputs of a run, made from these parts. This is a function because the checker
+/// can prove nothing about three references in one value that is made in place.
 fn outputs_of<'a, O: Sink, E: Sink, L: Ledger>(
     out: &'a mut O,
     err: &'a mut E,
@@ -310,8 +310,8 @@ pub fn rosie<F: Files, I: Source, O: Sink, E: Sink, L: Ledger>(
         (input.new ≡ input.old) }
 
     // Words that run no line, no test and no sample make no step of the machine, whatever the
-    // files hold. The same is true of other words if loading is refused, as far as the contents
-    // of the files are visible or no path is asked for.
+    // files hold. The same is true of other words if loading is refused, provided that the
+    // contents of the files are visible or no path is asked for.
     ensures idle { IsIdle (asks words.now) → steps.new ≡ steps.old }
     ensures unrun { (p : Planned) → IsTold F.tells p.asked
         → IsPlanned (asks words.now) (F.tree files.old) p → IsIdlePlan p.plan →

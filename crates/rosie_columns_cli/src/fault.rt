@@ -13,7 +13,7 @@ pub enum WordFault {
     NoMemory,
     /// No option has this name.
     UnknownOption(Chars),
-    /// The option given by this word, which is the last one, needs a value.
+    /// This option, which is the last word, needs a value.
     MissingValue(Chars),
     /// No format has this name.
     BadValue(Chars),

@@ -11,7 +11,7 @@ use rpl_machine::Steps;
 use std::alloc::Global;
 use std::sync::ledger::Ledger;
 
-/// A job that makes a row of each line that is a tree. Its memory is reused from line to line.
+/// A job that makes a row from each line that is a tree. Its memory is reused from line to line.
 #[derive(Drop)]
 pub struct ColumnsJob<'a> {
     alloc: Global,
@@ -20,7 +20,7 @@ pub struct ColumnsJob<'a> {
     room: Room,
     row: Vec<u8>,
     message: String,
-    /// For each column, whether any tree so far had a node of it.
+    /// For each column, whether any tree so far had a node for it.
     found: Vec<bool>,
 }
 
@@ -44,7 +44,7 @@ fn put(text: &mut Vec<u8>, bytes: &[u8]) -> Result<(), NoMemory>
     text.extend_from_slice(bytes)
 }
 
-/// Appends the line reporting that no tree has a node of a column.
+/// Appends the line that reports that no tree has a node for a column.
 fn push_absent(text: &mut Vec<u8>, column: &Column) -> Result<(), NoMemory>
     ensures { OnOk result (text.new.items ≡ text.old.items ++ absent_line column.now) }
 {

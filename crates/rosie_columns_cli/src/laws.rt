@@ -1,7 +1,8 @@
 // Laws that hold for the definitions.
 ghost use Rattle.rosie_columns_cli.specs.Piped.{Piped};
 
-/// The output of `rosie match` for a line that matches is read as the tree of that match.
+/// Proves that the output of `rosie match` for a line that matches is read as the tree of that
+/// match.
 pub fn piped()
     ensures { Piped }
 {}

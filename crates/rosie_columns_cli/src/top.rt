@@ -32,8 +32,8 @@ use rpl_machine::Steps;
 use std::alloc::Global;
 use std::sync::ledger::Ledger;
 
-/// Returns the outputs of a run, made of these parts. This needs a call: the checker proves nothing
-/// about three references in one value that is built in place.
+/// Returns the outputs of a run, made from these parts. This needs a call: the checker proves
+/// nothing about three references in one value that is built in place.
 fn outputs_of<'a, O: Sink, E: Sink, L: Ledger>(
     out: &'a mut O,
     err: &'a mut E,
@@ -54,7 +54,7 @@ fn outputs_of<'a, O: Sink, E: Sink, L: Ledger>(
     }
 }
 
-/// The greatest number of bytes in a line: that of an answer of `rosie`.
+/// The greatest number of bytes in a line: as many as an answer of `rosie` may have.
 const MAX_LINE_BYTES: usize = 67_108_864;
 
 /// Returns how the inputs are read.
@@ -79,8 +79,8 @@ fn header_of(alloc: Global, asked: &Asked) -> Result<Vec<u8>, NoMemory>
     Ok(header)
 }
 
-/// Writes the row or the message of each line. If there was a tree, it sets `last` to the text for
-/// the end of the run: the columns that no tree had.
+/// Writes the row or the message of each line. If there was a tree, it sets `last` to the text
+/// for the end of the run: the columns for which no tree had a node.
 fn run_rows<F: Files, I: Source, O: Sink, E: Sink, L: Ledger>(
     alloc: Global,
     asked: &Asked,
@@ -122,8 +122,8 @@ fn run_rows<F: Files, I: Source, O: Sink, E: Sink, L: Ledger>(
     Ok(tally)
 }
 
-/// Writes the header, the rows, and at the end the columns that no tree had, which it leaves in
-/// `last`.
+/// Writes the header, the rows, and at the end the columns for which no tree had a node. It
+/// leaves the text about those columns in `last`.
 fn run_asked<F: Files, I: Source, O: Sink, E: Sink, L: Ledger>(
     alloc: Global,
     asked: &Asked,
@@ -216,7 +216,7 @@ fn answer<F: Files, I: Source, O: Sink, E: Sink, L: Ledger>(
     Ending::of(status, !last.is_empty())
 }
 
-/// Runs the program over inputs and outputs as one value each.
+/// Runs the program, with the inputs and the outputs as one value each.
 fn run_words<F: Files, I: Source, O: Sink, E: Sink, L: Ledger>(
     alloc: Global,
     words: &[String],
@@ -257,8 +257,8 @@ pub fn columns<F: Files, I: Source, O: Sink, E: Sink, L: Ledger>(
     err: &mut E,
     steps: &mut Steps<L>,
 ) -> Ending
-    // What the call writes, answers and reads, by the report of what the words ask for:
-    // `specs/RosieColumns.antt`.
+    // What the call writes, answers and reads follows from the report that the words ask for:
+    // see `specs/RosieColumns.antt`.
     ensures answers { Answers (call (reading (words_of words.now)) F.Source I.Source O.Sink E.Sink
         files.old files.new input.old input.new out.old out.new err.old err.new steps.old steps.new
         result) }

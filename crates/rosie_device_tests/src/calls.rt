@@ -1,4 +1,4 @@
-// The public calls of the crates, as a program makes them that has a pattern and a line. The
+// The public calls of the crates, as made by a program that has a pattern and a line. The
 // examples in the comments of these calls are lines of this file.
 ghost use Rattle.std.specs.Prelude.{◌≡◌, ◌<◌};
 
@@ -34,7 +34,7 @@ fn words_are_a_command(rt: HostRuntime) -> Result<(), Fail> {
     Ok(())
 }
 
-/// Returns the set of one text, in which a day has two digits.
+/// Returns the package set of one text, in which a day has two digits.
 fn days<F: Files>(alloc: Global, files: &mut F) -> Result<PackageSet, Fail> {
     let mut roots = Roots::new(alloc);
     roots.push(Root::Given(Chars::from_str(alloc, "day = [0-9]{2}")?))?;

@@ -1,7 +1,7 @@
 // A run of each command, and its results when one call fails.
 //
 // A row shows what is written on `out`, and after the `!` what is written on `err`. A `¶` is a
-// line feed, and `…` is all that is written there if no call fails. The first row of a device
+// line feed, and `…` means all that is written there if no call fails. The first row of a device
 // is for its first call, the last row for its last call.
 //
 // A line is answered once its line feed, or the end, has been read, and before more is read. A
@@ -26,7 +26,7 @@ pub(crate) struct Case {
     writes: Writes,
 }
 
-/// The output if a write or a flush of an output fails: one row for each.
+/// The output if a write or a flush of an output fails: one row for each call.
 #[derive(Clone, Copy)]
 struct Writes {
     out: &'static str,
@@ -96,8 +96,8 @@ const MATCH: Case = Case {
     out: b"ab1\nab2\nab3\nab4\n",
     err: b"steps 7\nsteps 4\nsteps 7\nrosie: -:2: not UTF-8\n\
         steps 7\nrosie: g:1: not UTF-8\nsteps 7\n",
-    // The calls are the open of the package, three reads and the end, and for `f` and then `g`
-    // the open, a read and the end.
+    // The calls are, for the package, the open, three reads and the end; then for `f`, and then
+    // for `g`, the open, a read and the end.
     files: "\
         !rosie: lib/p.rpl: read failed¶
         !rosie: lib/p.rpl: read failed¶
@@ -120,8 +120,8 @@ const MATCH: Case = Case {
         ab1¶ab2¶ab3¶!steps 7¶steps 4¶steps 7¶rosie: -:2: not UTF-8¶steps 7¶rosie: -: read failed¶",
     writes: Writes {
         // Each answer takes two writes, and a flush, since its steps are reported. A line
-        // without an answer takes a flush for that alone. One more flush follows when no whole
-        // line that was read is left, and one at the end.
+        // without an answer takes only a flush. One more flush follows when no whole line is
+        // left of what was read, and one at the end.
         out: "\
         !
         ab1!
@@ -144,7 +144,7 @@ const MATCH: Case = Case {
         …!steps 7¶steps 4¶steps 7¶rosie: -:2: not UTF-8¶steps 7¶rosie: g:1: not UTF-8¶
         …!…",
         // The steps of a line take one write, and each fault takes two. A flush follows when no
-        // whole line that was read is left, and one at the end.
+        // whole line is left of what was read, and one at the end.
         err: "\
         ab1¶!
         ab1¶!steps 7¶

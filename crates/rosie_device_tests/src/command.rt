@@ -41,8 +41,8 @@ pub(crate) struct Run<'a> {
     pub(crate) words: &'a str,
     /// The contents of the standard input.
     pub(crate) input: &'a [u8],
-    /// Whether a call moves only a few bytes: 8 of a file, 3 of the input and of `out`, and 20
-    /// of `err`.
+    /// Whether a call moves only a few bytes: 8 for a file, 3 for the input and for `out`, and
+    /// 20 for `err`.
     pub(crate) in_pieces: bool,
 }
 

@@ -1,4 +1,4 @@
-// Each call of a list, once.
+// Each call of a list, made once.
 use rpl_list::List;
 use std::test::Fail;
 

@@ -35,8 +35,8 @@ fn is_whole(case: &Case, got: &Outcome) -> bool {
     got.status == case.status && got.out.as_slice() == case.out && got.err.as_slice() == case.err
 }
 
-/// Returns the first row of a device that differs from the result of its call, or an empty
-/// text. After the last call of the device no call fails.
+/// Returns the first row of a device that differs from the result of its call, or an empty text.
+/// If the number of the call to fail is past the device's last call, the run must be whole.
 fn first_other(alloc: Global, case: &Case, device: Device) -> Result<&'static str, NoMemory> {
     let mut call = 1u64;
     for row in case.rows(device).lines() {
@@ -75,7 +75,8 @@ fn is_front(case: &Case, got: &Outcome) -> bool {
     }
 }
 
-/// If an allocation fails (`rt try --test --fail-alloc N`), what was written is a prefix.
+/// If an allocation fails (`rt try --test --fail-alloc N`), what was written is a prefix of the
+/// whole output.
 #[test]
 fn out_of_memory_leaves_a_front(rt: HostRuntime) {
     for case in CASES {

@@ -1,19 +1,19 @@
-// Trees in JSON, read again by `serde_json`.
+// Trees in JSON, read back by `serde_json`.
 use crate::command::{NO_FAULT, Run, run_on};
 use rosie_io::NoMemory;
 use serde_json::Value;
 use std::alloc::Global;
 use std::test::Fail;
 
-/// Returns this many pairs of parentheses, nested.
+/// Returns this many nested pairs of parentheses.
 fn nest(alloc: Global, pairs: usize) -> Result<String, NoMemory> {
     let mut line = "(".repeat(alloc, pairs)?;
     line.push_str(")".repeat(alloc, pairs)?.as_str())?;
     Ok(line)
 }
 
-/// Returns the answer of the command to such a line: a node for each pair, below that of the
-/// pair around it.
+/// Returns the answer of the command to a line of nested pairs: a node for each pair, below the
+/// node of the pair around it.
 fn answer(alloc: Global, line: &str) -> Result<Vec<u8>, NoMemory> {
     let run = Run {
         words: "match -f nest.rpl p",
@@ -31,7 +31,7 @@ fn number_of(node: &Value, name: &str) -> Option<u64> {
     node.get(name).and_then(Value::as_u64)
 }
 
-/// Returns the only node below.
+/// Returns the node below, if there is exactly one.
 fn below(node: &Value) -> Option<&Value> {
     match node.get("subs").and_then(Value::as_array)?.as_slice() {
         [only] => Some(only),
@@ -39,8 +39,8 @@ fn below(node: &Value) -> Option<&Value> {
     }
 }
 
-/// Returns whether this is the node of the pair that is inside `around` others, apart from the
-/// nodes below it.
+/// Returns whether this is the node of the pair that is inside `around` others. The nodes below
+/// it are not looked at.
 fn is_pair(node: &Value, line: &str, around: usize) -> bool {
     let end = line.len().saturating_sub(around);
     text_of(node, "type") == Some("p")
@@ -57,7 +57,7 @@ fn members(node: &Value) -> usize {
     }
 }
 
-/// Returns whether this is the tree of such a line, without any other member.
+/// Returns whether this is the tree of a line of nested pairs, and no node has another member.
 fn is_tree(tree: &Value, line: &str) -> bool {
     let pairs = line.len() / 2;
     let mut node = tree;
@@ -74,8 +74,8 @@ fn is_tree(tree: &Value, line: &str) -> bool {
     false
 }
 
-/// `serde_json` reads objects and lists up to 127 deep. A tree that is 64 nodes deep needs just
-/// that depth, and one that is 65 deep needs two more.
+/// `serde_json` reads objects and lists nested up to 127 deep. A tree that is 64 nodes deep
+/// needs exactly that depth, and one that is 65 deep needs two more.
 #[test]
 fn trees_are_read_again(rt: HostRuntime) -> Result<(), Fail> {
     let alloc = rt.alloc();

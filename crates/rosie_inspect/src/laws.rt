@@ -6,8 +6,8 @@ pub fn one_names_text()
     ensures { OneNamesText }
 {}
 
-/// Proves that the lines of names are in the order of the names, if no name has a space or a
-/// byte that comes before it.
+/// Proves that the lines of names are in the order of the names, if no name contains a space or
+/// a byte that sorts before it.
 pub fn lines_follow_names()
     ensures { LinesFollowNames }
 {}

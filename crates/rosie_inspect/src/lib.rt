@@ -2,11 +2,11 @@
 //! patterns, programs and classes.
 //!
 //! [`names_text`] returns the text of the names that a pattern may use. [`expansion_text`]
-//! returns that of a pattern: the pattern as it is written, its core, and the core of each rule
-//! that it reaches. [`push_program`] and [`print_program`] give that of a program, one line per
-//! instruction: the address, a space, and the instruction, with its set or text in place of the
-//! number that the program holds. [`push_class`] appends a line for each range of a set. Each
-//! text is exactly as defined, and nothing can fail for another reason than a lack of memory.
+//! returns the text of a pattern: the pattern as it is written, its core, and the core of each
+//! rule that it reaches. [`push_program`] and [`print_program`] produce the text of a program,
+//! one line per instruction: the address, a space, and the instruction, with its set or text in
+//! place of the number that the program holds. [`push_class`] appends a line for each range of a
+//! set. Each text is exactly as defined, and only a lack of memory can make a call fail.
 #![tactic(auto)]
 
 mod class;

@@ -60,15 +60,15 @@ fn join(alloc: Global, lines: &[String]) -> Result<String, NoMemory>
 }
 
 /// Returns a line for each name that a pattern may use, in the order of the lines' bytes: the
-/// name, then ` capture ` and the type of its nodes, or ` alias -` if it makes none.
+/// name, then ` capture ` and the type of its nodes, or ` alias -` if the name makes no nodes.
 pub fn names_text(alloc: Global, set: &PackageSet) -> Result<String, NoMemory>
     ensures { IfOk result (λ text. IsNamesText (all_listed (set_seen set.now))
         (string_bytes text)) }
 {
     let names = set.names(alloc)?;
     let mut lines = make_lines(alloc, names)?;
-    // The lines are in this order already, since no name of a set has a character before the
-    // space. The proof doesn't rely on that.
+    // The lines are in this order already, since no name of a set contains a character that
+    // sorts before the space. The proof doesn't rely on that.
     lines.sort()?;
     join(alloc, &lines)
 }

@@ -23,7 +23,7 @@ pub fn push_program(out: &mut String, program: &Program) -> Result<(), NoMemory>
     Ok(())
 }
 
-/// Returns the text of a program, one line per instruction. Addresses count from 0.
+/// Returns the text of a program, one line per instruction. Addresses start at 0.
 pub fn print_program(alloc: Global, program: &Program) -> Result<Chars, NoMemory>
     ensures { IfOk result (λ text. text ≡ chars (lines 0 (instructions program.now))) }
 {

@@ -33,7 +33,7 @@ fn near_feed(bytes: &[u8], from: usize) -> Option<usize>
     }
 }
 
-/// Returns the offset of the first line feed at `from` or after it. There is none before
+/// Returns the offset of the first line feed at or after `from`. There must be none before
 /// `from`.
 fn far_feed(bytes: &[u8], from: usize) -> Option<usize>
     requires { Nowhere (Passes (is_byte 10) bytes.now) 0 from }
@@ -47,7 +47,7 @@ fn far_feed(bytes: &[u8], from: usize) -> Option<usize>
     None
 }
 
-/// Returns the offset of the first line feed. The search of std for any byte begins with more
+/// Returns the offset of the first line feed. The byte search of std begins by comparing more
 /// bytes at once than most lines have, so it takes longer.
 pub(crate) fn first_feed(bytes: &[u8]) -> Option<usize>
     ensures { IsFirstByte (is_byte 10) bytes.now result }

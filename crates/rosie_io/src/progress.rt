@@ -6,24 +6,24 @@ ghost use Rattle.rosie_io.specs.inside.Giving.{given};
 
 use crate::ReadAnswer;
 
-/// The number of bytes that were given.
+/// How far the reading of some contents has come.
 #[derive(Drop)]
 pub struct Progress {
-    /// The number of bytes given of the present contents.
+    /// The number of bytes given from the present contents.
     pub at: usize,
-    /// The number of bytes given in all, up to the greatest u64.
+    /// The number of bytes given in all, capped at the greatest u64.
     pub taken: u64,
 }
 
 impl Progress {
-    /// Returns a progress of no bytes.
+    /// Returns the progress before any byte is given.
     pub fn new() -> Progress
         ensures { result ≡ record { at = 0; taken = 0 } }
     {
         Progress { at: 0, taken: 0 }
     }
 
-    /// Puts the first of the bytes in `left` into the buffer, at most `most` of them.
+    /// Copies bytes from the front of `left` into the buffer, at most `most` of them.
     pub fn give(&mut self, left: &[u8], most: usize, buf: &mut [u8]) -> ReadAnswer
         requires some { 0 < length buf.old }
         requires most { 1 ≤ most }

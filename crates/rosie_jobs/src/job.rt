@@ -21,7 +21,7 @@ pub(crate) struct Goal {
     pub(crate) peg: CheckedPeg,
 }
 
-/// A goal and its code, which does what the goal means. The goal has a meaning on every text.
+/// A goal and its code, which does what the goal means. The goal has a meaning for every text.
 #[derive(Drop)]
 pub struct Job {
     pub(crate) goal: Goal,

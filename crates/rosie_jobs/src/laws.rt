@@ -7,18 +7,18 @@ pub fn trace_agrees()
     ensures { TracesAgree }
 {}
 
-/// Proves that the code of a goal, alone as in a code file, makes the same of each line as the
-/// goal.
+/// Proves that the code of a goal, alone as in a code file, gives the same result for each line
+/// as the goal.
 pub fn code_runs_as_its_goal()
     ensures { RunsAsItsGoal }
 {}
 
-/// Proves that a file has at most one result: a code, or the line that refuses it.
+/// Proves that a file has at most one result: its code, or the line that refuses it.
 pub fn one_loading()
     ensures { OneLoading }
 {}
 
-/// Proves that the capture list of some trees writes out exactly these trees.
+/// Proves that the capture list of any trees writes out exactly those trees.
 pub fn written_law()
     ensures { WrittenLaw }
 {}

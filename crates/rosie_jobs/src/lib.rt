@@ -2,16 +2,16 @@
 //!
 //! The crate serves `rosie_cli`, which plans a command and runs its job. A [`Job`] is a checked
 //! goal, the rules that it may call, and their code. A [`MatchJob`] runs the code on each line
-//! and prints what it matched, as [`Settings`] say; it also runs safe code that has no goal. A
-//! [`TraceJob`] prints the evaluations of the goal. Both are a [`LineJob`], which makes texts
-//! and sees no output. `specs/Lines.antt` and `specs/Traces.antt` define the result for a line,
-//! and `specs/Limits.antt` the lines that every limit allows. `specs/Laws.antt` states that a
-//! trace and a match agree on these, and that the code of a goal alone makes the same of a line
-//! as the goal.
+//! and prints what it matched, as the [`Settings`] say; it also runs safe code that has no goal.
+//! A [`TraceJob`] prints the evaluations of the goal. Both implement [`LineJob`], so they make
+//! texts and see no output. `specs/Lines.antt` and `specs/Traces.antt` define the result for a
+//! line, and `specs/Limits.antt` the lines that every limit allows. `specs/Laws.antt` states
+//! that a trace and a match agree on these, and that the code of a goal alone gives the same
+//! result for a line as the goal.
 //!
-//! [`load_code`] reads a code file, which may come from a stranger, and accepts only the one
-//! spelling of a safe code. `specs/Loaded.antt` defines the result for each file. A read fault
-//! is reported only if a read or an open failed, and the file is closed on every path out.
+//! [`load_code`] reads a code file, which may come from a stranger, and accepts only safe code
+//! in its one spelling. `specs/Loaded.antt` defines the result for each file. A read fault is
+//! reported only if a read or an open failed, and the file is closed on every path out.
 #![tactic(auto)]
 
 mod job;

@@ -38,7 +38,7 @@ pub(crate) struct LineRun {
     pub(crate) texts: Texts,
 }
 
-/// Returns the text of a line. The answer of a call is known to be text; that of a field isn't.
+/// Returns the text of a line. The result of a call is known to be text; a field is not.
 #[inline(always)]
 fn text_of(line: InputLine<'_>) -> &str
     ensures { result.now ≡ line.entry.text.now }
@@ -47,7 +47,7 @@ fn text_of(line: InputLine<'_>) -> &str
 }
 
 /// Returns the number of characters of a line. If all of its bytes are known to be ASCII, each
-/// is one.
+/// byte is one character.
 fn characters(line: &str, is_ascii: bool) -> u64
     requires fits { length line.now ≤ 2 ^ 30 }
     requires ascii { IsTrue is_ascii → IsAscii line.now }
@@ -60,9 +60,9 @@ fn characters(line: &str, is_ascii: bool) -> u64
     line.chars().count() as u64
 }
 
-/// Returns the number of steps that a line may take: the given one, or by default a million,
-/// and a thousand for each character of the line. With `is_ascii`, all bytes of the line are
-/// ASCII.
+/// Returns the number of steps that a line may take: the given number, or by default a million
+/// plus a thousand for each character of the line. With `is_ascii`, all bytes of the line must
+/// be ASCII.
 pub fn budget_or(given: Option<u64>, line: &str, is_ascii: bool) -> u64
     requires fits { length line.now ≤ 2 ^ 30 }
     requires ascii { IsTrue is_ascii → IsAscii line.now }
@@ -74,8 +74,8 @@ pub fn budget_or(given: Option<u64>, line: &str, is_ascii: bool) -> u64
     }
 }
 
-/// Makes the trees of the captures, unless the style prints the same for all trees: then those
-/// of an earlier line stay.
+/// Makes the trees of the captures, unless the style prints the same for all trees: then the
+/// trees of an earlier line stay.
 fn make_trees(forest: &mut Forest, captures: &[Caught], style: Style) -> Result<(), NoMemory>
     ensures { OnOk result (IgnoresTrees style ⊎ BuildsEach captures.now forest.new) }
 {
@@ -121,7 +121,7 @@ impl LineRun {
             .print(style, line, Some(&self.forest), &self.fronts)
     }
 
-    /// Makes the piece of a line, for every outcome that the run shows.
+    /// Makes the piece of a line, for each outcome that the run may show.
     #[inline(always)]
     pub(crate) fn answer<L: Ledger>(
         &mut self,

@@ -29,7 +29,7 @@ fn refused(alloc: Global, path: &str, text: &str) -> Unloaded
     }
 }
 
-/// Returns the refusal for the fault of a file that needn't be text.
+/// Returns the refusal for a fault in reading a file that needn't be text.
 fn of_file(alloc: Global, path: &str, fault: FileFault) -> Unloaded
     requires { fault ≢ FileFault.NotText }
     ensures { IsToldOfFile path.now fault result }

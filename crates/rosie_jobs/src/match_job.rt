@@ -15,14 +15,14 @@ use rpl_machine::{Memo, Steps};
 use std::alloc::Global;
 use std::sync::ledger::Ledger;
 
-/// A job that runs a code on each line, and prints what it matched. All memory is kept from
-/// line to line.
+/// A job that runs code on each line, and prints what it matched. All memory is kept from line
+/// to line.
 #[derive(Drop)]
 pub struct MatchJob {
     /// The goal that the code matches, if there is one. Only contracts read it.
     goal: Option<Goal>,
     program: Program,
-    /// What earlier runs have learnt about the program.
+    /// What earlier runs have learned about the program.
     memo: Memo,
     line: LineRun,
     ghost known: { ∥ IsKnown goal (instructions program) ∥₁ },

@@ -2,7 +2,8 @@
 
 use rpl_encode::Style;
 
-/// The most bytes of a line. If the whole input is one line, the most bytes of the input.
+/// The most bytes that a line may have. If the whole input is one line, the input may have as
+/// many.
 pub const MAX_LINE_BYTES: usize = 16_777_216;
 
 /// The settings for all lines, apart from the pattern.
@@ -14,7 +15,7 @@ pub struct Settings {
     pub whole: bool,
     /// Whether a line that doesn't match is reported on `err`.
     pub all: bool,
-    /// Whether the steps of a line are reported on `err`.
+    /// Whether the number of steps for a line is reported on `err`.
     pub steps: bool,
     /// The number of the machine's steps that a line may take, if it is given.
     pub budget: Option<u64>,

@@ -114,7 +114,7 @@ impl Texts {
         self.told.push_str(text.as_str())
     }
 
-    /// Makes the report on a line that goes beside its answer.
+    /// Makes the report for `err` that goes with the answer to a line.
     #[inline(always)]
     fn tell(
         &mut self,

@@ -25,7 +25,7 @@ pub struct TraceJob {
     err: String,
 }
 
-/// Returns the text of a trace, after the number of its line.
+/// Returns the text of a trace, preceded by the number of its line.
 fn numbered(alloc: Global, number: u64, printed: &Chars) -> Result<String, NoMemory>
     ensures { IfOk result (λ text. string_bytes text
         ≡ codes "line " ++ (decimal number ++ (codes "\n" ++ encode_utf8_all printed.now))) }

@@ -52,8 +52,8 @@ fn load_roots<F: Files>(
     }
 }
 
-/// Loads the pattern over the packages of its roots, to which its imports are added. Returns
-/// the line of the first fault, if there is one.
+/// Loads the pattern over the packages of its roots, and adds its imports to them. Returns the
+/// line that reports the first fault, if there is one.
 fn load_goal<F: Files>(
     alloc: Global,
     files: &mut F,
@@ -80,8 +80,8 @@ fn load_goal<F: Files>(
     }
 }
 
-/// Returns the rule table of the roots and of all that they import, or the line of the first
-/// fault.
+/// Returns the rule table of the roots and of all that they import, or the line that reports the
+/// first fault.
 pub fn prepare_rules<F: Files>(
     alloc: Global,
     files: &mut F,
@@ -104,10 +104,10 @@ pub fn prepare_rules<F: Files>(
     pass_rules(alloc, set)
 }
 
-/// Prepares a command with a pattern, or returns the line of the first fault.
+/// Prepares a command with a pattern, or returns the line that reports the first fault.
 ///
-/// Faults of loading come first, then rules or patterns that are too large, then the faults
-/// that the check finds. Within each pass the rules come before the pattern. The result can be
+/// Loading faults come first, then rules or patterns that are too large, then the faults that
+/// the check finds. Within each pass the rules come before the pattern. The result can be
 /// compiled as it is, and each name in the pattern is a rule of its packages.
 pub fn prepare<F: Files>(
     alloc: Global,

@@ -15,7 +15,7 @@ pub fn one_reading()
     ensures only { OneReading }
 {}
 
-/// Proves that over each tree of files roots without a pattern have exactly one result.
+/// Proves that, over each tree of files, roots without a pattern have exactly one result.
 pub fn one_table()
     ensures some { SomeTable }
     ensures only { OneTable }

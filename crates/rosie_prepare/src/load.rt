@@ -11,7 +11,7 @@ use rpl_print::text_of;
 use rpl_text::Chars;
 use std::alloc::Global;
 
-/// Returns a text with a name after it.
+/// Returns a text followed by a name.
 fn named(alloc: Global, text: &str, name: &Chars) -> Result<String, NoMemory>
     ensures { IfOk result (λ s. string_bytes s ≡ text.now ++ encode_utf8_all name.now) }
 {

@@ -16,7 +16,7 @@ pub struct Prepared {
     pub goal: CheckedPeg,
 }
 
-/// Rules that are ready, for a command without a pattern.
+/// The prepared rules of a command without a pattern.
 #[derive(Drop)]
 pub struct PreparedRules {
     /// The packages: those of the roots, and all that they import.

@@ -15,7 +15,7 @@ use rpl_expand::ExpandFault;
 use rpl_package::PackageSet;
 use std::alloc::Global;
 
-/// Returns the text itself, whose bytes are then known to be those of its characters.
+/// Returns the text unchanged. Its bytes are then known to be those of its characters.
 fn as_it_is(text: &str) -> &str
     ensures { result.now ≡ encode_utf8_all (chars text.now) }
 {
@@ -35,7 +35,7 @@ fn rule_name(set: &PackageSet, rule: Option<u32>) -> &str
     }
 }
 
-/// Returns the line of a fault in the pattern.
+/// Returns the line that reports a fault in the pattern.
 fn pattern_line(alloc: Global, text: &str) -> Result<String, NoMemory>
     ensures { IfOk result (λ line. string_bytes line ≡ L.pattern_line text.now) }
 {
@@ -49,7 +49,7 @@ struct Place<'a> {
     rule: Option<u32>,
 }
 
-/// Returns the line of a fault, placed at the first token of the rule's statement or at the
+/// Returns the line that reports a fault, at the first token of the rule's statement or at the
 /// pattern.
 fn rule_line(alloc: Global, place: &Place<'_>, text: &str) -> Result<String, NoMemory>
     ensures { IfOk result (λ line. string_bytes line
@@ -90,7 +90,8 @@ fn rule_names(alloc: Global, set: &PackageSet, rules: &[u32]) -> Result<String, 
     Ok(out)
 }
 
-/// Returns the line of a fault in a rule or in the pattern: this text, followed by the name.
+/// Returns the line that reports a fault in a rule or in the pattern: this text, followed by the
+/// name.
 fn named_line(alloc: Global, place: &Place<'_>, text: &str) -> Result<String, NoMemory>
     ensures { IfOk result (λ line. string_bytes line
         ≡ L.rule_line (set_seen place.now.set.now) place.now.rule
@@ -101,7 +102,7 @@ fn named_line(alloc: Global, place: &Place<'_>, text: &str) -> Result<String, No
     rule_line(alloc, place, &text)
 }
 
-/// Returns the line of a rule, or of the pattern, with an invalid look-behind.
+/// Returns the line that reports an invalid look-behind in a rule or in the pattern.
 fn behind_line(alloc: Global, place: &Place<'_>, cause: &str) -> Result<String, NoMemory>
     ensures { IfOk result (λ line. string_bytes line
         ≡ L.behind_line (set_seen place.now.set.now) place.now.rule cause.now) }
@@ -111,7 +112,7 @@ fn behind_line(alloc: Global, place: &Place<'_>, cause: &str) -> Result<String, 
     rule_line(alloc, place, &text)
 }
 
-/// Returns the line of rules that call themselves before they consume a character.
+/// Returns the line that reports rules that call themselves before they consume a character.
 fn recursion_line(alloc: Global, set: &PackageSet, rules: &[u32]) -> Result<String, NoMemory>
     ensures { IfOk result (λ line. string_bytes line
         ≡ L.recursion_line (set_seen set.now) rules.now) }

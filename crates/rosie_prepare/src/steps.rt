@@ -35,7 +35,7 @@ use rpl_package::PackageSet;
 use rpl_syntax::Expr;
 use std::alloc::Global;
 
-/// Returns the rule table of a set, which is in order, unless a rule is too large.
+/// Returns the rule table of a set, unless a rule is too large. The table is in order.
 fn expand_rules(alloc: Global, set: &PackageSet) -> Result<Rules, Unready>
     ensures exactly { Finds (option_map (L.expand_line (set_seen set.now))
         (table_too_large (set_seen set.now))) result }

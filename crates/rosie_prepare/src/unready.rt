@@ -41,7 +41,7 @@ fn refused(alloc: Global, fault: &LoadFault) -> Unready
     }
 }
 
-/// Returns the reason for a fault of loading.
+/// Turns a fault of loading into the reason why there is nothing to run.
 pub(crate) fn of_load(alloc: Global, fault: LoadFault) -> Unready
     ensures { TellsLoad fault result }
 {

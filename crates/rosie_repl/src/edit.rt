@@ -49,7 +49,7 @@ fn by_sign<'a>(sign: &str, rest: &'a str) -> Option<Edit<'a>>
     }
 }
 
-/// Parses the command of a line. Returns `None` exactly if the line has none of the six forms.
+/// Parses the command of a line. Returns `None` exactly when the line has none of the six forms.
 /// The number of a text may be any below 2^64. A text, a pattern or a line may be empty, and is
 /// all that follows the space.
 pub fn read_edit(line: &str) -> Option<Edit<'_>>

@@ -2,11 +2,11 @@
 //! back to earlier states.
 //!
 //! The crate serves the command `repl`, whose lines are commands: `read_edit` parses one, and a
-//! `State` makes each change and takes it back. The command of a line, the state after a
-//! change, and the state after `undo` are exactly as defined (`specs/Edits.antt`,
-//! `specs/Session.antt`). The caller decides whether a change is accepted, by loading the
-//! state. A state holds of each earlier change only what is needed to undo it, so a change
-//! costs its own size, and `undo` allocates nothing.
+//! `State` makes each change and undoes it. The command of a line, the state after a change, and
+//! the state after `undo` are exactly as defined (`specs/Edits.antt`, `specs/Session.antt`). The
+//! caller decides whether a change is accepted, by loading the state. For each earlier change a
+//! state holds only what is needed to undo it, so a change costs its own size, and `undo`
+//! allocates nothing.
 #![tactic(auto)]
 
 mod edit;

@@ -52,7 +52,7 @@ impl State {
         self.texts.len()
     }
 
-    /// Returns the text at this index, from 0, or `None` exactly if there is none.
+    /// Returns the text at this index, from 0, or `None` exactly when there is none.
     pub fn text(&self, index: usize) -> Option<&str>
         ensures { option_map chars (option_copied result)
             ≡ slice_get (session_of self.now).now.texts index }
@@ -63,7 +63,7 @@ impl State {
         }
     }
 
-    /// Returns the kept pattern, or `None` exactly if none is kept.
+    /// Returns the kept pattern, or `None` exactly when none is kept.
     pub fn pattern(&self) -> Option<&str>
         ensures { option_map chars (option_copied result) ≡ (session_of self.now).now.pattern }
     {
@@ -131,7 +131,7 @@ impl State {
     }
 
     /// Makes a change, and returns whether it was made. Returns `false`, and changes nothing,
-    /// exactly if there is no text with this number, or the command is `Try` or `Undo`. If
+    /// exactly when there is no text with this number, or the command is `Try` or `Undo`. If
     /// memory runs out, nothing is changed either.
     pub fn change(&mut self, edit: &Edit<'_>) -> Result<bool, NoMemory>
         ensures { Changes (session_of self.old) (session_of self.new)
@@ -148,7 +148,7 @@ impl State {
     }
 
     /// Goes back to the state before the last change. Returns `false`, and changes nothing,
-    /// exactly if there was no change. It allocates nothing.
+    /// exactly when there was no change. It allocates nothing.
     pub fn undo(&mut self) -> bool
         ensures { GoesOn (session_of self.old) (session_of self.new)
             (S.undone (session_of self.old)) result }

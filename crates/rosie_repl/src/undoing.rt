@@ -6,9 +6,9 @@ use rpl_text::Chars;
 pub(crate) enum Undoing {
     /// A text was added at the end.
     Added,
-    /// The text at this index was another one: this one.
+    /// The text at this index was replaced; it was this text.
     Replaced(usize, Chars),
-    /// This text stood before this index.
+    /// The text at this index was removed; it was this text.
     Removed(usize, Chars),
     /// The pattern was this one, or there was none.
     Patterned(Option<Chars>),

@@ -34,7 +34,7 @@ pub struct Inputs<'a, F, I> {
     pub input: &'a mut I,
 }
 
-/// The inputs of a run, and the way in which their lines are read.
+/// The inputs of a run, and how their lines are read.
 #[derive(Clone, Copy, Debug)]
 pub struct Wanted<'a> {
     /// The names of the inputs, in the order in which they are read.
@@ -42,7 +42,7 @@ pub struct Wanted<'a> {
     pub reading: Reading,
 }
 
-/// Runs on each line of an open source.
+/// Runs the job on each line of an open source.
 fn run_source<J: LineJob, S: Source, O: Sink, E: Sink, L: Ledger>(
     lines: &mut Lines<'_, J>,
     file: &str,
@@ -75,7 +75,7 @@ fn run_source<J: LineJob, S: Source, O: Sink, E: Sink, L: Ledger>(
     run_pieces(&mut source_lines, outputs)
 }
 
-/// Runs on each line of a file. If there is no such file, the run says so and ends.
+/// Runs the job on each line of a file. If there is no such file, the run says so and ends.
 fn run_file<J: LineJob, F: Files, O: Sink, E: Sink, L: Ledger>(
     lines: &mut Lines<'_, J>,
     path: &str,
@@ -120,8 +120,8 @@ fn run_file<J: LineJob, F: Files, O: Sink, E: Sink, L: Ledger>(
     }
 }
 
-/// Runs on each line of one input. The standard input is read once; `read` says whether it has
-/// been.
+/// Runs the job on each line of one input. The standard input is read only once; `read` says
+/// whether it has been read.
 fn run_one<J: LineJob, F: Files, I: Source, O: Sink, E: Sink, L: Ledger>(
     lines: &mut Lines<'_, J>,
     name: &str,
@@ -177,8 +177,8 @@ fn text_of(name: &Chars) -> &str
     name.as_str()
 }
 
-/// Runs on each line of the named inputs, one input after the other, up to the line that ends
-/// the run.
+/// Runs the job on each line of the named inputs, one input after the other, up to the line that
+/// ends the run.
 pub fn run_inputs<J: LineJob, F: Files, I: Source, O: Sink, E: Sink, L: Ledger>(
     alloc: Global,
     job: &mut J,

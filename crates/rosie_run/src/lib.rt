@@ -3,10 +3,10 @@
 //!
 //! A command is a text ([`say`]), a job for each line of its inputs ([`LineJob`],
 //! [`run_inputs`]), or any other source of pieces ([`PieceSource`]). It makes texts and never
-//! sees an output: [`run_pieces`] is the one loop that writes them, and that flushes before it
-//! waits. The contract says for each answer which pieces are written and how far reading came.
-//! [`finish`] ends every run. `specs/Headline.antt` defines what an answer says of the report,
-//! for any command.
+//! sees an output: [`run_pieces`] is the one loop that writes them, and it flushes before it
+//! waits for input. Its contract says for each answer which pieces are written and how far
+//! reading got. [`finish`] ends every run. `specs/Headline.antt` defines what an answer says
+//! about the report, for any command.
 #![tactic(auto)]
 
 mod ended;

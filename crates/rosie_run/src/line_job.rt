@@ -18,8 +18,8 @@ pub struct InputLine<'a> {
     pub number: u64,
     /// The line, without its line feed: at most 2^30 bytes.
     pub text: &'a str,
-    /// Whether all bytes of the text are known to be ASCII, so that none needs to be looked at.
-    /// If it is false, they may still be ASCII.
+    /// Whether all bytes of the text are known to be ASCII, so that none needs to be checked. If
+    /// it is false, they may still be ASCII.
     pub is_ascii: bool,
 }
 
@@ -29,7 +29,7 @@ pub trait LineJob {
     /// The piece of a line, given the input's name, the line's number and its text.
     ghost makes: { Self → List ℕ → ℕ → List ℕ → Piece };
 
-    /// The job makes no step of the machine.
+    /// Whether the job is known to make no step of the machine.
     ghost idle: { Type 0 } = { ⊥ };
 
     /// The texts of the last piece.
@@ -37,7 +37,7 @@ pub trait LineJob {
 
     ghost err_text: { Self → List ℕ };
 
-    /// What it says at the end, where these lines are still to be given to it.
+    /// The text that the job says at the end, if these lines are still to be given to it.
     ghost last_text: { Self → List (List ℕ) → List ℕ } = { λ _ _. [] };
 
     /// Makes the piece of a line.

@@ -20,7 +20,7 @@ use std::alloc::Global;
 use std::mem;
 use std::sync::ledger::Ledger;
 
-/// The way in which the lines of an input are read.
+/// How the lines of an input are read.
 #[derive(Clone, Copy, Debug)]
 pub struct Reading {
     /// The program that runs.
@@ -31,15 +31,15 @@ pub struct Reading {
     pub most: usize,
 }
 
-/// The run's own messages on an input. They are kept apart from the value that holds the job
-/// and the source: if such a value owned memory, nothing would be known of the job and the
+/// The run's own messages about an input. They are kept apart from the value that holds the job
+/// and the source: if such a value owned memory, nothing would be known about the job and the
 /// source afterwards.
 #[derive(Drop)]
 pub(crate) struct Messages {
     alloc: Global,
     /// The program that runs.
     tool: Tool,
-    /// The message on the line, if the job has no answer to it.
+    /// The message about the line, if the line has no answer.
     fault: Option<String>,
     /// The message that a read failed. It is made before the input is opened, so that a lack of
     /// memory can't hide a failed read.
@@ -49,7 +49,7 @@ pub(crate) struct Messages {
 /// A job, and the reader of the lines that it works on.
 #[derive(Drop)]
 pub(crate) struct Lines<'a, J> {
-    /// The maker of each line's piece.
+    /// The job, which makes each line's piece.
     pub(crate) job: &'a mut J,
     /// The reader of the lines.
     pub(crate) reader: &'a mut LineReader,
@@ -61,7 +61,7 @@ pub(crate) struct Lines<'a, J> {
 pub(crate) struct SourceLines<'a, J, S> {
     /// The name of the source in messages.
     file: &'a str,
-    /// The maker of each line's piece.
+    /// The job, which makes each line's piece.
     job: &'a mut J,
     /// The reader of the lines.
     reader: &'a mut LineReader,
@@ -119,7 +119,7 @@ impl Messages {
         input_message(self.alloc, self.tool, file, "no such file")
     }
 
-    /// Keeps the message on a line, as a piece of the run.
+    /// Keeps the message about a line as a piece of the run.
     fn say(&mut self, file: &str, number: u64, why: &str) -> Result<Option<Mark>, Ended>
         ensures tool { self.new.tool ≡ self.old.tool }
         ensures stays { self.new.read_failed ≡ self.old.read_failed }
@@ -135,7 +135,7 @@ impl Messages {
 }
 
 impl<'a, J: LineJob> Lines<'a, J> {
-    /// Puts the lines of a job together from their parts.
+    /// Combines a job, the reader of its lines and the messages of the run.
     pub(crate) fn new(
         job: &'a mut J,
         reader: &'a mut LineReader,

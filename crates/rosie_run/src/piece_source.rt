@@ -12,17 +12,17 @@ use std::sync::ledger::Ledger;
 /// A source of the pieces of a run, one after the other. It makes their texts, in memory of its
 /// own, and writes nothing: the run writes them.
 pub trait PieceSource {
-    /// These are known to be the pieces that are still to come.
+    /// Whether these are known to be the pieces that are still to come.
     ghost comes: { Self → List Piece → Type 0 };
 
-    /// Both values work on the same things: the same job, the same input, and so on.
+    /// Whether both values work on the same things: the same job, the same input, and so on.
     ghost same: { Self → Self → Type 0 };
 
-    /// The state that a run leaves if it began with the first value and is at the second after
-    /// this many pieces.
+    /// Whether a run that began with the first value may be at the second after this many
+    /// pieces, if it went on in this way.
     ghost leaves: { How → Self → Self → ℕ → Type 0 };
 
-    /// The source may be asked for a piece.
+    /// Whether the source may be asked for a piece.
     ghost goes_on: { Self → Type 0 } = { λ _. Unit {0} };
 
     /// An upper bound on the number of pieces to come.
@@ -39,10 +39,10 @@ pub trait PieceSource {
     /// The name of what it reads, used in the line that says that reading ended the run.
     ghost source_name: { Self → List ℕ };
 
-    /// The source makes no step of the machine.
+    /// Whether the source is known to make no step of the machine.
     ghost idle: { Type 0 } = { ⊥ };
 
-    /// No piece of the source ends the run.
+    /// Whether it is known that no piece of the source ends the run.
     ghost never_stops: { Type 0 } = { ⊥ };
 
     /// Returns whether the next piece can be made without waiting for input.
@@ -74,6 +74,6 @@ pub trait PieceSource {
     fn err(&self) -> &[u8]
         ensures { result.now ≡ err_text self.now };
 
-    /// The proof that a run that begins has left nothing.
+    /// The proof that `same` and `leaves` hold at the beginning of a run.
     ghost begins: { (s : Self) → same s s × leaves Going s s 0 };
 }

@@ -42,8 +42,8 @@ fn write_piece<P: PieceSource, O: Sink, E: Sink>(
     write_both(out, err, pieces.out(), pieces.err())
 }
 
-/// Writes the pieces one after the other, up to one that ends the run. Flushes what was written
-/// before it waits for more input.
+/// Writes the pieces one after the other, up to one that ends the run. Before it waits for more
+/// input, it flushes what was written.
 pub fn run_pieces<P: PieceSource, O: Sink, E: Sink, L: Ledger>(
     pieces: &mut P,
     outputs: &mut Outputs<'_, O, E, L>,

@@ -44,7 +44,7 @@ impl Tally {
         }
     }
 
-    /// Returns the tally of these pieces and of others together.
+    /// Returns the tally of these pieces and the others together.
     pub fn and(self, other: Tally) -> Tally
         ensures { result ≡ added self other }
     {

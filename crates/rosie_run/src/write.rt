@@ -135,7 +135,7 @@ pub(crate) fn flush_before_wait<O: Sink, E: Sink>(
     flush_both(out, err)
 }
 
-/// Returns the message on a line of an input: what is wrong with it.
+/// Returns the message about a line of an input. `text` says what is wrong with the line.
 #[tactic(auto, unfolding(crate::specs::Lines::line_message))]
 pub fn line_message(
     alloc: Global,
@@ -150,7 +150,7 @@ pub fn line_message(
     format!(in alloc; "{tool}: {file}:{number}: {text}\n")
 }
 
-/// Returns the message on an input: what is wrong with it.
+/// Returns the message about an input. `text` says what is wrong with the input.
 #[tactic(auto, unfolding(crate::specs::Lines::input_message))]
 pub fn input_message(alloc: Global, tool: Tool, file: &str, text: &str) -> Result<String, NoMemory>
     ensures { IfOk result (λ line. string_bytes line ≡ input_message tool file.now text.now) }
@@ -159,14 +159,14 @@ pub fn input_message(alloc: Global, tool: Tool, file: &str, text: &str) -> Resul
     format!(in alloc; "{tool}: {file}: {text}\n")
 }
 
-/// Returns the message of `rosie` on a line of an input.
+/// Returns the message from `rosie` about a line of an input.
 pub fn line_fault(alloc: Global, file: &str, number: u64, text: &str) -> Result<String, NoMemory>
     ensures { IfOk result (λ line. string_bytes line ≡ line_fault file.now number text.now) }
 {
     line_message(alloc, Tool::Rosie, file, number, text)
 }
 
-/// Returns the message of `rosie` on an input.
+/// Returns the message from `rosie` about an input.
 pub fn input_fault(alloc: Global, file: &str, text: &str) -> Result<String, NoMemory>
     ensures { IfOk result (λ line. string_bytes line ≡ input_fault file.now text.now) }
 {

@@ -1,4 +1,4 @@
-// The line of a number.
+// The line that is made from a number.
 ghost use Rattle.std.specs.Prelude.{◌≡◌, ◌++◌, ◌<◌, [], OnOk, nat_lt, if◌then◌else◌, codes};
 ghost use Rattle.std.specs.Prelude.{string_bytes};
 ghost use Rattle.rosie_sample.specs.Lines.{two_digits, level, date, dated, undated, line_of};
@@ -6,7 +6,8 @@ ghost use Rattle.rosie_sample.specs.Lines.{two_digits, level, date, dated, undat
 use crate::NoMemory;
 use rpl_print::push_decimal;
 
-/// Returns the zero before a number of one digit, so that it has two digits.
+/// Returns the zero that goes before a number of one digit, so that two digits are printed. It
+/// is empty for other numbers.
 fn zero_before(number: u32) -> &'static str
     ensures { result.now ≡ (if nat_lt number 10 then codes "0" else []) }
 {
@@ -53,7 +54,7 @@ fn push_dated(out: &mut String, number: u32) -> Result<(), NoMemory>
     push_decimal(out, number as u64)
 }
 
-/// Appends a line without date and level.
+/// Appends a line without a date or a level.
 fn push_undated(out: &mut String, number: u32) -> Result<(), NoMemory>
     ensures { OnOk result (string_bytes out.new ≡ string_bytes out.old ++ undated number) }
 {
@@ -61,7 +62,7 @@ fn push_undated(out: &mut String, number: u32) -> Result<(), NoMemory>
     push_decimal(out, number as u64)
 }
 
-/// Appends the line of a number.
+/// Appends the line that is made from a number.
 #[tactic(auto, unfolding(crate::specs::Lines::line_of))]
 pub(crate) fn push_line(out: &mut String, number: u32) -> Result<(), NoMemory>
     ensures { OnOk result (string_bytes out.new ≡ string_bytes out.old ++ line_of number) }

@@ -27,11 +27,11 @@ pub struct SampleRun {
     sample: Sample,
     lines: u32,
     /// The number of lines that the job has run on, the number of them that match, and the
-    /// bytes of their answers.
+    /// number of bytes in their answers.
     passed: u32,
     matched: u64,
     bytes: u64,
-    /// The text of the counts, once it is reported.
+    /// The text of the counts, once they are reported.
     text: Option<String>,
 }
 
@@ -48,7 +48,7 @@ fn one_if_hit(mark: Mark) -> u64
 impl SampleRun {
     ghost use Rattle.rosie_sample.specs.Views.{report_of, sampled_of};
 
-    /// Returns the run of a job on the first `lines` lines of the sample of a seed.
+    /// Returns the run of a job on the first `lines` lines of the sample with this seed.
     pub fn new(alloc: Global, job: MatchJob, seed: u32, lines: u32) -> SampleRun
         ensures sampled { sampled_of result ≡ record
             { maker = matcher_of job; seed = seed; lines = lines } }
@@ -90,7 +90,7 @@ impl SampleRun {
         Ok(mark)
     }
 
-    /// Matches the lines of the run, from where the sample is, and reports the counts.
+    /// Matches the lines of the run, starting from where the sample is, and reports the counts.
     pub fn run<O: Sink, E: Sink, L: Ledger>(
         &mut self,
         outputs: &mut Outputs<'_, O, E, L>,

@@ -31,7 +31,7 @@ fn next(number: u32) -> u32
 }
 
 impl Sample {
-    /// Returns the sample of a seed, before its first line.
+    /// Returns the sample with this seed, before its first line.
     pub fn new(alloc: Global, seed: u32) -> Sample
         ensures { result ≡ record { number = seed; line = [] } }
     {
@@ -52,7 +52,7 @@ impl Sample {
         push_line(&mut self.line, self.number / 65_536)
     }
 
-    /// Returns the present line, without a line feed.
+    /// Returns the current line, without a line feed.
     pub fn line(&self) -> &str
         ensures { result.now ≡ self.now.line }
     {

@@ -19,7 +19,7 @@ pub fn pattern() -> &'static str
     "date level"
 }
 
-/// Returns the text of the counts: the number of lines, of lines that match, and of bytes in
+/// Returns the text of the counts: the numbers of lines, of lines that match, and of bytes in
 /// their answers.
 pub(crate) fn counts_text(
     alloc: Global,

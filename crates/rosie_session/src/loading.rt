@@ -50,7 +50,7 @@ fn roots_of(alloc: Global, state: &State) -> Result<Roots, NoMemory>
     Ok(roots)
 }
 
-/// Loads the kept texts alone. Returns the line of the first fault, if there is one.
+/// Loads the kept texts alone. Returns the line that reports the first fault, if there is one.
 pub(crate) fn load_texts<F: Files>(
     alloc: Global,
     folders: &LibPath,
@@ -103,7 +103,7 @@ fn make_job(alloc: Global, ready: Prepared) -> Result<MatchJob, Unready>
     }
 }
 
-/// Returns the job of a pattern over the kept texts, or the line of the first fault.
+/// Returns the job of a pattern over the kept texts, or the line that reports the first fault.
 pub(crate) fn load_goal<F: Files>(
     alloc: Global,
     folders: &LibPath,

@@ -36,11 +36,11 @@ use std::alloc::Global;
 use std::mem;
 use std::sync::ledger::Ledger;
 
-/// The most bytes of a line of a session.
+/// The most bytes that a line of a session may have.
 const MAX_COMMAND_BYTES: usize = 1_048_576;
 
 /// The state that a session keeps from line to line. It is kept apart from the value that holds
-/// the files and the input: if such a value owned memory, nothing would be known of the files
+/// the files and the input: if such a value owned memory, nothing would be known about the files
 /// and the input afterwards.
 #[derive(Drop)]
 struct Kept {
@@ -148,7 +148,7 @@ impl Kept {
 }
 
 impl<'a, F: Files, I: Source> SessionLines<'a, F, I> {
-    /// Puts the lines of a session together from their parts.
+    /// Combines the folders, the state, the files and the input of a session.
     fn new(
         folders: &'a LibPath,
         kept: &'a mut Kept,

@@ -134,7 +134,7 @@ fn copy_of(alloc: Global, bytes: &[u8]) -> Result<Vec<u8>, NoMemory>
     Ok(copy)
 }
 
-/// Returns the text for `out` of a tried line. A line that doesn't match is reported too.
+/// Returns a tried line's text for `out`. A line that doesn't match is reported too.
 fn told(alloc: Global, mark: Mark, text: &[u8]) -> Result<Vec<u8>, NoMemory>
     ensures { IfOk result (λ told. (p : Piece) → p.out ≡ text.now →
         told.items ≡ (or_no mark p).out) }

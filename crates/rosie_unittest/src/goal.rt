@@ -28,7 +28,7 @@ fn goal_of(alloc: Global, target: Target) -> Result<Peg, NoMemory>
 }
 
 /// Returns the goal for testing a rule of the table. It can be compiled as it is: a match of it
-/// is one tree, and the check finds nothing wrong with a call.
+/// is one tree, and the check finds no fault in a call.
 pub(crate) fn checked_goal(
     alloc: Global,
     rules: &Checked,

@@ -37,8 +37,8 @@ fn one_root(alloc: Global, file: &Chars) -> Result<Roots, NoMemory>
     Ok(roots)
 }
 
-/// Returns the tests in the comments of the file's text, or the line of the first malformed
-/// one.
+/// Returns the tests in the comments of the file's text, or the line that reports the first
+/// malformed one.
 fn tests_in(alloc: Global, file: &Chars, text: &str) -> Result<Tests, Unready>
     ensures tests { IfOk result (HasTests text.now) }
     ensures short { IfOk result (λ tests. All (λ t. length (encode_utf8_all t.text)
@@ -57,8 +57,8 @@ fn tests_in(alloc: Global, file: &Chars, text: &str) -> Result<Tests, Unready>
     }
 }
 
-/// Returns the tests of the file's text over its packages, or the line of its first malformed
-/// test comment.
+/// Returns the tests of the file's text over its packages, or the line that reports its first
+/// malformed test comment.
 fn suite_over(
     alloc: Global,
     ready: PreparedRules,
@@ -93,13 +93,13 @@ fn suite_over(
     })
 }
 
-/// Loads the tests of a file, each with the rule that it tests. Returns the line of the first
-/// fault, if there is one.
+/// Loads the tests of a file, each with the rule that it tests. Returns the line that reports
+/// the first fault, if there is one.
 ///
 /// The file is loaded as the only root, with imports from these folders, and is read once more
-/// for its test comments. Each test is tried with the rule of its name in the file's own
-/// module. `budget` is the number of the machine's steps that a test may take: by default a
-/// million, and a thousand for each character of the text.
+/// for its test comments. Each test is run with the rule of its name in the file's own module.
+/// `budget` is the number of the machine's steps that a test may take: by default a million plus
+/// a thousand for each character of the text.
 pub fn load_suite<F: Files>(
     alloc: Global,
     files: &mut F,

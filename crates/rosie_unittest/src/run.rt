@@ -44,7 +44,7 @@ struct Kept {
 struct SuiteRun<'a> {
     suite: &'a Suite,
     kept: Kept,
-    /// The number of tests that were tried, and of those that failed.
+    /// The numbers of tests that were run and of those that failed.
     passed: usize,
     unmet: u64,
     /// Whether the counts have been reported.
@@ -59,7 +59,7 @@ impl Suite {
     ghost use Rattle.rosie_unittest.specs.Tried.{subject_for, trial_of};
     ghost use Rattle.rosie_unittest.specs.inside.Entries.{AreSound, job_of, subject_of};
 
-    /// Returns the verdict on a test whose goal has its code.
+    /// Returns the verdict on a test whose goal is compiled.
     fn try_goal<L: Ledger>(
         &self,
         test: &Test,
@@ -91,7 +91,7 @@ impl Suite {
         }
     }
 
-    /// Returns the verdict on a test that is tried with this subject.
+    /// Returns the verdict on a test that is run with this subject.
     fn try_subject<L: Ledger>(
         &self,
         test: &Test,
@@ -139,10 +139,10 @@ impl Suite {
         self.try_subject(&trial.test, subject, &mut kept.tester, steps)
     }
 
-    /// Tries the tests one after the other, writes a line for each that fails, and the counts
-    /// at the end. A code that is too long ends the run. Each rule is compiled when its first
-    /// test is tried. The compiled code is dropped once it is longer, in all, than one code may
-    /// be.
+    /// Runs the tests one after the other, writes a line for each that fails, and the counts at
+    /// the end. Code that is too long ends the run. Each rule is compiled when its first test is
+    /// run. All compiled code is dropped once its total length exceeds what is allowed for one
+    /// rule.
     pub fn run<O: Sink, E: Sink, L: Ledger>(
         &self,
         alloc: Global,
@@ -164,7 +164,7 @@ impl Suite {
 impl<'a> SuiteRun<'a> {
     ghost use Rattle.rosie_unittest.specs.Seen.{bench_of, trials_of};
 
-    /// Returns a run in which no test was tried.
+    /// Returns a run in which no test has been run yet.
     fn new(alloc: Global, suite: &'a Suite) -> Result<SuiteRun<'a>, NoMemory>
         ensures suite { IfOk result (λ run. run.suite.now ≡ suite.now) }
         ensures passed { IfOk result (λ run. run.passed ≡ 0) }
@@ -188,7 +188,7 @@ impl<'a> SuiteRun<'a> {
         })
     }
 
-    /// Tries the next test, and makes its report.
+    /// Runs the next test, and makes its report.
     fn try_next<L: Ledger>(&mut self, steps: &mut Steps<L>) -> Result<Mark, NoMemory>
         requires more { self.old.passed < length self.old.suite.now.trials.items }
         requires under_way { IsUnderWay self.old }

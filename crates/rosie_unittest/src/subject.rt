@@ -14,7 +14,8 @@ use rpl_core::Program;
 use rpl_package::Target;
 use std::alloc::{AllocError, Global};
 
-/// The most instructions that are kept before all are dropped: as many as the longest code has.
+/// The most instructions that are kept: once there are more, all are dropped. The longest code
+/// has as many.
 const MAX_KEPT: usize = 1_048_576;
 
 /// A goal with its code.
@@ -36,14 +37,14 @@ pub(crate) enum Subject {
     Runs(Compiled),
 }
 
-/// The subject of the tests of a target.
+/// The subject of a target's tests.
 #[derive(Drop)]
 pub(crate) struct Entry {
     pub(crate) target: Option<Target>,
     pub(crate) subject: Subject,
 }
 
-/// Returns the subject of the tests of a target.
+/// Returns the subject of a target's tests.
 fn subject_of(alloc: Global, rules: &Checked, target: Option<Target>) -> Result<Subject, NoMemory>
     requires { IsBound (bodies_of rules.now) target }
     ensures subject { IfOk result (λ s. subject_of (bodies_of rules.now) s
@@ -71,7 +72,8 @@ fn length_of(subject: &Subject) -> usize {
     }
 }
 
-/// Returns the index of a target's note: 0 for no target, and then one for each rule.
+/// Returns the index of a target's note: 0 for no target, and the rule's number plus one for any
+/// other.
 fn note_of(target: Option<Target>) -> usize {
     match target {
         None => 0,
@@ -80,13 +82,13 @@ fn note_of(target: Option<Target>) -> usize {
 }
 
 /// The subjects of earlier tests, which may be needed again. The code of a rule may be far
-/// longer than its tests, so it is kept for the tests to come. Since a file may have many
-/// rules, all codes are dropped once they are longer, in all, than the longest code may be.
+/// longer than its tests, so it is kept for the tests to come. Since a file may have many rules,
+/// all code is dropped once its total length exceeds that of the longest code that is allowed.
 #[derive(Drop)]
 pub(crate) struct Subjects {
     pub(crate) entries: Vec<Entry>,
     /// For each target, the index at which its entry may be found. Only the entry itself says
-    /// whether it is that of the target.
+    /// whether it belongs to the target.
     notes: Vec<usize>,
     /// The number of instructions of all entries.
     length: usize,
@@ -103,7 +105,7 @@ impl Subjects {
         })
     }
 
-    /// Returns the index of the entry of a target, if it has one.
+    /// Returns the index of a target's entry, if it has one.
     fn place(&self, target: Option<Target>) -> Option<usize>
         ensures { IfSome result (λ i. StandsAt self.now.entries.items target i) }
     {
@@ -116,7 +118,7 @@ impl Subjects {
         }
     }
 
-    /// Drops all entries, if they are too long.
+    /// Drops all entries if together they are too long.
     fn make_room(&mut self)
         ensures { (R : List Core) → AreSound R self.old.entries.items →
             AreSound R self.new.entries.items }
@@ -127,7 +129,7 @@ impl Subjects {
         }
     }
 
-    /// Returns the index of the entry of a target, which is made if there is none.
+    /// Returns the index of a target's entry, which is made if there is none.
     pub(crate) fn place_for(
         &mut self,
         alloc: Global,

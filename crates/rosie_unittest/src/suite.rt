@@ -19,7 +19,7 @@ pub struct Suite {
     pub(crate) budget: Option<u64>,
     /// The rules of all loaded packages.
     pub(crate) rules: Checked,
-    /// The tests, in the order of the file. Their goals are compiled when they are tried.
+    /// The tests, in the order of the file. Their goals are compiled when they are run.
     pub(crate) trials: Vec<Trial>,
     ghost ready: { ∥ AreReady (map (trial_of (bodies_of rules)) trials.items) ∥₁ },
     ghost bound: { ∥ AreBound (bodies_of rules) trials.items ∥₁ },

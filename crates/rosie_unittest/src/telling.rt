@@ -7,7 +7,7 @@ use rosie_run::{Mark, NoMemory, line_fault};
 use rpl_unittest::{Test, failed_line};
 use std::alloc::Global;
 
-/// Returns the text for `out`.
+/// Returns the text for `out` that reports a test.
 pub(crate) fn out_text(
     alloc: Global,
     file: &str,
@@ -22,7 +22,7 @@ pub(crate) fn out_text(
     }
 }
 
-/// Returns the text for `err`.
+/// Returns the text for `err` that reports a test.
 pub(crate) fn err_text(
     alloc: Global,
     file: &str,

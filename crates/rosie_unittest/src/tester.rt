@@ -1,4 +1,4 @@
-// The verdict on a text, from what was matched.
+// The verdict on a test, from what its text matched.
 ghost use Rattle.std.specs.Prelude.{◌≡◌, Some, None, nat_lt, not, length, IfOk, if◌then◌else◌};
 ghost use Rattle.rpl_core.specs.Captures.{all_named};
 ghost use Rattle.rpl_core.specs.Forest as F;
@@ -31,7 +31,7 @@ pub(crate) struct Tester {
     answer: AnswerText,
 }
 
-/// Returns the verdict on a test that passes or fails.
+/// Returns the verdict on a test, given whether it passes.
 fn met_or_not(met: bool) -> Verdict
     ensures { result ≡ (if met then Verdict.Met else Verdict.Unmet) }
 {
@@ -59,7 +59,7 @@ fn fits(
     }
 }
 
-/// Returns the verdict on a text that doesn't match.
+/// Returns the verdict on a test whose text doesn't match.
 pub(crate) fn judge_none(test: &Test, prefix: &str, program: &Program) -> Verdict
     ensures { result ≡ by_found prefix.now test.now None }
 {

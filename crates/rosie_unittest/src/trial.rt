@@ -22,24 +22,24 @@ use std::alloc::Global;
 #[derive(Drop)]
 pub(crate) struct Trial {
     pub(crate) test: Test,
-    /// The rule that the test is tried with. There is none if no statement of the file binds
-    /// the test's name, or if the name is that of a hidden rule.
+    /// The rule that the test is run with. There is none if no statement of the file binds the
+    /// test's name, or if the name is that of a hidden rule.
     pub(crate) target: Option<Target>,
 }
 
-/// Returns the test itself, whose text is that of a file.
+/// Returns the test unchanged. Its text is then known to consist of characters.
 fn with_text(test: Test) -> Test
     requires { length (encode_utf8_all test.text) ≤ 1048576 }
     ensures same { result ≡ test }
     ensures text { IsText result.text }
 {
-    // That the text consists of characters is known of a text that is looked at.
+    // Looking at the text makes it known that it consists of characters.
     let _text = test.text.as_str();
     test
 }
 
 /// Checks the goal of a target, if there is one. The goal is small and isn't kept: it is made
-/// again for its code.
+/// again when it is compiled.
 fn check_goal(alloc: Global, rules: &Checked, target: Option<Target>) -> Result<(), NoMemory>
     requires { IsBound (bodies_of rules.now) target }
     ensures { IfOk result (λ _. ∥ IsReady (subject_for (bodies_of rules.now) target) ∥₁) }
@@ -51,7 +51,7 @@ fn check_goal(alloc: Global, rules: &Checked, target: Option<Target>) -> Result<
     Ok(())
 }
 
-/// Returns the trial of each test, by the names of the module with this number.
+/// Returns the trial of each test. Its rule is looked up by name in the module with this number.
 pub(crate) fn trials_of(
     alloc: Global,
     set: &PackageSet,

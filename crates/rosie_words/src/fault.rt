@@ -9,9 +9,9 @@ use thiserror::Error;
 
 /// The first fault of the words of a command line.
 ///
-/// Faults of single words come first, in the order of the words. Faults of the whole follow, in
-/// the order of the variants from `NoCommand` on, and a `BadValue` of an argument comes last.
-/// `fault_line` returns the line that reports a fault.
+/// Faults of single words come first, in the order of the words. Faults of the words as a whole
+/// follow, in the order of the variants from `NoCommand` on, and a `BadValue` of an argument
+/// comes last. `fault_line` returns the line that reports a fault.
 #[derive(Debug, Drop, Error)]
 pub enum UsageFault {
     /// There is not enough memory to parse the words.

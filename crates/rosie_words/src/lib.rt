@@ -1,4 +1,4 @@
-//! The words of the command line: each list of words is either one command with its options, or
+//! The words of the command line: each list of words either is one command with its options, or
 //! has one first fault.
 //!
 //! The crate serves the top call. [`read_words`] parses the words. Its contract says for all

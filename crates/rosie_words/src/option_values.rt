@@ -54,7 +54,7 @@ fn folders(alloc: Global, value: &str) -> Result<Option<LibPath>, NoMemory>
 }
 
 impl OptionValues {
-    /// Returns the values without any option.
+    /// Returns the values before the first option.
     pub(crate) fn new(alloc: Global) -> Result<OptionValues, NoMemory>
         ensures { IfOk result (λ s. s ≡ values_of []) }
     {

@@ -63,7 +63,7 @@ fn push_message(line: &mut String, fault: &UsageFault) -> Result<(), NoMemory>
     }
 }
 
-/// Returns the line of a fault, with its line feed: `rosie: usage: ` and the message.
+/// Returns the line that reports a fault, with its line feed: `rosie: usage: ` and the message.
 pub fn fault_line(alloc: Global, fault: &UsageFault) -> Result<String, NoMemory>
     ensures { IfOk result (λ line. string_bytes line ≡ fault_line fault.now) }
 {

@@ -179,7 +179,7 @@ pub fn read_words(alloc: Global, words: &[String]) -> Result<Command, UsageFault
     reader.finish(alloc)
 }
 
-/// Proves that no words have `NoMemory` as their fault: it is the machine's own answer.
+/// Proves that `NoMemory` is never the fault of the words: only a lack of memory causes it.
 pub fn no_reading_is_out_of_memory()
     ensures { (words : List Word) → reading words ≢ Err E.NoMemory }
 {}

@@ -8,12 +8,12 @@ ghost use Rattle.rosie_words.specs.Table.{option_named};
 
 use crate::table::{OptionName, option_named};
 
-/// The state left by the words before.
+/// The state that the words so far leave.
 #[derive(Clone, Copy)]
 pub(crate) enum Front<'a> {
     /// An option may follow.
     Free,
-    /// The value of this option, given in this word, must follow.
+    /// The value of this option must follow; the text is the word that named the option.
     Owed(OptionName, &'a str),
     /// All words that follow are arguments.
     Ended,
@@ -30,17 +30,17 @@ pub(crate) enum Role<'a> {
     Unknown,
     /// An option that takes no value.
     Plain(OptionName),
-    /// An option that takes no value, with one after `=`.
+    /// An option that takes no value, but is given one after `=`.
     Unexpected,
     /// An option with its value after `=`.
     Full(OptionName, &'a str),
     /// An option whose value is the next word.
     Waiting(OptionName),
-    /// The value of the option in the word before.
+    /// The value of the option in the previous word. The text is that word.
     Value(OptionName, &'a str),
 }
 
-/// Returns whether the word is a dash and more.
+/// Returns whether the word is a dash followed by at least one more byte.
 fn is_option(word: &str) -> bool
     ensures { result ≡ is_option word.now }
 {

@@ -111,7 +111,7 @@ impl OptionName {
         self.is_of(command)
     }
 
-    /// Returns whether the table has the option for the command.
+    /// Returns whether the table lists the option for the command.
     fn is_of(self, command: CommandName) -> bool
         ensures { result ≡ takes command self }
     {

@@ -19,10 +19,10 @@ use std::alloc::Global;
 /// The greatest seed of a sample.
 const MAX_SEED: u32 = 2_147_483_647;
 
-/// The most lines of a sample.
+/// The greatest number of lines in a sample.
 const MAX_LINES: u32 = 1_000_000;
 
-/// Returns some words as paths.
+/// Returns the words as paths.
 fn paths(alloc: Global, words: &[&str]) -> Result<Paths, NoMemory>
     ensures { IfOk result (λ p. p ≡ map chars (map text words.now)) }
 {

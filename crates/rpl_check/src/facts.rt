@@ -28,7 +28,7 @@ pub(crate) fn is_marked(marks: &[bool], rule: u32) -> bool
 }
 
 /// Returns whether the pattern may succeed without taking a character, if exactly the marked rules
-/// may.
+/// may do so.
 #[cycle(empty)]
 pub(crate) fn may_be_empty(peg: &Peg, empties: &[bool]) -> bool
     ensures { result ≡ S.may_be_empty (marked empties.now) (core_of peg.now) }
@@ -44,7 +44,7 @@ pub(crate) fn may_be_empty(peg: &Peg, empties: &[bool]) -> bool
     }
 }
 
-/// Returns whether every part may.
+/// Returns whether every part may be empty.
 #[cycle(empty)]
 fn all_may_be_empty(parts: &[Peg], empties: &[bool]) -> bool
     ensures { result ≡ S.all_may_be_empty (marked empties.now) (cores parts.now) }
@@ -57,7 +57,7 @@ fn all_may_be_empty(parts: &[Peg], empties: &[bool]) -> bool
     true
 }
 
-/// Returns whether any part may.
+/// Returns whether any part may be empty.
 #[cycle(empty)]
 fn any_may_be_empty(parts: &[Peg], empties: &[bool]) -> bool
     ensures { result ≡ S.any_may_be_empty (marked empties.now) (cores parts.now) }
@@ -70,7 +70,7 @@ fn any_may_be_empty(parts: &[Peg], empties: &[bool]) -> bool
     false
 }
 
-/// Returns whether the pattern may end the whole match, if exactly the marked rules may.
+/// Returns whether the pattern may end the whole match, if exactly the marked rules may do so.
 #[cycle(halt)]
 pub(crate) fn may_halt(peg: &Peg, halting: &[bool]) -> bool
     ensures { result ≡ S.may_halt (marked halting.now) (core_of peg.now) }
@@ -87,7 +87,7 @@ pub(crate) fn may_halt(peg: &Peg, halting: &[bool]) -> bool
     }
 }
 
-/// Returns whether any part may.
+/// Returns whether any part may end the whole match.
 #[cycle(halt)]
 fn any_may_halt(parts: &[Peg], halting: &[bool]) -> bool
     ensures { result ≡ S.any_may_halt (marked halting.now) (cores parts.now) }
@@ -100,7 +100,7 @@ fn any_may_halt(parts: &[Peg], halting: &[bool]) -> bool
     false
 }
 
-/// Returns whether the pattern has the fact, if exactly the marked rules have it.
+/// Returns whether the fact holds for the pattern, if it holds for exactly the marked rules.
 fn holds(peg: &Peg, fact: Fact, marks: &[bool]) -> bool
     ensures { result ≡ test_of fact (marked marks.now) (core_of peg.now) }
 {
@@ -110,8 +110,8 @@ fn holds(peg: &Peg, fact: Fact, marks: &[bool]) -> bool
     }
 }
 
-/// Returns whether the body of the rule with this number has the fact. False if there is no such
-/// rule.
+/// Returns whether the fact holds for the body of the rule with this number, or `false` if there is
+/// no such rule.
 pub(crate) fn rule_holds(rules: &Rules, number: u32, fact: Fact, marks: &[bool]) -> bool
     ensures { result ≡ passes (test_of fact (marked marks.now))
         (slice_get (bodies_in rules.now) number) }

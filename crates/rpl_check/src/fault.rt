@@ -16,13 +16,13 @@ pub enum BehindCause {
 }
 
 /// The reason why a table of rules or a pattern is refused. `rule` is the number of a rule in the
-/// table; without one, the fault is in the pattern itself.
+/// table, or `None` if the fault is in the pattern itself.
 #[derive(Debug, Drop, Error)]
 pub enum CheckFault {
     /// Memory ran out.
     #[error("out of memory")]
     NoMemory,
-    /// A look-behind whose lengths have no bound, or one that is too high.
+    /// A look-behind whose length has no bound or too high a bound.
     #[error("look-behind")]
     LookBehind {
         rule: Option<u32>,

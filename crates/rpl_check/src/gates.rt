@@ -1,8 +1,8 @@
-// The order in which the rules of a block acquire a fact, each after the rules that give it the
-// fact.
+// The order in which to mark the rules of a block for which a fact holds: each rule comes after the
+// rules that its own mark follows from.
 //
-// Only the running time depends on this order: a rule is marked if it passes, whenever it is
-// visited. So a body is walked once for its gates and once more when it is marked.
+// Only the running time depends on this order: a rule is marked if the fact holds for it, whenever
+// it is visited. So a body is walked once for its gates and once more when it is marked.
 ghost use Rattle.std.specs.Prelude.{◌-◌, ◌<◌, ◌≤◌};
 
 use crate::NoMemory;
@@ -11,8 +11,8 @@ use crate::group::Group;
 use rpl_core::Peg;
 use std::alloc::Global;
 
-/// The state of a pattern: it has the fact, never has it, or has it once enough of the rules it
-/// calls do.
+/// The state of a pattern: the fact holds for it, never holds for it, or holds for it once it holds
+/// for enough of the rules that the pattern calls.
 #[derive(Clone, Copy)]
 enum Port {
     Open,
@@ -20,9 +20,9 @@ enum Port {
     Waits,
 }
 
-/// The gates of the patterns of a block; `marks` covers the rules before it. The first gates are
-/// those of the block's rules. Every other gate comes after the one above it and has a call below
-/// it. `calls` counts the calls noted.
+/// The gates of the patterns in a block; `marks` covers the rules before the block. The first gates
+/// are those of the block's rules. Every other gate comes after the one above it and has a call
+/// below it. `calls` counts the calls noted.
 #[derive(Drop)]
 struct Gates<'a> {
     start: u32,
@@ -62,8 +62,8 @@ impl<'a> Gates<'a> {
         Ok(gate)
     }
 
-    /// Removes the gate and those after it, unless a call was noted since the count was `calls`.
-    /// None of the gates removed is waiting.
+    /// Removes the gate and those after it, unless a call has been noted since the count was
+    /// `calls`. None of the removed gates is waiting.
     fn take_back(&mut self, gate: usize, calls: usize) {
         if self.calls == calls {
             self.above.truncate(gate);
@@ -78,7 +78,7 @@ impl<'a> Gates<'a> {
         }
     }
 
-    /// Notes a call below the gate.
+    /// Notes a call below the gate, and returns the port of the call.
     fn call(&mut self, rule: u32, gate: usize) -> Result<Port, NoMemory> {
         if self.start <= rule && rule < self.end {
             let place = (rule - self.start) as usize;
@@ -110,7 +110,7 @@ fn empty_port(gates: &mut Gates, peg: &Peg, gate: usize) -> Result<Port, NoMemor
     }
 }
 
-/// Does the same for a sequence, in which every part needs the fact.
+/// Does the same for a sequence: the fact holds for it if it holds for every part.
 #[cycle(ports)]
 fn all_empty_port(gates: &mut Gates, parts: &[Peg], above: usize) -> Result<Port, NoMemory> {
     let calls = gates.calls;
@@ -134,7 +134,7 @@ fn all_empty_port(gates: &mut Gates, parts: &[Peg], above: usize) -> Result<Port
     Ok(Port::Waits)
 }
 
-/// Does the same for a choice, in which one part needs the fact.
+/// Does the same for a choice: the fact holds for it if it holds for any part.
 #[cycle(ports)]
 fn any_empty_port(gates: &mut Gates, parts: &[Peg], above: usize) -> Result<Port, NoMemory> {
     let calls = gates.calls;
@@ -159,7 +159,7 @@ fn any_empty_port(gates: &mut Gates, parts: &[Peg], above: usize) -> Result<Port
 }
 
 /// Returns the port of a pattern below the gate, for the fact that it may halt. The gate opens as
-/// soon as any rule that the pattern calls has the fact.
+/// soon as the fact holds for any rule that the pattern calls.
 #[cycle(halts)]
 fn halt_port(gates: &mut Gates, peg: &Peg, gate: usize) -> Result<Port, NoMemory> {
     match peg {
@@ -174,7 +174,7 @@ fn halt_port(gates: &mut Gates, peg: &Peg, gate: usize) -> Result<Port, NoMemory
     }
 }
 
-/// Does the same for parts of which one needs the fact.
+/// Does the same for parts: the fact need hold for only one of them.
 #[cycle(halts)]
 fn any_halt_port(gates: &mut Gates, parts: &[Peg], gate: usize) -> Result<Port, NoMemory> {
     let mut waits = false;
@@ -192,7 +192,8 @@ fn any_halt_port(gates: &mut Gates, parts: &[Peg], gate: usize) -> Result<Port, 
     }
 }
 
-/// Returns the port of the rule at this place of the group. The number of its gate is its place.
+/// Returns the port of the rule at this place in the group. The number of the rule's gate is this
+/// place.
 fn rule_port(gates: &mut Gates, group: &Group, place: u32, fact: Fact) -> Result<Port, NoMemory>
     requires { place < group.now.end - group.now.start }
 {
@@ -249,8 +250,8 @@ fn open_callers(
     Ok(())
 }
 
-/// Returns the places of the group's rules that have the fact, each after the rules that give it
-/// the fact.
+/// Returns the places of the group's rules for which the fact holds, each after the rules from
+/// which this follows.
 pub(crate) fn turns(
     alloc: Global,
     group: &Group,

@@ -20,7 +20,7 @@ use crate::recursion::Block;
 use rpl_core::{Rules, is_outside};
 use std::alloc::Global;
 
-/// Returns the fault of the first bad look-behind of the rule.
+/// Returns the fault of the first bad look-behind in the rule.
 fn cause_at(rules: &Rules, number: u32) -> Option<BehindCause>
     ensures { some_cause result ≡ body_cause (slice_get (bodies_in rules.now) number) }
 {
@@ -97,8 +97,8 @@ fn check_behinds(group: &Group) -> Result<(), CheckFault>
     Ok(())
 }
 
-/// Checks that no rule of the block reaches itself before a character. A rule outside blocks calls
-/// only earlier rules.
+/// Checks that no rule of the block reaches itself before it takes a character. A rule outside
+/// blocks calls only earlier rules, so it never does.
 fn check_recursion(alloc: Global, group: &Group, empties: &[bool]) -> Result<(), CheckFault>
     requires within { (group.now.start < group.now.end)
         × (group.now.end ≤ length (rules_of group.now.rules.now)) }

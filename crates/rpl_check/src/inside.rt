@@ -25,7 +25,7 @@ pub(crate) fn has_empty_loop(peg: &Peg, empties: &[bool]) -> bool
     }
 }
 
-/// Returns whether any part does.
+/// Returns whether any part repeats such a body.
 #[cycle(empty_loop)]
 fn any_has_empty_loop(parts: &[Peg], empties: &[bool]) -> bool
     ensures { result ≡ L.any_has_empty_loop (marked empties.now) (cores parts.now) }
@@ -39,7 +39,8 @@ fn any_has_empty_loop(parts: &[Peg], empties: &[bool]) -> bool
 }
 
 /// Returns whether no predicate in the pattern may halt, if exactly the marked rules may halt. A
-/// body that may not halt contains no predicate that may, so nothing is visited twice.
+/// body for which `may_halt` is false contains no predicate that may halt, so nothing is visited
+/// twice.
 #[cycle(stay)]
 pub(crate) fn predicates_stay(peg: &Peg, halting: &[bool]) -> bool
     ensures { result ≡ S.predicates_stay (marked halting.now) (core_of peg.now) }

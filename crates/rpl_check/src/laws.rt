@@ -1,4 +1,4 @@
-// Laws that hold for the static facts alone.
+// Laws about the static facts alone.
 ghost use Rattle.rpl_check.specs.Laws.{FactsLaw, OneFactsLaw};
 
 /// Every table whose calls stay inside it has static facts, so the contracts of this crate are

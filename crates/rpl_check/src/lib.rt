@@ -1,10 +1,10 @@
-//! The check of patterns before they run: every pattern that passes has a meaning on every line,
-//! and all others are refused.
+//! Checks patterns before they run: every pattern that passes has a meaning on every line, and all
+//! others are refused.
 //!
 //! `check` checks a whole table of rules, `check_pattern` a pattern over it. Each returns exactly
 //! the first fault in a stated order: a look-behind without a fixed bound, left recursion, a
 //! repetition whose body may be empty, or a halt under a predicate. A clause of `check_pattern`
-//! states that a pattern that passes has an outcome on every text, so its compiler needs no further
+//! states that a pattern that passes has an outcome on every text, so the compiler needs no further
 //! premise. `specs/Facts.antt` and `specs/Faults.antt` define the faults.
 #![tactic(auto)]
 

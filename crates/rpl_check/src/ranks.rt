@@ -1,4 +1,4 @@
-// The ranks of rules. If no call of the block goes to a higher rank, a rule whose calls all go to
+// The ranks of rules. If no call in the block goes to a higher rank, a rule whose calls all go to
 // lower ranks is on no cycle. The ranks are the numbers of strongly connected components, found by
 // Kosaraju's two passes (Sharir 1981).
 //
@@ -52,7 +52,7 @@ struct Walk {
 }
 
 impl Walk {
-    /// Moves to this place, if it has not been visited.
+    /// Moves to this place, if it has not been visited yet.
     fn meet(&mut self, place: u32) -> Result<(), NoMemory> {
         let at = place as usize;
         if at < self.met.len() && !self.met[at] {
@@ -142,7 +142,8 @@ impl Components {
         Ok(())
     }
 
-    /// Gives this rank to the root and to all places reachable from it by calls that have none yet.
+    /// Gives this rank and root to the root and to each place that has none yet and is reachable
+    /// from the root by calls.
     fn give_all(&mut self, calls: &[Vec<u32>], rank: u32, root: u32) -> Result<(), NoMemory> {
         let first = self.down.len();
         self.give(root, rank, root)?;
@@ -160,7 +161,7 @@ impl Components {
 }
 
 /// Returns the components of places, given the callers of each. Places on one cycle have the same
-/// rank, and every other call goes to a lower rank.
+/// rank, and every call that is on no cycle goes to a lower rank.
 pub(crate) fn find_components(alloc: Global, callers: &[Vec<u32>]) -> Result<Components, NoMemory> {
     let calls = calls_of(alloc, callers)?;
     let Walk { up, left, .. } = walk_all(alloc, callers)?;
@@ -195,7 +196,7 @@ impl Block<'_> {
         }
     }
 
-    /// Returns the highest rank of these rules, or 0.
+    /// Returns the highest rank of these rules, or 0 if there are none.
     fn highest(&self, ranks: &[u32], rules: &[u32]) -> u64
         ensures { (t : ℕ) → waits rules.now t ≡ true → rank_of self.now.start ranks.now t ≤ result }
     {
@@ -206,8 +207,8 @@ impl Block<'_> {
         highest
     }
 
-    /// Returns the highest rank of the rules that the rule at this place calls before a character,
-    /// or 0.
+    /// Returns the highest rank of the rules that the rule at this place calls before it takes a
+    /// character, or 0 if it calls none.
     fn highest_call(&self, alloc: Global, ranks: &[u32], place: u32) -> Result<u64, NoMemory>
         requires block { Stands self.now }
         requires inside { place < self.now.end - self.now.start }

@@ -30,8 +30,8 @@ fn is_clean(clean: &[bool], start: u32, rule: u32) -> bool
     }
 }
 
-/// Returns whether the pattern may be empty, if each rule that it may call before a character is
-/// clean, and `None` otherwise.
+/// Returns whether the pattern may be empty, if each rule that it may call before it takes a
+/// character is clean, and `None` otherwise.
 #[cycle(front)]
 fn clean_front(peg: &Peg, empties: &[bool], clean: &[bool], start: u32) -> Option<bool>
     ensures { result ≡ clean_core (marked empties.now) (marked_from start clean.now)
@@ -55,7 +55,7 @@ fn clean_front(peg: &Peg, empties: &[bool], clean: &[bool], start: u32) -> Optio
     }
 }
 
-/// Returns the same for a pattern that may be empty whatever its body.
+/// Returns the same for a pattern that may be empty whatever its body is.
 fn stays(body: Option<bool>) -> Option<bool>
     ensures { (w e : Bool) → body ≡ within_or_none w e → result ≡ within_or_none w true }
 {
@@ -107,7 +107,7 @@ struct BlockSearch {
 }
 
 impl BlockSearch {
-    /// Finds the rule, if it is in the block.
+    /// Records the rule as found, if it is in the block.
     fn find(&mut self, rule: u32) -> Result<(), NoMemory>
         ensures { OnOk result (Finds (λ r. nat_eq rule r) self.old self.new) }
     {
@@ -123,8 +123,8 @@ impl BlockSearch {
     }
 }
 
-/// Finds the rules that the pattern may call before a character, and returns whether it may be
-/// empty.
+/// Finds the rules that the pattern may call before it takes a character, and returns whether the
+/// pattern may be empty.
 #[cycle(find)]
 fn find_calls(search: &mut BlockSearch, peg: &Peg, empties: &[bool]) -> Result<bool, NoMemory>
     ensures finds { OnOk result (Finds (calls_here (marked empties.now) (core_of peg.now))
@@ -200,8 +200,8 @@ fn find_all_calls(
     Ok(any)
 }
 
-/// Lists the rules that the pattern may call before a character, and returns whether it may be
-/// empty.
+/// Lists the rules that the pattern may call before it takes a character, and returns whether the
+/// pattern may be empty.
 #[cycle(list)]
 fn list_calls(list: &mut Vec<u32>, peg: &Peg, empties: &[bool]) -> Result<bool, NoMemory>
     ensures lists { OnOk result
@@ -368,7 +368,7 @@ pub(crate) struct Block<'a> {
 impl Block<'_> {
     ghost use Rattle.rpl_check.specs.inside.Within.{Stands, IsLong, empty_in, table_of};
 
-    /// Finds the calls of the rule with this number, if it exists.
+    /// Finds the rules that the rule with this number calls, if it exists.
     fn find_calls_of(&self, search: &mut BlockSearch, number: u32) -> Result<(), NoMemory>
         ensures { OnOk result
             (Finds (calls_at (empty_in self.now) (table_of self.now) number) search.old
@@ -380,7 +380,7 @@ impl Block<'_> {
         Ok(())
     }
 
-    /// Returns whether the rule calls only clean rules before a character.
+    /// Returns whether the rule calls only clean rules before it takes a character.
     fn calls_clean(&self, number: u32, clean: &[bool]) -> bool
         ensures clean { result ≡ true → (r : ℕ) →
             calls_at (empty_in self.now) (table_of self.now) number r ≡ true →
@@ -395,8 +395,8 @@ impl Block<'_> {
         }
     }
 
-    /// Returns whether the rule reaches itself before a character, by following its calls through
-    /// the block.
+    /// Returns whether the rule reaches itself before it takes a character, by following its calls
+    /// through the block.
     fn reaches_itself(&self, alloc: Global, number: u32) -> Result<bool, NoMemory>
         requires block { Stands self.now }
         requires within { (self.now.start ≤ number) × (number < self.now.end) }
@@ -415,8 +415,8 @@ impl Block<'_> {
         Ok(search.marks[(number - self.start) as usize])
     }
 
-    /// Marks the rule at this place of the block if, before a character, it calls only marked rules
-    /// and earlier blocks.
+    /// Marks the rule at this place in the block if, before it takes a character, it calls only
+    /// marked rules and rules before the block.
     fn mark_if_clean(&self, place: u32, clean: &mut [bool])
         requires block { Stands self.now }
         requires long { IsLong self.now clean.old }
@@ -433,7 +433,7 @@ impl Block<'_> {
     }
 
     /// Marks rules of a block that don't reach themselves, in the order of the list and without a
-    /// search. If each comes after those that it calls, the whole list is marked.
+    /// search. If each rule comes after those that it calls, the whole list is marked.
     fn mark_in_turn(&self, order: &[u32], clean: &mut [bool])
         requires block { Stands self.now }
         requires long { IsLong self.now clean.old }
@@ -446,7 +446,7 @@ impl Block<'_> {
         }
     }
 
-    /// Lists the calls before a character of the rule at this place.
+    /// Lists the rules that the rule at this place calls before it takes a character.
     pub(crate) fn list_calls_of(&self, place: u32, list: &mut Vec<u32>) -> Result<(), NoMemory>
         requires block { Stands self.now }
         requires inside { place < self.now.end - self.now.start }
@@ -461,7 +461,7 @@ impl Block<'_> {
         Ok(())
     }
 
-    /// Notes the rule at this place as a caller of each rule of the block in the list.
+    /// Notes the rule at this place as a caller of each rule in the list that belongs to the block.
     fn note_caller(&self, place: u32, list: &[u32], turns: &mut Turns) -> Result<(), NoMemory>
         requires block { Stands self.now }
         ensures { OnOk result (length turns.new.callers.items ≡ length turns.old.callers.items) }
@@ -487,7 +487,7 @@ impl Block<'_> {
         Ok(turns)
     }
 
-    /// Returns marks of rules that don't reach themselves, and marks rules that do in `left`. If
+    /// Returns marks for rules that don't reach themselves, and marks in `left` rules that do. If
     /// the order contains all rules, none is on a cycle, and the components are not computed.
     fn clean_rules(&self, alloc: Global, left: &mut [bool]) -> Result<Vec<bool>, NoMemory>
         requires block { Stands self.now }
@@ -512,8 +512,8 @@ impl Block<'_> {
         Ok(clean)
     }
 
-    /// Returns whether the rule reaches itself before a character. A clean rule doesn't, and a
-    /// marked rule does; any other is searched.
+    /// Returns whether the rule reaches itself before it takes a character. A clean rule doesn't,
+    /// and a rule marked in `left` does; the calls of any other rule are searched.
     fn is_left_recursive(
         &self,
         alloc: Global,
@@ -540,8 +540,8 @@ impl Block<'_> {
         self.reaches_itself(alloc, number)
     }
 
-    /// Lists the rules of a block that reach themselves, given marks of the clean ones and of some
-    /// that reach themselves.
+    /// Lists the rules of a block that reach themselves, given marks for the clean ones and for
+    /// some of those that reach themselves.
     fn list_selves(
         &self,
         alloc: Global,
@@ -566,7 +566,7 @@ impl Block<'_> {
         Ok(list)
     }
 
-    /// Returns the rules of a block that reach themselves before a character, in order.
+    /// Returns the rules of a block that reach themselves before they take a character, in order.
     pub(crate) fn selves(&self, alloc: Global) -> Result<Vec<u32>, NoMemory>
         requires { Stands self.now }
         ensures { OverReach (table_of self.now) (empty_in self.now) (λ reach.

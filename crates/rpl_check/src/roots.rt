@@ -1,4 +1,4 @@
-// Rules on cycles: those that the root of their component reaches and that reach it.
+// Rules on cycles: those that the root of their component reaches and that reach the root.
 //
 // Each rule of a component is visited once in an order down from the root, and once in an order up
 // to it. The marks are correct for every order and for any roots.
@@ -41,7 +41,7 @@ impl Block<'_> {
         }
     }
 
-    /// Returns whether the rule is in the block, has this root, and is the root or marked.
+    /// Returns whether the rule is in the block, has this root, and is itself the root or marked.
     fn is_above(&self, roots: &[u32], rule: u32, root: u32, above: &[bool]) -> bool
         ensures { result ≡ true → (self.now.start ≤ rule)
             × (slice_index_or roots.now (rule - self.now.start) 0 ≡ root)
@@ -55,8 +55,8 @@ impl Block<'_> {
         place == root || is_marked(above, place)
     }
 
-    /// Marks the rules of the component that the rule at this place calls, if that rule is a root
-    /// or marked.
+    /// If the rule at this place is a root or marked, marks the rules of its component that it
+    /// calls.
     fn mark_below(
         &self,
         alloc: Global,
@@ -161,7 +161,7 @@ impl Block<'_> {
         Ok(())
     }
 
-    /// Marks the rules that their root reaches and that reach it or are it.
+    /// Marks the rules that their root reaches and that either reach the root or are the root.
     fn mark_both(&self, roots: &[u32], below: &[bool], above: &[bool], left: &mut [bool])
         requires block { Stands self.now }
         requires below_long { IsLong self.now below.now }

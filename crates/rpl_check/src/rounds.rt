@@ -1,4 +1,4 @@
-// A fact of all rules, determined block by block.
+// The rules for which a fact holds, determined block by block.
 ghost use Rattle.std.specs.Prelude.{◌≡◌, ℕ, ◌<◌, false, true, length, slice_get, IfOk, OnOk};
 ghost use Rattle.rpl_core.specs.Listed.{blocks_in, bodies_in, rules_of};
 ghost use Rattle.rpl_check.specs.Facts.{IsLeast, Solves, passes};
@@ -14,7 +14,7 @@ use crate::group::{Group, group_end};
 use rpl_core::Rules;
 use std::alloc::Global;
 
-/// Returns whether the rule isn't marked but has the fact.
+/// Returns whether the rule isn't marked although the fact holds for it.
 fn is_new(rules: &Rules, number: u32, fact: Fact, marks: &[bool]) -> bool
     requires { number < length marks.now }
     ensures new { result ≡ true → (marked marks.now number ≡ false)
@@ -56,7 +56,7 @@ fn round(group: &Group, fact: Fact, marks: &mut [bool]) -> bool
     found
 }
 
-/// Marks the rule at this place of the block, if it has the fact.
+/// Marks the rule at this place in the block if the fact holds for it and it is not yet marked.
 fn mark_if_new(group: &Group, place: u32, fact: Fact, marks: &mut [bool])
     requires within { IsWithin group.now }
     requires some { AreSome fact group.now marks.old }
@@ -71,7 +71,7 @@ fn mark_if_new(group: &Group, place: u32, fact: Fact, marks: &mut [bool])
     }
 }
 
-/// Marks the rules of the list that have the fact, in its order.
+/// Marks the rules in the list for which the fact holds, in the order of the list.
 fn mark_in_turn(group: &Group, order: &[u32], fact: Fact, marks: &mut [bool])
     requires within { IsWithin group.now }
     requires some { AreSome fact group.now marks.old }
@@ -82,8 +82,8 @@ fn mark_in_turn(group: &Group, order: &[u32], fact: Fact, marks: &mut [bool])
     }
 }
 
-/// Marks rules of a block that have the fact, each after the rules that give it the fact. A single
-/// rule needs no order.
+/// Marks rules of a block for which the fact holds, each after the rules from which this follows. A
+/// single rule needs no order.
 fn mark_most(alloc: Global, group: &Group, fact: Fact, marks: &mut [bool]) -> Result<(), NoMemory>
     requires within { IsWithin group.now }
     requires some { AreSome fact group.now marks.old }
@@ -96,8 +96,8 @@ fn mark_most(alloc: Global, group: &Group, fact: Fact, marks: &mut [bool]) -> Re
     Ok(())
 }
 
-/// Marks the rules of a block that have the fact: first in order, then in rounds until a round
-/// marks nothing, which the first one usually does.
+/// Marks the rules of a block for which the fact holds: first in order, then in rounds until a
+/// round marks nothing. Usually the first round already marks nothing.
 fn close(alloc: Global, group: &Group, fact: Fact, marks: &mut [bool]) -> Result<(), NoMemory>
     requires within { IsWithin group.now }
     requires earlier { CallsBefore (bodies_in group.now.rules.now) group.now.start }
@@ -111,7 +111,7 @@ fn close(alloc: Global, group: &Group, fact: Fact, marks: &mut [bool]) -> Result
     Ok(())
 }
 
-/// Marks all rules that have the fact.
+/// Marks all rules for which the fact holds.
 fn close_all(alloc: Global, rules: &Rules, fact: Fact, marks: &mut [bool]) -> Result<(), NoMemory>
     requires order { IsInOrder (bodies_in rules.now) (blocks_in rules.now) }
     requires long { length marks.old ≡ length (rules_of rules.now) }
@@ -129,7 +129,7 @@ fn close_all(alloc: Global, rules: &Rules, fact: Fact, marks: &mut [bool]) -> Re
     Ok(())
 }
 
-/// Returns the marks of all rules that have the fact.
+/// Returns marks for all rules for which the fact holds.
 pub(crate) fn work_out(alloc: Global, rules: &Rules, fact: Fact) -> Result<Vec<bool>, NoMemory>
     requires { IsInOrder (bodies_in rules.now) (blocks_in rules.now) }
     ensures { IfOk result (λ marks. IsLeast (Solves (test_of fact) (bodies_in rules.now))

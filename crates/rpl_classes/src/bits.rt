@@ -1,4 +1,4 @@
-// The members below 128, as bits.
+// The members of a class below 128, as bits.
 ghost use Rattle.std.specs.Prelude.{◌≡◌, ◌≢◌, ℕ, ◌<◌, ◌≤◌, ◌+◌, ◌↔◌, true};
 ghost use Rattle.std.specs.Int.{bit_at};
 ghost use Rattle.regex_class.specs.Ranges.{in_range};
@@ -6,7 +6,7 @@ ghost use Rattle.rpl_classes.specs.Sets.{IsBitmap};
 
 use regex_class::{Class, ClassRange};
 
-/// Returns the bits from `low` to `high`, both included.
+/// Returns a word in which the bits from `low` to `high`, both included, are set.
 fn ones(low: u32, high: u32) -> u64
     requires order { low ≤ high }
     requires high { high < 64 }
@@ -15,7 +15,7 @@ fn ones(low: u32, high: u32) -> u64
     (u64::MAX << low) & (u64::MAX >> (63 - high))
 }
 
-/// Returns the bits of those numbers in the range that are among the 64 from `start` on.
+/// Returns a word in which bit `k` is set if the range contains `start + k`.
 pub(crate) fn bits_in(range: ClassRange, start: u32) -> u64
     requires { start ≤ 64 }
     ensures { (k : ℕ) → k < 64 → (bit_at result k ≡ 1) ↔ (in_range range (start + k) ≡ true) }
@@ -29,8 +29,8 @@ pub(crate) fn bits_in(range: ClassRange, start: u32) -> u64
     }
 }
 
-/// Returns the bits of the members among the 64 numbers from `start` on. It reads no range after
-/// the first one that starts beyond them.
+/// Returns a word in which bit `k` is set if the class contains `start + k`. Reads no range after
+/// the first one that starts beyond these 64 numbers.
 pub(crate) fn bitmap(class: &Class, start: u32) -> u64
     requires { start ≤ 64 }
     ensures { IsBitmap start class.now.ranges.items result }
@@ -45,7 +45,7 @@ pub(crate) fn bitmap(class: &Class, start: u32) -> u64
     bits
 }
 
-/// Returns the bits of the first word that are not in the second.
+/// Returns the bits that are set in the first word and not in the second.
 #[inline]
 pub(crate) fn but(bits: u64, others: u64) -> u64
     ensures { (k : ℕ) → k < 64 →

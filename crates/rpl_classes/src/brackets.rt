@@ -19,7 +19,7 @@ use crate::symbols::{accept, skip_blanks, skip_word};
 use rpl_text::Text;
 use std::alloc::Global;
 
-/// The text of a class, between a bracket's `[` and the place after its `]`.
+/// A class found in the text, directly after a bracket's `[`.
 #[derive(Clone, Copy)]
 struct ClassText {
     /// Whether a `^` precedes the name.
@@ -31,7 +31,7 @@ struct ClassText {
     next: usize,
 }
 
-/// Parses the name of a class that `:` and `]` follow. Returns the end of the name and the place
+/// Parses the name of a class and the `:]` after it. Returns the end of the name and the place
 /// after the `]`.
 fn name_at(text: &str, start: usize) -> Option<(usize, usize)>
     requires { IsPlace (chars text.now) start }
@@ -48,7 +48,7 @@ fn name_at(text: &str, start: usize) -> Option<(usize, usize)>
     Some((end, next))
 }
 
-/// Parses the class at a place directly after a bracket's `[`.
+/// Parses the class at `place`, which is directly after a bracket's `[`.
 fn class_at(text: &str, place: usize) -> Option<ClassText>
     requires { IsPlace (chars text.now) place }
     ensures { let t = chars text.now in
@@ -78,7 +78,7 @@ fn part(text: &str, from: usize, to: usize) -> &str
     Text::new(text).slice(from, to)
 }
 
-/// Returns the set of a class. Its name begins after the place `inside`, in the bracket at `at`.
+/// Returns the set of the class found at `inside`. The bracket begins at `at`.
 fn class_set(
     alloc: Global,
     text: &str,
@@ -114,7 +114,7 @@ pub(crate) fn signed_set(alloc: Global, negated: bool, set: Set) -> Result<Set, 
     }
 }
 
-/// The start of a bracket.
+/// The parsed start of a bracket.
 pub(crate) enum Begun {
     /// A whole bracket: its set, and the place after its `]`.
     Whole(Set, usize),
@@ -122,7 +122,7 @@ pub(crate) enum Begun {
     Compound(bool, usize),
 }
 
-/// Parses what follows a bracket's `[` and `^`: a list, or a compound up to its first member.
+/// Parses what follows a bracket's `[` or `[^`: a list, or a compound up to its first member.
 fn content_at(alloc: Global, text: &str, negated: bool, place: usize) -> Result<Begun, SetFault>
     requires { IsPlace (chars text.now) place }
     ensures value { let t = chars text.now in Begins t place
@@ -137,7 +137,7 @@ fn content_at(alloc: Global, text: &str, negated: bool, place: usize) -> Result<
     Ok(Begun::Whole(signed_set(alloc, negated, set)?, next))
 }
 
-/// Parses the bracket at a place; if it is a compound, only up to its first member.
+/// Parses the bracket at `place`; if it is a compound, only up to its first member.
 pub(crate) fn begin_at(alloc: Global, text: &str, place: usize) -> Result<Begun, SetFault>
     requires { IsPlace (chars text.now) place }
     ensures { let t = chars text.now in Begins t (place + 1) (reading (symbols_from t place))
@@ -156,7 +156,7 @@ pub(crate) fn begin_at(alloc: Global, text: &str, place: usize) -> Result<Begun,
     content_at(alloc, text, true, behind)
 }
 
-/// Parses what follows the outermost `[` and `^`, and returns its set.
+/// Parses what follows the outermost `[` or `[^`, and returns its set.
 fn content_set(alloc: Global, text: &str, place: usize) -> Result<Set, SetFault>
     requires { IsPlace (chars text.now) place }
     ensures { let t = chars text.now in GivesSet t (content (symbols_from t place)) result }
@@ -172,7 +172,7 @@ fn content_set(alloc: Global, text: &str, place: usize) -> Result<Set, SetFault>
 pub struct Bracket {
     /// The characters listed in the bracket.
     pub set: Set,
-    /// Whether a `^` follows the outermost `[`. If so, the bracket means the characters that are
+    /// Whether a `^` follows the outermost `[`. If so, the bracket denotes the characters that are
     /// not in `set`.
     pub negated: bool,
 }
@@ -182,9 +182,10 @@ pub struct Bracket {
 /// A bracket is one of three things: a class `[:name:]` or `[:^name:]`; a compound, whose first
 /// character after any blanks is `[`; or a list of characters and escapes. A compound consists of
 /// brackets side by side and of the operators `&&` and `--`, which apply from left to right. A list
-/// is a range only if it is `x-y` and nothing else. The first fault by place is returned. A text
-/// that is not a bracket is `BadSet` where it goes wrong, at its end at the latest; nothing after
-/// the matching `]` is read. Brackets may be nested to any depth without nesting any call.
+/// is a range only if it is `x-y` and nothing else. If there are several faults, the first one in
+/// the text is returned. A text that is not a bracket gives `BadSet` at the place where it goes
+/// wrong, possibly the end of the text. Nothing after the matching `]` is read. Nested brackets,
+/// however deep, don't lead to nested calls.
 pub fn read_bracket(alloc: Global, text: &str) -> Result<Bracket, SetFault>
     ensures { IsRead (bracket_of (chars text.now)) result }
 {

@@ -1,6 +1,6 @@
 // Compounds: brackets side by side or joined by operators. Open compounds are kept on a stack, so
 // brackets may be nested to any depth. The ranges to keep and the ranges to remove are collected as
-// they are read, and become a set once, at the end of the compound.
+// they are read, and are made into a set only once, at the end of the compound.
 ghost use Rattle.std.specs.Prelude.{◌≡◌, ◌++◌, [], chars, IfOk};
 ghost use Rattle.rpl_text.specs.Places.{IsPlace};
 ghost use Rattle.rpl_classes.specs.Norm.{norm};
@@ -26,7 +26,7 @@ pub(crate) enum Operator {
     Without,
 }
 
-/// Returns the place after a character that occurs twice in a row at `place`.
+/// If the character `c` occurs twice in a row at `place`, returns the place after the second one.
 fn accept_twice(text: &str, place: usize, c: char) -> Option<usize>
     requires { IsPlace (chars text.now) place }
     ensures { AcceptsTwice (chars text.now) place c result }
@@ -35,7 +35,7 @@ fn accept_twice(text: &str, place: usize, c: char) -> Option<usize>
     accept(text, next, c)
 }
 
-/// Returns the operator at a place, and the place after it.
+/// Returns the operator at `place`, and the place after it.
 fn operator_at(text: &str, place: usize) -> Option<(Operator, usize)>
     requires { IsPlace (chars text.now) place }
     ensures { OperatorAt (chars text.now) place result }
@@ -55,7 +55,7 @@ pub(crate) struct Left {
 }
 
 impl Left {
-    /// Removes more ranges.
+    /// Adds these ranges to those to remove.
     fn less(self, ranges: &[ClassRange]) -> Result<Left, NoMemory>
         ensures kept { IfOk result (λ l. l.kept.items ≡ self.kept.items) }
         ensures taken { IfOk result (λ l. l.taken.items ≡ self.taken.items ++ ranges.now) }
@@ -85,7 +85,8 @@ pub(crate) struct Before {
     left: Left,
 }
 
-/// Joins a union with the part before it. Keeping the characters in both means removing the others.
+/// Joins a union with the part before it. For `&&`, removes the characters that are not in the
+/// union.
 fn joined(alloc: Global, before: Option<Before>, union: Vec<ClassRange>) -> Result<Left, NoMemory>
     ensures { IfOk result (λ l. left_set l ≡ joined_by before (norm union.items)) }
 {
@@ -110,7 +111,7 @@ pub(crate) struct Open {
     /// Whether a `^` precedes it.
     negated: bool,
     before: Option<Before>,
-    /// The ranges of the current union: the adjacent brackets read last.
+    /// The ranges of the current union, which are those of the brackets since the last operator.
     union: Vec<ClassRange>,
 }
 
@@ -207,8 +208,8 @@ pub(crate) enum Next {
     End(Set),
 }
 
-/// Returns the step after a bracket in the last of the open compounds, given the bracket's set and
-/// end. Compounds that end here are closed.
+/// Returns the step after a bracket in the innermost open compound, given the bracket's set and
+/// end. Closes the compounds that end here.
 fn go_on(
     alloc: Global,
     text: &str,
@@ -238,7 +239,7 @@ fn go_on(
     Ok(Next::End(set))
 }
 
-/// Returns the set of a compound whose first member starts at a place.
+/// Returns the set of the compound whose first member starts at `place`.
 pub(crate) fn compound_set(alloc: Global, text: &str, place: usize) -> Result<Set, SetFault>
     requires { IsPlace (chars text.now) place }
     ensures { let t = chars text.now in GivesSet t (opened t place) result }

@@ -1,4 +1,4 @@
-// The reasons why a text has no set.
+// The reasons why a text denotes no set.
 ghost use Rattle.std.specs.Prelude.{◌≡◌};
 ghost use Rattle.rpl_classes.specs.declared.fault.SetFault.TheVariants.{NoMemory as OutOfMemory};
 
@@ -6,8 +6,8 @@ use crate::NoMemory;
 use std::alloc::AllocFailed;
 use thiserror::Error;
 
-/// The reason why a bracket or a name has no set. `at` is a byte offset in the text, and 0 for a
-/// name.
+/// The reason why a bracket or a name denotes no set. `at` is a byte offset in the bracket's text;
+/// for a name it is 0.
 #[derive(Clone, Copy, Debug, PartialEq, Eq, Error)]
 pub enum SetFault {
     /// Memory ran out.
@@ -25,7 +25,7 @@ pub enum SetFault {
         /// The offset of the `-`.
         at: usize,
     },
-    /// An unexpected character, or an early end of the bracket where a character is missing.
+    /// An unexpected character, or an early end of the bracket where a character is expected.
     #[error("bad set")]
     BadSet {
         /// The offset of that character or end.

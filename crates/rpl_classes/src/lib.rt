@@ -4,8 +4,8 @@
 //! machine, which calls `Set::has` once per character. Contracts see a set as its list of ranges,
 //! which are sorted, don't touch and contain no surrogates, so sets with the same members are the
 //! same list. Each call promises exactly the members of its result: `Set::named` those of a class
-//! of the POSIX C locale or of a name of Unicode, and `read_bracket` the set, or the first fault
-//! with its place. The only other failure is out of memory.
+//! of the POSIX C locale or of a Unicode name, and `read_bracket` those of the bracket's set, or
+//! the first fault and its place. The only other failure is running out of memory.
 #![tactic(auto)]
 
 mod bits;

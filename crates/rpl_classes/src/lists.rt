@@ -11,7 +11,7 @@ use crate::set::Set;
 use crate::symbols::{Symbol, accept, symbol_at};
 use std::alloc::Global;
 
-/// Returns the character of a list at a place, and the place after it.
+/// Returns the list's character at `place`, and the place after it.
 fn member_at(text: &str, place: usize) -> Option<(char, usize)>
     requires { IsPlace (chars text.now) place }
     ensures { TakesMember (chars text.now) place result }
@@ -39,7 +39,7 @@ struct DashRange {
     next: usize,
 }
 
-/// Parses a list `x-y`, with its `]`, at a place.
+/// Parses a list `x-y` at `place`, including its `]`.
 fn range_at(text: &str, place: usize) -> Option<DashRange>
     requires { IsPlace (chars text.now) place }
     ensures { let t = chars text.now in
@@ -58,7 +58,7 @@ fn range_at(text: &str, place: usize) -> Option<DashRange>
     })
 }
 
-/// Returns whether an unescaped `-` is at a place, neither first nor last in its list.
+/// Returns whether there is an unescaped `-` at `place` that is neither first nor last in its list.
 fn is_inner_dash(text: &str, place: usize, is_first: bool) -> bool
     requires { IsPlace (chars text.now) place }
     ensures { let s = symbols_from (chars text.now) place in
@@ -70,8 +70,8 @@ fn is_inner_dash(text: &str, place: usize, is_first: bool) -> bool
     }
 }
 
-/// Returns the next character of a list that is not `x-y`, or none at its `]`, and the place after
-/// it.
+/// Returns the next character of a list that is not `x-y`, or `None` at the list's `]`, together
+/// with the place after it.
 fn list_step(text: &str, at: usize, is_first: bool) -> Result<(Option<char>, usize), SetFault>
     requires { IsPlace (chars text.now) at }
     ensures { StepsList (chars text.now) at is_first result }
@@ -92,7 +92,7 @@ fn list_step(text: &str, at: usize, is_first: bool) -> Result<(Option<char>, usi
     Ok((Some(c), next))
 }
 
-/// Parses a list that is not `x-y`, with its `]`, character by character.
+/// Parses a list that is not `x-y`, including its `]`, character by character.
 fn each_at(alloc: Global, text: &str, place: usize) -> Result<(Set, usize), SetFault>
     requires { IsPlace (chars text.now) place }
     ensures value { Gives (chars text.now) result
@@ -111,7 +111,7 @@ fn each_at(alloc: Global, text: &str, place: usize) -> Result<(Set, usize), SetF
     }
 }
 
-/// Parses a list with its `]` at a place. Returns its set and the place after it.
+/// Parses the list at `place`, including its `]`. Returns its set and the place after the `]`.
 pub(crate) fn list_at(alloc: Global, text: &str, place: usize) -> Result<(Set, usize), SetFault>
     requires { IsPlace (chars text.now) place }
     ensures value { Gives (chars text.now) result (list (symbols_from (chars text.now) place)) }

@@ -27,7 +27,7 @@ use std::rc::Rc;
 /// The ranges of a set.
 #[derive(Debug, Drop)]
 enum Ranges {
-    /// A single range, which allocates no memory: the set of each character of a text.
+    /// A single range, as in the set of one character. It allocates no memory.
     One([ClassRange; 1]),
     /// The ranges that the set and its copies share.
     Shared(Rc<Class>),
@@ -35,8 +35,8 @@ enum Ranges {
 
 /// A set of characters.
 ///
-/// Contracts see it as its list of ranges, in character numbers, with both ends included. If there
-/// are several ranges, a set and its copies share one list in memory.
+/// Contracts see it as a list of ranges of character numbers, each with both ends included. If
+/// there are several ranges, a set and its copies share one list in memory.
 #[derive(Debug, Drop)]
 pub struct Set {
     ranges: Ranges,
@@ -58,7 +58,7 @@ impl Model for Set {
         × ((j : ℕ) → j < 2 → IsBitmap (64 * j) (held a.ranges) (get_or a.masks j 0)) };
 }
 
-/// Returns the set of a class in normal form, with its masks.
+/// Returns the set that consists of the ranges of this class, which must be in normal form.
 fn sealed(alloc: Global, class: Class) -> Result<Set, NoMemory>
     requires { IsNormal class.ranges.items }
     ensures { IfOk result (λ s. s ≡ class.ranges.items) }
@@ -73,7 +73,7 @@ fn sealed(alloc: Global, class: Class) -> Result<Set, NoMemory>
     }
 }
 
-/// Returns the set of a range in normal form.
+/// Returns the set that consists of the range from `low` to `high`, which must be in normal form.
 fn single(low: u32, high: u32) -> Set
     requires { IsNormal ((low, high) ∷ []) }
     ensures same { result ≡ (low, high) ∷ [] }
@@ -86,7 +86,7 @@ fn single(low: u32, high: u32) -> Set
     }
 }
 
-/// Returns the set of a list of ranges in normal form.
+/// Returns the set that consists of these ranges, which must be in normal form.
 fn listed(alloc: Global, list: RangeList) -> Result<Set, NoMemory>
     requires { IsNormal list }
     ensures { IfOk result (λ s. s ≡ list) }
@@ -95,7 +95,7 @@ fn listed(alloc: Global, list: RangeList) -> Result<Set, NoMemory>
     sealed(alloc, Class { ranges })
 }
 
-/// Returns the set that Unicode gives to a name.
+/// Returns the Unicode set with this name.
 fn unicode_set(alloc: Global, name: &str) -> Result<Set, SetFault>
     ensures { IsNamed (option_map set_of (members (chars name.now))) result }
 {
@@ -121,7 +121,7 @@ fn push_where(ranges: &mut Vec<ClassRange>, number: u32, test: bool) -> Result<(
     Ok(())
 }
 
-/// Returns the ranges of a class, and the other case of each ASCII letter in it.
+/// Returns the ranges of a class, together with the other case of each ASCII letter in it.
 fn with_cases(alloc: Global, class: &Class) -> Result<Vec<ClassRange>, NoMemory>
     ensures { let own = class.now.ranges.items in
         IfOk result (λ v. (c : ℕ) →
@@ -149,7 +149,7 @@ impl Set {
         }
     }
 
-    /// Returns the set as a class of its own.
+    /// Returns a class with a copy of the set's ranges.
     fn class(&self, alloc: Global) -> Result<Class, NoMemory>
         ensures same { IfOk result (λ k. k.ranges.items ≡ self.now) }
         ensures normal { IfOk result (λ k. IsNormal k.ranges.items) }
@@ -197,9 +197,9 @@ impl Set {
     }
 
     /// Returns the set with this name. The name is first looked up, spelled exactly, among the
-    /// classes of the POSIX C locale, then among the binary properties, general categories and
-    /// scripts of Unicode, by long or short name, in any case and with any `_`. Returns
-    /// `UnknownClass` with `at` 0 exactly when neither has the name.
+    /// classes of the POSIX C locale. It is then looked up, ignoring case and `_`, among the long
+    /// and short names of Unicode's binary properties, general categories and scripts. Returns
+    /// `UnknownClass` with `at` 0 exactly when neither lookup finds the name.
     pub fn named(alloc: Global, name: &str) -> Result<Set, SetFault>
         ensures value { IsNamed (set_named (chars name.now)) result }
         ensures normal { IfOk result IsNormal }
@@ -279,8 +279,8 @@ impl Set {
         listed(alloc, folds_of(alloc, self.as_slice())?)
     }
 
-    /// Returns a copy of the set. It shares the ranges and allocates no memory, unless the count of
-    /// their owners is at its maximum; then it gets ranges of its own.
+    /// Returns a copy of the set. It shares the ranges and allocates no memory, unless the ranges'
+    /// reference count is at its maximum; then the copy gets ranges of its own.
     pub fn copy(&self, alloc: Global) -> Result<Set, NoMemory>
         ensures { IfOk result (λ s. s ≡ self.now) }
     {

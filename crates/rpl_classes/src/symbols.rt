@@ -7,7 +7,7 @@ ghost use Rattle.rpl_classes.specs.inside.Scanned.{Scanned, Accepts, Skipped, Wo
 
 use rpl_text::{Text, read_escape};
 
-/// A character of a bracket's text, plain or escaped.
+/// A character in a bracket's text, plain or escaped.
 #[derive(Clone, Copy)]
 pub(crate) enum Symbol {
     Plain(char),
@@ -16,7 +16,7 @@ pub(crate) enum Symbol {
     End,
 }
 
-/// Returns the character at a place, and the next place.
+/// Returns the character at `place`, and the place after it.
 fn step_at(text: &str, place: usize) -> Option<(char, usize)>
     requires { IsPlace (chars text.now) place }
     ensures { result ≡ step_from (chars text.now) (index (chars text.now) place) }
@@ -24,7 +24,7 @@ fn step_at(text: &str, place: usize) -> Option<(char, usize)>
     Text::new(text).step(place)
 }
 
-/// Returns the symbol at a place, and the place after it.
+/// Returns the symbol at `place`, and the place after it.
 pub(crate) fn symbol_at(text: &str, place: usize) -> (Symbol, usize)
     requires { IsPlace (chars text.now) place }
     ensures { Scanned (chars text.now) place result.0 result.1 }
@@ -53,7 +53,7 @@ fn is_plain(symbol: Symbol, c: char) -> bool
     }
 }
 
-/// Returns the place after a character if it is at `place`, unescaped.
+/// Returns the place after the character `c` if it is at `place`, unescaped.
 pub(crate) fn accept(text: &str, place: usize, c: char) -> Option<usize>
     requires { IsPlace (chars text.now) place }
     ensures { Accepts (chars text.now) place c result }

@@ -16,8 +16,8 @@ use rpl_intern::Draft;
 use rpl_safe::is_safe;
 use std::alloc::Global;
 
-/// Returns the one spelling of the program's code. It contains each set and each text that the code
-/// uses once, in the order of their first use, whatever tables the program has.
+/// Returns the one spelling of the program's code. It contains the sets and the texts that the code
+/// uses, each once and in the order of their first use, whatever tables the program has.
 pub fn write_code(alloc: Global, program: &Program) -> Result<Bytes, NoMemory>
     requires some { 0 < length (code_of program.now) }
     requires limit { length (code_of program.now) ≤ 1048576 }
@@ -32,14 +32,14 @@ pub fn write_code(alloc: Global, program: &Program) -> Result<Bytes, NoMemory>
     write_parts(alloc, &code, &sets, &texts)
 }
 
-/// Returns whether both slices are the same bytes.
+/// Returns whether both slices contain the same bytes.
 fn same_bytes(a: &[u8], b: &[u8]) -> bool
     ensures { IsTrue result ↔ (a.now ≡ b.now) }
 {
     a == b
 }
 
-/// Returns the program of the code that the bytes spell, safe or not.
+/// Returns the program whose code the bytes spell, whether the code is safe or not.
 fn read_spelled(alloc: Global, bytes: &[u8]) -> Result<Program, CodeFault>
     ensures { Reads bytes.now result }
 {
@@ -59,7 +59,7 @@ fn read_spelled(alloc: Global, bytes: &[u8]) -> Result<Program, CodeFault>
     }
 }
 
-/// Returns the program of a code file. Returns `NotCode` exactly when the bytes spell no code, and
+/// Returns the program in a code file. Returns `NotCode` exactly when the bytes spell no code, and
 /// `NotSafe` exactly when they spell code that isn't safe.
 ///
 /// # Examples

@@ -8,7 +8,7 @@ pub fn has_spelling()
     ensures { HasSpelling }
 {}
 
-/// The code of a goal over a table of rules is such a code if it isn't too long: the cores call
+/// The code of a goal over a table of rules is such a code if it isn't too long, the cores call
 /// only rules of the table, their sets are in normal form, their names and messages are texts, and
 /// their look-behinds are short.
 pub fn compiled_can_be_spelled()

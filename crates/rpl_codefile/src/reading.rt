@@ -1,5 +1,5 @@
 // Reading from left to right. Some bytes that are not a spelling are read without a fault, so the
-// caller writes the result again and compares.
+// caller writes the result out again and compares the bytes.
 ghost use Rattle.std.specs.Prelude.{◌≡◌};
 ghost use Rattle.std.specs.Int.{w32, w64};
 ghost use Rattle.rpl_codefile.specs.Spelling.{file_of};

@@ -1,5 +1,5 @@
 // The check that the tables of a file contain exactly what its code uses, each once and in the
-// order of first use. It uses no hashes, which a stranger's file could be made to defeat.
+// order of first use. It uses no hashes, because a stranger's file could be made to defeat them.
 ghost use Rattle.std.specs.Prelude.{◌≡◌, ◌↔◌, IsTrue, IfOk, Some};
 ghost use Rattle.rpl_codefile.specs.inside.Tables.{Apart, AreParts, IsOrdered, come, number_in};
 ghost use Rattle.rpl_codefile.specs.inside.Tables.{set_number};
@@ -12,7 +12,7 @@ use rpl_text::Chars;
 use std::alloc::Global;
 use std::collections::BTreeSet;
 
-/// The table of a file that is checked.
+/// One of the two tables in a file.
 #[derive(Clone, Copy)]
 pub(crate) enum Table {
     Sets,
@@ -39,7 +39,7 @@ fn text_number(item: Instr) -> Option<u32>
     }
 }
 
-/// Returns the number of the entry of the table that an instruction refers to.
+/// Returns the number of the entry in this table that an instruction refers to.
 fn number_in(table: Table, item: Instr) -> Option<u32>
     ensures { result ≡ number_in table item }
 {
@@ -61,8 +61,8 @@ fn with_next(came: u64, number: Option<u32>) -> Option<u64>
     }
 }
 
-/// Returns how many entries of the table the code uses, if it first uses each after all entries
-/// before it.
+/// Returns how many entries in the table the code uses, if their first uses are in the order of the
+/// table.
 fn count_used(table: Table, code: &[Instr]) -> Option<u64>
     ensures { result ≡ come (number_in table) 0 code.now }
 {
@@ -73,7 +73,8 @@ fn count_used(table: Table, code: &[Instr]) -> Option<u64>
     Some(came)
 }
 
-/// Returns whether the code uses each of `count` entries of the table, first used in their order.
+/// Returns whether the code uses each of the `count` entries in the table, and their first uses are
+/// in the order of the table.
 fn uses_all(table: Table, code: &[Instr], count: usize) -> bool
     ensures { IsTrue result ↔ (come (number_in table) 0 code.now ≡ Some count) }
 {
@@ -110,7 +111,7 @@ fn are_texts_apart(alloc: Global, texts: &[Chars]) -> Result<bool, NoMemory>
 }
 
 /// Returns whether the code has at least one instruction and not too many, its numbers are in
-/// range, and it uses each set and each text, first used in their order.
+/// range, and it uses each set and each text, with their first uses in the order of the tables.
 fn is_ordered(code: &Instrs, sets: &Sets, texts: &Labels) -> bool
     ensures { IsTrue result ↔ IsOrdered code.now sets.now texts.now }
 {
@@ -128,7 +129,7 @@ fn are_apart(alloc: Global, sets: &Sets, texts: &Labels) -> Result<bool, NoMemor
     Ok(are_sets_apart(alloc, sets.as_slice())? && are_texts_apart(alloc, texts.as_slice())?)
 }
 
-/// Returns whether the parts are those of a file.
+/// Returns whether these are the parts of a code file.
 pub(crate) fn are_parts(
     alloc: Global,
     code: &Instrs,

@@ -1,4 +1,4 @@
-// The spelling of each part of a file, and of the whole.
+// The spelling of each part of a file, and of the whole file.
 ghost use Rattle.std.specs.Prelude.{◌≡◌, [], ◌∷◌, ◌++◌, ◌<◌, ◌^◌, OnOk, IfOk, chars, length};
 ghost use Rattle.std.specs.List.{All, flat_map};
 ghost use Rattle.rpl_codefile.specs.Spelling.{FitsFile, FitsSet, FitsText, Short, ShortRange};
@@ -148,7 +148,7 @@ fn put_instrs(out: &mut Bytes, code: &[Instr]) -> Result<(), NoMemory>
     Ok(())
 }
 
-/// Appends the eight bytes with which each file begins.
+/// Appends the eight bytes that every file begins with.
 fn put_magic(out: &mut Bytes) -> Result<(), NoMemory>
     ensures { OnOk result (out.new ≡ out.old ++ magic) }
 {

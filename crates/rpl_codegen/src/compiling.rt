@@ -15,11 +15,11 @@ use rpl_core::Program;
 use std::alloc::Global;
 
 /// Returns the code of a goal that was checked over this table of rules: the goal's own code,
-/// `finish`, and each rule that it reaches, in the order of the table. Equal sets and equal texts
-/// are stored once, in the order of their first use.
+/// `finish`, and each rule that the goal reaches, in the order of the table. Equal sets and equal
+/// texts are stored once, in the order of their first use.
 ///
 /// The code does on every text what the goal means, with no further premise: the check has shown
-/// that the meaning is never open.
+/// that the goal's meaning is never open.
 ///
 /// # Examples
 ///

@@ -7,7 +7,7 @@ ghost use Rattle.rpl_core.specs.View.{core_of};
 use rpl_classes::Set;
 use rpl_core::Peg;
 
-/// Returns the set, if the pattern is nothing else.
+/// Returns the set, if the pattern is nothing but a set.
 pub(crate) fn lone_set(peg: &Peg) -> Option<&Set>
     ensures { option_copied result ≡ H.lone_set (core_of peg.now) }
 {

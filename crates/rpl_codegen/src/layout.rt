@@ -15,7 +15,7 @@ use rpl_core::{Peg, Rules};
 use std::alloc::Global;
 use std::collections::BTreeSet;
 
-/// The address where each rule of the code begins, and the address after the last instruction.
+/// The address where each rule in the code begins, and the address after the last instruction.
 #[derive(Drop)]
 pub(crate) struct Layout {
     starts: Starts,
@@ -30,9 +30,9 @@ impl Layout {
         *self.starts.list.allocator()
     }
 
-    /// Computes the addresses of the rules after the goal. Only reached rules take space. The nodes
-    /// of the goal and of the reached rules are added to the plan in the order in which the code is
-    /// written.
+    /// Computes the addresses of the rules, whose code follows the goal's. Only reached rules take
+    /// space. Adds the nodes of the goal and of the reached rules to `measured`, in the order in
+    /// which the code is written.
     pub(crate) fn new(
         alloc: Global,
         rules: &Rules,
@@ -60,15 +60,15 @@ impl Layout {
         Ok(Layout { starts, end: next })
     }
 
-    /// Returns the number of instructions of the whole code, or the first number past the limit.
+    /// Returns the number of instructions in the whole code, capped at one more than the limit.
     pub(crate) fn size(&self) -> u32
         ensures { result ≡ self.now.end }
     {
         self.end
     }
 
-    /// Returns the address where the rule with this number begins. For a rule that isn't reached
-    /// this is the address of the next reached one, or the end.
+    /// Returns the address where the rule with this number begins. For a rule that isn't reached,
+    /// this is the address of the next reached rule, or the end.
     pub(crate) fn address(&self, rule: u32) -> u32
         ensures { result ≡ address_of self.now rule }
     {
@@ -76,8 +76,8 @@ impl Layout {
     }
 }
 
-/// Returns the number of instructions of a rule with its return, or the first number past the
-/// limit. The nodes of the rule are added to the plan.
+/// Returns the number of instructions in a rule, including its return, capped at one more than the
+/// limit. Adds the nodes of the rule to `measured`.
 fn rule_size(
     alloc: Global,
     measured: &mut Measured,

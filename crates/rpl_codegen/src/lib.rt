@@ -4,7 +4,7 @@
 //! defines, with each set and each text stored once, or reports that this code is too long. Its
 //! contract states that the code does on every text what the goal means. The size of every part is
 //! known before anything is written, so each jump is written with its address and nothing is
-//! patched, and a code that is too long is refused before any of it is built.
+//! patched, and code that is too long is refused before any of it is built.
 #![tactic(auto)]
 
 mod compiling;

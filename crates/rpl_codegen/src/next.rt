@@ -4,7 +4,8 @@ ghost use Rattle.rpl_core.specs.Marked.{has};
 
 use std::collections::BTreeSet;
 
-/// Returns the first number from `from` on that is in the set, or `end` if there is none below it.
+/// Returns the least number in the set that is not below `from`, or `end` if there is none below
+/// `end`.
 pub(crate) fn next_in(rules: &BTreeSet<u32>, from: usize, end: usize) -> usize
     requires from { from ≤ end }
     requires small { end < 2 ^ 32 }

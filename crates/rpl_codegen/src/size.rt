@@ -21,7 +21,7 @@ use std::alloc::Global;
 /// The greatest number of instructions that a program may have.
 pub(crate) const MAX_CODE: u32 = 1_048_576;
 
-/// Returns the sum, or the first number past the limit.
+/// Returns the sum, capped at one more than the limit.
 pub(crate) fn capped(a: u32, b: u32) -> u32
     requires a { a ≤ 1048577 }
     requires b { b ≤ 1048577 }
@@ -30,8 +30,8 @@ pub(crate) fn capped(a: u32, b: u32) -> u32
     (a + b).min(MAX_CODE + 1)
 }
 
-/// Returns the number of instructions of a look-behind with a body of `size` instructions, or the
-/// first number past the limit.
+/// Returns the number of instructions in a look-behind whose body has `size` instructions, capped
+/// at one more than the limit.
 pub(crate) fn behind_size(size: u32, least: u32, most: u32) -> u32
     requires { size ≤ 1048577 }
     ensures { result ≡ min 1048577 ((most + 1 - least) * (size + 3) + 1) }
@@ -40,9 +40,9 @@ pub(crate) fn behind_size(size: u32, least: u32, most: u32) -> u32
     (lengths * (size as u64 + 3) + 1).min(MAX_CODE as u64 + 1) as u32
 }
 
-/// The facts about a pattern: its number of instructions, or the first number past the limit; its
-/// number among the parts of a sequence, if it is one of them; and its head, if it has one and
-/// other parts of a choice follow it.
+/// The facts about a pattern: its number of instructions, capped at one more than the limit; its
+/// number among the parts of a sequence, if it is such a part; and its head, if it has one and is a
+/// part of a choice other than the last.
 #[derive(Drop)]
 pub(crate) struct Node {
     size: u32,
@@ -60,7 +60,7 @@ pub(crate) struct Nodes {
 impl Nodes {
     ghost use Rattle.rpl_codegen.specs.inside.Taken.{Takes, head_at, left, part_at, size_at};
 
-    /// Returns the nodes, with the first one next.
+    /// Returns these nodes, of which the first is next.
     pub(crate) fn new(list: Vec<Node>) -> Nodes
         ensures { left result ≡ list.items }
     {
@@ -75,7 +75,7 @@ impl Nodes {
         self.list[self.next].size
     }
 
-    /// Returns the number of the next node among the parts of its sequence.
+    /// Returns the number of the next node's pattern among the parts of its sequence.
     pub(crate) fn part(&self) -> usize
         requires { 0 < length (left self.now) }
         ensures { result ≡ part_at (left self.now) }
@@ -120,9 +120,9 @@ impl Measured {
     }
 }
 
-/// The number of instructions of a pattern, or the first number past the limit, and its head if it
-/// has one. One walk computes both, since each level needs both from the level below. A head that
-/// is not wanted, since no test needs it, may be missing.
+/// The number of instructions in a pattern, capped at one more than the limit, and the pattern's
+/// head if it has one. One walk computes both, since each level needs both from the level below.
+/// A head that no test needs may be missing.
 #[derive(Drop)]
 pub(crate) struct Shape {
     pub(crate) size: u32,
@@ -130,8 +130,8 @@ pub(crate) struct Shape {
 }
 
 impl Shape {
-    /// Returns the number of instructions of a part of a choice that other parts follow, with the
-    /// instructions around it.
+    /// Returns the number of instructions in a part of a choice that other parts follow, including
+    /// the instructions around it.
     fn tried_size(&self) -> u32
         requires { self.now.size ≤ 1048577 }
         ensures { result ≡ min 1048577 (tried_len self.now.head self.now.size) }
@@ -151,7 +151,7 @@ fn headless(size: u32) -> Shape
     Shape { size, head: None }
 }
 
-/// Returns the shape of a set, which is its own head. They share the ranges.
+/// Returns the shape of a set. The set is its own head, and shares its ranges with it.
 fn set_shape(alloc: Global, set: &Set, wanted: bool) -> Result<Shape, NoMemory>
     ensures size { IfOk result (λ s. s.size ≡ 1) }
     ensures head { IfOk result (λ s. IsTrue wanted → s.head ≡ Some set.now) }
@@ -193,8 +193,8 @@ pub(crate) fn measure(
     Ok(shape)
 }
 
-/// Adds the nodes of a part of a sequence, with its number there. A part without code leaves no
-/// node, so that the writer of the sequence skips it without visiting it.
+/// Adds the nodes of a part of a sequence, with the part's number in the sequence. A part without
+/// code leaves no node, so that the writer of the sequence skips it without visiting it.
 #[cycle(measure)]
 fn measure_part(
     alloc: Global,
@@ -227,8 +227,9 @@ fn measure_part(
     Ok(shape)
 }
 
-/// Adds the nodes of a part of a choice that other parts follow, and its head to the heads of the
-/// choice. Its node has its head. Returns the number of its instructions with those around it.
+/// Adds the nodes of a part of a choice that other parts follow, and adds its head to the heads of
+/// the choice. The part's node holds its head. Returns the number of instructions in the part,
+/// including those around it.
 #[cycle(measure)]
 fn measure_tried(
     alloc: Global,
@@ -261,7 +262,7 @@ fn measure_tried(
     Ok(tried)
 }
 
-/// Adds the nodes of the patterns in this one.
+/// Adds the nodes of the patterns in this pattern.
 #[cycle(measure)]
 fn measure_inner(
     alloc: Global,
@@ -361,7 +362,7 @@ fn measure_all(
     })
 }
 
-/// Measures a choice of parts. It has a head if each part has one.
+/// Measures a choice between parts. The choice has a head if each part has one.
 #[cycle(measure)]
 fn measure_first(
     alloc: Global,

@@ -29,7 +29,7 @@ use std::alloc::Global;
 use std::collections::BTreeSet;
 use thiserror::Error;
 
-/// The reason why a goal has no code.
+/// The reason why a goal was not compiled.
 #[derive(Debug, Drop, Error)]
 pub enum CompileFault {
     /// Memory ran out.
@@ -49,8 +49,8 @@ impl From<NoMemory> for CompileFault {
 }
 
 /// Returns the code of the goal over the table of rules: the goal's own code, `finish`, and each
-/// rule that it reaches, in the order of the table. Equal sets and equal texts are stored once, in
-/// the order of their first use.
+/// rule that the goal reaches, in the order of the table. Equal sets and equal texts are stored
+/// once, in the order of their first use.
 pub(crate) fn compile_goal(
     alloc: Global,
     rules: &Rules,
@@ -81,7 +81,7 @@ pub(crate) fn compile_goal(
     Ok(program_of(alloc, draft)?)
 }
 
-/// Returns the program of a draft.
+/// Returns the program with the code, sets and texts of a draft.
 fn program_of(alloc: Global, draft: Draft) -> Result<Program, NoMemory>
     requires { AreInRange draft.code draft.sets draft.labels }
     ensures code { IfOk result (λ p. code_of p ≡ draft.code) }

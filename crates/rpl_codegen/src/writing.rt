@@ -30,7 +30,7 @@ struct Look<'a> {
     end: u32,
 }
 
-/// Patterns in a row, and the address where the code of all of them ends.
+/// The parts of a sequence or of a choice, and the address where the code of all of them ends.
 #[derive(Clone, Copy)]
 struct Row<'a> {
     parts: &'a Pegs,
@@ -94,8 +94,8 @@ fn emit_inner(
     }
 }
 
-/// Writes a sequence of parts up to `end`. Each next node belongs to the next part that has code:
-/// the other parts have no node.
+/// Writes a sequence of parts up to `end`. The next node always belongs to the next part that has
+/// code; the other parts have no node.
 #[cycle(emit)]
 fn emit_all(
     draft: &mut Draft,
@@ -114,7 +114,7 @@ fn emit_all(
     let parts = row.parts.as_slice();
     while draft.next() < row.end {
         let number = nodes.part();
-        // There always is one; this test only bounds the index.
+        // There is always such a part; this test only bounds the index.
         if number >= parts.len() {
             return Ok(());
         }
@@ -124,7 +124,7 @@ fn emit_all(
     Ok(())
 }
 
-/// Writes a choice of the parts. Each part except the last jumps to the end if it succeeds.
+/// Writes a choice between the parts. Each part except the last jumps to the end if it succeeds.
 #[cycle(emit)]
 fn emit_first(
     draft: &mut Draft,
@@ -151,7 +151,7 @@ fn emit_first(
     emit(draft, layout, nodes, &parts[last])
 }
 
-/// Writes a part that other parts follow, with the test of its head if it has one.
+/// Writes a part of a choice, other than the last, after the test of its head if it has one.
 #[cycle(emit)]
 fn emit_tried(
     draft: &mut Draft,
@@ -192,7 +192,7 @@ fn emit_test(alloc: Global, draft: &mut Draft, nodes: &Nodes, other: u32) -> Res
     Ok(())
 }
 
-/// Writes a loop.
+/// Writes a repetition of the body.
 #[cycle(emit)]
 fn emit_many(
     draft: &mut Draft,
@@ -265,8 +265,8 @@ fn emit_and(
     draft.put(Instr::Fail)
 }
 
-/// Writes a look-behind: each length one after the other, each with the nodes of the body taken
-/// anew, and then a failure if none fits.
+/// Writes a look-behind: the lengths one after the other, taking the nodes of the body anew for
+/// each, and then a failure in case no length fits.
 #[cycle(emit)]
 fn emit_behind(
     draft: &mut Draft,

@@ -1,4 +1,4 @@
-// The text of a cell in each format, from the text as a tree spells it.
+// The text of a cell in each format, given the text as a tree spells it.
 ghost use Rattle.std.specs.Prelude.{◌≡◌, ◌++◌, ◌<◌, OnOk, IfSome, length, option_map};
 ghost use Rattle.std.specs.Prelude.{◌&&◌};
 ghost use Rattle.rpl_print.specs.Quoted.{is_plain};

@@ -128,8 +128,8 @@ fn is_type(text: &str) -> bool
     !text.is_empty() && are_of_type(text.as_bytes())
 }
 
-/// Returns the part named by the word after the `@`: `s` for the start, `e` for the end. Without a
-/// word it is the text.
+/// Returns the part named by the word after the `@`: `s` for the start, `e` for the end. Without
+/// a word, the part is the text.
 fn part_named(word: Option<&str>) -> Option<Part>
     ensures { result ≡ C.part_named (option_map (λ w. w.now) word.entry) }
 {

@@ -3,17 +3,17 @@ ghost use Rattle.rpl_columns.specs.Laws.{AreReadBack};
 ghost use Rattle.rpl_columns.specs.Taken.{TakesNodes};
 ghost use Rattle.rpl_columns.specs.Trees.{ReadsTrees};
 
-/// A text spelled as `rosie` spells it is read back as that text.
+/// Proves that a text spelled as `rosie` spells it is read back as that text.
 pub fn texts_are_read_back()
     ensures { AreReadBack }
 {}
 
-/// The lines whose nodes are found are exactly the trees that `rosie` writes.
+/// Proves that the lines whose nodes are found are exactly the trees that `rosie` writes.
 pub fn trees_are_read()
     ensures { ReadsTrees }
 {}
 
-/// A column takes exactly the nodes that the definition over the tree itself gives.
+/// Proves that a column takes exactly the nodes that the definition over the tree itself gives.
 pub fn nodes_are_taken()
     ensures { TakesNodes }
 {}

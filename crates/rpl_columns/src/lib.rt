@@ -1,6 +1,6 @@
 //! Table rows made from trees. [`read_tree`] finds the nodes of a line that is a tree written
-//! exactly as `rosie` writes it, and [`put_row`] writes the cells of its columns in one of three
-//! formats, or all its fields.
+//! exactly as `rosie` writes it, and [`put_row`] writes either the cells of its columns, in one
+//! of three formats, or all its fields.
 //!
 //! The reader allocates only the list of nodes, which is reused from line to line, and refuses
 //! everything that `rosie` doesn't write.

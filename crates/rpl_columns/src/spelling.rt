@@ -11,8 +11,8 @@ ghost use Rattle.rpl_columns.specs.Nodes.{number_in, span_seen, string_in};
 
 use crate::node::Span;
 
-/// Returns whether the bytes are the same. Both slices have the same length. If the compiler knows
-/// the length, this compiles to a few instructions.
+/// Returns whether the bytes are the same. Both slices must have the same length. If the
+/// compiler knows the length, this compiles to a few instructions.
 #[inline(always)]
 pub(crate) fn are_same(left: &[u8], right: &[u8]) -> bool
     requires { length left.now ≡ length right.now }
@@ -25,7 +25,7 @@ pub(crate) fn are_same(left: &[u8], right: &[u8]) -> bool
     is_all
 }
 
-/// Returns the place after this word.
+/// Returns the place after this word, if the word is at `at`.
 #[inline(always)]
 pub(crate) fn after(line: &[u8], at: usize, word: &[u8]) -> Option<usize>
     requires { at ≤ length line.now }
@@ -194,7 +194,7 @@ fn is_digit(byte: u8) -> bool
     b'0' <= byte && byte <= b'9'
 }
 
-/// Returns the place after the digits.
+/// Returns the place after the digits that begin at `from`.
 #[inline(always)]
 fn digits_end(line: &[u8], from: usize) -> usize
     requires { from ≤ length line.now }

@@ -117,9 +117,9 @@ fn read_step(line: &[u8], reached: Reached) -> Option<(Node, Reached)>
     }
 }
 
-/// Finds the nodes of the tree that the line is, in the order in which they are written. Returns
-/// whether the line is a tree, written exactly as `rosie` writes it. If it is not, `nodes` holds
-/// some nodes from its start.
+/// Finds the nodes of the line's tree, in the order in which they are written. Returns whether
+/// the line is a tree, written exactly as `rosie` writes it. If it is not, `nodes` holds some
+/// nodes from the start of the line.
 pub fn read_tree(line: &[u8], nodes: &mut Vec<Node>) -> Result<bool, NoMemory>
     ensures { IfOk result (λ found. tree_in line.now
         ≡ if_found found (map (seen line.now) nodes.new.items)) }

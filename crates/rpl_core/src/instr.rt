@@ -39,7 +39,7 @@ pub enum Instr {
     Open(u32),
     /// Ends the tree.
     Close,
-    /// Adds a note of the text with this number.
+    /// Adds a note whose text has this number.
     Note(u32),
     /// Ends the run with a match.
     Finish,
@@ -58,8 +58,8 @@ pub enum Instr {
 pub type Instrs = List<Instr>;
 
 impl Instr {
-    /// Returns whether the instruction's numbers are in range, given the numbers of instructions,
-    /// sets and texts.
+    /// Returns whether the instruction's numbers are in range, given how many instructions, sets
+    /// and texts there are.
     pub fn is_in_range(self, code: usize, sets: usize, labels: usize) -> bool
         ensures { result ≡ in_range code sets labels self }
     {
@@ -79,8 +79,8 @@ impl Instr {
     }
 }
 
-/// Returns whether the numbers of all instructions are in range, given the numbers of sets and
-/// texts.
+/// Returns whether the numbers in all instructions are in range, given how many sets and texts
+/// there are.
 pub(crate) fn are_in_range(code: &Instrs, sets: usize, labels: usize) -> bool
     ensures { result ≡ list_all (in_range (length code.now) sets labels) code.now }
 {

@@ -6,8 +6,8 @@ pub fn depth_law()
     ensures { DepthLaw }
 {}
 
-/// A run that has ended ends in the same way under every bound that allows its steps, and under no
-/// smaller one.
+/// A run that ends within some bound ends in the same way under every bound that allows its steps,
+/// and under no smaller bound.
 pub fn run_law()
     ensures { RunLaw }
 {}

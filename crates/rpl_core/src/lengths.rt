@@ -1,11 +1,13 @@
-// The number of characters that a pattern may take, and the parts that leave it open.
+// The least and the greatest number of characters that a pattern takes, and the calls and
+// repetitions that leave these open.
 ghost use Rattle.std.specs.Prelude.{◌≡◌, min};
 ghost use Rattle.rpl_core.specs.Lengths as L;
 ghost use Rattle.rpl_core.specs.View.{core_of, cores};
 
 use crate::peg::Peg;
 
-/// The cap on the greatest length: one more than the body of a look-behind may take.
+/// The cap on the greatest length: one more than the number of characters that the body of a
+/// look-behind may take.
 const LONGEST: u32 = 256;
 
 /// The cap on the least length: the greatest number of characters that a pattern of 65,536 parts
@@ -70,8 +72,8 @@ fn any_has_repetition(parts: &[Peg]) -> bool
     false
 }
 
-/// Returns the greatest number of characters that a pattern without calls and repetitions takes, at
-/// most 256.
+/// Returns the greatest number of characters that a pattern without calls or repetitions takes,
+/// capped at 256.
 #[cycle(greatest)]
 pub fn greatest_length(peg: &Peg) -> u32
     ensures { result ≡ min 256 (L.greatest (core_of peg.now)) }
@@ -86,7 +88,7 @@ pub fn greatest_length(peg: &Peg) -> u32
     }
 }
 
-/// Returns the sum of the greatest lengths of the parts, at most 256.
+/// Returns the sum of the greatest lengths of the parts, capped at 256.
 #[cycle(greatest)]
 fn greatest_sum(parts: &[Peg]) -> u32
     ensures { result ≡ min 256 (L.greatest_sum (cores parts.now)) }
@@ -98,7 +100,7 @@ fn greatest_sum(parts: &[Peg]) -> u32
     sum
 }
 
-/// Returns the maximum of the greatest lengths of the parts.
+/// Returns the maximum of the greatest lengths of the parts, capped at 256.
 #[cycle(greatest)]
 fn greatest_of(parts: &[Peg]) -> u32
     ensures { result ≡ min 256 (L.greatest_of (cores parts.now)) }
@@ -110,8 +112,8 @@ fn greatest_of(parts: &[Peg]) -> u32
     most
 }
 
-/// Returns the least number of characters that a pattern without calls and repetitions takes, at
-/// most 65,536.
+/// Returns the least number of characters that a pattern without calls or repetitions takes, capped
+/// at 65,536.
 #[cycle(least)]
 pub fn least_length(peg: &Peg) -> u32
     ensures { result ≡ min 65536 (L.least (core_of peg.now)) }
@@ -126,7 +128,7 @@ pub fn least_length(peg: &Peg) -> u32
     }
 }
 
-/// Returns the sum of the least lengths of the parts, at most 65,536.
+/// Returns the sum of the least lengths of the parts, capped at 65,536.
 #[cycle(least)]
 fn least_sum(parts: &[Peg]) -> u32
     ensures { result ≡ min 65536 (L.least_sum (cores parts.now)) }
@@ -138,7 +140,7 @@ fn least_sum(parts: &[Peg]) -> u32
     sum
 }
 
-/// Returns the minimum of the least lengths of the parts.
+/// Returns the minimum of the least lengths of the parts, capped at 65,536.
 #[cycle(least)]
 fn least_of(parts: &[Peg]) -> u32
     ensures { result ≡ min 65536 (L.least_of (cores parts.now)) }

@@ -1,10 +1,10 @@
-//! The definitions (`specs/`) of what a pattern means, what the machine does, and the code that
-//! joins the two, and the types that hold patterns, rules and code. Every other crate that handles
-//! patterns builds on these: expansion makes a `Peg`, the compiler a `Program`, and the machine
-//! runs it. The types promise that rules have distinct names and that every number in a program is
-//! in range. [`reached_rules`] finds exactly the rules that a goal reaches, and [`reached`] marks
-//! them. The laws state properties of the definitions alone. docs/MEANING.md explains the
-//! definitions in plain words.
+//! Defines what a pattern means, what the machine does, and which code joins the two (`specs/`),
+//! and provides the types that hold patterns, rules and code. Every other crate that handles
+//! patterns builds on these: expansion makes a `Peg`, the compiler makes a `Program`, and the
+//! machine runs the program. The types promise that rules have distinct names and that every number
+//! in a program is in range. [`reached_rules`] finds exactly the rules that a goal reaches, and
+//! [`reached`] marks them in a list as long as the table. The laws state properties of the
+//! definitions alone. docs/MEANING.md explains the definitions in plain words.
 #![tactic(auto)]
 
 mod caught;
@@ -26,5 +26,5 @@ pub use peg::{Peg, Pegs};
 pub use program::{Labels, Program, Sets};
 pub use reach::{reached, reached_rules};
 pub use rules::{Rule, Rules};
-/// Out of memory, which every call that allocates may return.
+/// The out-of-memory error, which every call that allocates may return.
 pub use std::alloc::AllocError as NoMemory;

@@ -1,4 +1,4 @@
-// The order of tables, and calls of rules inside their table.
+// The order of the rules in a table, and whether a pattern calls only rules of the table.
 ghost use Rattle.std.specs.Prelude.{◌≡◌, ℕ, ◌<◌, ◌↔◌, IsTrue, None, true, nat_lt, length};
 ghost use Rattle.std.specs.Prelude.{slice_get};
 ghost use Rattle.rpl_core.specs.Listed.{blocks_in, bodies_in, rules_of};
@@ -51,7 +51,7 @@ pub fn is_outside(rules: &Rules, number: u32) -> bool
     }
 }
 
-/// Returns whether the rule may call the other.
+/// Returns whether the rule may call the other rule.
 fn may_call(rules: &Rules, number: u32, other: u32) -> bool
     ensures { result ≡ S.may_call (blocks_in rules.now) number other }
 {
@@ -99,8 +99,8 @@ fn body_calls_only(rules: &Rules, number: u32) -> bool
     }
 }
 
-/// Returns whether an earlier rule is in the same block as this one. All blocks of earlier rules
-/// are below `next`, so none is if this rule's block isn't below `next`.
+/// Returns whether an earlier rule is in the same block as this one. Every earlier rule's block is
+/// below `next`, so if this rule's block isn't, no earlier rule shares it.
 fn has_mate(rules: &Rules, number: u32, next: u64) -> bool
     requires { S.AreBelow (blocks_in rules.now) number next }
     ensures { result ≡ S.has_mate (blocks_in rules.now) number number }
@@ -118,7 +118,7 @@ fn has_mate(rules: &Rules, number: u32, next: u64) -> bool
     false
 }
 
-/// Returns whether the rule is in no block or in one that isn't below `next`.
+/// Returns whether the rule is in no block, or in a block that isn't below `next`.
 fn is_new(rules: &Rules, number: u32, next: u64) -> bool
     ensures { result ≡ S.is_new next (block_at (slice_get (blocks_in rules.now) number)) }
 {
@@ -128,7 +128,7 @@ fn is_new(rules: &Rules, number: u32, next: u64) -> bool
     }
 }
 
-/// Returns whether the rule is in the block of an earlier one, but not in that of the rule directly
+/// Returns whether the rule shares its block with an earlier rule, but not with the rule directly
 /// before it.
 fn is_split(rules: &Rules, number: u32, next: u64) -> bool
     requires inside { number < length (rules_of rules.now) }
@@ -141,7 +141,8 @@ fn is_split(rules: &Rules, number: u32, next: u64) -> bool
     !joins_next(rules, number - 1) && has_mate(rules, number, next)
 }
 
-/// Returns whether the rule is in order.
+/// Returns whether the rule is in order: its body calls only rules that it may call, and it is not
+/// split from its block.
 fn stands(rules: &Rules, number: u32, next: u64) -> bool
     requires inside { number < length (rules_of rules.now) }
     requires below { S.AreBelow (blocks_in rules.now) number next }
@@ -150,8 +151,8 @@ fn stands(rules: &Rules, number: u32, next: u64) -> bool
     body_calls_only(rules, number) && !is_split(rules, number, next)
 }
 
-/// Returns a number above the block of the rule and, if `next` was above those of the earlier
-/// rules, above theirs.
+/// Returns a number greater than the rule's block and, if `next` was greater than every earlier
+/// rule's block, greater than those too.
 fn above(rules: &Rules, number: u32, next: u64) -> u64
     ensures { result ≡ S.above next (block_at (slice_get (blocks_in rules.now) number)) }
 {
@@ -162,9 +163,9 @@ fn above(rules: &Rules, number: u32, next: u64) -> u64
 }
 
 /// Returns whether the table is in order: the rules of a block are adjacent, and each rule calls
-/// only earlier rules and those of its block. A caller that already knows this of its table can
-/// skip the call. Number blocks in ascending order if you can: the first rule of a block whose
-/// number isn't above all earlier ones is compared with every earlier rule.
+/// only earlier rules and rules in its own block. A caller that already knows that its table is in
+/// order can skip this call. Number blocks in ascending order if you can: the first rule of a block
+/// whose number isn't greater than every earlier block's is compared with every earlier rule.
 pub fn is_in_order(rules: &Rules) -> bool
     ensures { IsTrue result ↔ IsInOrder (bodies_in rules.now) (blocks_in rules.now) }
 {
@@ -178,7 +179,7 @@ pub fn is_in_order(rules: &Rules) -> bool
     true
 }
 
-/// Returns whether the pattern calls only the first `count` rules.
+/// Returns whether every rule that the pattern calls is among the first `count`.
 #[cycle(within)]
 fn calls_within(peg: &Peg, count: usize) -> bool
     ensures { result ≡ S.calls_only (λ r. nat_lt r count) (core_of peg.now) }
@@ -194,7 +195,7 @@ fn calls_within(peg: &Peg, count: usize) -> bool
     }
 }
 
-/// Returns whether the parts call only the first `count` rules.
+/// Returns whether every rule that the parts call is among the first `count`.
 #[cycle(within)]
 fn all_call_within(parts: &[Peg], count: usize) -> bool
     ensures { result ≡ S.all_call_only (λ r. nat_lt r count) (cores parts.now) }

@@ -1,4 +1,4 @@
-// Patterns without names: the cores of the definitions.
+// Patterns without names, which the definitions call cores.
 ghost use Rattle.std.specs.Option.{option_copied};
 ghost use Rattle.std.specs.Prelude.{◌≡◌, [], ◌∷◌, ◌++◌, length, slice_get, OnOk, OnErr, IfOk};
 ghost use Rattle.rpl_core.specs.View.{core_of, cores, listed};
@@ -32,7 +32,7 @@ pub enum Peg {
     Not(Box<Peg>),
     /// Succeeds if the body succeeds. Takes no characters.
     And(Box<Peg>),
-    /// Succeeds if the body, tried from `least` to `most` characters back, ends exactly here.
+    /// Succeeds if the body, started between `least` and `most` characters back, ends exactly here.
     Behind {
         least: u32,
         most: u32,
@@ -105,7 +105,7 @@ impl Pegs {
     }
 }
 
-/// Returns a copy of the pattern in a box.
+/// Returns a boxed copy of the pattern.
 #[cycle(copy)]
 fn boxed(alloc: Global, body: &Peg) -> Result<Box<Peg>, NoMemory>
     ensures { IfOk result (λ b. core_of b.value ≡ core_of body.now) }

@@ -27,7 +27,7 @@ pub struct Program {
 impl Program {
     ghost use Rattle.rpl_core.specs.Program.{code_of, sets_of, labels_of};
 
-    /// Returns the program made of these parts.
+    /// Returns the program with these parts.
     pub fn new(code: Instrs, sets: Sets, labels: Labels) -> Program
         requires { AreInRange code sets labels }
         ensures code { code_of result ≡ code }

@@ -21,7 +21,7 @@ struct RuleSearch {
 }
 
 impl RuleSearch {
-    /// Adds the rule to those found.
+    /// Adds the rule to the rules found.
     fn find(&mut self, rule: u32) -> Result<(), NoMemory>
         ensures { OnOk result (Finds (λ r. nat_eq rule r) self.old self.new) }
     {
@@ -61,8 +61,8 @@ fn find_all(search: &mut RuleSearch, parts: &[Peg]) -> Result<(), NoMemory>
     Ok(())
 }
 
-/// Returns the rules of the table that the goal reaches. The cost depends on these rules alone, not
-/// on the length of the table.
+/// Returns the rules of the table that the goal reaches. The cost depends only on the reached
+/// rules, not on the length of the table.
 pub fn reached_rules(alloc: Global, rules: &Rules, goal: &Peg) -> Result<BTreeSet<u32>, NoMemory>
     requires { CallsAreRules (bodies_of (rules_of rules.now)) (core_of goal.now) }
     ensures { IfOk result (HasReached (bodies_of (rules_of rules.now)) (core_of goal.now)) }
@@ -81,7 +81,7 @@ pub fn reached_rules(alloc: Global, rules: &Rules, goal: &Peg) -> Result<BTreeSe
     Ok(found)
 }
 
-/// Returns which rules of the table the goal reaches, in a list as long as the table.
+/// Returns a list as long as the table that says for each rule whether the goal reaches it.
 pub fn reached(alloc: Global, rules: &Rules, goal: &Peg) -> Result<Vec<bool>, NoMemory>
     requires { CallsAreRules (bodies_of (rules_of rules.now)) (core_of goal.now) }
     ensures { IfOk result (λ marks. MarksReached (bodies_of (rules_of rules.now)) (core_of goal.now)

@@ -19,10 +19,10 @@ use rpl_tree::Forest;
 use std::alloc::Global;
 use std::marker::Model;
 
-/// The most bytes that an answer may have.
+/// The greatest number of bytes that an answer may have.
 pub(crate) const MAX_ANSWER_BYTES: usize = 67_108_864;
 
-/// The text of an answer, in memory that is kept from line to line. Its bytes are visible to
+/// The text of an answer, in memory that is reused from line to line. Its bytes are visible to
 /// contracts.
 #[derive(Drop)]
 pub struct AnswerText {
@@ -30,11 +30,12 @@ pub struct AnswerText {
     draft: Draft,
 }
 
-/// The next text, until it is known not to be too long, and the memory needed to write it.
+/// The next text, held here until it is known not to be too long, and the memory needed to
+/// write it.
 #[derive(Drop)]
 struct Draft {
     text: Page,
-    /// The number of nodes still to come in each open list of JSON.
+    /// The number of nodes still to come in each open JSON list.
     pending: Vec<usize>,
     escapes: Escapes,
 }
@@ -65,10 +66,10 @@ impl AnswerText {
         self.text.as_slice()
     }
 
-    /// Replaces the text by that of a line's outcome in a style: of the trees that were found,
-    /// whose types are numbered as in `Fronts`, or of no match. The kept memory is used as far
-    /// as it is enough, and the work ends as soon as the text is too long. After an error the
-    /// old text stays.
+    /// Replaces the text with that of a line's outcome in this style. `found` holds the trees
+    /// of a match, whose types are numbered as in `fronts`, or is `None` if the line isn't
+    /// matched. Reuses memory as far as it suffices, and stops as soon as the text is too long.
+    /// After an error the old text stays.
     pub fn fill(
         &mut self,
         style: Style,
@@ -98,7 +99,7 @@ impl AnswerText {
     }
 }
 
-/// Returns the text of a line's outcome in a style.
+/// Returns the text of a line's outcome in this style.
 ///
 /// # Examples
 ///

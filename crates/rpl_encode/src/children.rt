@@ -43,8 +43,8 @@ pub(crate) fn put_root_text(
     }
 }
 
-/// Writes the texts of the nodes directly below the root, or only those of hits, each with a
-/// line feed. Returns whether there was one.
+/// Writes the texts of the nodes directly below the root, or only those of the hits, each
+/// followed by a line feed. Returns whether it wrote any.
 pub(crate) fn put_texts(
     out: &mut Page,
     only_hits: bool,
@@ -85,7 +85,7 @@ pub(crate) fn put_texts(
     Ok(some)
 }
 
-/// Returns the number of nodes below the first one. A note has none.
+/// Returns the number of nodes below the first node. A note has none.
 fn below_first(forest: &Forest) -> usize
     ensures { result ≡ below_of_first forest.now }
 {
@@ -95,7 +95,7 @@ fn below_first(forest: &Forest) -> usize
     }
 }
 
-/// Returns the node with a number, if nodes are still to come.
+/// Returns the node with this index, if nodes are still to come.
 fn node_within(forest: &Forest, index: usize, left: usize) -> Option<Node>
     ensures some { IfSome result (λ node. (0 < left) × (slice_get forest.now index ≡ Some node)) }
     ensures none { IfNone result ((left ≡ 0) ⊎ (slice_get forest.now index ≡ None)) }

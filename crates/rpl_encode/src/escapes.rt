@@ -1,4 +1,4 @@
-// The escaped form of a line in strings of JSON.
+// The escaped form of a line in JSON strings.
 ghost use Rattle.std.specs.Prelude.{◌≡◌, ◌<◌, ◌≤◌, ◌+◌, ◌*◌, ◌++◌, length, drop, slice_range};
 ghost use Rattle.std.specs.Prelude.{vec_len, IfSome, OnOk};
 ghost use Rattle.std.specs.Char.{digit_char};
@@ -12,7 +12,7 @@ use rpl_core::NoMemory;
 use rpl_print::is_plain;
 use std::alloc::Global;
 
-/// The way in which the escaped form of a part of a line is found.
+/// How the escaped form of a part of a line is found.
 #[derive(Clone, Copy)]
 pub(crate) enum Kind {
     /// No byte of the line needs an escape, so a part is its own escaped form.
@@ -23,9 +23,9 @@ pub(crate) enum Kind {
     Long,
 }
 
-/// The most bytes of a line whose escaped form is kept. The parts of a line are printed once
-/// for each node over them; for a long line the kept form would take many times its length in
-/// memory.
+/// The length in bytes of the longest line whose escaped form is kept. Each part of a line is
+/// printed once per node that covers it; for a long line the kept form would take many times
+/// the line's length in memory.
 const KEPT: usize = 4096;
 
 /// The escaped forms of the parts of a line, prepared once for all parts of the line that are
@@ -33,8 +33,8 @@ const KEPT: usize = 4096;
 #[derive(Drop)]
 pub(crate) struct Escapes {
     kind: Kind,
-    /// A buffer that ends with the escaped form of the line, if that is kept. Its memory, and
-    /// that of `places`, is used again for the next line.
+    /// A buffer that ends with the escaped form of the line, if that form is kept. Its memory,
+    /// and that of `places`, is reused for the next line.
     string: Vec<u8>,
     /// The offset in `string` at which the escaped form of each byte of the line begins, and
     /// the offset at which the last one ends.
@@ -51,7 +51,7 @@ impl Escapes {
         }
     }
 
-    /// Replaces the escaped forms by those of `line`.
+    /// Replaces the escaped forms with those of `line`.
     pub(crate) fn fill(&mut self, line: &str) -> Result<(), NoMemory>
         ensures { OnOk result (AreOf line.now self.new) }
     {
@@ -71,9 +71,9 @@ impl Escapes {
         Ok(())
     }
 
-    /// Returns the escaped form of the part of the line between two offsets, if it is at hand.
-    /// The part is empty if the end is before the start, and it ends with the line at the
-    /// latest.
+    /// Returns the escaped form of the part of the line between two offsets, if it is
+    /// available. The part is empty if the end is before the start, and it never extends past
+    /// the end of the line.
     #[inline(always)]
     pub(crate) fn part<'a>(&'a self, line: &'a [u8], start: usize, end: usize) -> Option<&'a [u8]>
         requires { AreOf line.now self.now }
@@ -138,8 +138,8 @@ const CHUNK: usize = 64;
 
 const ROOM: usize = 6 * CHUNK;
 
-/// Appends the escaped form of the bytes. They are taken a few at a time: a list grows slowly
-/// if little is appended at once, and in a line of JSON there are few bytes between two quotes.
+/// Appends the escaped form of the bytes, a chunk at a time: appending is slow if little is
+/// appended at once, and a line of JSON has few bytes between one quote and the next.
 pub(crate) fn put_bytes(out: &mut Page, bytes: &[u8]) -> Result<(), NoMemory>
     ensures { OnOk result (out.new ≡ out.old ++ escape bytes.now) }
 {
@@ -152,8 +152,8 @@ pub(crate) fn put_bytes(out: &mut Page, bytes: &[u8]) -> Result<(), NoMemory>
     Ok(())
 }
 
-/// Appends the escaped form of a few bytes. If one of them needs an escape, the whole is put
-/// together in a buffer, from its end.
+/// Appends the escaped form of at most 64 bytes. If one of them needs an escape, the escaped
+/// form is first put together in a buffer, from the buffer's end.
 fn put_chunk(out: &mut Page, bytes: &[u8]) -> Result<(), NoMemory>
     requires { length bytes.now ≤ 64 }
     ensures { OnOk result (out.new ≡ out.old ++ escape bytes.now) }
@@ -227,7 +227,7 @@ fn short_escape(byte: u8) -> u8
     }
 }
 
-/// Returns the hexadecimal digit of a value.
+/// Returns the hexadecimal digit for a value below 16.
 fn digit(value: u8) -> u8
     requires { value < 16 }
     ensures { result ≡ digit_char value }

@@ -1,4 +1,4 @@
-// The texts of a program, and the fronts of the objects of nodes: `{"type":"NAME","s":`.
+// The texts of a program, each with the front of a node's object: `{"type":"NAME","s":`.
 ghost use Rattle.std.specs.Prelude.{◌≡◌, ◌++◌, [], false, IfOk, OnOk, string_bytes};
 ghost use Rattle.std.specs.Prelude.{chars, option_map, slice_get};
 ghost use Rattle.std.specs.Option.{option_copied};
@@ -15,17 +15,17 @@ use rpl_print::push_quoted;
 use std::alloc::Global;
 use std::marker::Model;
 
-/// The front of the objects of nodes of one type, written once.
+/// The front that the objects of all nodes of one type share, written once.
 #[derive(Drop)]
 pub(crate) struct Front {
     label: String,
-    /// The front, after a comma.
+    /// The front, preceded by a comma.
     text: String,
     ghost is_front: { string_bytes text ≡ front false (string_bytes label) },
 }
 
 impl Front {
-    /// Returns the front of a type.
+    /// Returns the front for this type.
     fn new(alloc: Global, label: &str) -> Result<Front, NoMemory>
         ensures { IfOk result (λ f. string_bytes f.label ≡ label.now) }
     {
@@ -36,7 +36,7 @@ impl Front {
         Ok(Front { label, text })
     }
 
-    /// Returns the bytes of the front, after a comma unless the node is the first.
+    /// Returns the bytes of the front, preceded by a comma unless the node is the first.
     fn bytes(&self, is_first: bool) -> &[u8]
         ensures { result.now ≡ front is_first (string_bytes self.now.label) }
     {
@@ -45,8 +45,8 @@ impl Front {
     }
 }
 
-/// The texts of a program, each with the front of the objects of nodes of that type. The list
-/// of the texts is visible to contracts.
+/// The texts of a program, each with the front for nodes of that type. The list of the texts is
+/// visible to contracts.
 #[derive(Drop)]
 pub struct Fronts {
     list: Vec<Front>,
@@ -74,7 +74,7 @@ impl Fronts {
         Ok(Fronts { list })
     }
 
-    /// Returns the text with a number.
+    /// Returns the text with this number.
     pub(crate) fn label(&self, number: u32) -> Option<&str>
         ensures { option_map chars (option_copied result) ≡ slice_get self.now number }
     {
@@ -85,8 +85,8 @@ impl Fronts {
     }
 }
 
-/// Returns the front of the object of a node whose type has this number, after a comma unless
-/// the node is the first.
+/// Returns the front for a node whose type has this number, preceded by a comma unless the node
+/// is the first.
 pub(crate) fn front_of(fronts: &Fronts, is_first: bool, number: u32) -> &[u8]
     ensures { result.now ≡ front is_first (encode_utf8_all (label_in fronts.now number)) }
 {
@@ -96,7 +96,7 @@ pub(crate) fn front_of(fronts: &Fronts, is_first: bool, number: u32) -> &[u8]
     }
 }
 
-/// Returns the front of the object of a node whose type has no name.
+/// Returns the front for a node whose type has no name.
 fn empty_front(is_first: bool) -> &'static [u8]
     ensures { result.now ≡ front is_first [] }
 {
@@ -107,8 +107,7 @@ fn empty_front(is_first: bool) -> &'static [u8]
     }
 }
 
-/// Writes the front of the object of a node of this type, after a comma unless the node is the
-/// first.
+/// Writes the front for a node of this type, preceded by a comma unless the node is the first.
 pub(crate) fn put_new_front(out: &mut Page, is_first: bool, label: &str) -> Result<(), NoMemory>
     ensures { OnOk result (out.new ≡ out.old ++ front is_first label.now) }
 {
@@ -120,7 +119,7 @@ pub(crate) fn put_new_front(out: &mut Page, is_first: bool, label: &str) -> Resu
     out.put(b"\",\"s\":")
 }
 
-/// Writes the escaped form of a text, as it stands between the quotes of a string of JSON.
+/// Writes the escaped form of a text, as it appears between the quotes of a JSON string.
 pub(crate) fn put_escaped(out: &mut Page, text: &str) -> Result<(), NoMemory>
     ensures { OnOk result (out.new ≡ out.old ++ escape text.now) }
 {

@@ -19,7 +19,7 @@ use itoa::Buffer;
 use rpl_core::NoMemory;
 use rpl_tree::Node;
 
-/// Returns the text with a number.
+/// Returns the text with this number.
 pub(crate) fn label_of(fronts: &Fronts, number: u32) -> &str
     ensures { result.now ≡ encode_utf8_all (label_in fronts.now number) }
 {
@@ -37,7 +37,7 @@ pub(crate) fn text_of<'a>(node: Node, line: &'a [u8], fronts: &'a Fronts) -> &'a
 }
 
 /// Returns the part of the line between two offsets. It is empty if the end is before the
-/// start, and it ends with the line at the latest.
+/// start, and it never extends past the end of the line.
 pub(crate) fn part_of(line: &[u8], start: usize, end: usize) -> &[u8]
     ensures { result.now ≡ slice_range line.now start end }
 {
@@ -46,8 +46,8 @@ pub(crate) fn part_of(line: &[u8], start: usize, end: usize) -> &[u8]
     &line[start..end]
 }
 
-/// Writes the object of a node, after a comma unless the node is the first, up to the first
-/// node below it or to its end.
+/// Writes the object of a node, preceded by a comma unless the node is the first: up to the
+/// list of the nodes below it, or the whole object if there are none.
 pub(crate) fn put_node(
     out: &mut Page,
     node: Node,
@@ -97,7 +97,8 @@ fn put_message(
     put_ending(out, has_subs)
 }
 
-/// Returns whether the node's positions, printed one higher, are numbers of 64 bits.
+/// Returns whether the node's positions, each increased by one as they are printed, fit in 64
+/// bits.
 #[inline(always)]
 fn is_near(node: Node) -> bool
     ensures { IsTrue result ↔ ((node.start + 1 < 2 ^ 64) × (node.end + 1 < 2 ^ 64)) }
@@ -105,7 +106,7 @@ fn is_near(node: Node) -> bool
     node.start < usize::MAX && node.end < usize::MAX
 }
 
-/// Writes the object of a node that begins with this front, piece by piece.
+/// Writes the object of a node, which begins with this front, piece by piece.
 #[cold]
 #[inline(never)]
 fn put_far(
@@ -153,7 +154,8 @@ pub(crate) fn write_before(bytes: &[u8], buffer: &mut [u8], end: usize) -> usize
     start
 }
 
-/// Writes two positions, each one higher, up to the quote before the text.
+/// Writes two positions, each increased by one, and what follows up to the quote before the
+/// text.
 #[inline(never)]
 fn put_places(out: &mut Page, start: usize, end: usize) -> Result<(), NoMemory>
     ensures { OnOk result

@@ -1,4 +1,4 @@
-// Text that is written at its end.
+// Text that grows at its end.
 ghost use Rattle.std.specs.Prelude.{◌≡◌, ◌+◌, ◌^◌, ◌<◌, ◌≤◌, ◌++◌, ◌∷◌, [], length, take, OnOk};
 ghost use Rattle.std.specs.Prelude.{vec_len, decimal, codes};
 ghost use Rattle.rpl_encode.specs.inside.Fronts.{after_front};
@@ -62,7 +62,7 @@ impl Page {
         self.len = 0;
     }
 
-    /// Returns the bytes as a list of their own.
+    /// Returns the bytes as a list, without the unused room.
     pub(crate) fn into_vec(self) -> Vec<u8>
         ensures { result.items ≡ self }
     {
@@ -81,8 +81,8 @@ impl Page {
         Ok(())
     }
 
-    /// Appends the object of a node that begins with this front, up to the first node below it
-    /// or to its end. Room for all of it is made at once.
+    /// Appends the object of a node, which begins with this front: up to the list of the nodes
+    /// below it, or the whole object if there are none. Makes room for all of it at once.
     pub(crate) fn put_object(
         &mut self,
         front: &[u8],
@@ -106,13 +106,13 @@ impl Page {
     }
 }
 
-/// The most bytes of an object besides its front and its text.
+/// The greatest number of bytes that an object has besides its front and its text.
 const MORE: usize = 64;
 
-/// The least number of bytes by which the room grows, so that it grows seldom.
+/// The least number of bytes by which the room grows, so that it grows rarely.
 const STEP: usize = 1024;
 
-/// Makes room for `count` bytes after the first `len`, which stay.
+/// Makes room for `count` bytes after the first `len` bytes, which stay unchanged.
 #[inline(always)]
 fn make_room(bytes: &mut Vec<u8>, len: usize, count: usize) -> Result<(), NoMemory>
     requires { len ≤ vec_len bytes.old }
@@ -126,7 +126,7 @@ fn make_room(bytes: &mut Vec<u8>, len: usize, count: usize) -> Result<(), NoMemo
     lengthen(bytes, len, count)
 }
 
-/// Does the same as `make_room` if there is less room than that.
+/// Does the same as `make_room` when there is too little room.
 #[cold]
 #[inline(never)]
 fn lengthen(bytes: &mut Vec<u8>, len: usize, count: usize) -> Result<(), NoMemory>
@@ -135,7 +135,7 @@ fn lengthen(bytes: &mut Vec<u8>, len: usize, count: usize) -> Result<(), NoMemor
     ensures inside { len ≤ vec_len bytes.new }
     ensures room { OnOk result (len + count ≤ vec_len bytes.new) }
 {
-    // If a sum saturates, no `Vec` can have so many bytes, and `resize` fails.
+    // If a sum saturates, no `Vec` can hold that many bytes, and `resize` fails.
     let least = len.saturating_add(count);
     bytes.resize(least.saturating_add(STEP), 0)
 }
@@ -153,7 +153,8 @@ fn write_at(bytes: &[u8], buffer: &mut [u8], at: usize) -> usize
     end
 }
 
-/// Writes the start and the end of a node, each one higher, up to the quote before its text.
+/// Writes the start and the end of a node, each increased by one, and what follows up to the
+/// quote before the node's text.
 #[inline(always)]
 fn write_places(node: Node, buffer: &mut [u8], at: usize) -> usize
     requires places { (node.start + 1 < 2 ^ 64) × (node.end + 1 < 2 ^ 64) }
@@ -216,7 +217,7 @@ fn write_long(number: u64, buffer: &mut [u8], at: usize) -> usize
     end
 }
 
-/// Returns the number of decimal digits.
+/// Returns how many decimal digits the number has.
 fn count_digits(number: u64) -> usize
     ensures { result ≡ length (decimal number) }
 {

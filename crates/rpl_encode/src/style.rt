@@ -5,7 +5,7 @@ ghost use Rattle.rpl_encode.specs.Answer.{IgnoresTrees};
 /// The form in which an answer is printed.
 #[derive(Clone, Copy, Debug, PartialEq, Eq)]
 pub enum Style {
-    /// The tree of the match, as one object.
+    /// The tree of the match, as one JSON object.
     Json,
     /// The whole line.
     Line,
@@ -20,8 +20,8 @@ pub enum Style {
 }
 
 impl Style {
-    /// Returns whether the text of a match is the same for all trees, so that they needn't be
-    /// made.
+    /// Returns whether the text of a match doesn't depend on its trees, so that they needn't be
+    /// built.
     pub fn ignores_trees(self) -> bool
         ensures { IsTrue result ↔ IgnoresTrees self }
     {

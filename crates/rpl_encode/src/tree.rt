@@ -30,7 +30,7 @@ use rpl_core::NoMemory;
 use rpl_tree::{Forest, Node};
 
 /// Writes the object of the first tree and a line feed, or nothing if there is no tree.
-/// `pending` is memory for the work.
+/// `pending` is working memory.
 pub(crate) fn put_tree(
     out: &mut Page,
     pending: &mut Vec<usize>,
@@ -55,7 +55,7 @@ pub(crate) fn put_tree(
     Ok(out.put(b"\n")?)
 }
 
-/// Opens only the list of the nodes below the root, if any are printed there.
+/// Clears the open lists, then opens the list of the nodes below the root, if any are printed.
 fn open_root(lists: &mut Vec<usize>, has_subs: bool, below: usize) -> Result<(), NoMemory>
     ensures { OnOk result (lists.new.items ≡ (if has_subs then below ∷ [] else [])) }
 {
@@ -75,16 +75,16 @@ fn open_list(pending: &mut Vec<usize>, count: usize) -> Result<(), NoMemory>
     Ok(())
 }
 
-/// Returns whether nodes are printed below this one: it has some, the first of which has the
-/// number `next` among `count`. A note has none.
+/// Returns whether nodes are printed below this one: there are some, and the first of them,
+/// with index `next`, is among the `count` nodes. A note has none.
 fn has_subs(node: Node, below: usize, next: usize, count: usize) -> bool
     ensures { IsTrue result ↔ ((node.note ≡ None) × (0 < below) × (next < count)) }
 {
     node.note.is_none() && below > 0 && next < count
 }
 
-/// Writes the nodes from the second on, and closes the open lists. `lists` has the number of
-/// nodes still to come in each of them, the innermost last.
+/// Writes the nodes from the second on, and closes the open lists. `lists` holds the number of
+/// nodes still to come in each open list, the innermost last.
 fn put_below(
     out: &mut Page,
     lists: &mut Vec<usize>,
@@ -113,7 +113,7 @@ fn put_below(
         }
         match forest.get(index) {
             Some(node) if left > 0 => {
-                // A node's list ends at the latest where that of its parent ends.
+                // A node's list never extends past the end of its parent's list.
                 let below = node.below.min(left - 1);
                 let behind = left - 1 - below;
                 index += 1;

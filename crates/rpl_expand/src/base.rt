@@ -11,8 +11,8 @@ use rpl_forms::Inner;
 use rpl_forms::inner::call;
 use std::alloc::Global;
 
-/// The scope of an expression, the rules of the table so far, and what is known of the inlined
-/// body of each.
+/// The scope of an expression, the rules of the table so far, and what is known about the inlined
+/// body of each rule.
 #[derive(Clone, Copy)]
 pub(crate) struct Base<'a> {
     pub(crate) scope: Scope<'a>,
@@ -21,7 +21,7 @@ pub(crate) struct Base<'a> {
 }
 
 impl Base<'_> {
-    /// Returns a call of a rule, or its inlined body inside a look-behind.
+    /// Returns a call of a rule or, inside a look-behind, the rule's inlined body.
     pub(crate) fn call(
         &self,
         alloc: Global,

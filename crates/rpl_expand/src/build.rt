@@ -1,4 +1,4 @@
-// The core of an expression, or its inlined form inside a look-behind.
+// The core of an expression or, inside a look-behind, the core's inlined form.
 ghost use Rattle.std.specs.Prelude.{◌≡◌, ◌≤◌, IfOk, OnOk, IsTrue, Some, chars};
 ghost use Rattle.rpl_core.specs.Core as C;
 ghost use Rattle.rpl_core.specs.View.{core_of, cores, listed};
@@ -23,7 +23,8 @@ use rpl_macro::Macro;
 use rpl_syntax::{Expr, Sign};
 use std::alloc::Global;
 
-/// The least number of turns of a repetition, and the greatest, unless it is unlimited.
+/// The least and the greatest number of turns in a repetition. `most` is `None` if the number is
+/// unlimited.
 #[derive(Clone, Copy)]
 struct Turns {
     least: u32,
@@ -31,7 +32,7 @@ struct Turns {
 }
 
 impl Turns {
-    /// Returns whether no turn is required or allowed.
+    /// Returns whether no turn is required and none is allowed.
     fn is_never(self) -> bool
         ensures least { IsTrue result → self.least ≡ 0 }
         ensures most { IsTrue result → self.most ≡ Some 0 }
@@ -42,8 +43,8 @@ impl Turns {
         }
     }
 
-    /// Returns whether at most one turn is required and exactly one is allowed, so that a cooked
-    /// group has no boundary between turns.
+    /// Returns whether `least` is at most one and `most` is one, so that a cooked group has no
+    /// boundary between turns.
     fn is_once(self) -> bool
         ensures least { IsTrue result → self.least ≤ 1 }
         ensures most { IsTrue result → self.most ≡ Some 1 }
@@ -55,7 +56,7 @@ impl Turns {
     }
 }
 
-/// Returns the boundary after an item, unless it stands alone.
+/// Returns the boundary after an item, unless the item stands alone.
 fn boundary_behind(
     alloc: Global,
     base: &Base<'_>,
@@ -94,8 +95,8 @@ fn predicate(alloc: Global, sign: Sign, body: Peg) -> Result<Peg, NoMemory>
     }
 }
 
-/// Returns the core of an expression over the rules of a table, or its inlined form inside a
-/// look-behind.
+/// Returns the core of an expression over the rules of a table or, inside a look-behind, the
+/// core's inlined form.
 #[cycle(build)]
 pub(crate) fn build(alloc: Global, base: &Base<'_>, mode: Mode, e: &Expr) -> Result<Peg, NoMemory>
     requires { Knows base.now }
@@ -142,7 +143,8 @@ pub(crate) fn build(alloc: Global, base: &Base<'_>, mode: Mode, e: &Expr) -> Res
     }
 }
 
-/// Returns a repetition. If it has no turns, its body is ignored, and so may be of any size.
+/// Returns the core of a repetition. If it has no turns, its body is ignored, and so may have any
+/// size.
 #[cycle(build)]
 fn build_repeat(
     alloc: Global,
@@ -171,7 +173,7 @@ fn build_repeat(
     cooked_repeat(alloc, boundary, turn, turns.least, turns.most)
 }
 
-/// Returns a macro applied to its argument.
+/// Returns the core of a macro applied to its argument.
 #[cycle(build)]
 fn build_macro(
     alloc: Global,
@@ -195,7 +197,7 @@ fn build_macro(
     }
 }
 
-/// Returns a raw group.
+/// Returns the core of a raw group.
 #[cycle(build)]
 fn build_raw(alloc: Global, base: &Base<'_>, mode: Mode, items: &[Expr]) -> Result<Peg, NoMemory>
     requires { Knows base.now }
@@ -212,7 +214,7 @@ fn build_raw(alloc: Global, base: &Base<'_>, mode: Mode, items: &[Expr]) -> Resu
     }
 }
 
-/// Returns a cooked group.
+/// Returns the core of a cooked group.
 #[cycle(build)]
 fn build_cooked(alloc: Global, base: &Base<'_>, mode: Mode, items: &[Expr]) -> Result<Peg, NoMemory>
     requires { Knows base.now }
@@ -243,7 +245,7 @@ fn build_all(alloc: Global, base: &Base<'_>, mode: Mode, items: &[Expr]) -> Resu
     Ok(parts)
 }
 
-/// Returns the items of a cooked group, with the boundaries between them.
+/// Returns the cores of a cooked group's items, with the boundaries between them.
 #[cycle(build)]
 fn build_spaced(
     alloc: Global,

@@ -14,7 +14,7 @@ use rpl_forms::make::{append, choice, pair};
 use rpl_text::Chars;
 use std::alloc::Global;
 
-/// Returns an ASCII blank.
+/// Returns the pattern for an ASCII blank.
 fn blank(alloc: Global) -> Result<Peg, NoMemory>
     ensures { IfOk result (λ p. core_of p ≡ T.blank) }
 {
@@ -22,7 +22,7 @@ fn blank(alloc: Global) -> Result<Peg, NoMemory>
     Ok(Peg::Set(set))
 }
 
-/// Returns an ASCII letter or digit.
+/// Returns the pattern for an ASCII letter or digit.
 fn word(alloc: Global) -> Result<Peg, NoMemory>
     ensures { IfOk result (λ p. core_of p ≡ T.word) }
 {
@@ -30,7 +30,7 @@ fn word(alloc: Global) -> Result<Peg, NoMemory>
     Ok(Peg::Set(set))
 }
 
-/// Returns an ASCII punctuation mark.
+/// Returns the pattern for an ASCII punctuation mark.
 fn mark(alloc: Global) -> Result<Peg, NoMemory>
     ensures { IfOk result (λ p. core_of p ≡ T.mark) }
 {
@@ -66,7 +66,7 @@ fn absent(alloc: Global, body: Peg) -> Result<Peg, NoMemory>
     Ok(Peg::Not(Box::new(alloc, body)?))
 }
 
-/// Returns one or more blanks.
+/// Returns the pattern for one or more blanks.
 fn blanks(alloc: Global) -> Result<Peg, NoMemory>
     ensures { IfOk result (λ p. core_of p ≡ F.pair T.blank (C.Many T.blank)) }
 {
@@ -74,7 +74,7 @@ fn blanks(alloc: Global) -> Result<Peg, NoMemory>
     pair(alloc, blank(alloc)?, more)
 }
 
-/// Returns the start of a word.
+/// Returns the pattern for the start of a word.
 fn word_start(alloc: Global) -> Result<Peg, NoMemory>
     ensures { IfOk result (λ p. core_of p ≡ F.pair (C.And T.word) (C.Not (C.Behind 1 1 T.word))) }
 {
@@ -84,7 +84,7 @@ fn word_start(alloc: Global) -> Result<Peg, NoMemory>
     pair(alloc, follows, none)
 }
 
-/// Returns the end of a run of blanks.
+/// Returns the pattern for the end of a run of blanks.
 fn blanks_end(alloc: Global) -> Result<Peg, NoMemory>
     ensures { IfOk result (λ p. core_of p ≡ F.pair (C.Behind 1 1 T.blank) (C.Not T.blank)) }
 {
@@ -93,7 +93,7 @@ fn blanks_end(alloc: Global) -> Result<Peg, NoMemory>
     pair(alloc, stands, none)
 }
 
-/// Returns the boundary between two words.
+/// Returns the pattern for the boundary between two words.
 fn boundary(alloc: Global) -> Result<Peg, NoMemory>
     ensures { IfOk result (λ p. core_of p ≡ T.boundary) }
 {

@@ -11,7 +11,7 @@ use rpl_forms::Inner;
 use rpl_forms::inner::{inners, push_inner};
 use std::alloc::Global;
 
-/// The rules so far, and what is known of the inlined body of each.
+/// The rules so far, and what is known about the inlined body of each.
 #[derive(Drop)]
 pub(crate) struct Growing {
     pub(crate) rules: Rules,

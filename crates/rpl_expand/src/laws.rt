@@ -1,4 +1,4 @@
-// Laws of every core.
+// Laws that hold for every core.
 ghost use Rattle.std.specs.Prelude.{◌≤◌};
 ghost use Rattle.rpl_core.specs.Core.{Core};
 ghost use Rattle.rpl_core.specs.Lengths.{least};
@@ -12,7 +12,7 @@ pub fn group_of_one()
     ensures { GroupOfOne }
 {}
 
-/// `e{n}` has exactly n copies of the core of `e`, unless `e` is a `( )` group.
+/// The core of `e{n}` has exactly n copies of the core of `e`, unless `e` is a `( )` group.
 pub fn exactly_turns()
     ensures { ExactlyTurns }
 {}
@@ -23,21 +23,23 @@ pub fn still_calls_nothing()
     ensures { StillCallsNothing }
 {}
 
-/// Folding a set twice is the same as folding it once, and adds both cases of its ASCII letters.
-/// It follows that a macro has the core of the expression that its equation gives.
+/// Folding a set twice gives the same set as folding it once, and a folded set has both cases of
+/// each ASCII letter in it. It follows that a macro has the core of the expression that its
+/// equation gives.
 pub fn macro_is_equation()
     ensures folding { FoldsOnce }
     ensures equation { MacroIsEquation }
 {}
 
-/// `uci` of a text without letters has the core of that text.
+/// The core of `uci` applied to a text without letters is the core of that text.
 pub fn uci_keeps_others()
     ensures { UciKeepsOthers }
 {}
 
 /// If every choice in a core has a part, the core requires no more characters than it has nodes.
-/// In a loaded set every choice has one (`cores_have_parts` of `rpl_load_laws`). So the least
-/// length of a look-behind, which saturates at 65,536, is that of its body.
+/// In a loaded set of packages every choice has a part (`cores_have_parts` of `rpl_load_laws`).
+/// So the least length that a look-behind holds, which saturates at 65,536, is exactly that of
+/// its body.
 pub fn least_within_nodes()
     ensures { (p : Core) → HasParts p → least p ≤ nodes p }
 {}

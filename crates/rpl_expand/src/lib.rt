@@ -3,13 +3,13 @@
 //! inlined bodies of the rules that they name.
 //!
 //! The commands use it once a set of packages is loaded: `expand` makes the rule table of the
-//! set, `expand_pattern` the core of a pattern over that table, and `print_peg` prints a core.
-//! The table and the core are exactly those that the definitions give (`specs/Expansion.antt`,
-//! `specs/Table.antt`, `specs/Sets.antt`). They are refused exactly when a core is too large,
-//! with the first such core. Each core is counted before it is built, so that nothing too large
-//! is ever built; this is a rule of the code that no clause states. Calls nest as deep as the
-//! expression, and as the core, which is at most 1,024 deep. The only other failure is running
-//! out of memory.
+//! set, `expand_pattern` makes the core of a pattern over that table, and `print_peg` prints a
+//! core. The table and the core are exactly those that the definitions give
+//! (`specs/Expansion.antt`, `specs/Table.antt`, `specs/Sets.antt`). They are refused exactly when
+//! a core is too large, with an error that gives the first such core. Each core is counted before
+//! it is built, so that nothing too large is ever built; this is a property of the code that no
+//! clause states. Calls nest as deeply as the expression and as the core, whose depth is at most
+//! 1,024. The only other failure is running out of memory.
 #![tactic(auto)]
 
 mod base;

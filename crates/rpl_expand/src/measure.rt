@@ -22,7 +22,7 @@ use rpl_forms::{Count, Inner};
 use rpl_macro::Macro;
 use rpl_syntax::{Expr, Sign};
 
-/// Returns the number of characters of a text.
+/// Returns the number of characters in a text.
 fn characters(text: &str) -> usize
     ensures { result ≡ length (chars text.now) }
 {
@@ -43,7 +43,7 @@ pub(crate) fn is_cooked(e: &Expr) -> bool
     matches!(e, Expr::Cooked(_))
 }
 
-/// The scope of an expression, what is known of the inlined body of each rule, and whether the
+/// The scope of an expression, what is known about the inlined body of each rule, and whether the
 /// expression is inside a look-behind.
 #[derive(Clone, Copy)]
 pub(crate) struct Around<'a> {
@@ -53,7 +53,8 @@ pub(crate) struct Around<'a> {
 }
 
 impl Around<'_> {
-    /// Returns the count of a call of a rule, or of its inlined body inside a look-behind.
+    /// Returns the count of a call of a rule or, inside a look-behind, of the rule's inlined
+    /// body.
     fn call(&self, rule: u32) -> Count
         ensures { (I : Inners) → KnowsInners self.now.known.now I
             → Counts result (seen self.now.in_lookbehind I (C.Call rule)) }
@@ -62,7 +63,8 @@ impl Around<'_> {
     }
 }
 
-/// Returns the count of an expression's core, or of its inlined form inside a look-behind.
+/// Returns the count of an expression's core or, inside a look-behind, of the core's inlined
+/// form.
 #[cycle(measure)]
 pub(crate) fn measure(around: &Around<'_>, e: &Expr) -> Count
     ensures { (c : Casing) (I : Inners) → KnowsInners around.now.known.now I
@@ -170,7 +172,8 @@ fn measure_spaced(around: &Around<'_>, items: &[Expr]) -> Count
     sum
 }
 
-/// Returns whether no boundary follows the item at an index: it is the last one, or a predicate.
+/// Returns whether no boundary follows the item with this index, because it is the last one or a
+/// predicate.
 pub(crate) fn stands_alone(items: &[Expr], number: usize) -> bool
     requires { number < length items.now }
     ensures { result ≡ alone items.now number }
@@ -178,7 +181,7 @@ pub(crate) fn stands_alone(items: &[Expr], number: usize) -> bool
     number + 1 == items.len() || is_prefix(&items[number])
 }
 
-/// Adds the count of an item, and that of the boundary after it unless it stands alone.
+/// Adds the count of an item, and that of the boundary after it unless the item stands alone.
 fn add_item(sum: Count, item: Count, boundary: Count, alone: bool) -> Count
     ensures { (p b : Core) (rest whole : Cores) → Counts item p → Counts boundary b
         → Adds sum (C.Then p (between alone b rest)) whole → Adds result rest whole }

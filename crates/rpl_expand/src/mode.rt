@@ -4,7 +4,7 @@ ghost use Rattle.rpl_forms.specs.Forms as F;
 
 use rpl_macro::{Casing, Macro};
 
-/// The cases in which letters match, and whether the part is inside a look-behind.
+/// How the case of letters is treated, and whether the part is inside a look-behind.
 #[derive(Clone, Copy)]
 pub(crate) struct Mode {
     pub(crate) casing: Casing,
@@ -34,7 +34,7 @@ impl Mode {
         }
     }
 
-    /// Returns the mode for the argument of a macro, with its casing.
+    /// Returns the mode for the argument of a macro, with the casing that applies there.
     pub(crate) fn under(self, kind: Option<Macro>) -> Mode
         ensures casing { result.casing ≡ F.casing_under kind self.casing }
         ensures in_lookbehind { result.in_lookbehind ≡ self.in_lookbehind }

@@ -108,7 +108,7 @@ fn push_behind(
     push_body(out, rules, " ", body)
 }
 
-/// Appends a pattern that makes a node.
+/// Appends a capture.
 #[cycle(print)]
 fn push_capture(out: &mut String, rules: &Rules, name: &Chars, body: &Peg) -> Result<(), NoMemory>
     ensures { OnOk result (string_bytes out.new
@@ -122,7 +122,7 @@ fn push_capture(out: &mut String, rules: &Rules, name: &Chars, body: &Peg) -> Re
 }
 
 /// Appends the text of a pattern over a table of rules. A call of a rule that is not in the table
-/// has no name.
+/// is printed without a name.
 #[cycle(print)]
 pub fn push_peg(out: &mut String, rules: &Rules, peg: &Peg) -> Result<(), NoMemory>
     ensures { OnOk result (string_bytes out.new
@@ -147,7 +147,7 @@ pub fn push_peg(out: &mut String, rules: &Rules, peg: &Peg) -> Result<(), NoMemo
 
 /// Returns the text of a pattern over a table of rules, as `rosie expand` writes it: `(seq (set
 /// 61) (call ~))`. A call is printed with the full name of its rule; a call of a rule that is not
-/// in the table has no name.
+/// in the table is printed without a name.
 pub fn print_peg(alloc: Global, rules: &Rules, peg: &Peg) -> Result<Chars, NoMemory>
     ensures { IfOk result (λ t. encode_utf8_all t ≡ printed (names_of (rules_of rules.now))
         (core_of peg.now)) }

@@ -17,8 +17,8 @@ pub(crate) struct Scope<'a> {
 }
 
 impl<'a> Scope<'a> {
-    /// Returns the scope of the statement of a rule, or that of the pattern if the rule is
-    /// `None`.
+    /// Returns the scope of the statement that makes the rule `at`, or that of the pattern if
+    /// `at` is `None`.
     pub(crate) fn new(set: &'a PackageSet, at: Option<u32>) -> Scope<'a>
         ensures set { result.set.now ≡ set.now }
         ensures at { result.at ≡ at }

@@ -9,7 +9,7 @@ use rpl_package::PackageSet;
 use rpl_syntax::Expr;
 use rpl_text::Chars;
 
-/// A statement of a set of packages, which makes a rule.
+/// A statement in a set of packages, which makes a rule.
 #[derive(Clone, Copy)]
 pub(crate) struct Statement<'a> {
     /// The full name of the rule.
@@ -22,8 +22,8 @@ pub(crate) struct Statement<'a> {
 }
 
 impl<'a> Statement<'a> {
-    /// Returns the statement of a rule, or `None` if there is no such rule or no statement made
-    /// it.
+    /// Returns the statement that makes the rule, or `None` if there is no such rule or no
+    /// statement makes it.
     pub(crate) fn of(set: &'a PackageSet, rule: u32) -> Option<Statement<'a>>
         ensures { statement_found result ≡ statement_at (set_seen set.now) rule }
     {

@@ -57,7 +57,7 @@ fn check_size(rule: Option<u32>, count: Count) -> Result<(), ExpandFault>
     Ok(())
 }
 
-/// Returns the pattern, in a capture of this name if it makes a tree.
+/// Returns the pattern, in a capture with this name if it makes a tree.
 fn under(alloc: Global, captures: bool, name: Chars, body: Peg) -> Result<Peg, NoMemory>
     ensures { IfOk result (λ p. core_of p ≡ captured captures name (core_of body)) }
 {
@@ -89,7 +89,7 @@ fn has_root(scope: &Scope<'_>, e: &Expr) -> bool
     }
 }
 
-/// Returns the rule of a statement, over the rules of a table.
+/// Returns the rule that a statement makes, over the rules of a table.
 fn make_rule(alloc: Global, table: &Growing, statement: &Statement<'_>) -> Result<Rule, NoMemory>
     requires { KnowsInners table.now.known.items (inners_of (rules_of table.now.rules)) }
     ensures { IfOk result (λ r. row_at r
@@ -122,10 +122,10 @@ fn halt_name(set: &PackageSet) -> &str
 }
 
 /// Returns the rule table of a set of packages: the boundary, the built-in `halt`, and a rule for
-/// each statement of the set, in order. If a core is too large, returns the first such rule as an
-/// error. Each core is counted before it is built.
+/// each statement of the set, in order. If a core is too large, returns an error that gives the
+/// first such rule. Each core is counted before it is built.
 ///
-/// No two of these rules may have the same full name, which is true of every set that is loaded.
+/// No two of these rules may have the same full name, which holds for every loaded set.
 ///
 /// # Examples
 ///

@@ -29,7 +29,7 @@ pub fn none() -> Count
     Count { size: 0, depth: 0 }
 }
 
-/// Returns the count of one core around the given ones.
+/// Returns the count of a core whose parts have this count.
 pub fn node(of: Count) -> Count
     ensures seq { (ps : Cores) → CountsAll of ps → Counts result (C.Seq ps) }
     ensures choice { (ps : Cores) → CountsAll of ps → Counts result (C.Choice ps) }
@@ -56,7 +56,7 @@ fn front(first: Count, rest: Count) -> Count
     }
 }
 
-/// Adds the count of the next core to the sum of those before it.
+/// Adds the count of the next core to the sum of the counts before it.
 pub fn add(sum: Count, next: Count) -> Count
     ensures { (p : Core) (rest whole : Cores) → Counts next p → Adds sum (C.Then p rest) whole
         → Adds result rest whole }
@@ -138,7 +138,7 @@ fn bounded(of: Count, least: u32, more: u32) -> Count
 }
 
 /// Returns the count of a core repeated from `least` to `most` times, or `least` or more times if
-/// there is no `most`.
+/// `most` is `None`.
 pub fn repeat(of: Count, least: u32, most: Option<u32>) -> Count
     ensures { (p : Core) → Counts of p → Counts result (F.repeat p least most) }
 {
@@ -195,7 +195,7 @@ fn cooked_bounded(boundary: Count, of: Count, least: u32, most: u32) -> Count
 }
 
 /// Returns the count of a cooked group repeated from `least` to `most` times, or `least` or more
-/// times if there is no `most`.
+/// times if `most` is `None`.
 pub fn cooked_repeat(boundary: Count, of: Count, least: u32, most: Option<u32>) -> Count
     ensures { (b p : Core) → Counts boundary b → Counts of p →
         Counts result (F.cooked_repeat b p least most) }
@@ -206,7 +206,7 @@ pub fn cooked_repeat(boundary: Count, of: Count, least: u32, most: Option<u32>) 
     }
 }
 
-/// Returns the count of a tree around a core. Look-behinds have no trees.
+/// Returns the count of a capture of a core. Look-behinds have no captures.
 pub fn capture(in_lookbehind: bool, of: Count) -> Count
     ensures { (p : Core) (c : List ℕ) (I : Inners) → Counts of (seen in_lookbehind I p)
         → Counts result (seen in_lookbehind I (C.Capture c p)) }
@@ -217,7 +217,7 @@ pub fn capture(in_lookbehind: bool, of: Count) -> Count
     node(of)
 }
 
-/// Returns the count of the characters that a search skips.
+/// Returns the count of the pattern for the characters that a search skips.
 fn passed(of: Count) -> Count
     ensures { (p : Core) → Counts of p → Counts result (F.passed p) }
 {
@@ -255,7 +255,7 @@ fn error(known: &[Option<Inner>], in_lookbehind: bool) -> Count
     pair(leaf(), end)
 }
 
-/// Returns the count of a macro, given that of its argument.
+/// Returns the count of a macro's result, given the count of its argument.
 pub fn applied(
     known: &[Option<Inner>],
     in_lookbehind: bool,

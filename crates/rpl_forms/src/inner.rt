@@ -18,7 +18,7 @@ use crate::size::{Count, Inner};
 use rpl_core::{Peg, Pegs, Rule, Rules};
 use std::alloc::Global;
 
-/// Returns what is known of the inlined body of a rule, if it has one.
+/// Returns what is known about the inlined body of a rule, if it has one.
 fn inner_of(known: &[Option<Inner>], rule: u32) -> Option<Inner>
     ensures { result ≡ known_of (slice_get known.now rule) }
 {
@@ -28,7 +28,7 @@ fn inner_of(known: &[Option<Inner>], rule: u32) -> Option<Inner>
     }
 }
 
-/// Returns the count of a call, or of its inlined body.
+/// Returns the count of a call or, inside a look-behind, of its inlined body.
 pub fn count_call(known: &[Option<Inner>], in_lookbehind: bool, rule: u32) -> Count
     ensures { (I : Inners) → KnowsInners known.now I →
         Counts result (seen in_lookbehind I (C.Call rule)) }
@@ -42,7 +42,7 @@ pub fn count_call(known: &[Option<Inner>], in_lookbehind: bool, rule: u32) -> Co
     }
 }
 
-/// Returns the count of a pattern, or of its inlined form.
+/// Returns the count of a pattern or, inside a look-behind, of its inlined form.
 #[cycle(weigh)]
 fn weigh(known: &[Option<Inner>], in_lookbehind: bool, peg: &Peg) -> Count
     ensures { (I : Inners) → KnowsInners known.now I →
@@ -82,7 +82,7 @@ fn weigh(known: &[Option<Inner>], in_lookbehind: bool, peg: &Peg) -> Count
     }
 }
 
-/// Returns the count of several patterns, or of their inlined forms.
+/// Returns the count of several patterns or, inside a look-behind, of their inlined forms.
 #[cycle(weigh)]
 fn weigh_all(known: &[Option<Inner>], in_lookbehind: bool, parts: &[Peg]) -> Count
     ensures { (I : Inners) → KnowsInners known.now I →
@@ -95,7 +95,7 @@ fn weigh_all(known: &[Option<Inner>], in_lookbehind: bool, parts: &[Peg]) -> Cou
     sum
 }
 
-/// Returns the rule that the pattern calls, if it is only a call or a node around a call.
+/// Returns the rule that the pattern calls, if the pattern is only a call or a capture of a call.
 fn called_alone(peg: &Peg) -> Option<u32>
     ensures { IfSome result (λ r. (I : Inners) →
         inlined I (core_of peg.now) ≡ inlined I (C.Call r)) }
@@ -110,9 +110,9 @@ fn called_alone(peg: &Peg) -> Option<u32>
     }
 }
 
-/// Returns the first rule of the chain of calls that ends at this body of the next rule. Both
-/// rules have the same inlined body, so a chain of names is followed in one step, however long it
-/// is.
+/// Returns the first rule in the chain of calls that ends with the next rule, whose body this is.
+/// Both rules have the same inlined body, so a chain of names, however long, is followed in one
+/// step.
 fn first_in_chain(known: &[Option<Inner>], body: &Peg) -> u32
     requires { length known.now < 0xffff_ffff }
     ensures { (I : Inners) → KnowsInners known.now I → length known.now ≡ length I
@@ -128,7 +128,7 @@ fn first_in_chain(known: &[Option<Inner>], body: &Peg) -> u32
     }
 }
 
-/// Returns what is known of the inlined body of the next rule, if it has one.
+/// Returns what is known about the inlined body of the next rule, if it has one.
 fn next_inner(known: &[Option<Inner>], rule: &Rule) -> Option<Inner>
     requires { length known.now < 0xffff_ffff }
     ensures { (I : Inners) → KnowsInners known.now I → length known.now ≡ length I
@@ -143,7 +143,7 @@ fn next_inner(known: &[Option<Inner>], rule: &Rule) -> Option<Inner>
     }
 }
 
-/// Appends what is known of the next rule of a table.
+/// Appends what is known about the next rule in the table.
 pub fn push_inner(known: &mut Vec<Option<Inner>>, rule: &Rule) -> Result<(), NoMemory>
     requires { length known.old.items < 0xffff_ffff }
     ensures knows { OnOk result ((I : Inners) → KnowsInners known.old.items I →
@@ -156,7 +156,7 @@ pub fn push_inner(known: &mut Vec<Option<Inner>>, rule: &Rule) -> Result<(), NoM
     Ok(())
 }
 
-/// Returns what is known of each rule of a table.
+/// Returns what is known about each rule in a table.
 pub fn inners(alloc: Global, rules: &Rules) -> Result<Vec<Option<Inner>>, NoMemory>
     ensures knows { IfOk result (λ v. KnowsInners v.items (inners_of (rules_of rules.now))) }
     ensures as_many { IfOk result (λ v. length v.items ≡ length (rules_of rules.now)) }
@@ -171,7 +171,7 @@ pub fn inners(alloc: Global, rules: &Rules) -> Result<Vec<Option<Inner>>, NoMemo
     Ok(known)
 }
 
-/// Returns a box with the inlined form of the pattern.
+/// Returns the inlined form of the pattern in a box.
 #[cycle(inline)]
 fn boxed(
     alloc: Global,
@@ -208,7 +208,7 @@ fn inline_all(
     Ok(others)
 }
 
-/// Returns the inlined body of a call. It is built directly from the first rule of its chain.
+/// Returns the inlined body of the called rule, built directly from the first rule in its chain.
 #[cycle(inline)]
 fn inline_call(
     alloc: Global,
@@ -267,7 +267,7 @@ fn inline(
     }
 }
 
-/// Returns a call, or its inlined body inside a look-behind.
+/// Returns a call or, inside a look-behind, the inlined body of the called rule.
 pub fn call(
     alloc: Global,
     rules: &Rules,

@@ -1,5 +1,5 @@
-//! The core of each form of expression, built from the cores of its parts, and the size that it
-//! would have.
+//! The core of each form of expression, built from the cores of its parts, and the size that this
+//! core would have.
 //!
 //! The expansion goes through an expression twice: once with `count` and, if nothing is too
 //! large, once with `make`. Both modules have one function for each form. Both also work inside a

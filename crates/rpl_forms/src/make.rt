@@ -1,4 +1,4 @@
-// Patterns built from those of their parts. There is one function for each form.
+// Patterns built from the patterns of their parts. There is one function for each form.
 ghost use Rattle.std.specs.Prelude.{◌≡◌, ◌≤◌, false, IfOk, OnOk, chars, List, ℕ};
 ghost use Rattle.rpl_core.specs.Core as C;
 ghost use Rattle.rpl_core.specs.Core.{Core};
@@ -22,14 +22,14 @@ use rpl_syntax::{Expr, Mark};
 use rpl_text::Chars;
 use std::alloc::Global;
 
-/// Returns all parts, one after the other.
+/// Returns the sequence of these parts.
 pub fn seq(parts: Pegs) -> Peg
     ensures { core_of result ≡ C.Seq (cores (listed parts)) }
 {
     Peg::Seq(parts)
 }
 
-/// Returns the first part that succeeds.
+/// Returns the choice between these parts, of which the first that succeeds is taken.
 pub fn choice(parts: Pegs) -> Peg
     ensures { core_of result ≡ C.Choice (cores (listed parts)) }
 {
@@ -61,7 +61,7 @@ pub fn append_copies(
     Ok(())
 }
 
-/// Returns two patterns, one after the other.
+/// Returns the sequence of two patterns.
 pub fn pair(alloc: Global, first: Peg, second: Peg) -> Result<Peg, NoMemory>
     ensures { IfOk result (λ p. core_of p ≡ F.pair (core_of first) (core_of second)) }
 {
@@ -88,7 +88,7 @@ fn many(alloc: Global, body: Peg) -> Result<Peg, NoMemory>
     Ok(Peg::Many(Box::new(alloc, body)?))
 }
 
-/// Returns one character in a casing.
+/// Returns the pattern for one character in this casing.
 fn character(alloc: Global, casing: Casing, c: char) -> Result<Peg, NoMemory>
     ensures { IfOk result (λ p. core_of p ≡ C.Set (set_in casing (single c))) }
 {
@@ -97,7 +97,7 @@ fn character(alloc: Global, casing: Casing, c: char) -> Result<Peg, NoMemory>
     Ok(Peg::Set(set))
 }
 
-/// Returns the characters of a text in a casing.
+/// Returns the patterns for the characters of a text in this casing.
 fn characters(alloc: Global, casing: Casing, text: &str) -> Result<Pegs, NoMemory>
     ensures { IfOk result (λ ps. cores (listed ps) ≡ F.sets casing (chars text.now)) }
 {
@@ -108,7 +108,7 @@ fn characters(alloc: Global, casing: Casing, text: &str) -> Result<Pegs, NoMemor
     Ok(parts)
 }
 
-/// Returns a group of small patterns. For one pattern it is a copy of that pattern.
+/// Returns the sequence of these small patterns. For a single pattern this is a copy of it.
 fn group(alloc: Global, parts: Pegs) -> Result<Peg, NoMemory>
     ensures { IfOk result (λ p. core_of p ≡ F.seq_of (cores (listed parts))) }
 {
@@ -121,14 +121,14 @@ fn group(alloc: Global, parts: Pegs) -> Result<Peg, NoMemory>
     }
 }
 
-/// Returns a text in a casing.
+/// Returns the pattern for a text in this casing.
 pub fn text(alloc: Global, casing: Casing, text: &str) -> Result<Peg, NoMemory>
     ensures { IfOk result (λ p. core_of p ≡ F.text_core casing (chars text.now)) }
 {
     group(alloc, characters(alloc, casing, text)?)
 }
 
-/// Returns a class in a casing.
+/// Returns the pattern for a class in this casing.
 pub fn class(alloc: Global, casing: Casing, set: &Set, negated: bool) -> Result<Peg, NoMemory>
     ensures { IfOk result (λ p. core_of p ≡ C.Set (F.signed negated (set_in casing set.now))) }
 {
@@ -139,7 +139,7 @@ pub fn class(alloc: Global, casing: Casing, set: &Set, negated: bool) -> Result<
     Ok(Peg::Set(set))
 }
 
-/// Returns any one character.
+/// Returns the pattern for any one character.
 pub fn any(alloc: Global) -> Result<Peg, NoMemory>
     ensures { IfOk result (λ p. core_of p ≡ C.Set F.any) }
 {
@@ -159,7 +159,7 @@ fn endless(alloc: Global, body: Peg, least: u32) -> Result<Peg, NoMemory>
     Ok(seq(parts))
 }
 
-/// Appends an optional pattern `number` times.
+/// Appends `number` optional copies of a pattern.
 fn append_options(alloc: Global, parts: &mut Pegs, number: u32, part: Peg) -> Result<(), NoMemory>
     ensures { OnOk result (cores (listed parts.new)
         ≡ F.joined (cores (listed parts.old))
@@ -181,8 +181,8 @@ fn bounded(alloc: Global, body: Peg, least: u32, more: u32) -> Result<Peg, NoMem
     Ok(seq(parts))
 }
 
-/// Returns a pattern repeated from `least` to `most` times, or `least` or more times if there is
-/// no `most`.
+/// Returns a pattern repeated from `least` to `most` times, or `least` or more times if `most` is
+/// `None`.
 pub fn repeat(alloc: Global, body: Peg, least: u32, most: Option<u32>) -> Result<Peg, NoMemory>
     ensures { IfOk result (λ p. core_of p ≡ F.repeat (core_of body) least most) }
 {
@@ -280,7 +280,7 @@ pub fn cooked_once(alloc: Global, body: Peg, least: u32) -> Result<Peg, NoMemory
 }
 
 /// Returns a cooked group repeated from `least` to `most` times, or `least` or more times if
-/// there is no `most`.
+/// `most` is `None`.
 pub fn cooked_repeat(
     alloc: Global,
     boundary: Peg,
@@ -297,7 +297,7 @@ pub fn cooked_repeat(
     }
 }
 
-/// Returns the type of the tree of a mark.
+/// Returns the type of the tree that a mark makes.
 fn mark_name(alloc: Global, mark: Mark) -> Result<Chars, NoMemory>
     ensures { IfOk result (λ n. n ≡ F.mark_name mark) }
 {
@@ -307,7 +307,7 @@ fn mark_name(alloc: Global, mark: Mark) -> Result<Chars, NoMemory>
     }
 }
 
-/// Returns a stretch of a search, which makes a node except in a look-behind.
+/// Returns a marked part of a search, which makes a node except in a look-behind.
 pub fn marked(alloc: Global, in_lookbehind: bool, mark: Mark, body: Peg) -> Result<Peg, NoMemory>
     ensures { IfOk result (λ q. (I : Inners) (p : Core) → core_of body ≡ seen in_lookbehind I p
         → core_of q ≡ seen in_lookbehind I (C.Capture (F.mark_name mark) p)) }
@@ -319,7 +319,7 @@ pub fn marked(alloc: Global, in_lookbehind: bool, mark: Mark, body: Peg) -> Resu
     Ok(Peg::Capture(name, Box::new(alloc, body)?))
 }
 
-/// Returns the characters that a search skips.
+/// Returns the pattern for the characters that a search skips.
 fn passed(alloc: Global, body: &Peg) -> Result<Peg, NoMemory>
     ensures { IfOk result (λ p. core_of p ≡ F.passed (core_of body.now)) }
 {
@@ -328,7 +328,7 @@ fn passed(alloc: Global, body: &Peg) -> Result<Peg, NoMemory>
     many(alloc, step)
 }
 
-/// Returns a search.
+/// Returns a search for this pattern.
 fn found(alloc: Global, in_lookbehind: bool, body: Peg) -> Result<Peg, NoMemory>
     ensures { IfOk result (λ q. (I : Inners) (p : Core) → core_of body ≡ seen in_lookbehind I p
         → core_of q ≡ seen in_lookbehind I (F.found p)) }
@@ -338,7 +338,7 @@ fn found(alloc: Global, in_lookbehind: bool, body: Peg) -> Result<Peg, NoMemory>
     pair(alloc, before, hit)
 }
 
-/// Returns a search that keeps what it skips.
+/// Returns a search for this pattern that keeps what it skips.
 fn kept(alloc: Global, in_lookbehind: bool, body: Peg) -> Result<Peg, NoMemory>
     ensures { IfOk result (λ q. (I : Inners) (p : Core) → core_of body ≡ seen in_lookbehind I p
         → core_of q ≡ seen in_lookbehind I (F.kept p)) }
@@ -349,7 +349,7 @@ fn kept(alloc: Global, in_lookbehind: bool, body: Peg) -> Result<Peg, NoMemory>
     pair(alloc, before, hit)
 }
 
-/// Returns a repeated search.
+/// Returns a repeated search for this pattern.
 fn all_found(alloc: Global, in_lookbehind: bool, body: Peg) -> Result<Peg, NoMemory>
     ensures { IfOk result (λ q. (I : Inners) (p : Core) → core_of body ≡ seen in_lookbehind I p
         → core_of q ≡ seen in_lookbehind I (F.endless (F.found p) 1)) }
@@ -358,8 +358,8 @@ fn all_found(alloc: Global, in_lookbehind: bool, body: Peg) -> Result<Peg, NoMem
     endless(alloc, search, 1)
 }
 
-/// Returns what a macro that searches or changes case makes of its argument. The argument is
-/// already in the new case.
+/// Returns the result of a macro that searches or changes case, given the macro's argument. The
+/// argument is already in the new case.
 pub fn searched(
     alloc: Global,
     in_lookbehind: bool,
@@ -389,7 +389,8 @@ pub fn note(alloc: Global, in_lookbehind: bool, text: &Chars) -> Result<Peg, NoM
     Ok(Peg::Note(text.copy(alloc)?))
 }
 
-/// Returns the message of an argument. The characters of the argument are not made into patterns.
+/// Returns the message with the text of this argument. The characters of the argument are not
+/// made into patterns.
 pub fn message(alloc: Global, in_lookbehind: bool, arg: &Expr) -> Result<Peg, NoMemory>
     ensures { IfOk result (λ q. (I : Inners) →
         core_of q ≡ seen in_lookbehind I (C.Note (text_of (expr_of arg.now)))) }

@@ -1,16 +1,16 @@
 // Sizes and depths of cores, and their limits.
 ghost use Rattle.std.specs.Prelude.{◌≤◌};
 
-/// The largest number of nodes in a core.
+/// The greatest number of nodes that a core may have.
 pub const MAX_SIZE: u32 = 65_536;
 
-/// The greatest depth of a core.
+/// The greatest depth that a core may have.
 pub const MAX_DEPTH: u32 = 1_024;
 
 /// The number of the built-in rule `halt`, the second rule of each table.
 pub const HALT: u32 = 1;
 
-/// The number of nodes of a core, and how deeply they are nested. Each saturates at one above its
+/// The number of nodes in a core, and how deeply they are nested. Each saturates at one above its
 /// limit.
 #[derive(Clone, Copy, Debug)]
 pub struct Count {
@@ -20,8 +20,8 @@ pub struct Count {
     ghost flat: { depth ≤ 1025 },
 }
 
-/// What is known of a rule's inlined body: its count, and the number of the first rule in a chain
-/// of calls that has the same inlined body.
+/// What is known about a rule's inlined body: its count, and the number of the first rule in a
+/// chain of calls that has the same inlined body.
 #[derive(Clone, Copy, Debug)]
 pub struct Inner {
     pub count: Count,

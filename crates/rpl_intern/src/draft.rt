@@ -20,7 +20,7 @@ pub struct Draft {
     ghost labels_few: { length labels ≤ length code },
 }
 
-/// The use that an instruction makes of its set.
+/// How an instruction uses its set.
 #[derive(Clone, Copy)]
 enum SetUse {
     Set,
@@ -32,7 +32,7 @@ enum SetUse {
 impl SetUse {
     ghost use Rattle.rpl_intern.specs.inside.Uses.{numbered_set};
 
-    /// Returns the instruction with the number of its set.
+    /// Returns the instruction, given the number of its set.
     fn instr(self, number: u32) -> Instr
         ensures { result ≡ numbered_set self number }
     {
@@ -44,7 +44,7 @@ impl SetUse {
     }
 }
 
-/// The use that an instruction makes of its text.
+/// How an instruction uses its text.
 #[derive(Clone, Copy)]
 enum TextUse {
     Open,
@@ -54,7 +54,7 @@ enum TextUse {
 impl TextUse {
     ghost use Rattle.rpl_intern.specs.inside.Uses.{numbered_text};
 
-    /// Returns the instruction with the number of its text.
+    /// Returns the instruction, given the number of its text.
     fn instr(self, number: u32) -> Instr
         ensures { result ≡ numbered_text self number }
     {
@@ -172,8 +172,8 @@ impl Draft {
     }
 }
 
-/// Writes an instruction whose row was just added to a table that had `count` rows before. When
-/// memory runs out, only those `count` rows stay.
+/// Writes an instruction whose row is in this table, which had `count` rows before. When memory
+/// runs out, only those `count` rows stay.
 fn put_with<T: Piece>(
     code: &mut Instrs,
     table: &mut Table<T>,

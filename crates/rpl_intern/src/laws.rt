@@ -1,10 +1,10 @@
-// Laws that hold for the tables of all codes.
+// Laws that hold for the tables of every code.
 ghost use Rattle.std.specs.Prelude.{ℕ, List};
 ghost use Rattle.regex_class.specs.Ranges.{Range};
 ghost use Rattle.rpl_intern.specs.Laws.{OneTable, TablesAreOfUses};
 
-/// A table that holds certain sets or texts has each of them once and nothing else, in the order of
-/// their first use; and there is exactly one such table.
+/// The table of the sets or texts that are used contains each of them once, in the order of their
+/// first use, and nothing else. There is exactly one such table.
 pub fn table_law()
     ensures sets { TablesAreOfUses (List Range) }
     ensures one_of_sets { OneTable (List Range) }

@@ -1,9 +1,10 @@
 //! Code being written: instructions in order, with one copy of each set and each text that they
 //! refer to.
 //!
-//! For code that makes a program: the compiler, and the reader and writer of code files. The tables
-//! find a set or a text by its order, so that no choice of them makes a search slow, and number
-//! them in the order of their first use, so that each code has exactly one program (`table_law`).
+//! This crate is for code that makes a program: the compiler, and the reader and writer of code
+//! files. The tables look sets and texts up in sorted order, so that no choice of sets and texts
+//! makes a lookup slow. Sets and texts are numbered in the order of their first use, so that each
+//! code has exactly one program (`table_law`).
 #![tactic(auto)]
 
 mod draft;

@@ -1,4 +1,4 @@
-// Tables that store each set and each text once, and find it by its order.
+// Tables that store each set and each text once, and look it up in sorted order.
 ghost use Rattle.std.specs.Prelude.{◌≡◌, ◌-◌, [], ◌∷◌, ◌++◌, IfOk, IfSome, IsTrue, OnErr, OnOk};
 ghost use Rattle.std.specs.Prelude.{List, Some, chars, length, slice_get, take, ⊤};
 ghost use Rattle.std.specs.Bool.{Decides};
@@ -46,10 +46,12 @@ impl Piece for char {
 pub struct Table<T: Piece> {
     rows: Vec<Vec<T>>,
 
-    // The number of each row, found by the order of rows: no choice of rows makes a search slow.
+    // The number of each row, looked up in sorted order, so that no choice of rows makes a lookup
+    // slow.
     numbers: BTreeMap<Vec<T>, usize>,
 
-    // The number of the row that was asked for last. Code often uses one set many times in a row.
+    // The number of the row that was looked up last. Code often uses one set many times in
+    // succession.
     recent: usize,
 }
 
@@ -143,8 +145,9 @@ impl<T: Piece> Table<T> {
     }
 }
 
-/// Whether both are the same ranges. All are compared without a branch for each, so that the
-/// compiler compares several at once: a pattern of a few bytes can have a million copies of a set.
+/// Returns whether both lists have the same ranges. They are compared without a branch per range,
+/// so that the compiler can compare several at once: a pattern of a few bytes can have a million
+/// copies of a set.
 fn are_same(a: &[ClassRange], b: &[ClassRange]) -> bool
     ensures { IsTrue result → a.now ≡ b.now }
 {
@@ -159,7 +162,7 @@ fn are_same(a: &[ClassRange], b: &[ClassRange]) -> bool
 }
 
 impl Table<ClassRange> {
-    /// Returns the number of the set if it is the one that was asked for last.
+    /// Returns the number of the set if it is the one that was looked up last.
     fn again(&self, ranges: &[ClassRange]) -> Option<usize>
         ensures { IfSome result (λ k. slice_get self.now k ≡ Some ranges.now) }
     {

@@ -30,7 +30,7 @@ pub(crate) struct Span {
     end: usize,
 }
 
-/// The spans of the parts of bounds. Offsets are counted from after the opening brace.
+/// The spans of the parts of bounds. Offsets count from the byte after the opening brace.
 #[derive(Clone, Copy)]
 pub(crate) struct Parts {
     least: Span,
@@ -98,8 +98,8 @@ fn is_wide(bytes: &[u8], span: Span) -> bool
     value_of_digits(part(bytes, span)).is_none()
 }
 
-/// Reads the bounds whose opening brace is just before the bytes. The caller has seen that bounds
-/// begin here.
+/// Reads the bounds whose opening brace is just before the bytes. The caller has checked that
+/// bounds begin here.
 fn whole_bounds(bytes: &[u8]) -> Stand
     ensures value { result ≡ bounds_by bytes.now (parts bytes.now) }
     ensures inside { Within (1 + length bytes.now) result }
@@ -129,7 +129,7 @@ fn whole_bounds(bytes: &[u8]) -> Stand
     }
 }
 
-/// Returns whether bounds begin: a digit or a comma follows any blanks.
+/// Returns whether bounds begin here: a digit or a comma follows any blanks.
 fn begins_bounds(bytes: &[u8]) -> bool
     ensures { result ≡ begins_bounds bytes.now }
 {
@@ -154,7 +154,7 @@ pub(crate) fn brace(bytes: &[u8]) -> Stand
     }
 }
 
-/// Returns the number in a span, if it has digits.
+/// Returns the number in a span, if the span has digits.
 fn number_in(bytes: &[u8], span: Span) -> Option<u64>
     requires { IsWithin (length bytes.now) span }
     ensures { result ≡ number_in bytes.now span }

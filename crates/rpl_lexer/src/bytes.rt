@@ -65,7 +65,7 @@ pub(crate) fn front_of(bytes: &[u8], len: usize) -> &[u8]
     &bytes[..len]
 }
 
-/// Returns the offset after the run of the class that begins at an offset.
+/// Returns the offset after the run of bytes in the class that begins at `place`.
 pub(crate) fn past(class: Class, bytes: &[u8], place: usize) -> usize
     requires { place ≤ length bytes.now }
     ensures value { result ≡ past (in_class class) bytes.now place }

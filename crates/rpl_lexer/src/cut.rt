@@ -1,4 +1,4 @@
-// The splitting of a text into tokens.
+// Splitting a text into tokens.
 ghost use Rattle.std.specs.Prelude.{◌≡◌, ◌≢◌, IfOk, IfErr};
 ghost use Rattle.rpl_lexer.specs.Cut.{IsCut, FailsAt};
 ghost use Rattle.rpl_lexer.specs.declared.fault.LexKind.TheVariants.{NoMemory as OutOfMemory};

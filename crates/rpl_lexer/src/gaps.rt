@@ -9,7 +9,7 @@ fn dash_at(bytes: &[u8], place: usize) -> bool
 }
 
 /// Returns `None` if the byte ends a gap of blanks and comments, and otherwise whether the gap is
-/// inside a comment after it. `dash` is whether a `-` follows.
+/// inside a comment after that byte. `dash` says whether a `-` follows.
 fn goes_on(comment: bool, b: u8, dash: bool) -> Option<bool>
     ensures { (bs : List ℕ) → dash ≡ dash_next bs → result ≡ goes_on comment b bs }
 {

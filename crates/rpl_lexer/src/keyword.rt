@@ -18,7 +18,7 @@ pub enum Keyword {
 }
 
 impl Keyword {
-    /// Returns the keyword that a name spells, if it is one.
+    /// Returns the keyword that a name spells, if it spells one.
     pub(crate) fn from_name(name: &[u8]) -> Option<Keyword>
         ensures { MatchOption result ((k : Keyword) →
             word_of k ≢ name.now) (λ k. word_of k ≡ name.now) }
@@ -38,7 +38,7 @@ impl Keyword {
     }
 }
 
-/// Returns the keyword that a name spells, if it is one.
+/// Returns the keyword that a name spells, if it spells one.
 pub(crate) fn keyword_named(name: &[u8]) -> Option<Keyword>
     ensures { result ≡ keyword_named name.now }
 {

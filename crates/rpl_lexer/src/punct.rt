@@ -27,7 +27,7 @@ pub enum Punct {
 }
 
 impl Punct {
-    /// Returns the sign that a byte is, if it is one.
+    /// Returns the sign with this byte, if there is one.
     pub(crate) fn from_byte(b: u8) -> Option<Punct>
         ensures { result ≡ punct b }
     {

@@ -1,9 +1,9 @@
 //! The list type of every crate: a growable array that is only ever extended at its end.
 //!
-//! Every crate whose public types hold a sequence uses it: instructions, sets, tokens, rules,
-//! paths. Contracts see a `List` as the list of its elements; a crate may give that list a name
+//! Every crate whose public types hold a sequence uses it, for instructions, sets, tokens, rules or
+//! paths. Contracts see a `List` as the list of its elements; a crate may give its list type a name
 //! of its own, as in `pub type Tokens = List<Token>`. The contract of each method states the
-//! elements after the call. A method that returns an error has changed nothing.
+//! elements after the call. A method that returns an error changes nothing.
 #![tactic(auto)]
 
 mod list;

@@ -1,12 +1,13 @@
-//! Laws of every loaded set of packages, for the expansion and the checks that follow it.
+//! Laws that hold for every loaded set of packages, for the expansion and the checks that follow
+//! it.
 //!
-//! The crates that prepare a command use it: where the expansion and the check require something
-//! that is true of every set, the laws provide it, and nothing is checked at run time. Each set
-//! was built from texts that were read, by the steps of loading, and carries that history
-//! (`Built.antt` in `rpl_package`). The laws are proved by induction over these steps. They do
-//! not mention files, so they hold for sets from real files too. The crate has no code: each
-//! function has no parameters and an empty body. Its contract is a law about the definitions of
-//! `rpl_package` and `rpl_expand` alone, which `specs/Laws.antt` states.
+//! The crates that prepare a command use these laws: where the expansion and the check require
+//! something that holds for every set, a law provides it, and nothing is checked at run time.
+//! Each set was built by the steps of loading, from texts that were read, and carries that
+//! history (`Built.antt` in `rpl_package`). The laws are proved by induction over these steps.
+//! They do not mention files, so they hold for sets from real files too. The crate has no code:
+//! each function has no parameters and an empty body. Its contract is a law, stated in
+//! `specs/Laws.antt`, about the definitions of `rpl_package` and `rpl_expand` alone.
 #![tactic(auto)]
 
 ghost use Rattle.rpl_load_laws.specs.Laws.{GoalsHaveParts, LoadedIsBound, MacrosAreEquations};
@@ -18,34 +19,34 @@ ghost use Rattle.rpl_load_laws.specs.Laws.{TablesAreInOrder, TablesHaveParts, To
 ghost use Rattle.rpl_load_laws.specs.Laws.{TopIsThere, TreesAreMade, WalksAreWhole};
 
 /// If the contents of the files are visible to the proof, every set that roots are loaded into,
-/// and every set to which a pattern adds modules, is built.
+/// and every set to which a pattern adds modules, is built by the steps of loading.
 pub fn told_is_built()
     ensures { ToldIsBuilt }
 {}
 
 /// In a set, no two rules of a module have the same name, and no two modules have the same
-/// package name. So no two rules of its table, including the two built-in ones, have the same
-/// full name.
+/// package name. So no two rules in the set's table, including the two built-in ones, have the
+/// same full name.
 pub fn names_are_distinct()
     ensures modules { ModulesAreApart }
     ensures table { TableIsDistinct }
 {}
 
 /// Each name in a statement of a set is bound to a rule that is earlier in the table, or to one
-/// of the statement's own block. The boundary in force there is an earlier rule. The rules of a
-/// block are adjacent.
+/// in the statement's own block. The boundary in force in the statement is an earlier rule. The
+/// rules of a block are adjacent.
 pub fn loaded_is_bound()
     ensures { LoadedIsBound }
 {}
 
-/// Each name in a statement of a set resolves to a rule, and so does each name in a pattern
-/// without a fault.
+/// Each name in a statement of a set resolves to a rule, and so does each name in a pattern that
+/// has no fault.
 pub fn names_resolve()
     ensures statements { StatementsResolve }
     ensures patterns { PatternsResolve }
 {}
 
-/// The expanded table of a set is in order: a rule calls only earlier rules and those of its own
+/// The expanded table of a set is in order: a rule calls only earlier rules and rules in its own
 /// block.
 pub fn tables_are_in_order()
     ensures { TablesAreInOrder }
@@ -57,8 +58,8 @@ pub fn scopes_are_over()
     ensures { ScopesAreOver }
 {}
 
-/// If a name in the pattern is marked as making a tree, it is bound to a rule whose body is a
-/// capture.
+/// If a name in the pattern is marked as making a tree, that name is bound to a rule whose body
+/// is a capture.
 pub fn trees_are_made()
     ensures { TreesAreMade }
 {}
@@ -69,7 +70,7 @@ pub fn own_names_are_rules()
     ensures { OwnNamesAreRules }
 {}
 
-/// Every choice in the core of a rule of the table has a part, and so has every choice in the
+/// Every choice in the core of a rule in the table has a part, and so has every choice in the
 /// core of a pattern that was read. So none of these cores requires more characters than it has
 /// nodes (`least_within_nodes` of `rpl_expand`), and none of them is a choice without parts, for
 /// which the definition of the least length gives 65,536.
@@ -78,21 +79,22 @@ pub fn cores_have_parts()
     ensures goal { GoalsHaveParts }
 {}
 
-/// The texts in the statements of a set and in a pattern consist of characters, are no longer
-/// than a text may be in bytes, and their classes are sets. The full name of a rule has at most
-/// twice as many characters, and a dot. So each of them can be encoded together with its length.
+/// The texts in the statements of a set and in a pattern consist of characters and have at most
+/// as many as a text may have bytes, and the classes there are sets. The full name of a rule has
+/// at most twice as many characters, plus a dot. So each of them can be encoded together with
+/// its length.
 pub fn what_is_read_fits()
     ensures statements { StatementsFit }
     ensures patterns { PatternsFit }
 {}
 
 /// Wherever a macro occurs in a set, in a statement or in the pattern, its core is that of the
-/// expression that `apply` of `rpl_macro` makes of its argument.
+/// expression that `apply` of `rpl_macro` makes from its argument.
 pub fn macros_are_equations()
     ensures { MacrosAreEquations }
 {}
 
-/// The parts of a set that its definitions look up exist: its top module, and a statement for
+/// The parts of a set that the definitions look up exist: its top module, and a statement for
 /// each rule of its table except the two built-in ones.
 pub fn nothing_is_missing()
     ensures top { TopIsThere }

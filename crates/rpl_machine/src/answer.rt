@@ -15,7 +15,7 @@ pub enum Answer {
 pub enum RunFault {
     #[error("out of memory")]
     NoMemory,
-    /// The run needs more steps than its budget. All steps of the budget were made.
+    /// The run needs more steps than its budget allows. All steps that the budget allows were made.
     #[error("budget spent")]
     Budget,
 }

@@ -1,10 +1,9 @@
-//! The machine: it runs a program on the bytes of a line, for the command that asks whether the
-//! line matches.
+//! The machine: it runs a program on the bytes of a line to find out whether the line matches.
 //!
-//! `run` makes exactly the steps that `rpl_core` defines over the line's characters, and adds as
-//! many ticks to the caller's `Steps`. It returns the place where the match ends, or that there is
-//! no match, or that the budget was too small. Places are byte offsets. A run whose `Scratch` has
-//! enough room never runs out of memory.
+//! `run` makes exactly the steps that `rpl_core` defines over the line's characters, and adds one
+//! tick per step to the caller's `Steps`. It returns the place where the match ends, or reports
+//! that there is no match or that the budget was too small. Places are byte offsets. A run whose
+//! `Scratch` has enough room never runs out of memory.
 #![tactic(auto)]
 
 mod act;

@@ -5,7 +5,7 @@ use std::marker::Model;
 use std::sync::ledger::{Blank, Book, Ledger, Share};
 
 /// The number of steps made by the runs on this ledger. It occupies no bytes, and only `run`
-/// increases it. So the count of a caller who was handed a `&mut Steps` shows that the steps were
+/// increases it. So when a caller hands out a `&mut Steps`, the new count shows that the steps were
 /// made.
 #[derive(Drop)]
 pub struct Steps<L: Ledger> {

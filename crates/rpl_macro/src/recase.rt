@@ -27,7 +27,7 @@ fn lone(alloc: Global, c: char) -> Result<Expr, NoMemory>
     Ok(Expr::Text(Chars::from_str(alloc, &text)?))
 }
 
-/// Returns the class of two characters.
+/// Returns the class that contains these two characters.
 fn pair(alloc: Global, first: u32, second: u32) -> Result<Expr, NoMemory>
     ensures { IfOk result (λ e. expr_of e ≡ M.Class (norm ((first, first) ∷ (second, second) ∷ []))
         false) }
@@ -86,7 +86,7 @@ fn text_in(alloc: Global, casing: Casing, text: &str) -> Result<Expr, NoMemory>
     }
 }
 
-/// Returns whether the text contains a letter.
+/// Returns whether the text contains an ASCII letter.
 fn has_letter(text: &str) -> bool
     ensures { result ≡ has_letter (chars text.now) }
 {
@@ -97,7 +97,7 @@ fn has_letter(text: &str) -> bool
     found
 }
 
-/// Returns each character in either case.
+/// Returns each character of the text, with ASCII letters in either case.
 fn either_cases(alloc: Global, text: &str) -> Result<Exprs, NoMemory>
     ensures { IfOk result (λ ps. shown ps ≡ either_cases (chars text.now)) }
 {
@@ -108,7 +108,7 @@ fn either_cases(alloc: Global, text: &str) -> Result<Exprs, NoMemory>
     Ok(parts)
 }
 
-/// Returns each character in every case.
+/// Returns each character of the text in every case.
 fn every_case(alloc: Global, text: &str) -> Result<Exprs, NoMemory>
     ensures { IfOk result (λ ps. shown ps ≡ every_case (chars text.now)) }
 {
@@ -154,7 +154,7 @@ fn argument(alloc: Global, casing: Casing, name: &str, arg: &Expr) -> Result<Box
     boxed(alloc, casing, arg)
 }
 
-/// Returns whether the macro of this name takes a text and nothing else.
+/// Returns whether the macro with this name takes a text and nothing else.
 fn keeps_text(name: &str) -> bool
     ensures { result ≡ keeps_text (kind_of (chars name.now)) }
 {

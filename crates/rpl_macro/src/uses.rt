@@ -1,4 +1,4 @@
-// The expression that a macro makes of its argument.
+// The expression that a macro makes from its argument.
 ghost use Rattle.std.specs.Prelude.{◌≡◌, IfOk, chars, None};
 ghost use Rattle.rpl_syntax.specs.Expression as M;
 ghost use Rattle.rpl_syntax.specs.View.{expr_of};
@@ -16,8 +16,8 @@ use rpl_syntax::{Expr, Exprs, Mark, QName, Sign, wrap};
 use rpl_text::Chars;
 use std::alloc::Global;
 
-/// Returns the fault in a use of the macro of this name, if there is one: no macro has the name,
-/// or it takes a text, as `message` and `error` do, and the argument is not one.
+/// Returns the fault in a use of the macro with this name, if there is one: no macro has the name,
+/// or the macro takes a text, as `message` and `error` do, and the argument is not a text.
 pub fn check_use(name: &str, arg: &Expr) -> Option<MacroFault>
     ensures { result ≡ use_fault (kind_of (chars name.now)) (expr_of arg.now) }
 {
@@ -30,7 +30,7 @@ pub fn check_use(name: &str, arg: &Expr) -> Option<MacroFault>
     None
 }
 
-/// Returns two items, one after the other.
+/// Returns a group of two items, one after the other.
 fn pair(alloc: Global, first: Expr, second: Expr) -> Result<Expr, NoMemory>
     ensures { IfOk result (λ e. expr_of e
         ≡ M.Raw (M.Cons (expr_of first) (M.one (expr_of second)))) }
@@ -41,7 +41,7 @@ fn pair(alloc: Global, first: Expr, second: Expr) -> Result<Expr, NoMemory>
     Ok(wrap(true, items))
 }
 
-/// Returns a repetition of any character at which the argument does not match.
+/// Returns a repetition that takes each character at which the argument does not match.
 fn passed(alloc: Global, arg: &Expr) -> Result<Expr, NoMemory>
     ensures { IfOk result (λ e. expr_of e ≡ passed (expr_of arg.now)) }
 {
@@ -101,7 +101,7 @@ fn all_found(alloc: Global, arg: Expr) -> Result<Expr, NoMemory>
     })
 }
 
-/// Returns the message of a text.
+/// Returns the message with this text.
 fn note(alloc: Global, arg: Expr) -> Result<Expr, NoMemory>
     ensures { IfOk result (λ e. expr_of e ≡ M.Note (text_of (expr_of arg))) }
 {
@@ -130,7 +130,7 @@ fn error(alloc: Global, arg: Expr) -> Result<Expr, NoMemory>
     pair(alloc, message, halt(alloc)?)
 }
 
-/// Returns what the macro of this name makes of its argument.
+/// Returns the expression that the macro with this name makes from its argument.
 ///
 /// This is one step of the macro's equation; macros inside the argument are left as they are.
 /// `find`, `findall` and `keepto` double their argument, so a caller that applies nested macros

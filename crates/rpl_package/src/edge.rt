@@ -1,4 +1,4 @@
-// The functions that load, for other crates.
+// The loading functions, for other crates.
 ghost use Rattle.std.specs.Prelude.{◌≡◌, IfErr, IfOk, OnErr, false, length};
 ghost use Rattle.rosie_io.specs.Loading.{NotFewer};
 ghost use Rattle.rpl_syntax.specs.Expression.{Expr as ParsedExpr};
@@ -23,7 +23,7 @@ use rpl_syntax::Expr;
 use rpl_text::Chars;
 use std::alloc::Global;
 
-/// Returns a stop as a fault. Out of memory has no file and no byte offset.
+/// Converts a stop to a fault. An out-of-memory fault has no file and no byte offset.
 pub fn fault_of(alloc: Global, stop: Stop) -> LoadFault
     ensures { IsFault stop result }
 {
@@ -37,8 +37,7 @@ pub fn fault_of(alloc: Global, stop: Stop) -> LoadFault
     }
 }
 
-/// Loads the roots in order. Each import is loaded once, from the first of the folders that has
-/// its file.
+/// Loads the roots in order. Each import is loaded once, from the first folder that has its file.
 ///
 /// The roots without a package statement share one module, the top module. Any other root is a
 /// module of its own, and its package name becomes a prefix in the top module. Returns the first
@@ -75,11 +74,11 @@ pub fn load<F: Files>(
     }
 }
 
-/// Parses the text of a pattern, imports the packages that it names by a prefix the top module
+/// Parses the text of a pattern, imports the packages whose prefixes it uses and the top module
 /// lacks, and checks that all its names are bound and all its macros are used correctly. Returns
 /// the expression of the pattern.
 ///
-/// If it returns an error, the set is as before. The error is the first fault in the order that
+/// If it returns an error, the set is unchanged. The error is the first fault in the order that
 /// `specs/Patterns.antt` defines; `ReadFault` occurs only if a read or an open failed. Every file
 /// is closed afterwards.
 ///

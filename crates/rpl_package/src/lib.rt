@@ -1,10 +1,10 @@
 //! Packages: a set of RPL texts, each import loaded once, and the bindings of their names.
 //!
 //! The expansion and the commands use it. `load` reads the roots and everything that they import;
-//! `load_pattern` reads a pattern and the packages that it names. A `PackageSet` then resolves
-//! any name of any rule, lists the names, and holds the rule table. An error is the first fault
-//! in the single order that `specs/` defines, with its file and byte offset; a read fault occurs
-//! only if a read or an open failed. Every file is closed on every path out, and the time is
+//! `load_pattern` reads a pattern and the packages that it names. A `PackageSet` then resolves any
+//! name in any rule, lists the names, and holds the rule table. An error is the first fault in the
+//! single order that `specs/` defines, with its file and byte offset; a read fault occurs only if a
+//! read or an open failed. Every file is closed, whether loading succeeds or fails, and the time is
 //! linear in the number of bytes read.
 //!
 //! Every set records the fact that it was built from texts that were read, by the steps of

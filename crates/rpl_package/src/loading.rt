@@ -37,7 +37,7 @@ fn begin(alloc: Global) -> Result<State, NoMemory>
     Ok(State { stock, own })
 }
 
-/// Returns the set of the loaded modules, after the top module is finished.
+/// Finishes the top module, and returns the set of the loaded modules.
 fn finish_set(
     alloc: Global,
     stock: Stock,

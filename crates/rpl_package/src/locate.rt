@@ -15,7 +15,7 @@ use std::alloc::Global;
 /// The largest number of bytes in a text.
 pub const MAX_TEXT_BYTES: usize = 1_048_576;
 
-/// A file that exists.
+/// A file that exists, and the result of reading it.
 #[derive(Drop)]
 pub struct Located {
     pub file: Chars,

@@ -16,7 +16,7 @@ use std::cmp::Ordering;
 /// A name that a pattern may use.
 #[derive(Debug, Drop)]
 pub struct Listed {
-    /// The name as written, after its prefix and a dot if it has one.
+    /// The name as written, preceded by its prefix and a dot if it has a prefix.
     pub name: Chars,
     /// The type of its nodes, or `None` if it makes none.
     pub label: Option<Chars>,
@@ -41,8 +41,8 @@ fn copied(alloc: Global, prefix: Option<&str>) -> Result<Option<Chars>, NoMemory
     }
 }
 
-/// Returns whether the module under this prefix imported the name of this entry, so that it is
-/// not passed on. No text can spell an empty prefix.
+/// Returns whether the module under this prefix imported the name of this entry, so that the name
+/// is not passed on. No text can spell an empty prefix.
 fn is_taken_in(prefix: &str, entry: Entry) -> bool
     ensures full { IsTrue result → chars prefix.now ≢ [] }
     ensures foreign { IsTrue result → binds (Some entry) ≡ false }
@@ -131,7 +131,7 @@ impl PackageSet {
     }
 
     /// Appends the names of the module under a prefix. Names that this module imported are not
-    /// passed on and may be many, so they are skipped.
+    /// passed on, and there may be many of them, so they are skipped.
     fn push_behind(
         &self,
         alloc: Global,
@@ -176,9 +176,9 @@ impl PackageSet {
         Ok(())
     }
 
-    /// Returns every name that a pattern may use, sorted by bytes: the names of the top module
-    /// that are visible after its last statement, and after each of its prefixes the names that
-    /// an importer sees.
+    /// Returns every name that a pattern may use, sorted by bytes: the names of the top module that
+    /// are visible after its last statement, and, after each of its prefixes, the names that
+    /// importers of the module under that prefix see.
     pub fn names(&self, alloc: Global) -> Result<Names, NoMemory>
         ensures members { IfOk result (λ names. IsPermutation (all_listed (set_seen self.now))
             names) }

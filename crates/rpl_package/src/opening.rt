@@ -122,7 +122,7 @@ fn label_of(alloc: Global, name: &Option<QName>, path: &Chars) -> Result<Chars, 
     }
 }
 
-/// Returns the byte offset of the package name.
+/// Returns the byte offset of the package name, or 0 if there is none.
 fn label_at(name: &Option<QName>) -> usize
     ensures { result ≡ label_at name.now }
 {
@@ -144,7 +144,8 @@ fn imported_head(alloc: Global, name: &Option<QName>, path: &Chars) -> Result<He
     })
 }
 
-/// Begins the module of a text of its own. The module counts as being loaded from now on.
+/// Begins the module of a text that is a module of its own. The module counts as being loaded from
+/// now on.
 #[tactic(auto, using(rpl_scope::proofs::Stops::told))]
 pub fn open_own(
     stock: &mut Stock,

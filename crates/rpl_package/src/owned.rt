@@ -10,8 +10,8 @@ use crate::table::Table;
 use crate::targets::Target;
 use rpl_scope::{Entry, Module, Referent};
 
-/// Returns the target of an entry of a module, if one of the module's statements made it and it
-/// is not hidden.
+/// Returns the target of an entry in a module, if one of the module's statements made the entry and
+/// the entry is not hidden.
 fn own_entry(modules: &[Module], table: &Table, number: usize, entry: Entry) -> Option<Target>
     requires { IsTable table.now (modules_seen modules.now) }
     ensures { result ≡ O.own_entry (modules_seen modules.now) number entry }
@@ -34,7 +34,8 @@ impl PackageSet {
     ghost use Rattle.rpl_package.specs.Sets.{set_seen};
     ghost use Rattle.rpl_package.specs.Views.{text_found};
 
-    /// Returns the module of a root, counted from 0, or `None` exactly if there is no such root.
+    /// Returns the number of the module that a root belongs to, given the number of the root, from
+    /// 0. Returns `None` exactly if there is no such root.
     pub fn root_module(&self, root: usize) -> Option<usize>
         ensures gives { result ≡ O.root_module (set_seen self.now) root }
         ensures within { IfSome result (λ n. n < length (set_seen self.now).stock.modules) }
@@ -57,9 +58,9 @@ impl PackageSet {
         }
     }
 
-    /// Returns the target of a name that a statement of this module binds, even as `local`.
-    /// Returns `None` exactly if no statement of it binds the name, or if the name is a hidden
-    /// rule.
+    /// Returns the target of a name that a statement in this module binds, even as `local`. Returns
+    /// `None` exactly if no statement in the module binds the name, or if the name is that of a
+    /// hidden rule.
     pub fn own(&self, number: usize, name: &str) -> Option<Target>
         ensures { result ≡ O.own (set_seen self.now) number (chars name.now) }
     {

@@ -62,7 +62,7 @@ fn sought(alloc: Global, find: bool, e: Expr) -> Result<Expr, NoMemory>
     Ok(Expr::Macro { name, arg })
 }
 
-/// Parses a text that is not too long as RPL.
+/// Parses a text as RPL, given that it is not too long.
 fn read_pattern(alloc: Global, file: &Chars, text: &str, find: bool) -> Result<Expr, Stop>
     requires { file.now ≡ pattern_file }
     ensures gives { (r : Or ParsedExpr) → ReadsText false find text.now r → Gives expr_of result r }
@@ -99,8 +99,8 @@ fn read_goal(alloc: Global, file: &Chars, text: &str, fixed: bool, find: bool) -
     read_pattern(alloc, file, text, find)
 }
 
-/// Returns the import that a name requires, or `None` if it has no prefix or the module already
-/// has the prefix.
+/// Returns the import that a name requires, or `None` if the name has no prefix or the module
+/// already has that prefix.
 fn needed_import(alloc: Global, own: &Module, name: &QName) -> Result<Option<Import>, NoMemory>
     ensures { IfOk result (λ i. i ≡ needed_import (module_seen own.now) name.now) }
 {
@@ -136,7 +136,7 @@ fn needed_at(
     }
 }
 
-/// Adds the prefix of an import to the top module, for a module.
+/// Adds the prefix of an import to the top module, bound to the module with this number.
 fn put(
     stock: &mut Stock,
     top: usize,
@@ -165,7 +165,7 @@ fn put(
     }
 }
 
-/// Loads the package that a name of the pattern requires.
+/// Loads the package that a name in the pattern requires.
 fn enter_name<F: Files>(
     files: &mut F,
     stock: &mut Stock,
@@ -196,7 +196,7 @@ fn enter_name<F: Files>(
     put(stock, top, importer, &import, number)
 }
 
-/// Loads the packages that the names of a pattern require, in order.
+/// Loads the packages that the names in a pattern require, in order.
 fn enter_names<F: Files>(
     files: &mut F,
     stock: &mut Stock,
@@ -222,7 +222,7 @@ fn enter_names<F: Files>(
     Ok(())
 }
 
-/// Checks the names of a pattern, and then its macros.
+/// Checks the names in a pattern, and then its uses of macros.
 fn check_pattern(
     stock: &Stock,
     top: usize,
@@ -251,7 +251,7 @@ fn check_pattern(
     check_macros(alloc, file, &uses)
 }
 
-/// Loads the imports of a parsed pattern, and then checks its names and its macros.
+/// Loads the imports of a parsed pattern, and then checks its names and its uses of macros.
 fn enter_expr<F: Files>(
     files: &mut F,
     stock: &mut Stock,

@@ -54,7 +54,7 @@ pub fn parse_stop(alloc: Global, file: &Chars, fault: ParseFault) -> Stop
     }
 }
 
-/// Parses a text that is not too long as a module.
+/// Parses a text as a module, given that it is not too long.
 fn parse(alloc: Global, file: &Chars, text: &str) -> Result<ParsedModule, Stop>
     ensures { Gives said result (parsed file.now text.now) }
 {

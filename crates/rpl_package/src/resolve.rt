@@ -1,4 +1,4 @@
-// The resolution of the names of a set.
+// The resolution of the names in a set.
 ghost use Rattle.std.specs.Prelude.{◌≡◌, ◌+◌};
 ghost use Rattle.rpl_scope.specs.Packages.{nth};
 ghost use Rattle.rpl_scope.specs.Seen.{modules_seen};
@@ -23,7 +23,7 @@ fn rule_in(modules: &[Module], number: usize, place: usize) -> Option<&Rule>
     }
 }
 
-/// Returns the number of rules of a module.
+/// Returns the number of rules in a module.
 fn rule_count(modules: &[Module], number: usize) -> usize
     ensures { result ≡ T.size_of (nth (modules_seen modules.now) number) }
 {
@@ -33,7 +33,7 @@ fn rule_count(modules: &[Module], number: usize) -> usize
     }
 }
 
-/// Returns the target of the rule at an index of a module.
+/// Returns the target of the rule at an index in a module.
 pub(crate) fn target_in(
     modules: &[Module],
     table: &Table,
@@ -55,7 +55,7 @@ pub(crate) fn target_in(
     }
 }
 
-/// Returns the target of a referent of a module.
+/// Returns the target of a name, given the result of resolving it in a module.
 fn target_of(
     modules: &[Module],
     table: &Table,
@@ -110,7 +110,7 @@ impl PackageSet {
     ghost use Rattle.rpl_package.specs.Tables.{rows};
     ghost use Rattle.rpl_package.specs.Targets as T;
 
-    /// Returns the number of the module of the roots and the pattern.
+    /// Returns the number of the top module, that of the roots and the pattern.
     pub fn top(&self) -> usize
         ensures { result ≡ (set_seen self.now).top }
     {
@@ -244,9 +244,9 @@ impl PackageSet {
         }
     }
 
-    /// Returns the boundary in force at the statement of a rule, or for the pattern if the rule
-    /// is `None`. That is the boundary which the last earlier statement gives its module, or else
-    /// the first rule of the table. Returns `None` exactly if there is no such rule or no
+    /// Returns the boundary in force at the statement of a rule, or for the pattern if the rule is
+    /// `None`. That is the boundary that the last earlier statement to define one gives the module,
+    /// or else the first rule in the table. Returns `None` exactly if there is no such rule or no
     /// statement made it.
     pub fn boundary(&self, rule: Option<u32>) -> Option<u32>
         ensures { result ≡ T.boundary (set_seen self.now) rule }
@@ -270,8 +270,8 @@ impl PackageSet {
         }
     }
 
-    /// Returns the full name of the built-in `halt`, which differs from that of any statement of
-    /// the top module.
+    /// Returns the full name of the built-in `halt`, which differs from that of any rule that a
+    /// statement in the top module makes.
     fn halt_name(&self) -> &'static str
         ensures { chars result.now ≡ T.halt_name (set_seen self.now) }
     {

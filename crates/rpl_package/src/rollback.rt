@@ -68,7 +68,7 @@ fn shorten(modules: &mut Vec<Module>, top: usize, count: usize)
     }
 }
 
-/// Removes everything that was added since the marks.
+/// Removes everything that was added since the marks were taken.
 fn cut_back(stock: &mut Stock, top: usize, marks: Marks)
     ensures stock { stock_seen stock.new ≡ cut_back top marks (stock_seen stock.old) }
     ensures held { stock.new.held.items ≡ [] }

@@ -41,8 +41,8 @@ pub type Roots = List<Root>;
 /// The folders that are searched for imports, in this order.
 pub type LibPath = List<Chars>;
 
-/// Enters a root with a package statement: a module of its own, whose package name becomes a
-/// prefix of the top module.
+/// Enters a root with a package statement: a module of its own, whose package name becomes a prefix
+/// in the top module.
 #[tactic(auto, using(rpl_scope::proofs::Stops::told, crate::proofs::Outcomes::may))]
 fn enter_named<F: Files>(
     files: &mut F,
@@ -82,7 +82,7 @@ fn enter_named<F: Files>(
     Ok(Some(number))
 }
 
-/// Enters a root that is parsed.
+/// Enters a root that has been parsed.
 #[tactic(auto, using(rpl_scope::proofs::Stops::told, crate::proofs::Outcomes::may))]
 pub fn enter_root<F: Files>(
     files: &mut F,
@@ -192,7 +192,7 @@ fn next(given: usize, root: &Root) -> usize
     }
 }
 
-/// Returns the name of the text of a root given as text, such as `(rpl 1)`.
+/// Returns the name of a root given as text, such as `(rpl 1)`.
 fn given_name(alloc: Global, given: usize) -> Result<Chars, NoMemory>
     ensures { IfOk result (λ name. name ≡ given_name given) }
 {

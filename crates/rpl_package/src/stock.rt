@@ -111,7 +111,8 @@ fn push_module(modules: &mut Vec<Module>, from: Module) -> Result<(), NoMemory>
     Ok(())
 }
 
-/// Stores the number of the next module under its path and its package name, and returns it.
+/// Stores the number of the next module under its path and its package name, and returns the
+/// number.
 fn note(alloc: Global, stock: &mut Stock, from: &Module) -> Result<usize, NoMemory>
     ensures noted { OnOk result (stock_seen stock.new
         ≡ noted (stock_seen stock.old) (module_seen from.now)) }

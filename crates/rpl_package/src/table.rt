@@ -10,12 +10,12 @@ use rpl_scope::{Module, NoMemory, Rule, Stop};
 use rpl_text::Chars;
 use std::alloc::Global;
 
-/// The largest number of rules that statements may make: with the two built-in rules, these are
-/// all the numbers that a call can have. More rules count as out of memory, since each of them
-/// has taken some.
+/// The largest number of rules that statements may make: with the two built-in rules, these take up
+/// all the numbers that a call can have. More rules count as out of memory, since each rule takes
+/// some memory.
 const MAX_ROWS: usize = 4_294_967_293;
 
-/// A rule of the table that a statement made.
+/// A rule in the table that a statement made.
 #[derive(Debug, Drop)]
 pub struct Row {
     /// The full name of the rule.
@@ -36,7 +36,7 @@ pub struct Table {
     pub firsts: Vec<u32>,
 }
 
-/// Returns the full name of a rule of the module with this package name.
+/// Returns the full name of a rule in the module with this package name.
 fn full_name(alloc: Global, label: &Chars, name: &Chars) -> Result<Chars, NoMemory>
     ensures { IfOk result (λ full. full ≡ full_name label.now name.now) }
 {
@@ -59,7 +59,7 @@ fn in_block(rule: &Rule) -> bool
     rule.since == rule.start
 }
 
-/// Returns how many blocks have begun up to and including the rule at this index of its module.
+/// Returns how many blocks have begun up to and including the rule at this index in its module.
 fn begun_at(blocks: u32, place: usize, rule: &Rule) -> u32
     requires { blocks < 4294967295 }
     ensures exact { result ≡ begun_at blocks place (rule_seen rule.now) }

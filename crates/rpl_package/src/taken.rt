@@ -10,15 +10,15 @@ use crate::opening::Importer;
 use rpl_scope::{Loaded, Module, Stop, take_in};
 use rpl_syntax::{Import, ImportAs};
 
-/// Returns whether an import brings names without a prefix.
+/// Returns whether an import brings in names without a prefix.
 fn is_plain(import: &Import) -> bool
     ensures { result ≡ is_plain import.now.name }
 {
     matches!(import.name, ImportAs::Plain)
 }
 
-/// Adds what an import brings from a loaded module. `taken` holds the numbers of the modules
-/// whose names are all there already, so that they are not imported without a prefix a second
+/// Adds what an import brings in from a loaded module. `taken` holds the numbers of the modules
+/// whose names are all present already, so that they are not imported without a prefix a second
 /// time.
 pub fn bring(
     own: &mut Module,

@@ -6,7 +6,7 @@ use thiserror::Error;
 pub struct Target {
     /// Its number in the rule table.
     pub rule: u32,
-    /// Whether it makes a node: it is bound without `alias`.
+    /// Whether it makes a node, that is, whether it is bound without `alias`.
     pub captures: bool,
 }
 

@@ -134,8 +134,8 @@ pub fn enter_imports<F: Files>(
     Ok(())
 }
 
-/// Loads the module of a text of its own, whose package name is checked first, and returns its
-/// number.
+/// Loads the module of a text that is a module of its own, and returns the module's number. The
+/// package name is checked first.
 pub fn load_own<F: Files>(
     files: &mut F,
     stock: &mut Stock,

@@ -13,7 +13,7 @@ use rpl_syntax::{Expr, Exprs, QName, Token, choose, wrap};
 use rpl_text::Chars;
 use std::alloc::Global;
 
-/// Returns a name without a prefix: of a macro or of a binding.
+/// Returns the name of a macro or a binding, which has no prefix.
 pub fn simple_name(alloc: Global, name: &Chars, at: usize) -> Result<QName, Refusal>
     ensures { Gives (λ q. q) result (Some (unprefixed name.now at)) }
 {
@@ -68,7 +68,7 @@ pub fn both(alloc: Global, first: Expr, second: Expr) -> Result<Expr, Refusal>
     Ok(Expr::Both(first, Box::new(alloc, second)?))
 }
 
-/// Returns a list with one element: a choice of these parts.
+/// Returns a list with one element: the choice of these parts.
 pub fn alone(alloc: Global, parts: Exprs) -> Result<Exprs, Refusal>
     ensures { Gives shown result (Some (one (chosen (shown parts)))) }
 {

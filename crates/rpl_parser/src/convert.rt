@@ -21,7 +21,7 @@ use rpl_syntax::Token;
 use rpl_text::Chars;
 use std::alloc::{AllocError, Global};
 
-/// Returns a number of bounds, or 256 if it is greater.
+/// Returns a number from bounds, or 256 if the number is greater.
 fn cap(number: u64) -> u32
     ensures { result ≡ capped number }
 {
@@ -54,7 +54,7 @@ fn upper(bounds: Bounds) -> Option<u32>
     }
 }
 
-/// Returns the offset `by` bytes after another.
+/// Returns the offset `by` bytes after `at`.
 fn behind(at: usize, by: usize) -> usize
     ensures { result ≡ place_behind at by }
 {
@@ -71,8 +71,8 @@ fn place(fault: SetFault) -> usize
     }
 }
 
-/// Reads the set of a bracket at a byte offset. If the bracket is bad, returns the empty set and
-/// the fault.
+/// Reads the set in the bracket at the byte offset `at`. If the bracket is bad, returns the empty
+/// set and the fault.
 fn class(alloc: Global, text: &str, at: usize) -> Result<(Token, Option<ParseFault>), AllocError>
     ensures token { IfOk result (λ x. x.0 ≡ class_token (bracket_of (chars text.now))) }
     ensures bad { IfOk result (λ x. x.1 ≡ class_fault at (bracket_of (chars text.now))) }
@@ -137,7 +137,7 @@ fn bounds_token(bounds: Bounds) -> Token
     }
 }
 
-/// Returns the fault of the bounds at a byte offset, if they have one.
+/// Returns the fault of the bounds at the byte offset `at`, if they have one.
 fn bounds_bad(at: usize, bounds: Bounds) -> Option<ParseFault>
     ensures { result ≡ bounds_fault at bounds }
 {
@@ -184,7 +184,7 @@ pub struct Converted {
     pub bad: Option<ParseFault>,
 }
 
-/// Converts tokens of a text, each of them once.
+/// Converts the tokens of a text, each of them once.
 pub fn convert_all(alloc: Global, text: &str, lexemes: &[Lexeme]) -> Result<Converted, AllocError>
     requires { AllStand text.now lexemes.now }
     ensures tokens { IfOk result (λ c. c.tokens.items ≡ tokens_of text.now lexemes.now) }

@@ -1,6 +1,6 @@
 // Recursive descent: each function parses one nonterminal of the grammar with one token of
-// lookahead. `depth` is a bound on nesting that the number of tokens always satisfies; the level,
-// which is checked earlier, keeps calls from nesting deeply.
+// lookahead. `depth` bounds the nesting, and one more than the number of tokens is always enough.
+// The level, which is checked earlier, keeps calls from nesting deeply.
 ghost use Rattle.std.specs.Prelude.{suc, ◌∷◌, length, Some};
 ghost use Rattle.rpl_parser.specs.inside.Gives.{Gives};
 ghost use Rattle.rpl_syntax.specs.Reading.{read, item_of, read_item, read_exp, seq_of, parts_of};
@@ -110,7 +110,7 @@ fn item_signed<'a>(
     }
 }
 
-/// Parses the predicate of a sign, whose item comes next.
+/// Parses the predicate with this sign, whose item comes next.
 #[cycle(read)]
 fn predicate<'a>(
     alloc: Global,
@@ -125,7 +125,7 @@ fn predicate<'a>(
     Ok((Expr::Prefix(sign, Box::new(alloc, inner)?), rest))
 }
 
-/// Parses a group from after its opening sign.
+/// Parses the rest of a group, after its opening sign.
 #[cycle(read)]
 fn group<'a>(
     alloc: Global,

@@ -39,8 +39,8 @@ pub fn patterns_are_readings()
         IsCut s ts → too_deep s ground_level ts ≡ None → IsReadAs s x → IsPattern s ts x }
 {}
 
-/// The printed text of a pattern is that pattern with the braces that printing adds, unless it is
-/// nested too deeply. Nothing else changes except the byte offsets of names.
+/// The printed text of a pattern is parsed as that pattern with the braces that printing adds,
+/// unless the text is nested too deeply. Nothing else changes except the byte offsets of names.
 pub fn printed_again()
     ensures { (s : List ℕ) (ts : List Lexeme) (x : Expr) →
         IsUtf8 s → IsCut s ts → IsPattern s ts x → HasFewTokens x → IsPrintedAgain x }
@@ -53,16 +53,17 @@ pub fn bodies_can_be_written()
         IsUtf8 s → IsCut s ts → IsModule s ts m → BodiesWritten m.items }
 {}
 
-/// No tokens spell two statements, and reading from left to right finds the one that they spell.
+/// No sequence of tokens spells two statements, and reading from left to right finds the one that
+/// they spell.
 pub fn one_line()
     ensures only { (p : List Token) (l m : S.Line) → Spells p l → Spells p m → l ≡ m }
     ensures read { (p : List Token) (l : S.Line) → Spells p l → line_of p ≡ Some l }
     ensures spelled { (p : List Token) (l : S.Line) → line_of p ≡ Some l → Spells p l }
 {}
 
-/// No tokens of a text spell two modules, and the tokens of a text either are a module or have a
-/// first fault. Reading statement by statement returns exactly the module that the tokens spell,
-/// if no statement has a fault, and otherwise exactly their first fault.
+/// The tokens of a text never spell two modules. They either are a module or have a first fault.
+/// Reading statement by statement returns exactly the module that the tokens spell, if no statement
+/// has a fault, and otherwise exactly their first fault.
 pub fn one_module()
     ensures either { (s : List ℕ) (ts : List Lexeme) →
         ((m : ParsedModule) × IsModule s ts m) ⊎ ((f : ParseFault) × IsModuleFault s ts f) }

@@ -84,7 +84,7 @@ impl Depth {
         Ok(())
     }
 
-    /// Moves past a token. `colon` is whether a colon follows.
+    /// Moves past a token. `colon` says whether a colon follows.
     fn past(&mut self, text: &str, token: Token, colon: bool) -> Result<(), AllocError>
         requires stands { IsToken text.now token }
         requires level { self.old.level < 1000 }

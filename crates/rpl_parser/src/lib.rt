@@ -1,11 +1,11 @@
 //! Parses RPL: a pattern into an expression, a file into a module.
 //!
-//! The loader of packages and the commands call it with a text and its tokens. A text is parsed
-//! exactly as the grammar says, or refused with its first fault and the byte offset of that
-//! fault. The grammar of expressions is in `rpl_syntax`, that of statements and modules in
-//! `specs/` (`Spelling`, `Order`). The only other failure is running out of memory. The time is
-//! linear in the number of tokens. Nesting is limited before the descent starts, so calls nest no
-//! deeper than that limit.
+//! The package loader and the commands call it with a text and its tokens. A text is parsed exactly
+//! as the grammar says, or refused with its first fault and the byte offset of that fault. The
+//! grammar of expressions is in `rpl_syntax`, that of statements and modules in `specs/`
+//! (`Spelling`, `Order`). The only other failure is running out of memory. The time is linear in
+//! the number of tokens. Nesting is limited before the descent starts, so calls nest no deeper than
+//! that limit.
 #![tactic(auto)]
 
 mod assemble;

@@ -238,7 +238,7 @@ fn package(alloc: Global, tokens: &[Token]) -> Result<Line, Refusal>
     }
 }
 
-/// Parses the module's own boundary, from after its `~` and `=`.
+/// Parses the rest of the module's own boundary, after its `~` and `=`.
 fn boundary(alloc: Global, tokens: &[Token]) -> Result<Line, Refusal>
     ensures { Gives line_seen result (line_of (T.Sign Tilde ∷ T.Sign Equals ∷ tokens.now)) }
 {

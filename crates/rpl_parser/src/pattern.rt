@@ -69,9 +69,9 @@ fn read_pattern(alloc: Global, text: &str, lexemes: &[Lexeme]) -> Result<Expr, P
 
 /// Parses a text, given its tokens, as a pattern.
 ///
-/// Returns the first fault that applies: `TooDeep`, if the nesting level exceeds 100; `Syntax`,
-/// at the first token or at 0 if there is none, if the tokens spell no expression; then whichever
-/// of `BadBounds` and `Class` comes first in the text.
+/// Returns the first fault that applies: `TooDeep`, if the nesting level exceeds 100; `Syntax` at
+/// the first token (at 0 if there is none), if the tokens spell no expression; then whichever of
+/// `BadBounds` and `Class` comes first in the text.
 pub fn parse_pattern(alloc: Global, text: &str, tokens: &Tokens) -> Result<Expr, ParseFault>
     requires { IsCut text.now tokens.now }
     ensures ok { IfOk result (λ x. IsPattern text.now tokens.now (expr_of x)) }

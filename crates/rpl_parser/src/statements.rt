@@ -71,7 +71,7 @@ fn read_piece(
     }
 }
 
-/// Parses one more piece and adds it to the module. `rest` is the tokens after it.
+/// Parses one more piece and adds it to the module. `rest` holds the tokens after it.
 fn past(
     alloc: Global,
     text: &str,
@@ -107,10 +107,11 @@ fn read_all(alloc: Global, text: &str, lexemes: &[Lexeme]) -> Result<Module, Par
 
 /// Parses a text, given its tokens, as a module.
 ///
-/// Statements are read in order, and the first one with a fault decides. Its fault is the first
-/// that applies: `TooDeep`, if the nesting level exceeds 100; `Syntax` at its first token, if it
-/// is not a statement or not allowed there; then whichever of `BadBounds` and `Class` comes first
-/// in the text. After all statements follows `Version`, if the version is not 1.0 to 1.4.
+/// Statements are read in order, and the first one with a fault decides the outcome. Its fault is
+/// the first that applies: `TooDeep`, if the nesting level exceeds 100; `Syntax` at its first
+/// token, if it is not a statement or not allowed there; then whichever of `BadBounds` and `Class`
+/// comes first in the text. If no statement has a fault, the fault is `Version` if the version is
+/// not 1.0 to 1.4.
 pub fn parse_module(alloc: Global, text: &str, tokens: &Tokens) -> Result<Module, ParseFault>
     requires { IsCut text.now tokens.now }
     ensures ok { IfOk result (λ m. IsModule text.now tokens.now (said m)) }

@@ -20,7 +20,7 @@ use rpl_syntax::{Binding, Bindings, Imports, Item, Items, Module, QName};
 use std::alloc::Global;
 use std::mem;
 
-/// The last kind of statement so far.
+/// The kind of the last statement so far.
 #[derive(Clone, Copy)]
 pub enum Stage {
     /// No statement yet.

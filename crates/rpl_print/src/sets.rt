@@ -49,7 +49,7 @@ fn push_more(out: &mut String, ranges: &[(u32, u32)]) -> Result<(), NoMemory>
     Ok(())
 }
 
-/// Appends a range as its first and last character, or as its only one.
+/// Appends a range as its first and last character, or as its only character.
 fn push_range(out: &mut String, range: (u32, u32)) -> Result<(), NoMemory>
     ensures ok { OnOk result (string_bytes out.new ≡ string_bytes out.old ++ range_text range) }
     ensures stays { StandsBefore (string_bytes out.old) (string_bytes out.new) }

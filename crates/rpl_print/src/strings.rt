@@ -25,7 +25,8 @@ pub fn push_quoted(out: &mut String, text: &str) -> Result<(), NoMemory>
     ensures err { OnErr result (string_bytes out.new ≡ string_bytes out.old) }
 {
     if is_plain(text.as_bytes()) {
-        // Room for all of it is reserved first, so that no part is appended if the next can't be.
+        // Space for the whole string is reserved first, so that either all of it is appended or
+        // none.
         out.reserve(text.len() + 2)?;
         out.push('"')?;
         out.push_str(text)?;
@@ -38,8 +39,8 @@ pub fn push_quoted(out: &mut String, text: &str) -> Result<(), NoMemory>
 /// The number of bytes tested together.
 const CHUNK: usize = 32;
 
-/// Returns whether no byte of a text needs an escape, so that it is unchanged between the quotes.
-/// It reads all bytes, many per instruction.
+/// Returns whether no byte of the text needs an escape, in which case its JSON string is the
+/// unchanged text between quotes. Reads all bytes, many per instruction.
 pub fn is_plain(text: &[u8]) -> bool
     ensures exact { result ≡ Q.is_plain text.now }
     ensures itself { IsTrue result → Q.quoted text.now ≡ 34 ∷ (text.now ++ 34 ∷ []) }
@@ -66,8 +67,8 @@ fn is_plain_short(text: &[u8]) -> bool
     are_plain(&chunk)
 }
 
-/// Returns whether no byte needs an escape, byte by byte. If the caller knows the length, this
-/// compiles to a few instructions.
+/// Returns whether no byte needs an escape, testing them one by one. If the length is known at
+/// compile time, this compiles to a few instructions.
 #[inline(always)]
 fn are_plain(bytes: &[u8]) -> bool
     ensures { result ≡ Q.is_plain bytes.now }

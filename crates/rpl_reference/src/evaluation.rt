@@ -1,4 +1,4 @@
-// The meaning of a pattern by its definition, evaluation by evaluation.
+// The meaning of a pattern, computed as it is defined, evaluation by evaluation.
 ghost use Rattle.std.specs.Prelude.{◌≡◌, ◌+◌, ◌-◌, ◌^◌, ◌<◌, drop, slice_get, IfOk};
 ghost use Rattle.rpl_core.specs.Core as C;
 ghost use Rattle.rpl_core.specs.Meaning as M;
@@ -15,7 +15,7 @@ use rpl_classes::Set;
 use rpl_core::{Peg, Rules};
 use std::alloc::{AllocError, Global};
 
-/// Returns the outcome of a pattern at a place of the text, with the work that it takes. A place
+/// Returns the outcome of a pattern at a place in the text, with the work that it takes. A place
 /// is a character number, counted from 0. `depth` limits how many further turns and calls may be
 /// nested. Work saturates at `u64::MAX`.
 pub fn evaluate(over: &Over<'_>, depth: u32, e: &Peg, place: usize) -> Result<Outcome, AllocError>
@@ -40,7 +40,7 @@ struct Lengths {
     first: usize,
 }
 
-/// Matches one character, if it is in the set.
+/// Matches one character at the place, if it is in the set.
 fn one_char(set: &Set, text: &[char], place: usize) -> Outcome
     ensures { outcome_of result ≡ M.one_char (slice_get text.now place) set.now place }
 {
@@ -51,7 +51,7 @@ fn one_char(set: &Set, text: &[char], place: usize) -> Outcome
     }
 }
 
-/// Evaluates a pattern once.
+/// Evaluates a pattern at a place.
 #[cycle(evaluate)]
 fn evaluate_core(over: &Over<'_>, depth: u32, e: &Peg, place: usize) -> Result<Outcome, AllocError>
     ensures { IfOk result
@@ -158,7 +158,7 @@ fn evaluate_call(
     }
 }
 
-/// Evaluates the parts from an index on, one after the other.
+/// Evaluates the parts one after the other, starting at the index `from`.
 #[cycle(evaluate)]
 fn evaluate_all(
     over: &Over<'_>,
@@ -193,7 +193,7 @@ fn evaluate_all(
     }
 }
 
-/// Returns the outcome of the first alternative, from an index on, that succeeds.
+/// Returns the outcome of the first alternative that succeeds, starting at the index `from`.
 #[cycle(evaluate)]
 fn evaluate_first(
     over: &Over<'_>,
@@ -232,8 +232,8 @@ fn evaluate_first(
     }
 }
 
-/// Evaluates the body at the first length before the place, in characters, and then at each
-/// longer one, `count` lengths in all.
+/// Evaluates the body at `count` lengths before the place, in characters, starting with `first`
+/// and then at each longer one.
 #[cycle(evaluate)]
 fn evaluate_lengths(
     over: &Over<'_>,

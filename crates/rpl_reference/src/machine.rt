@@ -62,7 +62,7 @@ struct Over<'a> {
     text: &'a [char],
 }
 
-/// The result of a run, with the number of its steps.
+/// The result of a run, with the number of steps that it took.
 #[derive(Drop)]
 pub enum Answer {
     At {
@@ -75,7 +75,7 @@ pub enum Answer {
     },
 }
 
-/// Returns whether a set of the program contains the character.
+/// Returns whether the program's set with this number contains the character.
 fn holds(program: &Program, set: u32, c: char) -> bool
     ensures { result ≡ fits (Some c) (slice_index_or (sets_of program.now) set []) }
 {
@@ -85,8 +85,8 @@ fn holds(program: &Program, set: u32, c: char) -> bool
     }
 }
 
-/// Returns the place after the character at a place, if a set of the program contains that
-/// character.
+/// Returns the place after the character at `place`, if the program's set with this number
+/// contains that character.
 fn next(program: &Program, set: u32, text: &[char], place: usize) -> Option<usize>
     ensures { result ≡
         (if fits (slice_get text.now place) (slice_index_or (sets_of program.now) set []) then Some
@@ -100,7 +100,7 @@ fn next(program: &Program, set: u32, text: &[char], place: usize) -> Option<usiz
     }
 }
 
-/// Returns a copy of a text of the program.
+/// Returns a copy of the program's text with this number.
 fn text_of(alloc: Global, program: &Program, id: u32) -> Result<Chars, AllocError>
     ensures { IfOk result (λ t. t ≡ slice_index_or (labels_of program.now) id []) }
 {
@@ -122,7 +122,7 @@ fn begin_here(one: &Caught) -> usize
     }
 }
 
-/// Returns how many trees begin.
+/// Returns how many of the captures are the start of a tree.
 fn count_begins(caught: &[Caught]) -> usize
     ensures { result ≡ begins (map caught_of caught.now) }
 {
@@ -145,7 +145,7 @@ fn finish_here(one: &Caught) -> usize
     }
 }
 
-/// Returns how many trees end.
+/// Returns how many of the captures are the end of a tree.
 fn count_finishes(caught: &[Caught]) -> usize
     ensures { result ≡ finishes (map caught_of caught.now) }
 {
@@ -200,7 +200,7 @@ impl Machine {
         }
     }
 
-    /// Fails for good.
+    /// Fails finally, with no entry left.
     fn stop(&mut self)
         ensures { state_of self.new ≡ M.Failing [] (captures_of self.old) }
     {
@@ -374,7 +374,8 @@ impl Machine {
         self.enter(entry, after, place)
     }
 
-    /// Takes the step of `open`: a tree begins, whose type is a text of the program.
+    /// Takes the step of `open`: begins a tree whose type is the program's text with this
+    /// number.
     fn open(
         &mut self,
         over: &Over<'_>,
@@ -391,7 +392,7 @@ impl Machine {
         self.note(Caught::Begin { label, place }, after, place)
     }
 
-    /// Takes one step of the instruction at the address.
+    /// Takes the step of this instruction, which is at the address.
     fn act(
         &mut self,
         over: &Over<'_>,
@@ -478,7 +479,7 @@ impl Machine {
         }
     }
 
-    /// Returns the result of a run that is over, with this number of steps.
+    /// Returns the result of a run that is over and took this number of steps.
     fn answer(self, steps: u64) -> Answer
         requires { M.is_over (state_of self) ≡ true }
         ensures { answer_of result ≡ ended_as steps (state_of self) }
@@ -494,8 +495,8 @@ impl Machine {
     }
 }
 
-/// Runs the program on the text, in at most `budget` steps. Returns `None` exactly when it needs
-/// more.
+/// Runs the program on the text, in at most `budget` steps. Returns `None` exactly when the run
+/// needs more.
 pub fn run(
     alloc: Global,
     program: &Program,

@@ -8,7 +8,7 @@ use crate::forest::{Forest, joined, tree};
 use rpl_text::Chars;
 use std::alloc::{AllocError, Global};
 
-/// An outcome with its work. `At` and `HaltAt` have the place after the match and the trees;
+/// An outcome with its work. `At` and `HaltAt` hold the place after the match and the trees;
 /// `Open` means that the depth did not suffice.
 #[derive(Drop)]
 pub enum Outcome {
@@ -35,7 +35,7 @@ pub fn plus(a: u64, b: u64) -> u64
     a.saturating_add(b)
 }
 
-/// Returns the outcome with more work.
+/// Returns the outcome with this work added.
 pub fn more(work: u64, o: Outcome) -> Outcome
     ensures { outcome_of result ≡ capped (M.more work (outcome_of o)) }
 {
@@ -65,7 +65,7 @@ pub fn more(work: u64, o: Outcome) -> Outcome
     }
 }
 
-/// Returns the outcome with more work, and with trees before its own.
+/// Returns the outcome with this work added, and with the trees `before` put before its own.
 pub fn prefixed(alloc: Global, work: u64, before: Forest, o: Outcome) -> Result<Outcome, AllocError>
     ensures { IfOk result (λ r. outcome_of r
         ≡ capped (M.prefixed work (forest_of before) (outcome_of o))) }

@@ -1,4 +1,4 @@
-// The search for the shape of each address that a run may reach.
+// The search for the shape at each address that a run may reach.
 ghost use Rattle.std.specs.Prelude.{◌<◌, ◌≤◌, length};
 ghost use Rattle.rpl_core.specs.Program.{code_of, instructions};
 ghost use Rattle.rpl_safe.specs.inside.Marks.{Puts, PutsAll, Searched, given_of};
@@ -35,8 +35,9 @@ impl MarkSearch {
         }
     }
 
-    /// Marks the addresses where a run continues. The last address goes first, since it may
-    /// determine the list of entries of the first one. Returns false if an address can't be marked.
+    /// Marks the addresses where a run continues. Of two addresses, the second is marked first,
+    /// since it may determine the list of entries at the first. Returns false if an address can't
+    /// be marked.
     fn put_all(&mut self, next: Next) -> Result<bool, NoMemory>
         ensures { PutsAll (given_of next) self.old self.new result }
     {
@@ -55,8 +56,8 @@ impl MarkSearch {
 }
 
 /// Returns the mark of each address of the program that a run may reach. Returns `None` if the code
-/// isn't safe because an address has no instruction or two shapes, or because an instruction lacks
-/// what it needs. Each address is visited once.
+/// isn't safe because an address has no instruction or has two shapes, or because an instruction
+/// lacks what it needs. Each address is visited once.
 pub(crate) fn find_marks(
     alloc: Global,
     program: &Program,

@@ -2,7 +2,7 @@
 ghost use Rattle.rpl_safe.specs.Laws.{CodeIsSafeLaw, SafeMatchLaw, SafeRunLaw};
 
 /// No run of safe code, on any text, reaches an address without an instruction, or an instruction
-/// that lacks the stack entry it pops. If the run ends with a match, its captures are those of
+/// that lacks the stack entry that it pops. If the run ends with a match, its captures are those of
 /// exactly one tree.
 pub fn safe_run_law()
     ensures { SafeRunLaw }

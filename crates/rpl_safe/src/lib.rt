@@ -1,11 +1,11 @@
-//! Safe code: code that can be seen, without any text, never to lack what it needs in a run, and to
-//! make each match one tree.
+//! Safe code: code for which it is known, before any text is given, that no run lacks what it needs
+//! and that each match is one tree.
 //!
-//! For code from elsewhere, such as a file from a stranger. `is_safe` decides exactly whether a
-//! program's code is safe, in time and memory linear in the code. The laws state what this
-//! guarantees on every text, and that the code of each goal that is a capture is safe. The
-//! definition (`specs/Safe.antt`) gives each address that a run may reach one shape of the stack,
-//! as the verifiers of other machines do (Lindholm and Yellin 1996, on the Java machine).
+//! This crate checks code from elsewhere, such as a file from a stranger. `is_safe` decides exactly
+//! whether a program's code is safe, in time and memory linear in the code. The laws state what
+//! this guarantees on every text, and that the code of each goal that is a capture is safe. The
+//! definition (`specs/Safe.antt`) assigns one shape of the stack to each address that a run may
+//! reach, as the verifiers of other machines do (Lindholm and Yellin 1996, on the Java machine).
 #![tactic(auto)]
 
 mod finding;

@@ -2,10 +2,10 @@
 ghost use Rattle.std.specs.Prelude.{◌≡◌, ◌↔◌, IsTrue};
 ghost use Rattle.rpl_safe.specs.inside.Marks.{is_done_mark, last_of, marks_at};
 
-/// The shape of an address: its frame, the last entry left there, and the number of open trees. An
-/// entry holds the address where a failure resumes, and the shape of that address is that of the
-/// stack below the entry. So the address alone represents the whole list of entries, and equal
-/// lists are one number.
+/// The shape at an address: its frame, the last entry left there, and the number of open trees. An
+/// entry holds the address where a failure resumes, and the shape at that address is the shape of
+/// the stack below the entry. So the address alone represents the whole list of entries, and equal
+/// lists have the same number.
 #[derive(Clone, Copy)]
 pub(crate) struct Mark {
     pub(crate) frame: u32,
@@ -46,7 +46,7 @@ impl Mark {
         }
     }
 
-    /// Returns the mark with another last entry.
+    /// Returns the mark with this last entry.
     pub(crate) fn with_last(self, last: Option<u32>) -> Mark
         ensures { result ≡ record self { last = last } }
     {
@@ -60,7 +60,7 @@ impl Mark {
         Mark { trees, ..self }
     }
 
-    /// Returns whether both marks are the same shape.
+    /// Returns whether both marks describe the same shape.
     pub(crate) fn is(self, other: Mark) -> bool
         ensures { IsTrue result ↔ (self ≡ other) }
     {

@@ -21,7 +21,7 @@ fn commit(marks: &[Option<Mark>], target: u32, mark: Mark) -> Next
     }
 }
 
-/// Continues at `target` with the last entry, if as many trees are open as when it was left.
+/// Continues at `target` with the last entry, if as many trees are open as when the entry was left.
 fn commit_partly(marks: &[Option<Mark>], target: u32, mark: Mark) -> Next
     ensures { given_of result
         ≡ with_last (last_of (marks_at marks.now) mark.last)
@@ -88,8 +88,8 @@ fn close(behind: u32, mark: Mark) -> Next
     Next::To(behind, mark.with_trees(mark.trees - 1))
 }
 
-/// Returns where a run continues that reaches the instruction at this address with the shape of
-/// this mark.
+/// Returns where a run continues after it reaches the instruction at this address with the shape
+/// that this mark describes.
 pub(crate) fn goes_on(marks: &[Option<Mark>], instr: Instr, address: u32, mark: Mark) -> Next
     requires low { address < 1048576 }
     requires trees { mark.trees < 1048576 }

@@ -1,4 +1,4 @@
-// The verifier of code.
+// The verifier of a program's code.
 ghost use Rattle.std.specs.Prelude.{◌↔◌, ◌≤◌, IfOk, IsTrue, length};
 ghost use Rattle.rpl_core.specs.Program.{code_of, instructions};
 ghost use Rattle.rpl_safe.specs.Safe.{IsSafe};

@@ -1,4 +1,4 @@
-// The last check: the first frame is one tree, or calls one.
+// The last check: the first frame is one tree, or calls a frame that is one tree.
 ghost use Rattle.std.specs.Prelude.{◌≡◌, ℕ, ◌<◌, ◌≤◌, List, length, map, option_map, slice_get};
 ghost use Rattle.regex_class.specs.Ranges.{Range};
 ghost use Rattle.rpl_core.specs.Numbers.{instr_of};
@@ -52,8 +52,8 @@ fn is_call(called: u32, instr: Instr) -> bool
     }
 }
 
-/// Returns whether a tree is open at every address of this frame, except the first and those where
-/// the frame ends.
+/// Returns whether the address passes this test: a tree is open at every address in this frame,
+/// except the first and those where the frame ends.
 fn is_inside(frame: u32, instr: Instr, address: u32, mark: Mark) -> bool
     ensures { (sets : List (List Range)) (texts : List (List ℕ))
         → result ≡ inside_test frame (instr_of sets texts instr) address mark }
@@ -61,7 +61,7 @@ fn is_inside(frame: u32, instr: Instr, address: u32, mark: Mark) -> bool
     mark.frame != frame || (mark.trees != 0 || (address == frame || ends(frame, instr)))
 }
 
-/// Returns whether the run continues only at other addresses.
+/// Returns whether the run continues only at addresses other than `called`.
 fn avoids(called: u32, next: Next) -> bool
     ensures { result ≡ avoids called (given_of next) }
 {
@@ -173,8 +173,8 @@ fn called_by(instr: Instr) -> Option<u32>
     }
 }
 
-/// Returns the action of the first frame: `Some(None)` if it is a tree, `Some` with the address if
-/// it calls one, and `None` if it does neither.
+/// Returns what the first frame does: `Some(None)` if it begins a tree, `Some` with the address if
+/// it calls a frame that begins a tree, and `None` if it does neither.
 pub(crate) fn head(program: &Program) -> Option<Option<u32>>
     ensures { result ≡ head_of (instructions program.now) }
 {

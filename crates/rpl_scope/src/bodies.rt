@@ -1,4 +1,4 @@
-// The names and macros of expressions.
+// The names and the uses of macros in expressions.
 ghost use Rattle.std.specs.Prelude.{◌≡◌, ◌++◌, map, OnOk};
 ghost use Rattle.rpl_syntax.specs.View.{expr_of, exprs_all};
 ghost use Rattle.rpl_scope.specs.Bodies.{names, names_all, uses, uses_all};
@@ -14,7 +14,7 @@ pub struct Use<'a> {
     pub arg: &'a Expr,
 }
 
-/// Appends the names of an expression, from left to right.
+/// Appends the names in an expression, from left to right.
 #[cycle(names)]
 pub fn push_names<'a>(e: &'a Expr, all: &mut Vec<&'a QName>) -> Result<(), NoMemory>
     ensures { OnOk result (map (λ q. q.now) all.new.items ≡ map (λ q. q.now) all.old.items

@@ -1,4 +1,4 @@
-// The first fault of names and of macros.
+// The first fault among names and among uses of macros.
 ghost use Rattle.std.specs.Prelude.{◌≡◌, map};
 ghost use Rattle.rpl_scope.specs.Bodies.{named_fault, names_fault, macros_fault, used_fault};
 ghost use Rattle.rpl_scope.specs.Bodies.{written};
@@ -15,7 +15,7 @@ use rpl_syntax::QName;
 use rpl_text::Chars;
 use std::alloc::Global;
 
-/// Returns a name as written, after its prefix and a dot if it has one.
+/// Returns a name as written, preceded by its prefix and a dot if it has a prefix.
 pub fn written(alloc: Global, name: &QName) -> Result<Chars, NoMemory>
     ensures { IfOk result (λ text. text ≡ written name.now.prefix name.now.name) }
 {
@@ -53,7 +53,7 @@ fn check_name(alloc: Global, file: &Chars, scope: Scope<'_>, name: &QName) -> Re
     }
 }
 
-/// Checks names in a scope. The first name that refers to nothing is a fault of the file.
+/// Checks names in a scope. The first name that refers to nothing is a fault in the file.
 pub fn check_names(
     alloc: Global,
     file: &Chars,

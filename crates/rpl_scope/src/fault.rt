@@ -38,7 +38,7 @@ pub enum LoadKind {
     /// The number of modules would exceed 1,024.
     #[error("too many packages")]
     TooManyPackages,
-    /// A file could not be read, for another reason than that it is missing.
+    /// A file could not be read, for a reason other than that it is missing.
     #[error("read failed")]
     ReadFault,
     #[error("{0}")]
@@ -69,7 +69,7 @@ pub struct Place<'a> {
     pub at: usize,
 }
 
-/// The error of a function of this crate.
+/// The error that the functions of this crate return.
 #[derive(Debug, Drop)]
 pub enum Stop {
     /// Memory ran out.
@@ -93,7 +93,7 @@ impl<T: Drop> From<AllocFailed<T>> for Stop {
     }
 }
 
-/// Returns a fault at a byte offset of a text.
+/// Returns a fault at a byte offset in a file.
 pub fn fault_at(alloc: Global, file: &Chars, at: usize, kind: LoadKind) -> Stop
     ensures { IsStop result (fault_at file.now at kind) }
 {

@@ -71,7 +71,7 @@ pub fn put_prefix(
     Ok(())
 }
 
-/// Adds a prefix for a module, unless the prefix is taken by another.
+/// Adds a prefix for a module, unless another module already has the prefix.
 #[tactic(auto, using(crate::proofs::Stops::told))]
 pub fn add_prefix(
     alloc: Global,
@@ -115,7 +115,7 @@ fn is_same(referent: Referent, number: usize, rule: usize) -> bool
     }
 }
 
-/// Adds the name of a rule of another module, if importers see it.
+/// Adds the name of a rule in another module, if importers can see it.
 #[tactic(auto, using(crate::proofs::Stops::told))]
 fn add_name(
     alloc: Global,
@@ -161,7 +161,7 @@ fn add_name(
     }
 }
 
-/// Adds the names of the rules of another module that importers see.
+/// Adds the names of those rules in another module that importers can see.
 fn add_names(
     alloc: Global,
     own: &mut Module,
@@ -186,8 +186,8 @@ fn add_names(
     Ok(())
 }
 
-/// Returns whether the name and entry are what a module with `since` rules has for an imported
-/// rule.
+/// Returns whether the name and entry are those that a module with `since` rules gets for an
+/// imported rule.
 fn is_taken_name(name: &str, entry: Entry, since: usize, foreign: Foreign<'_>) -> bool
     ensures name { IsTrue result → chars name.now ≡ foreign.entry.rule.now.name }
     ensures entry { IsTrue result → entry
@@ -226,8 +226,8 @@ fn are_taken_names(names: &Named<Entry>, since: usize, owner: usize, rules: &[Ru
     next == count
 }
 
-/// Shares the table of names that other importers of this module took from it, if the module can.
-/// That table then holds everything that it imports.
+/// Shares the table of names that other importers of `from` took from it, if `own` can share it.
+/// That table then holds all names that `own` imports from `from`.
 fn share_names(own: &mut Module, owner: usize, from: &Module) -> Result<bool, NoMemory>
     ensures all { IfOk result (λ shared. IsTrue shared → (file : List ℕ) (at : ℕ)
         → in_turn (add_name file at owner) (numbered 0 (module_seen from.now).rules) (module_seen own.old)
@@ -242,8 +242,8 @@ fn share_names(own: &mut Module, owner: usize, from: &Module) -> Result<bool, No
     Ok(false)
 }
 
-/// Adds the names of the rules of another module that importers see. A module that has no names
-/// except shared ones shares these too, so that they are in memory only once.
+/// Adds the names of those rules in another module that importers can see. A module that has no
+/// names except shared ones shares these too, so that they are in memory only once.
 fn add_all(
     alloc: Global,
     own: &mut Module,
@@ -272,7 +272,7 @@ fn add_all(
     Ok(())
 }
 
-/// Adds what an import in this file brings from a loaded module.
+/// Adds what an import in this file brings in from a loaded module.
 #[inline(never)]
 pub fn take_in(
     alloc: Global,

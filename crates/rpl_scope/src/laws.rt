@@ -2,7 +2,7 @@
 ghost use Rattle.rpl_scope.specs.Laws.{ImportersSee, LastPartsEnd, PatternsSee, RulesAreLaid};
 ghost use Rattle.rpl_scope.specs.Laws.{StatementsSee};
 
-/// A statement sees a name of its own text exactly if the name's rule is in an earlier statement
+/// A statement sees a name from its own text exactly if the name's rule is in an earlier statement
 /// or in the same block. The name is hidden if its rule is before the `in` of an earlier block. A
 /// pattern comes after all statements. The law does not mention the numbers that `find_plain`
 /// compares. Importers of the module see what later statements see, except its local names.
@@ -12,8 +12,8 @@ pub fn names_are_seen()
     ensures importers { ImportersSee }
 {}
 
-/// The rules of a text are in the order of its statements, and the start of each is the number of
-/// rules that the module has before its statement.
+/// The rules of a text are in the order of its statements, and the start of each rule is the number
+/// of rules that the module has before that rule's statement.
 pub fn rules_are_laid()
     ensures { RulesAreLaid }
 {}

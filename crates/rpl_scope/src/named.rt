@@ -168,7 +168,7 @@ fn value_at<V: Copy>(pairs: &[(Chars, V)], number: Option<usize>, name: &str) ->
     }
 }
 
-// Stores the index of a name. The indices of other names stay, even if memory runs out.
+// Stores the index of a name. The indices of other names are kept, even if memory runs out.
 fn note(
     alloc: Global,
     hashes: &mut BTreeMap<u64, usize>,
@@ -184,13 +184,13 @@ fn note(
     let Some(earlier) = hashes.insert(hash, number)? else {
         return Ok(());
     };
-    // Another name has this hash and keeps it. Putting it back cannot fail.
+    // Another name has this hash and keeps it. Putting its index back cannot fail.
     let _ = hashes.insert(hash, earlier);
     others.insert(String::from_str(alloc, name)?, number)?;
     Ok(())
 }
 
-// Removes the index of a name, if it is this one. Other indices stay.
+// Removes the index of a name, if it is `number`. Other indices are kept.
 fn forget(
     hashes: &mut BTreeMap<u64, usize>,
     others: &mut BTreeMap<String, usize>,

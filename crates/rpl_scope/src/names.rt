@@ -24,7 +24,7 @@ const MOST_SHARED: usize = 8;
 // does not overflow.
 const MOST_NAMES: usize = 1 << 62;
 
-/// Names that are in memory once for all modules that share them.
+/// Names that are in memory only once for all modules that share them.
 pub type SharedNames = Rc<Named<Entry>>;
 
 /// The names of a module with their entries. Contracts see the list of pairs.
@@ -50,7 +50,7 @@ impl Model for ModuleNames {
 }
 
 impl ModuleNames {
-    /// Returns no names.
+    /// Returns an empty list of names.
     pub fn new(alloc: Global) -> ModuleNames
         ensures { result ≡ [] }
     {
@@ -61,13 +61,13 @@ impl ModuleNames {
     }
 
     /// Returns whether the module may share another table: it has no names of its own yet, and
-    /// fewer than the largest number of tables.
+    /// shares fewer tables than the largest number allowed.
     pub(crate) fn may_share(&self) -> bool {
         self.own.len() == 0 && self.shared.len() < MOST_SHARED
     }
 
     /// Adds a shared table, if there is room and none of its names is present yet, and returns
-    /// whether it did. If memory runs out, nothing changes.
+    /// whether it was added. If memory runs out, nothing changes.
     pub(crate) fn join(&mut self, names: &SharedNames) -> Result<bool, NoMemory>
         ensures ok { IfOk result (λ joined. self.new
             ≡ (if joined then self.old ++ names.now.value else self.old)) }
@@ -83,8 +83,8 @@ impl ModuleNames {
         Ok(true)
     }
 
-    /// Turns the module's own names into a table for other modules to share. Returns `None` if
-    /// there are none, or if it already shares enough. The names stay the same, even if memory
+    /// Turns the module's own names into a table for other modules to share. Returns `None` if it
+    /// has no names of its own, or if it can share no more. The names stay the same, even if memory
     /// runs out.
     pub(crate) fn share(&mut self, alloc: Global) -> Result<Option<SharedNames>, NoMemory>
         ensures { self.new ≡ self.old }

@@ -8,7 +8,7 @@ use crate::module::{Entry, Module, Prefix, Referent};
 use rpl_syntax::QName;
 use rpl_text::Chars;
 
-/// The scope at a point of a text: the loaded modules, the current module, and the start of the
+/// The scope at a point in a text: the loaded modules, the current module, and the start of the
 /// statement there.
 #[derive(Clone, Copy)]
 pub struct Scope<'a> {

@@ -24,7 +24,7 @@ use std::alloc::Global;
 struct Part {
     /// The number of rules that the module has before the statement.
     start: usize,
-    /// Whether only its own block sees it.
+    /// Whether the part is visible only in its own block.
     hidden: bool,
 }
 
@@ -53,7 +53,7 @@ fn rule_of(
     })
 }
 
-/// Enters one half of a block: its names count in the whole block.
+/// Enters one half of a block, whose names are visible in the whole block.
 fn enter_half(
     alloc: Global,
     own: &mut Module,
@@ -73,7 +73,7 @@ fn enter_half(
     Ok(())
 }
 
-/// Appends the names of bindings, from left to right.
+/// Appends the names in bindings, from left to right.
 fn gather_names<'a>(bindings: &'a [Binding], all: &mut Vec<&'a QName>) -> Result<(), NoMemory>
     ensures { OnOk result (map (λ q. q.now) all.new.items ≡ map (λ q. q.now) all.old.items
         ++ names_of (S.rules_of bindings.now)) }
@@ -95,7 +95,8 @@ fn gather_uses<'a>(bindings: &'a [Binding], all: &mut Vec<Use<'a>>) -> Result<()
     Ok(())
 }
 
-/// Checks the names and then the macros of the bindings in two halves.
+/// Checks the names, and then the uses of macros, in the hidden and the visible bindings of a
+/// statement.
 fn check_bodies(
     alloc: Global,
     file: &Chars,
@@ -150,7 +151,7 @@ fn enter_rules(
     }
 }
 
-/// Checks the names and then the macros of a statement.
+/// Checks the names and then the uses of macros in a statement.
 fn check_item(alloc: Global, file: &Chars, scope: Scope<'_>, item: &Item) -> Result<(), Stop>
     ensures { Checks result (bodies_fault file.now (modules_seen scope.entry.modules.now)
         scope.entry.start (bindings_of (S.entry_of item.now)) (module_seen scope.entry.own.now)) }
@@ -166,7 +167,8 @@ fn check_item(alloc: Global, file: &Chars, scope: Scope<'_>, item: &Item) -> Res
     }
 }
 
-/// Enters a statement of a text: first its rules, then a check of its names, then of its macros.
+/// Enters a statement of a text: adds its rules, then checks its names, and then its uses of
+/// macros.
 fn enter_item(
     alloc: Global,
     modules: &[Module],

@@ -42,7 +42,7 @@ pub struct Exprs {
 pub enum Expr {
     /// These characters, one after the other.
     Text(Chars),
-    /// One character that is in the set, or one that is not.
+    /// One character that is in the set, or that is not in it if `negated` is set.
     Class {
         set: Set,
         negated: bool,
@@ -79,7 +79,7 @@ pub enum Expr {
         name: QName,
         arg: Box<Expr>,
     },
-    /// A stretch of a search. Only macros make it.
+    /// A stretch of text in a search. Only macros make it.
     Marked(Mark, Box<Expr>),
     /// A message at this point. Only macros make it.
     Note(Chars),

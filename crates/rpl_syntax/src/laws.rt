@@ -12,7 +12,8 @@ ghost use Rattle.rpl_syntax.specs.Texts.{Writable};
 ghost use Rattle.rpl_syntax.specs.Writing.{write_exp};
 ghost use Rattle.rpl_syntax.specs.declared.token.Token.{Token};
 
-/// No tokens spell two expressions, and reading from left to right finds the one that they spell.
+/// No sequence of tokens spells two expressions, and reading from left to right finds the one that
+/// they spell.
 pub fn one_reading()
     ensures only { (p : List Token) (x y : M.Expr) → Reads p x → Reads p y → x ≡ y }
     ensures read { (p : List Token) (x : M.Expr) → Reads p x → read p ≡ Some x }
@@ -46,9 +47,9 @@ pub fn printed_reads_back()
     ensures { (x : M.Expr) → Good x → Writable x → HasFewTokens x → ReadsBack x }
 {}
 
-/// Printing the expression that a text is read as gives a text that is read as the same
-/// expression, apart from the byte offsets of names, and treating a raw group of one item as that
-/// item. The same is true of any expression that can be written.
+/// Printing the expression that a text is read as gives a text that is read as the same expression,
+/// if the byte offsets of names are ignored and a raw group of one item counts as that item. The
+/// same is true of any expression that can be written.
 pub fn printed_reads_as_itself()
     ensures read { (s : List ℕ) (x : M.Expr) → IsUtf8 s → IsReadAs s x → HasFewTokens x →
         ReadsAsItself x }

@@ -11,7 +11,7 @@ pub struct Binding {
     pub name: Chars,
     /// The byte offset of the statement's first token.
     pub at: usize,
-    /// Whether importers cannot see the rule.
+    /// Whether the rule is hidden from importers.
     pub local: bool,
     /// Whether the rule makes no node.
     pub alias: bool,
@@ -52,7 +52,7 @@ pub type Imports = List<Import>;
 pub enum Item {
     Binding(Binding),
     Block {
-        /// The rules before `in`, which only the block sees.
+        /// The rules before `in`, which are visible only in the block.
         hidden: Bindings,
         visible: Bindings,
     },

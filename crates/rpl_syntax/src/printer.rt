@@ -217,7 +217,7 @@ impl Printer {
         self.put(']')
     }
 
-    /// Appends a name, after its prefix and a dot if it has one.
+    /// Appends a name, preceded by its prefix and a dot if it has a prefix.
     pub fn name(&mut self, name: &QName) -> Result<(), NoMemory>
         ensures { OnOk result (self.new ≡ self.old ++ name_text name.now) }
     {
@@ -228,7 +228,7 @@ impl Printer {
         self.word(&name.name)
     }
 
-    /// Appends bounds of two numbers: `{n,m}`.
+    /// Appends bounds with two numbers: `{n,m}`.
     fn between(&mut self, least: u32, most: u32) -> Result<(), NoMemory>
         ensures { OnOk result (self.new ≡ self.old ++ 123 ∷ decimal least ++ 44 ∷ decimal most
             ++ 125 ∷ []) }
@@ -240,7 +240,7 @@ impl Printer {
         self.put('}')
     }
 
-    /// Appends bounds of one number: `{n}`.
+    /// Appends bounds with one number: `{n}`.
     fn exactly(&mut self, count: u32) -> Result<(), NoMemory>
         ensures { OnOk result (self.new ≡ self.old ++ 123 ∷ decimal count ++ 125 ∷ []) }
     {

@@ -65,7 +65,7 @@ fn bytes_behind(text: &str, place: usize) -> &[u8]
     &text.as_bytes()[place + 1..]
 }
 
-/// Reads the escape whose backslash is at a byte offset.
+/// Reads the escape whose backslash is at the byte offset `place`.
 fn escape_at(text: &str, place: usize) -> Option<(char, usize)>
     requires { slice_get text.now place ≡ Some 92 }
     ensures { result ≡ shifted (place + 1) (escape (drop (place + 1) text.now)) }
@@ -77,7 +77,7 @@ fn escape_at(text: &str, place: usize) -> Option<(char, usize)>
     }
 }
 
-/// Returns the character of the escape whose backslash is at a byte offset of the text, and the
+/// Returns the character of the escape whose backslash is at the byte offset `place`, and the
 /// offset after the escape. Returns `None` exactly when no escape begins there.
 pub fn read_escape(text: &str, place: usize) -> Option<(char, usize)>
     requires { slice_get text.now place ≡ Some 92 }

@@ -18,9 +18,9 @@ fn are_digits(word: &[u8]) -> bool
     !word.is_empty() && all_digits(word)
 }
 
-/// Returns the number that the digits spell, or `None` if it exceeds 64 bits. Each byte counts as
-/// its distance from `0`, and a byte below `0` counts as 0: the caller checks that all bytes are
-/// digits.
+/// Returns the number that the digits spell, or `None` if it does not fit in 64 bits. Each byte
+/// counts as its distance from `0`, and a byte below `0` counts as 0: the caller checks that all
+/// bytes are digits.
 pub fn value_of_digits(digits: &[u8]) -> Option<u64>
     ensures { result ≡ narrow (value 0 digits.now) }
 {
@@ -32,8 +32,8 @@ pub fn value_of_digits(digits: &[u8]) -> Option<u64>
     Some(number)
 }
 
-/// Parses a word as a decimal number, with any leading zeros. Returns `None` exactly when the
-/// word is empty, contains a byte that is not a digit, or spells a number that exceeds 64 bits.
+/// Parses a word as a decimal number, with any leading zeros. Returns `None` exactly when the word
+/// is empty, contains a byte that is not a digit, or spells a number that does not fit in 64 bits.
 pub fn read_number(word: &[u8]) -> Option<u64>
     ensures { result ≡ number_of word.now }
 {

@@ -6,10 +6,10 @@ ghost use Rattle.rpl_text.specs.Seen.{text_of};
 
 use crate::line::{back_in, is_place_in, line_len, pass_in, place_in, slice_in, step_in};
 
-/// A borrowed line, walked over by place.
+/// A borrowed line of text, read by place.
 ///
 /// A place is the byte offset of a character, or that of the end of the line. Contracts see the
-/// line as the list of its characters, by `text_of`.
+/// line as the list of its characters, `text_of`.
 #[derive(Clone, Copy)]
 pub struct Text<'a> {
     line: &'a str,
@@ -49,9 +49,9 @@ impl<'a> Text<'a> {
         step_in(self.line, place)
     }
 
-    /// Returns the place after the run of marked characters that begins here, at most `most`
-    /// bytes on: that of the first unmarked character, or the end. An ASCII character is marked
-    /// if its bit in the mask is set: the first word has the bits of characters 0 to 63, the
+    /// Returns the place after the run of marked characters that begins here: that of the first
+    /// unmarked character, or the end. Goes at most `most` bytes forward. An ASCII character is
+    /// marked if its bit in the mask is set: the first word has the bits of characters 0 to 63, the
     /// second those of 64 to 127. Characters outside ASCII are unmarked.
     #[inline(never)]
     pub fn pass(self, place: usize, most: usize, mask: [u64; 2]) -> usize

@@ -6,14 +6,14 @@ use std::alloc::AllocError;
 use thiserror::Error;
 
 /// The text of a trace, with one line per evaluation, and the byte offset where the match ends,
-/// if there is one.
+/// if there is a match.
 #[derive(Drop)]
 pub struct Trace {
     pub printed: Chars,
     pub end: Option<usize>,
 }
 
-/// The reason why there is no trace.
+/// The reason why no trace was made.
 #[derive(Clone, Copy, Debug, PartialEq, Eq, Error)]
 pub enum TraceFault {
     /// Memory ran out.

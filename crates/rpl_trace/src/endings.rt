@@ -1,5 +1,5 @@
-// The ends of evaluations that have none inside them, and of predicates, given the ends of their
-// bodies.
+// The ends of evaluations with no evaluations inside them, and the ends of predicates, given the
+// ends of their bodies.
 ghost use Rattle.std.specs.Prelude.{◌≡◌, ℕ, List, slice_get};
 ghost use Rattle.rpl_core.specs.Meaning as M;
 ghost use Rattle.rpl_text.specs.Places.{index, IsPlace};
@@ -13,7 +13,7 @@ use crate::event::End;
 use rpl_classes::Set;
 use rpl_text::Text;
 
-/// Matches one character, if it is in the set.
+/// Matches one character at this place, if it is in the set.
 pub(crate) fn one_char(set: &Set, text: Text<'_>, place: usize) -> End
     requires { IsPlace (text_of text) place }
     ensures end { let t = text_of text.entry in let i = index t place in
@@ -32,7 +32,7 @@ pub(crate) fn one_char(set: &Set, text: Text<'_>, place: usize) -> End
     }
 }
 
-/// Matches at this place, if the condition is true.
+/// Matches the empty text at this place, if the condition is true.
 pub(crate) fn only_if(holds: bool, place: usize) -> End
     ensures end { (t : List ℕ) → end_seen t result ≡ ending (M.only_if holds (index t place)) }
     ensures stands { (t : List ℕ) → IsPlace t place → EndStands t result }
@@ -40,7 +40,7 @@ pub(crate) fn only_if(holds: bool, place: usize) -> End
     if holds { End::At(place) } else { End::Fails }
 }
 
-/// Returns the end of a `Not` at the place, given that of its body.
+/// Returns the end of a `Not` at the place, given the end of its body.
 pub(crate) fn if_failed(end: End, place: usize) -> End
     ensures end { (t : List ℕ) → end_seen t result ≡ S.if_failed (end_seen t end) (index t place) }
     ensures stands { (t : List ℕ) → IsPlace t place → EndStands t result }
@@ -52,7 +52,7 @@ pub(crate) fn if_failed(end: End, place: usize) -> End
     }
 }
 
-/// Returns the end of an `And` at the place, given that of its body.
+/// Returns the end of an `And` at the place, given the end of its body.
 pub(crate) fn if_matched(end: End, place: usize) -> End
     ensures end { (t : List ℕ) → end_seen t result ≡ S.if_matched (end_seen t end) (index t place) }
     ensures stands { (t : List ℕ) → IsPlace t place → EndStands t result }
@@ -64,7 +64,7 @@ pub(crate) fn if_matched(end: End, place: usize) -> End
     }
 }
 
-/// Returns the end of one length of a look-behind at the place, given that of its body.
+/// Returns the end of one length of a look-behind at the place, given the end of the body.
 pub(crate) fn if_met(end: End, place: usize) -> End
     ensures end { (t : List ℕ) → IsPlace t place → EndStands t end
         → end_seen t result ≡ S.if_met (end_seen t end) (index t place) }
@@ -77,7 +77,7 @@ pub(crate) fn if_met(end: End, place: usize) -> End
     }
 }
 
-/// Returns the byte offset after a match.
+/// Returns the byte offset where a match ends, or `None` if there is no match.
 pub(crate) fn place_of(end: End) -> Option<usize>
     ensures { (t : List ℕ) → EndStands t end → result ≡ ending_place t (end_seen t end) }
 {

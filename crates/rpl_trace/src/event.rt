@@ -8,7 +8,7 @@ pub(crate) enum Kind<'a> {
     Of(&'a Peg),
     /// The remaining alternatives of a choice.
     Choice,
-    /// A turn that succeeds.
+    /// A turn of a repetition that succeeds.
     Turn,
     /// One length of a look-behind, in characters.
     Length(usize),
@@ -25,7 +25,7 @@ pub(crate) enum End {
 /// An event of a trace.
 #[derive(Clone, Copy)]
 pub(crate) enum Event<'a> {
-    /// An evaluation begins at a place.
+    /// An evaluation begins at `start`.
     Begins { kind: Kind<'a>, start: usize },
     /// The innermost open evaluation ends.
     Ends(End),

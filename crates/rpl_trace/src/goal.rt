@@ -23,11 +23,11 @@ use rpl_check::{Checked, CheckedPeg};
 use rpl_text::{Chars, Text};
 use std::alloc::Global;
 
-/// Returns the trace of a checked goal on a text: the evaluations of its outcome, printed.
+/// Returns the trace of a checked goal on a text: the printed evaluations of its outcome.
 ///
-/// The trace is refused exactly when the outcome takes more work than `limit`; no more
-/// evaluations than that are made. Each of them and the printed text take time and memory, but no
-/// stack. The goal must have a meaning on every text, which is true of every goal that
+/// The trace is refused exactly when the outcome takes more work than `limit`; at most `limit`
+/// evaluations are made. Each evaluation, like the printed text, takes time and memory, but no
+/// stack. The goal must have a meaning on every text, which holds for every goal that
 /// `check_pattern` accepts.
 pub fn trace(
     alloc: Global,

@@ -33,7 +33,7 @@ struct Backwards<'a> {
 }
 
 impl<'a> Backwards<'a> {
-    /// Returns the state before anything is read, with room for `count` events.
+    /// Returns the state before any event is read, with room for the lines of `count` events.
     fn new(alloc: Global, count: usize) -> Result<Backwards<'a>, AllocError>
         ensures ends { (t : List ℕ) → IfOk result (λ b. ends_in t b ≡ []) }
         ensures rows { (t : List ℕ) → IfOk result (λ b. rows_in t b ≡ []) }
@@ -47,7 +47,7 @@ impl<'a> Backwards<'a> {
         })
     }
 
-    /// Reads the event before those already read.
+    /// Reads the event that precedes those already read.
     fn read(&mut self, event: Event<'a>) -> Result<(), AllocError>
         requires { self.old.depth + 1 < 2 ^ 64 }
         ensures reads { (t : List ℕ) (s : Standing) → IsRead t self.old → EventStands t event.entry
@@ -73,7 +73,7 @@ impl<'a> Backwards<'a> {
         }
     }
 
-    /// Adds the line of an evaluation, which is then no longer open.
+    /// Adds the line of an evaluation that is no longer open.
     fn add(&mut self, kind: Kind<'a>, start: usize, end: End) -> Result<(), AllocError>
         ensures ends { self.new.ends ≡ self.old.ends }
         ensures depth { self.new.depth ≡ self.old.depth - 1 }

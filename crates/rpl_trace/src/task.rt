@@ -1,8 +1,8 @@
 // The remaining tasks of a trace.
 use rpl_core::Peg;
 
-/// A task that follows the end of the evaluation before it. Places are byte offsets, lengths are
-/// numbers of characters.
+/// A task, which is given the end of the evaluation before it. Places are byte offsets, lengths
+/// are numbers of characters.
 #[derive(Clone, Copy)]
 pub(crate) enum Task<'a> {
     /// Evaluate the pattern at the place where the evaluation before it matched.
@@ -11,7 +11,7 @@ pub(crate) enum Task<'a> {
     Parts(&'a [Peg]),
     /// Try the remaining alternatives of a choice, if the one before them failed.
     Ways { parts: &'a [Peg], place: usize },
-    /// Evaluate further turns after one of the body, which began at the place.
+    /// Evaluate further turns after the turn of the body that began at the place.
     Turns { body: &'a Peg, place: usize },
     /// End a `Not`, given the end of its body.
     Not(usize),
@@ -22,7 +22,7 @@ pub(crate) enum Task<'a> {
     Meets(usize),
     /// Try the remaining lengths of a look-behind, if the one before them failed.
     Lengths(Lengths<'a>),
-    /// End the innermost open evaluation in the same way as the one before it.
+    /// End the innermost open evaluation in the same way as the evaluation before this task.
     Close,
 }
 

@@ -32,15 +32,15 @@ use std::alloc::Global;
 /// A trace in progress.
 #[derive(Drop)]
 pub(crate) struct Tracer<'a> {
-    /// The number of evaluations so far, and the largest number allowed.
+    /// The number of evaluations so far. It may not exceed `limit`.
     pub(crate) spent: u32,
     pub(crate) limit: u32,
     pub(crate) events: Vec<Event<'a>>,
-    /// The next task is the last element.
+    /// The remaining tasks, of which the last is the next to run.
     pub(crate) tasks: Vec<Task<'a>>,
 }
 
-/// Returns the part of a choice that has only one.
+/// Returns the part of a choice that has only one part.
 fn only_part(peg: &Peg) -> Option<&Peg>
     ensures { MatchOption result (is_alone (core_of peg.now) ≡ false)
         (λ p. core_of peg.now ≡ Choice (Then (core_of p.now) NoMore)) }
@@ -53,7 +53,7 @@ fn only_part(peg: &Peg) -> Option<&Peg>
     }
 }
 
-/// Returns the pattern, or its part if it is a choice with only one.
+/// Returns the pattern or, if it is a choice with only one part, that part.
 fn alone(peg: &Peg) -> &Peg
     ensures alike { AreAlike (core_of peg.now) (core_of result.now) }
     ensures more { is_alone (core_of result.now) ≡ false }
@@ -96,7 +96,7 @@ impl<'a> Tracer<'a> {
         }
     }
 
-    /// Adds a task, which is the next one.
+    /// Adds a task, which is the next to run.
     pub(crate) fn push(&mut self, task: Task<'a>) -> Result<(), NoMemory>
         ensures { OnOk result (state_of self.new ≡ due task.entry (state_of self.old)) }
     {
@@ -146,7 +146,7 @@ impl<'a> Tracer<'a> {
         Ok(end)
     }
 
-    /// Schedules one task inside the innermost open evaluation. The task begins with this end.
+    /// Schedules one task inside the innermost open evaluation. The task is given this end.
     fn within(&mut self, task: Task<'a>, end: End) -> Result<End, NoMemory>
         ensures { IfOk result (λ e. (e ≡ end)
             × (state_of self.new ≡ due task.entry (due T.Close (state_of self.old)))) }
@@ -185,7 +185,8 @@ impl<'a> Tracer<'a> {
         Ok(End::At(place))
     }
 
-    /// Schedules the alternatives of a choice at the place inside the innermost open evaluation.
+    /// Schedules the alternatives of a choice, to be tried at the place, inside the innermost
+    /// open evaluation.
     fn choose(&mut self, parts: &'a [Peg], place: usize) -> Result<End, NoMemory>
         ensures { IfOk result (λ e. Chooses parts.now place (state_of self.old) e
             (state_of self.new)) }
@@ -207,8 +208,8 @@ impl<'a> Tracer<'a> {
         }
     }
 
-    /// Continues the evaluation of a pattern at a place, which has just begun, as far as the
-    /// first evaluation inside it.
+    /// Continues the evaluation that has just begun, that of `peg` at `place`, up to the first
+    /// evaluation inside it.
     fn enter(
         &mut self,
         rules: &'a Rules,
@@ -245,8 +246,8 @@ impl<'a> Tracer<'a> {
         }
     }
 
-    /// Begins the evaluation of a pattern at a place, and continues as far as the first
-    /// evaluation inside it.
+    /// Begins the evaluation of a pattern at a place, and continues up to the first evaluation
+    /// inside it.
     fn evaluate(
         &mut self,
         rules: &'a Rules,
@@ -266,7 +267,7 @@ impl<'a> Tracer<'a> {
         Ok(self.enter(rules, text, peg, place)?)
     }
 
-    /// Evaluates parts one after the other, from a place on.
+    /// Evaluates parts one after the other, starting at a place.
     fn go_on(
         &mut self,
         rules: &'a Rules,
@@ -311,8 +312,7 @@ impl<'a> Tracer<'a> {
         Ok(self.choose(ways, place)?)
     }
 
-    /// Ends a turn that began at the place: it counts if it matched, and then the next one
-    /// begins.
+    /// Ends the turn that began at the place. If it matched, it counts, and the next turn begins.
     fn end_turn(&mut self, body: &'a Peg, place: usize, end: End) -> Result<End, TraceFault>
         ensures goes { (R : List Core) (t : List ℕ) → IsPlace t place → EndStands t end →
             Stands t (state_of self.old)

@@ -1,4 +1,4 @@
-// The nodes so far, and the open ones among them.
+// The nodes built so far, and which of them are open.
 ghost use Rattle.std.specs.Prelude.{◌≡◌, [], OnOk, slice_get};
 ghost use Rattle.rpl_tree.specs.Trees.{BuildsEach};
 ghost use Rattle.rpl_tree.specs.inside.Building.{close_node};
@@ -7,7 +7,7 @@ use crate::node::Node;
 use rpl_core::{Caught, NoMemory};
 use std::alloc::Global;
 
-/// The nodes so far, and the open ones among them.
+/// The nodes built so far, and which of them are open.
 #[derive(Drop)]
 pub struct Building {
     pub nodes: Vec<Node>,
@@ -78,7 +78,7 @@ impl Building {
     }
 }
 
-/// Ends the node at `at`, and counts the nodes below it: all that were added since.
+/// Ends the node at index `at`, and counts the nodes below it, which are all those added after it.
 fn close(nodes: &mut [Node], at: usize, place: usize)
     ensures { nodes.new ≡ close_node at place (slice_get nodes.old at) nodes.old }
 {

@@ -1,4 +1,4 @@
-// The trees of captures, as a flat list of nodes.
+// The trees built from captures, as a flat list of nodes.
 ghost use Rattle.std.specs.Prelude.{◌≡◌, [], length, slice_get, IfOk, OnErr, OnOk};
 ghost use Rattle.rpl_tree.specs.Trees.{BuildsEach};
 
@@ -40,15 +40,15 @@ impl Forest {
         self.building.nodes.len()
     }
 
-    /// Returns the node with this index from 0, or `None` past the last.
+    /// Returns the node with this index, from 0, or `None` if there is no such node.
     pub fn get(&self, index: usize) -> Option<Node>
         ensures { result ≡ slice_get self.now index }
     {
         self.building.nodes.get(index).copied()
     }
 
-    /// Replaces the trees with those of these captures, reusing its memory if that is enough. If
-    /// memory runs out, the forest is left empty and the old trees are gone.
+    /// Replaces the trees with those of these captures, reusing the forest's memory if it suffices.
+    /// If memory runs out, the forest is left empty and the old trees are gone.
     pub fn fill(&mut self, caught: &[Caught]) -> Result<(), NoMemory>
         ensures built { OnOk result (BuildsEach caught.now self.new) }
         ensures err { OnErr result (self.new ≡ []) }

@@ -1,9 +1,9 @@
-//! Match trees, made of the captures of a run, for code that prints an answer.
+//! Match trees, built from the captures of a run, for code that prints an answer.
 //!
-//! Given the capture list of some trees, [`build`] returns exactly these trees: a flat list of
-//! nodes, each before those below it, which represents exactly these captures with their numbers. A
-//! note has nothing below it. [`Forest::fill`] does the same in memory that is reused from line to
-//! line.
+//! Given the capture list of some trees, [`build`] returns exactly those trees, as a flat list of
+//! nodes, each before the nodes below it. The list represents exactly these captures with their
+//! numbers. A note has nothing below it. [`Forest::fill`] does the same in memory that is reused
+//! from line to line.
 #![tactic(auto)]
 
 mod building;

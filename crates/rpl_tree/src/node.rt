@@ -1,4 +1,4 @@
-// A node, and the forms in which it begins.
+// A node, and its initial forms.
 ghost use Rattle.std.specs.Prelude.{◌≡◌};
 ghost use Rattle.rpl_tree.specs.inside.Building.{noted, opened};
 
@@ -13,12 +13,12 @@ pub struct Node {
     pub start: usize,
     /// The byte offset where it ends.
     pub end: usize,
-    /// The number of nodes below it, which follow it directly.
+    /// The number of nodes below this one, which directly follow it in the list.
     pub below: usize,
 }
 
 impl Node {
-    /// Returns a node for a tree that begins here, with nothing below it so far.
+    /// Returns a node for a tree that begins at `start`, with nothing below it so far.
     pub(crate) fn opened(label: u32, start: usize) -> Node
         ensures { result ≡ opened label start }
     {

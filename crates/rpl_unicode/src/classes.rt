@@ -16,7 +16,7 @@ fn letters(alloc: Global, name: &str) -> Result<Vec<char>, NoMemory>
     name.chars().collect(alloc)
 }
 
-/// Returns the characters of the binary property, general category or script of Unicode with this
+/// Returns the characters in the Unicode binary property, general category or script with this
 /// name. The name may be long or short and in any case; spaces, `_`, `-` and a leading `is` are
 /// ignored. The ranges are sorted, don't touch and contain no surrogates. Returns `UnknownClass`
 /// exactly when no set has the name.

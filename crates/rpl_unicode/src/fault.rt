@@ -1,11 +1,11 @@
-// The reasons why a name has no set.
+// The reasons why the lookup of a name fails.
 ghost use Rattle.std.specs.Prelude.{◌≡◌};
 ghost use Rattle.rpl_unicode.specs.declared.fault.ClassFault.TheVariants.{NoMemory as OutOfMemory};
 
 use crate::NoMemory;
 use thiserror::Error;
 
-/// The reason why a name has no set.
+/// The reason why the lookup of a name failed.
 #[derive(Clone, Copy, Debug, PartialEq, Eq, Error)]
 pub enum ClassFault {
     /// Memory ran out.

@@ -10,9 +10,10 @@ use regex_class::ClassRange;
 use std::alloc::Global;
 use unicode::case::fold_pairs;
 
-/// Returns all characters that share a simple case folding with a character of the ranges, those of
-/// the ranges included. The ranges may come in any order. The call visits the pairs that fold alike
-/// between the least and the greatest character, not each character.
+/// Returns all characters that share a simple case folding with a character in the ranges,
+/// including the characters in the ranges themselves. The ranges may come in any order. Between the
+/// least and the greatest character, the call visits only the pairs that fold alike, not every
+/// character.
 pub fn folds_of(alloc: Global, ranges: &[ClassRange]) -> Result<RangeList, NoMemory>
     ensures { IfOk result (IsListOf (folds_with (in_ranges ranges.now))) }
 {
@@ -23,7 +24,7 @@ pub fn folds_of(alloc: Global, ranges: &[ClassRange]) -> Result<RangeList, NoMem
 }
 
 /// Returns all characters that share a simple case folding with a character from `low` to `high`,
-/// these included.
+/// including the characters from `low` to `high` themselves.
 pub fn folds(alloc: Global, low: u32, high: u32) -> Result<RangeList, NoMemory>
     requires { low ≤ high }
     ensures { IfOk result (IsListOf (folds_with (λ c. nat_le low c && nat_le c high))) }

@@ -1,11 +1,11 @@
-//! Unicode's sets of characters by name, and the characters that differ only in case.
+//! Unicode's named sets of characters, and the characters that differ only in case.
 //!
-//! The sets of `rpl_classes` are built on this crate, and the parser and the macros use those.
-//! `class_ranges` promises exactly the characters of the named property, general category or
-//! script, and `UnknownClass` exactly when there is none. `folds` promises exactly the characters
-//! that share a simple case folding with a character of a range. Returned ranges are sorted, don't
-//! touch and contain no surrogates. The tables are those of the crate `unicode`; nothing is read
-//! from them before a call.
+//! The sets of `rpl_classes`, which the parser and the macros use, are built on this crate.
+//! `class_ranges` promises exactly the characters in the named property, general category or
+//! script, and `UnknownClass` exactly when none has the name. `folds` promises exactly the
+//! characters that share a simple case folding with a character of a range. Returned ranges are
+//! sorted, don't touch and contain no surrogates. The tables are those of the crate `unicode`;
+//! nothing is read from them before a call.
 #![tactic(auto)]
 
 mod classes;
@@ -17,5 +17,5 @@ pub use classes::class_ranges;
 pub use fault::ClassFault;
 pub use folding::{folds, folds_of};
 pub use ranges::{RangeList, characters};
-/// Out of memory, which every call here may return.
+/// The out-of-memory error, which every call here may return.
 pub use std::alloc::AllocError as NoMemory;

@@ -40,8 +40,8 @@ fn push_range(ranges: &mut Vec<ClassRange>, low: u32, high: u32) -> Result<(), N
     Ok(())
 }
 
-/// Returns the ranges without surrogates. Sorted ranges stay sorted, and those that touch are
-/// joined: most tables contain such ranges.
+/// Returns the ranges without surrogates. Sorted ranges stay sorted, and ranges that touch are
+/// joined; most tables contain ranges that touch.
 fn cut(alloc: Global, ranges: &[ClassRange]) -> Result<Vec<ClassRange>, NoMemory>
     ensures { IfOk result (λ v. HasExactly v.items (λ c. is_char c && in_ranges ranges.now c)) }
 {
@@ -67,8 +67,8 @@ fn are_canonical(ranges: &[ClassRange]) -> bool
     true
 }
 
-/// Returns the characters of the ranges as a class. Most ranges are sorted already, single ones
-/// above all, and are then not copied again.
+/// Returns the characters in the ranges as a class. Ranges that are sorted already, as most are,
+/// single ranges above all, are not copied again.
 pub(crate) fn class_of(alloc: Global, ranges: &[ClassRange]) -> Result<Class, NoMemory>
     ensures { IfOk result (λ k. IsListOf (in_ranges ranges.now) k.ranges.items) }
 {
@@ -79,7 +79,7 @@ pub(crate) fn class_of(alloc: Global, ranges: &[ClassRange]) -> Result<Class, No
     Class::new(parts)
 }
 
-/// Returns the characters of the ranges, which may come in any order and overlap. The result is
+/// Returns the characters in the ranges, which may come in any order and overlap. The result is
 /// sorted, its ranges don't touch, and it contains no surrogates. A range whose start is above its
 /// end is empty.
 pub fn characters(alloc: Global, ranges: &[ClassRange]) -> Result<RangeList, NoMemory>

@@ -26,7 +26,7 @@ fn past_spaces(bytes: &[u8]) -> &[u8]
     &bytes[spaces(bytes)..]
 }
 
-/// Returns the bytes after a front, if the bytes begin with it.
+/// Returns the bytes after `front`, if the bytes begin with it.
 fn past<'a>(front: &[u8], bytes: &'a [u8]) -> Option<&'a [u8]>
     ensures { option_copied result ≡ behind front.now bytes.now }
 {
@@ -45,7 +45,7 @@ fn past<'a>(front: &[u8], bytes: &'a [u8]) -> Option<&'a [u8]>
     }
 }
 
-/// Returns whether there are bytes, and they begin with a space or a tab.
+/// Returns whether there are bytes that begin with a space or a tab.
 fn goes_on(rest: Option<&[u8]>) -> bool
     ensures { result ≡ goes_on (option_copied rest.entry) }
 {

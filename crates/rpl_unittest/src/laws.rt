@@ -7,7 +7,7 @@ pub fn one_answer()
     ensures { OneAnswerLaw }
 {}
 
-/// Proves that the nodes that `build` makes of the captures of one tree are one tree, as
+/// Proves that the nodes that `build` makes from the captures of one tree are one tree, as
 /// `judge` requires.
 pub fn built_as_one_tree()
     ensures { BuiltAsOneTree }

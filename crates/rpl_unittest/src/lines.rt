@@ -8,7 +8,7 @@ use rpl_print::{push_decimal, push_quoted, push_text, text_of};
 use rpl_text::Chars;
 use std::alloc::Global;
 
-/// Returns the word of a verb.
+/// Returns the word for a verb.
 fn word_of(verb: Verb) -> &'static str
     ensures { result.now ≡ L.word_of verb }
 {
@@ -33,8 +33,8 @@ fn push_part(line: &mut String, part: &Option<Chars>) -> Result<(), NoMemory>
     }
 }
 
-/// Returns the line of a test that fails, as `rosie test` writes it: `FILE:LINE: NAME VERB PART
-/// TEXT`, without PART if the test names none, and with TEXT as a string of JSON.
+/// Returns the line that reports a test that fails, as `rosie test` writes it: `FILE:LINE: NAME
+/// VERB PART TEXT`, without PART if the test names none, and with TEXT as a JSON string.
 pub fn failed_line(alloc: Global, file: &str, test: &Test) -> Result<String, NoMemory>
     ensures { IfOk result (λ line. string_bytes line ≡ L.failed_line file.now test.now) }
 {

@@ -166,7 +166,7 @@ fn fits(wants_text: bool, word: &Word<'_>) -> bool
     }
 }
 
-/// Returns whether the words are one text or more, separated by commas.
+/// Returns whether the words are one or more texts, separated by commas.
 pub(crate) fn are_texts(words: &[Word<'_>]) -> bool
     ensures { result ≡ are_texts true (words_seen words.now) }
 {

@@ -11,7 +11,7 @@ use rpl_lexer::NoMemory;
 use std::alloc::Global;
 use thiserror::Error;
 
-/// The reason why a text has no tests.
+/// The reason why the tests of a text could not be read.
 #[derive(Clone, Copy, Debug, PartialEq, Eq, Error)]
 pub enum TestFault {
     /// There is not enough memory.
@@ -35,8 +35,8 @@ impl From<NoMemory> for TestFault {
     }
 }
 
-/// Reads the tests of a text. Returns the first line with a malformed test comment, if there is
-/// one.
+/// Reads the tests of a text. If a test comment is malformed, the error has the number of the
+/// first such line.
 ///
 /// A line is a test comment if its first characters, apart from spaces and tabs, are `--`, and
 /// the next word is `test`, with a space or a tab after it. The dashes are followed by `test`,

@@ -21,7 +21,7 @@ fn part_chars(alloc: Global, part: Option<&str>) -> Result<Option<Chars>, NoMemo
     }
 }
 
-/// Returns the test of one text.
+/// Returns the test for one text.
 fn make_test(
     alloc: Global,
     line: u64,

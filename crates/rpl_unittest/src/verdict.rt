@@ -28,7 +28,7 @@ fn is_plain(part: &str) -> bool
     true
 }
 
-/// Returns whether the label is a package, a dot and a part.
+/// Returns whether the label is the package, a dot and the part.
 fn is_joined(label: &[u8], prefix: &[u8], part: &[u8]) -> bool
     ensures { result ≡ bytes_eq label.now (prefix.now ++ 46 ∷ part.now) }
 {
@@ -114,7 +114,7 @@ fn is_whole(forest: &Forest, text: &str, program: &Program) -> bool
     }
 }
 
-/// Returns the bytes of a part, which are none if there is no part.
+/// Returns the text of a part, which is empty if there is no part.
 fn part_of(part: &Option<Chars>) -> &str
     ensures { result.now ≡ part_of part.now }
 {
@@ -124,7 +124,7 @@ fn part_of(part: &Option<Chars>) -> &str
     }
 }
 
-/// Returns whether a test passes whose text matches.
+/// Returns whether a test passes, given that its text matches.
 fn judge_match(verb: Verb, asked: Asked<'_>, text: &str, forest: &Forest, program: &Program) -> bool
     requires { AreOneTree forest.now }
     ensures { result ≡ is_met verb asked.entry.prefix.now asked.entry.part.now text.now
@@ -138,10 +138,10 @@ fn judge_match(verb: Verb, asked: Asked<'_>, text: &str, forest: &Forest, progra
     }
 }
 
-/// Returns whether the test passes. `found` is the match tree of its text, or `None` if the
-/// text isn't matched. The forest is that of one tree, whose labels are the program's; `prefix`
-/// is the name of the file's package, empty if it has none. A part without a dot names the node
-/// of that type and the one of that type in the file's package.
+/// Returns whether the test passes. `found` is the match tree of its text, or `None` if the text
+/// isn't matched. The forest must be one tree, whose labels are the program's; `prefix` is the
+/// name of the file's package, empty if it has none. A part without a dot names the nodes of
+/// that type and those of that type in the file's package.
 pub fn judge(test: &Test, prefix: &str, found: Option<&Forest>, program: &Program) -> bool
     requires { IfSome (option_copied found) AreOneTree }
     ensures { let trees = option_map (trees_in program.now) (option_copied found.entry) in

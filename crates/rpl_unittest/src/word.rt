@@ -26,7 +26,7 @@ pub(crate) enum Word<'a> {
     Other,
 }
 
-/// Returns the word of a keyword.
+/// Returns the word for a keyword.
 fn of_keyword<'a>(keyword: Keyword) -> Word<'a>
     ensures { word_seen result ≡ S.of_keyword keyword }
 {
@@ -37,7 +37,7 @@ fn of_keyword<'a>(keyword: Keyword) -> Word<'a>
     }
 }
 
-/// Returns the word of a sign.
+/// Returns the word for a sign.
 fn of_sign<'a>(sign: Punct) -> Word<'a>
     ensures { word_seen result ≡ S.of_sign sign }
 {
@@ -51,7 +51,7 @@ fn of_sign<'a>(sign: Punct) -> Word<'a>
     }
 }
 
-/// Returns the word of a token.
+/// Returns the word for a token.
 fn make_word<'a>(alloc: Global, text: &'a str, token: Token) -> Result<Word<'a>, NoMemory>
     requires { IsToken text.now token }
     ensures { IfOk result (λ w. word_seen w ≡ S.word_by token.kind text.now token) }

@@ -1,5 +1,5 @@
-// The result of a goal: the verdict of the check and the compiler, and its ending on a line by
-// its meaning and by both machines.
+// The result of a goal: the verdict of the check and the compiler, and its ending on a line, as
+// its meaning and as both machines give it.
 ghost use Rattle.std.specs.Prelude.{◌≡◌, ◌<◌};
 ghost use Rattle.rpl_machine.specs.Known.{IsMemoOf};
 
@@ -17,7 +17,8 @@ use std::sync::ledger::{Blank, Ledger};
 /// The most steps that a run may make.
 const BUDGET: u64 = 100_000;
 
-/// The most turns and calls that may be nested, on a short text and on one of up to 140 characters.
+/// The most turns and calls that may be nested: `DEPTH` on a short text, and `LONG_DEPTH` on one
+/// of up to 140 characters.
 const DEPTH: u32 = 40;
 
 const LONG_DEPTH: u32 = 180;
@@ -30,7 +31,7 @@ pub(crate) struct Ending {
     pub(crate) cost: u64,
 }
 
-/// Returns an answer that wasn't found.
+/// Returns the ending for an answer that wasn't found.
 fn open(alloc: Global) -> Result<Ending, AllocError> {
     let shown = String::from_str(alloc, "open")?;
     Ok(Ending { shown, cost: 0 })
@@ -68,8 +69,8 @@ pub(crate) fn meant(
     Ok(Ending { shown, cost })
 }
 
-/// The result for a goal over a table: code, or that calls or blocks are out of order, or the
-/// first fault, or nothing if memory runs out or the code is too long.
+/// The result for a goal over a table: the code, or the verdict that calls or blocks are out of
+/// order, or the first fault, or nothing if memory runs out or the code is too long.
 #[derive(Drop)]
 pub(crate) enum Judged {
     Code(Program),
@@ -128,7 +129,7 @@ fn answer_on<L: Ledger>(
     run(program, line, BUDGET, scratch, &mut steps).ok()
 }
 
-/// Returns the answer of the machine, if it has one, with what the memo knows of the program.
+/// Returns the answer of the machine, if it has one, with what the memo knows about the program.
 fn learned_on<L: Ledger>(
     program: &Program,
     line: Text<'_>,
@@ -146,7 +147,7 @@ fn learned_on<L: Ledger>(
     memo.run(program, line, BUDGET, scratch, &mut steps).ok()
 }
 
-/// Returns the ending of an answer of the machine. Without an answer the ending is `open` too.
+/// Returns the ending for the machine's answer. Without an answer the ending is `open`.
 fn make_ending(
     alloc: Global,
     program: &Program,
@@ -183,7 +184,7 @@ fn is_same(one: &Ending, other: &Ending) -> bool {
     one.cost == other.cost && one.shown.as_str() == other.shown.as_str()
 }
 
-/// Returns whether two runs of the machine end as `due`, if they share what they learn of the
+/// Returns whether two runs of the machine end as `due`, if they share what they learn about the
 /// program's searches: the first run learns it, and the second one uses it.
 pub(crate) fn is_learned(
     alloc: Global,

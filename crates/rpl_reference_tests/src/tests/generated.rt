@@ -1,5 +1,5 @@
-// Two thousand generated patterns and texts, tried by their meaning, by the plain machine and
-// by the machine.
+// Two thousand generated patterns and texts, evaluated by their meaning, by the plain machine
+// and by the machine.
 use crate::tests::endings::{Judged, is_learned, judge, meant, plain, real};
 use crate::tests::made::{Made, generator, make};
 use rpl_machine::Scratch;
@@ -8,7 +8,7 @@ use std::test::Fail;
 
 const COUNT: u32 = 2_000;
 
-/// Returns the ending that is meant, if both machines answer it in the same number of steps,
+/// Returns the ending that is meant, if both machines give it in the same number of steps,
 /// whether or not they know the searches of the program, and that number is at most four times
 /// the work plus two. Returns an empty text if not.
 fn agreed(alloc: Global, made: Made, scratch: &mut Scratch) -> Result<String, AllocError> {
@@ -32,7 +32,7 @@ fn agreed(alloc: Global, made: Made, scratch: &mut Scratch) -> Result<String, Al
     Ok(String::new(alloc))
 }
 
-/// The number of endings of each kind, and of those on long texts.
+/// The number of endings of each kind, in all and on long texts.
 #[derive(Drop)]
 struct Endings {
     failed: u32,
@@ -63,7 +63,7 @@ impl Endings {
     }
 }
 
-/// Both machines answer what is meant.
+/// Both machines give the ending that is meant.
 #[test]
 fn machines_answer_what_is_meant(rt: HostRuntime) -> Result<(), Fail> {
     let mut scratch = Scratch::new(rt.alloc());

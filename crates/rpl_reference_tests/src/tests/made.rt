@@ -1,12 +1,13 @@
-// Generated goals, rules and texts. A pattern is made from templates, whose words stand after
-// their parts: `S` is a set, `P` the pattern made last, and `C` a call of a rule. An entry that
-// is twice in a table is taken more often.
+// Generated goals, rules and texts. A pattern is made from templates, in which each word comes
+// after its parts: `S` is a set, `P` the pattern made last, and `C` a call of a rule. An entry
+// that appears twice in a table is chosen more often.
 //
-// A goal of `make` has a meaning on every text. A repeated body has a set that it can't leave out,
+// A goal of `make` has a meaning for every text. A repeated body has a set that it can't skip,
 // so each turn takes a character. A rule begins with a set, so calls end. No halt is inside a
-// predicate, since all predicates are leaves if there are halts. One text in nine is long; its goal
-// calls no rule, since a rule that calls itself in two ways can take ever more steps, twice as many
-// for each character. In a goal of `make_wild` anything may be wrong, even the order of the table.
+// predicate, since all predicates are leaves if there are halts. One text in nine is long; its
+// goal calls no rule, since a rule that calls itself in two ways can take twice as many steps
+// for each further character. In a goal of `make_wild` anything may be wrong, even the order of
+// the table.
 use crate::tests::names::is_new;
 use rand::RngExt;
 use rand::seq::IndexedRandom;
@@ -33,7 +34,7 @@ static SETS: [[char; 2]; 10] = [
 /// The letters of the short texts.
 static LETTERS: [&str; 5] = ["a", "a", "b", "c", "\u{e9}"];
 
-/// The letters of the long texts, in which they have one to four bytes.
+/// The letters of the long texts, each of one to four bytes.
 static WIDE_LETTERS: [&str; 6] = ["a", "b", "c", "\u{e9}", "\u{20ac}", "\u{1f642}"];
 
 /// Patterns without parts.
@@ -79,7 +80,7 @@ static JOINS: [&str; 6] = [
     "P P seq2 C choice2",
 ];
 
-/// Patterns that look ahead. The last one searches, for what its second part matches.
+/// Patterns that look ahead. The last one searches for what its second part matches.
 static PREDICATES: [&str; 5] = [
     "P not",
     "P and",
@@ -211,7 +212,7 @@ fn last_of(alloc: Global, stack: &mut Vec<Peg>, count: u32) -> Result<Pegs, Allo
     Ok(parts)
 }
 
-/// Returns the pattern of a word around the last one.
+/// Returns the pattern that a word makes around the last pattern.
 fn around(alloc: Global, stack: &mut Vec<Peg>, word: &str) -> Result<Peg, AllocError> {
     let body = Box::new(alloc, last(alloc, stack))?;
     if let Some(label) = word.strip_prefix("cap:") {
@@ -229,7 +230,7 @@ fn around(alloc: Global, stack: &mut Vec<Peg>, word: &str) -> Result<Peg, AllocE
     Ok(Peg::Behind { least, most, body })
 }
 
-/// Returns the pattern of a word, made from the patterns before it.
+/// Returns the pattern that a word makes from the patterns before it.
 fn join(alloc: Global, stack: &mut Vec<Peg>, word: &str) -> Result<Peg, AllocError> {
     match word {
         "start" => Ok(Peg::Start),
@@ -245,7 +246,7 @@ fn join(alloc: Global, stack: &mut Vec<Peg>, word: &str) -> Result<Peg, AllocErr
     }
 }
 
-/// Returns the pattern of a template. If no pattern is left for a `P`, it is a set.
+/// Returns the pattern of a template. If no pattern is left for a `P`, a set takes its place.
 fn fill(
     alloc: Global,
     random: &mut Pcg32,
@@ -343,7 +344,7 @@ fn text(alloc: Global, random: &mut Pcg32) -> Result<String, AllocError> {
     Ok(text)
 }
 
-/// Returns a text of 40 to 140 letters, in runs of equal ones.
+/// Returns a text of 40 to 140 letters, in runs of equal letters.
 fn long_text(alloc: Global, random: &mut Pcg32) -> Result<String, AllocError> {
     let mut text = String::new(alloc);
     let mut letter = "a";

@@ -1,10 +1,11 @@
-// A second check, slow and plain. The rules that may be empty, and those that may halt, are the
-// least set of rules: what all closed sets have in common. So every set is tried.
+// A second check, slow and plain. The rules that may be empty are the least closed set of rules:
+// those that all closed sets have in common. The same is true of the rules that may halt.
+// Therefore every set is tried.
 use rpl_check::BehindCause;
 use rpl_core::{Peg, Rules};
 use std::alloc::{AllocError, Global};
 
-/// The most rules of a table here.
+/// The most rules that a table has here.
 const MOST: u32 = 3;
 
 /// A set of rules of a table: which rules are in it.
@@ -46,7 +47,7 @@ fn both(one: &Marks, other: &Marks) -> Marks {
     [one[0] && other[0], one[1] && other[1], one[2] && other[2]]
 }
 
-/// Adds a pattern and all patterns in it, in the order of reading.
+/// Adds a pattern and all patterns in it, in reading order.
 #[cycle(all)]
 fn push_all<'a>(peg: &'a Peg, all: &mut Vec<&'a Peg>) -> Result<(), AllocError> {
     all.push(peg)?;
@@ -73,7 +74,7 @@ fn all_in<'a>(alloc: Global, peg: &'a Peg) -> Result<Vec<&'a Peg>, AllocError> {
 }
 
 /// Returns whether the pattern may succeed without taking a character, if only the marked rules
-/// may.
+/// may do so.
 #[cycle(empty)]
 fn may_be_empty(peg: &Peg, empties: &Marks) -> bool {
     match peg {
@@ -135,14 +136,16 @@ fn mark_in_each(parts: &[Peg], empties: &Marks, called: &mut Marks) {
     }
 }
 
-/// A fact of a pattern that depends on which rules have it too.
+/// A fact about patterns. Whether it holds for a pattern depends on the rules for which it
+/// holds.
 #[derive(Clone, Copy)]
 enum Fact {
     MayBeEmpty,
     MayHalt,
 }
 
-/// Returns whether the pattern has the fact, if only the marked rules have it.
+/// Returns whether the fact holds for the pattern, if the marked rules are those for which it
+/// holds.
 fn has_fact(alloc: Global, fact: Fact, peg: &Peg, marks: &Marks) -> Result<bool, AllocError> {
     match fact {
         Fact::MayBeEmpty => Ok(may_be_empty(peg, marks)),
@@ -163,8 +166,8 @@ fn has_fact(alloc: Global, fact: Fact, peg: &Peg, marks: &Marks) -> Result<bool,
     }
 }
 
-/// Returns whether the set contains each rule whose body has the fact, if only the rules of the
-/// set have it.
+/// Returns whether the set contains each rule for whose body the fact holds, if the rules in the
+/// set are those for which it holds.
 fn is_closed(alloc: Global, fact: Fact, rules: &Rules, marks: &Marks) -> Result<bool, AllocError> {
     for number in 0..MOST {
         if let Some(rule) = rules.get(number) {
@@ -176,7 +179,7 @@ fn is_closed(alloc: Global, fact: Fact, rules: &Rules, marks: &Marks) -> Result<
     Ok(true)
 }
 
-/// Returns the rules that have the fact: the least closed set.
+/// Returns the rules for which the fact holds: the least closed set.
 fn rules_with(alloc: Global, fact: Fact, rules: &Rules) -> Result<Marks, AllocError> {
     let mut least = [true; 3];
     for marks in &SETS {
@@ -188,7 +191,8 @@ fn rules_with(alloc: Global, fact: Fact, rules: &Rules) -> Result<Marks, AllocEr
 }
 
 /// Returns whether the rule reaches itself before it has taken a character. The rules that a
-/// reached rule calls so are marked too, three times over, which is enough for three rules.
+/// reached rule calls in this way are marked too. This is done three times, which is enough for
+/// three rules.
 fn reaches_itself(rules: &Rules, empties: &Marks, number: u32) -> bool {
     let mut reached = [false; 3];
     if let Some(rule) = rules.get(number) {
@@ -206,8 +210,8 @@ fn reaches_itself(rules: &Rules, empties: &Marks, number: u32) -> bool {
     has(&reached, number)
 }
 
-/// Returns the fault of the body of a look-behind. No generated body is longer than 255
-/// characters.
+/// Returns the fault in the body of a look-behind, if it has one. No generated body is longer
+/// than 255 characters.
 fn cause_of(alloc: Global, body: &Peg) -> Result<Option<BehindCause>, AllocError> {
     let mut repeats = false;
     for part in &all_in(alloc, body)? {
@@ -224,7 +228,7 @@ fn cause_of(alloc: Global, body: &Peg) -> Result<Option<BehindCause>, AllocError
     })
 }
 
-/// Returns the fault of the first invalid look-behind.
+/// Returns the fault of the first invalid look-behind, if there is one.
 fn first_cause(alloc: Global, peg: &Peg) -> Result<Option<BehindCause>, AllocError> {
     for part in &all_in(alloc, peg)? {
         if let Peg::Behind { body, .. } = part {
@@ -236,7 +240,7 @@ fn first_cause(alloc: Global, peg: &Peg) -> Result<Option<BehindCause>, AllocErr
     Ok(None)
 }
 
-/// Returns whether something is repeated that may be empty.
+/// Returns whether something that may be empty is repeated.
 fn has_empty_loop(alloc: Global, peg: &Peg, empties: &Marks) -> Result<bool, AllocError> {
     for part in &all_in(alloc, peg)? {
         if let Peg::Many(body) = part {
@@ -263,7 +267,7 @@ fn has_halt_inside(alloc: Global, peg: &Peg, halting: &Marks) -> Result<bool, Al
     Ok(false)
 }
 
-/// A table with its facts.
+/// A table, and the rules for which each fact holds.
 #[derive(Clone, Copy)]
 struct Known<'a> {
     rules: &'a Rules,
@@ -377,7 +381,7 @@ fn share_block(rules: &Rules, one: u32, other: u32) -> bool {
     }
 }
 
-/// Returns whether the rule calls only earlier rules, and those of its block.
+/// Returns whether the rule calls only earlier rules and rules of its block.
 fn calls_back(alloc: Global, rules: &Rules, number: u32) -> Result<bool, AllocError> {
     let Some(rule) = rules.get(number) else {
         return Ok(true);

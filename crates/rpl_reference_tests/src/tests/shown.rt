@@ -76,7 +76,7 @@ pub(crate) fn show_plain(
     }
 }
 
-/// Returns the number of characters before a byte offset of the line.
+/// Returns the number of characters before a byte offset in the line.
 fn number_of(line: &str, place: usize) -> usize {
     let mut number = 0usize;
     for (start, _) in line.char_indices() {
