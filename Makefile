@@ -8,7 +8,7 @@ DOCUMENTS = docs/COMMAND.md docs/COLUMNS.md docs/LANGUAGE.md docs/TUTORIAL.md do
 # The programs whose words Tab completes.
 COMPLETED = rosie rosie-columns rosie-try rosie-play rosie-lsp
 TOOLS = rosie-at rosie-try rosie-why rosie-parallel
-# What the tools share. They look for it beside themselves, and then in share/rosie/tools.
+# What the tools share. They look for it in ../share/rosie/tools, here and where they are installed.
 MODULES = advice.tsv rosie_advice.py rosie_findings.py rosie_messages.py rosie_reasons.py rosie_rpl.py rosie_why.py
 VIM = syntax/rpl.vim ftdetect/rpl.vim ftplugin/rpl.vim compiler/rosie.vim
 # Emacs finds a package in the folder of this name at its start, below /usr and /usr/local.
@@ -84,14 +84,14 @@ install: build
 		$(SHARE)/zsh/site-functions $(SHARE)/fish/vendor_completions.d
 	install -m 755 $(PROGRAM) $(BIN)/rosie
 	install -m 755 $(COLUMNS_PROGRAM) $(BIN)/rosie-columns
-	install -m 755 $(TOOLS:%=tools/%) $(BIN)
+	install -m 755 $(TOOLS:%=bin/%) $(BIN)
 	tools/manual_page > $(SHARE)/man/man1/rosie.1
 	tools/manual_page rosie-columns > $(SHARE)/man/man1/rosie-columns.1
 	tools/manual_page rosie-language > $(SHARE)/man/man7/rosie-language.7
-	install -m 644 $(TOOLS:%=tools/%.1) $(SHARE)/man/man1
+	install -m 644 $(TOOLS:%=share/man/man1/%.1) $(SHARE)/man/man1
 	install -d $(SHARE)/rosie/tools
-	install -m 644 $(MODULES:%=tools/%) $(SHARE)/rosie/tools
-	install -m 644 tools/rosie.sh tools/rosie.fish $(SHARE)/rosie
+	install -m 644 $(MODULES:%=share/rosie/tools/%) $(SHARE)/rosie/tools
+	install -m 644 share/rosie/rosie.sh share/rosie/rosie.fish $(SHARE)/rosie
 	install -m 644 $(DOCUMENTS) $(SHARE)/doc/rosie
 	install -d $(SHARE)/doc/rosie/packages
 	install -m 644 docs/packages/*.md $(SHARE)/doc/rosie/packages

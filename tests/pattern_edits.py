@@ -2,7 +2,7 @@
 
 An edit drops, doubles or swaps a character or a word of a pattern, or puts one in. What it touched says which
 remedies are right: a hint on quotes where a quote was touched, one on groups where a brace was, and so on.
-RIGHT_TABLE says it of each habit of tools/advice.tsv.
+RIGHT_TABLE says it of each habit of share/rosie/tools/advice.tsv.
 """
 import re
 

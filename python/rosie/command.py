@@ -51,7 +51,7 @@ def find_command(given: Optional[Path] = None) -> str:
 def find_tool(name: str, command: str) -> Optional[str]:
     """The path of a tool beside the command, as `rosie-why`, or None where there is none."""
     source, prefix = folders_above()
-    beside = [os.path.dirname(command), os.path.join(source, "tools"), os.path.join(prefix, "bin")]
+    beside = [os.path.dirname(command), os.path.join(source, "bin"), os.path.join(prefix, "bin")]
     for folder in beside:
         found = shutil.which(name, path=folder)
         if found:

@@ -13,7 +13,7 @@ from helper import EXAMPLES, PROGRAM, TOP, command
 
 from rosie.play.work import Work
 
-TOOLS = os.path.join(TOP, "tools")
+TOOLS = os.path.join(TOP, "bin")
 ENVIRONMENT = dict(os.environ, ROSIE=PROGRAM, COLUMNS="80", NO_COLOR="1")
 # Stands for rosie-why while the commands of tests/run_tools run: it writes down its words and its input.
 RECORDER = """#!{python}

@@ -18,6 +18,8 @@ import time
 from rosie_rpl import CLOSERS, KEYWORDS, comments, items, statement_end, tokens, wrong_place
 
 HERE = os.path.dirname(os.path.realpath(__file__))
+# PREFIX/share/rosie, and the top of the source tree, where this file lies in one.
+ABOVE = [os.path.dirname(HERE), os.path.dirname(os.path.dirname(os.path.dirname(HERE)))]
 COMMANDS = "match grep test list expand trace sample repl compile class".split()
 MACROS = "find findall keepto ci uci message error".split()
 CLASSES = ("alpha digit alnum upper lower space punct xdigit cntrl graph print blank Letter Uppercase_Letter Lowercase_Letter "
@@ -72,7 +74,7 @@ class Program:
     @staticmethod
     def found(name):
         """A launcher in the source answers at once only where the program is built."""
-        beside = os.path.join(os.path.dirname(HERE), "crates", "rosie", "out", "rosie")
+        beside = os.path.join(ABOVE[1], "crates", "rosie", "out", "rosie")
         for folder in [""] if "/" in name else os.get_exec_path():
             path = os.path.realpath(os.path.join(folder, name))
             if os.path.isfile(path) and os.access(path, os.X_OK):
@@ -83,8 +85,8 @@ class Program:
 
     def library(self):
         """The folders where packages may be, given or not."""
-        shared = os.path.join(os.path.dirname(HERE), "examples")
-        return self.folders or [folder for folder in (".", "examples", shared) if os.path.isdir(folder)]
+        shared = [os.path.join(folder, "examples") for folder in ABOVE]
+        return self.folders or [folder for folder in (".", "examples", *shared) if os.path.isdir(folder)]
 
     def ask(self, command, *words):
         """What the program writes: its output and its messages. None where it can't be asked."""
@@ -425,7 +427,8 @@ def rules_name(case, groups):
 @detector
 def package_elsewhere(case, groups):
     given = case.program.folders or ["."]
-    places = [".", "examples", os.path.join(os.path.dirname(HERE), "examples"), os.path.dirname(HERE), *sorted(glob.glob("*/"))]
+    shared = [os.path.join(folder, "examples") for folder in ABOVE]
+    places = [".", "examples", *shared, *ABOVE, *sorted(glob.glob("*/"))]
     for folder in places:
         if folder not in given and os.path.isfile(os.path.join(folder, groups[0] + ".rpl")):
             return [groups[0], folder.rstrip("/")]
