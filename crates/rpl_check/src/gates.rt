@@ -1,8 +1,9 @@
 // The order in which to mark the rules of a block for which a fact holds: each rule comes after the
-// rules that its own mark follows from.
+// rules from which its own mark follows.
 //
-// Only the running time depends on this order: a rule is marked if the fact holds for it, whenever
-// it is visited. So a body is walked once for its gates and once more when it is marked.
+// Only the running time depends on this order, because a rule is marked only after the fact has
+// been tested on its body. Each body is therefore walked twice: once for its gates, and once when
+// its rule is marked.
 ghost use Rattle.std.specs.Prelude.{◌-◌, ◌<◌, ◌≤◌};
 
 use crate::NoMemory;

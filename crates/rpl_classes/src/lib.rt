@@ -1,11 +1,12 @@
 //! Sets of characters, and the brackets that spell them.
 //!
-//! The parser reads brackets with this crate, and every later stage carries its sets down to the
+//! The parser reads brackets with this crate. Its sets pass through every later stage to the
 //! machine, which calls `Set::has` once per character. Contracts see a set as its list of ranges,
 //! which are sorted, don't touch and contain no surrogates, so sets with the same members are the
-//! same list. Each call promises exactly the members of its result: `Set::named` those of a class
-//! of the POSIX C locale or of a Unicode name, and `read_bracket` those of the bracket's set, or
-//! the first fault and its place. The only other failure is running out of memory.
+//! same list. The contract of each call states exactly which members the returned set has:
+//! `Set::named` returns a class of the POSIX C locale or the set with a Unicode name, and
+//! `read_bracket` returns the bracket's set, or the first fault and its place. The only other
+//! failure is running out of memory.
 #![tactic(auto)]
 
 mod bits;

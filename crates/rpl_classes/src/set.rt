@@ -109,7 +109,7 @@ fn unicode_set(alloc: Global, name: &str) -> Result<Set, SetFault>
     }
 }
 
-/// Adds a number if `test` holds.
+/// Adds a number to the ranges if `test` is true.
 fn push_where(ranges: &mut Vec<ClassRange>, number: u32, test: bool) -> Result<(), NoMemory>
     ensures { OnOk result ((c : ℕ) →
         in_ranges ranges.new.items c

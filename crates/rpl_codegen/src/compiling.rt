@@ -18,8 +18,8 @@ use std::alloc::Global;
 /// `finish`, and each rule that the goal reaches, in the order of the table. Equal sets and equal
 /// texts are stored once, in the order of their first use.
 ///
-/// The code does on every text what the goal means, with no further premise: the check has shown
-/// that the goal's meaning is never open.
+/// On every text, the code does what the goal means. This needs no further premise, since the check
+/// has shown that the goal's meaning is never open.
 ///
 /// # Examples
 ///

@@ -10,7 +10,7 @@ use rpl_classes::Set;
 use std::alloc::Global;
 use std::marker::Model;
 
-/// The ranges of all heads so far. Contracts see None if a part had no head, or if they are not
+/// The ranges of all heads so far. Contracts see `None` if a part had no head, or if heads are not
 /// wanted.
 #[derive(Drop)]
 pub(crate) struct Heads {
@@ -32,7 +32,7 @@ impl Model for Heads {
 }
 
 impl Heads {
-    /// Returns the heads of no parts.
+    /// Returns the state before any part is added.
     pub(crate) fn new(alloc: Global, wanted: bool) -> Heads
         ensures { result ≡ (if wanted then Some [] else None) }
     {

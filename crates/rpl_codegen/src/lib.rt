@@ -2,8 +2,8 @@
 //!
 //! `compile` takes a goal that has passed `rpl_check`. It returns exactly the code that `rpl_core`
 //! defines, with each set and each text stored once, or reports that this code is too long. Its
-//! contract states that the code does on every text what the goal means. The size of every part is
-//! known before anything is written, so each jump is written with its address and nothing is
+//! contract states that, on every text, the code does what the goal means. The size of every part
+//! is known before anything is written, so each jump is written with its address and nothing is
 //! patched, and code that is too long is refused before any of it is built.
 #![tactic(auto)]
 

@@ -250,7 +250,7 @@ fn put_cells(
     Ok(())
 }
 
-/// Writes two quotes if nothing was written from `start` on.
+/// Writes two quotes if nothing has been written at or after `start`.
 fn fill_blank(out: &mut Vec<u8>, start: usize) -> Result<(), NoMemory>
     requires { start ≤ vec_len out.old }
     ensures { OnOk result (out.new.items ≡ take start out.old.items

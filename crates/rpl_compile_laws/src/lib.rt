@@ -9,10 +9,10 @@
 ghost use Rattle.rpl_compile_laws.specs.Laws.{SimulationLaw, AnswerLaw, NoHaltLaw, OneTreeLaw};
 ghost use Rattle.rpl_compile_laws.specs.Laws.{TerminationLaw};
 
-/// If no predicate of a goal may halt and the goal's meaning isn't open, the goal's code does on
-/// each text what the goal means. It ends at the same place with exactly the trees of the meaning,
-/// or fails. It takes at most four times the work of the meaning, plus two steps; with fewer steps
-/// than it needs, the run is unfinished.
+/// If no predicate of a goal may halt and the goal's meaning isn't open, then on each text the
+/// goal's code does what the goal means. It ends at the same place with exactly the trees of the
+/// meaning, or fails. It takes at most four times the work of the meaning, plus two steps; with
+/// fewer steps than it needs, the run is unfinished.
 pub fn simulation_law()
     ensures { SimulationLaw }
 {}

@@ -17,12 +17,12 @@ pub fn flat_law()
     ensures { FlatLaw }
 {}
 
-/// A goal has at most one code over a table of rules.
+/// Over a given table of rules, the code of a goal is unique.
 pub fn code_law()
     ensures { CodeLaw }
 {}
 
-/// A goal has a code over a table of rules, so statements about its code are never vacuous.
+/// Over any table of rules, every goal has code, so statements about its code are never vacuous.
 pub fn has_code_law()
     ensures { HasCodeLaw }
 {}

@@ -62,7 +62,7 @@ impl Pegs {
         }
     }
 
-    /// Adds a pattern at the end. When memory runs out, nothing changes.
+    /// Adds a pattern at the end. If memory runs out, nothing changes.
     pub fn push(&mut self, item: Peg) -> Result<(), NoMemory>
         ensures ok { OnOk result (listed self.new ≡ listed self.old ++ item ∷ []) }
         ensures err { OnErr result (listed self.new ≡ listed self.old) }

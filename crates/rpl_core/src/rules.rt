@@ -37,7 +37,7 @@ impl Rules {
         }
     }
 
-    /// Adds a rule with a new name at the end. When memory runs out, nothing changes.
+    /// Adds a rule with a new name at the end. If memory runs out, nothing changes.
     pub fn push(&mut self, rule: Rule) -> Result<(), NoMemory>
         requires few { length (rules_of self.old) < 0xffff_ffff }
         requires new_name { IsNew rule.name (names_of (rules_of self.old)) }

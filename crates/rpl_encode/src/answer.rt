@@ -66,10 +66,10 @@ impl AnswerText {
         self.text.as_slice()
     }
 
-    /// Replaces the text with that of a line's outcome in this style. `found` holds the trees
-    /// of a match, whose types are numbered as in `fronts`, or is `None` if the line isn't
-    /// matched. Reuses memory as far as it suffices, and stops as soon as the text is too long.
-    /// After an error the old text stays.
+    /// Replaces the text with that of a line's outcome in this style. `found` holds the trees of a
+    /// match, whose types are numbered as in `fronts`, or is `None` if the line isn't matched.
+    /// Reuses its memory, allocates more only if that is too small, and stops as soon as the text
+    /// is too long. After an error the old text stays.
     pub fn fill(
         &mut self,
         style: Style,

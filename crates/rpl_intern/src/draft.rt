@@ -90,7 +90,7 @@ impl Draft {
         self.code.len() as u32
     }
 
-    /// Writes an instruction without a set or a text. When memory runs out, nothing changes.
+    /// Writes an instruction without a set or a text. If memory runs out, nothing changes.
     pub fn put(&mut self, instr: Instr) -> Result<(), NoMemory>
         requires room { length self.old.code < 1048576 }
         requires plain { IsSome (plain instr) }
@@ -101,7 +101,7 @@ impl Draft {
         Ok(())
     }
 
-    /// Writes `set`. When memory runs out, nothing changes.
+    /// Writes `set`. If memory runs out, nothing changes.
     pub fn put_set(&mut self, alloc: Global, set: &Set) -> Result<(), NoMemory>
         requires { length self.old.code < 1048576 }
         ensures adds { OnOk result (Adds self.old self.new (I.Set set.now ∷ [])) }
@@ -110,7 +110,7 @@ impl Draft {
         self.use_set(alloc, set, SetUse::Set)
     }
 
-    /// Writes `span`. When memory runs out, nothing changes.
+    /// Writes `span`. If memory runs out, nothing changes.
     pub fn put_span(&mut self, alloc: Global, set: &Set) -> Result<(), NoMemory>
         requires { length self.old.code < 1048576 }
         ensures adds { OnOk result (Adds self.old self.new (I.Span set.now ∷ [])) }
@@ -119,8 +119,8 @@ impl Draft {
         self.use_set(alloc, set, SetUse::Span)
     }
 
-    /// Writes `testset`, which jumps to `other` if no character of the set follows. When memory
-    /// runs out, nothing changes.
+    /// Writes `testset`, which jumps to `other` if no character of the set follows. If memory runs
+    /// out, nothing changes.
     pub fn put_test(&mut self, alloc: Global, other: u32, set: &Set) -> Result<(), NoMemory>
         requires { length self.old.code < 1048576 }
         ensures adds { OnOk result (Adds self.old self.new (I.TestSet other set.now ∷ [])) }
@@ -129,7 +129,7 @@ impl Draft {
         self.use_set(alloc, set, SetUse::Test(other))
     }
 
-    /// Writes `open`. When memory runs out, nothing changes.
+    /// Writes `open`. If memory runs out, nothing changes.
     pub fn put_open(&mut self, alloc: Global, label: &Chars) -> Result<(), NoMemory>
         requires { length self.old.code < 1048576 }
         ensures adds { OnOk result (Adds self.old self.new (I.Open label.now ∷ [])) }
@@ -138,7 +138,7 @@ impl Draft {
         self.use_text(alloc, label, TextUse::Open)
     }
 
-    /// Writes `note`. When memory runs out, nothing changes.
+    /// Writes `note`. If memory runs out, nothing changes.
     pub fn put_note(&mut self, alloc: Global, text: &Chars) -> Result<(), NoMemory>
         requires { length self.old.code < 1048576 }
         ensures adds { OnOk result (Adds self.old self.new (I.Note text.now ∷ [])) }
@@ -147,7 +147,7 @@ impl Draft {
         self.use_text(alloc, text, TextUse::Note)
     }
 
-    /// Writes an instruction with its set. When memory runs out, nothing changes.
+    /// Writes an instruction with its set. If memory runs out, nothing changes.
     fn use_set(&mut self, alloc: Global, set: &Set, as_what: SetUse) -> Result<(), NoMemory>
         requires { length self.old.code < 1048576 }
         ensures adds { OnOk result (Adds self.old self.new (with_set as_what set.now ∷ [])) }
@@ -159,7 +159,7 @@ impl Draft {
         put_with(&mut self.code, &mut self.sets, instr, count)
     }
 
-    /// Writes an instruction with its text. When memory runs out, nothing changes.
+    /// Writes an instruction with its text. If memory runs out, nothing changes.
     fn use_text(&mut self, alloc: Global, text: &Chars, as_what: TextUse) -> Result<(), NoMemory>
         requires { length self.old.code < 1048576 }
         ensures adds { OnOk result (Adds self.old self.new (with_text as_what text.now ∷ [])) }
@@ -172,8 +172,8 @@ impl Draft {
     }
 }
 
-/// Writes an instruction whose row is in this table, which had `count` rows before. When memory
-/// runs out, only those `count` rows stay.
+/// Writes an instruction whose row is in this table, which had `count` rows before. If memory runs
+/// out, only those `count` rows stay.
 fn put_with<T: Piece>(
     code: &mut Instrs,
     table: &mut Table<T>,

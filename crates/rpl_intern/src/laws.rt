@@ -1,4 +1,4 @@
-// Laws that hold for the tables of every code.
+// Laws that hold for the tables of all code.
 ghost use Rattle.std.specs.Prelude.{ℕ, List};
 ghost use Rattle.regex_class.specs.Ranges.{Range};
 ghost use Rattle.rpl_intern.specs.Laws.{OneTable, TablesAreOfUses};

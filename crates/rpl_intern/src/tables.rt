@@ -86,7 +86,7 @@ impl<T: Piece> Table<T> {
         }
     }
 
-    /// Returns the number of the row, and adds the row if it is new. When memory runs out, nothing
+    /// Returns the number of the row, and adds the row if it is new. If memory runs out, nothing
     /// changes.
     fn keep_row(&mut self, alloc: Global, row: Vec<T>) -> Result<usize, NoMemory>
         requires { T.is_row row.items }
@@ -103,7 +103,7 @@ impl<T: Piece> Table<T> {
         }
     }
 
-    /// Adds a new row, and returns its number. When memory runs out, nothing changes.
+    /// Adds a new row, and returns its number. If memory runs out, nothing changes.
     fn add(&mut self, alloc: Global, row: Vec<T>) -> Result<usize, NoMemory>
         requires is_row { T.is_row row.items }
         requires is_new { Contains self.old row.items → ⊥ }
@@ -172,7 +172,7 @@ impl Table<ClassRange> {
         }
     }
 
-    /// Returns the number of the set, and adds the set if it is new. When memory runs out, nothing
+    /// Returns the number of the set, and adds the set if it is new. If memory runs out, nothing
     /// changes.
     pub fn keep(&mut self, alloc: Global, set: &Set) -> Result<usize, NoMemory>
         ensures kept { IfOk result (λ k. Keeps self.old (set.now ∷ []) self.new) }
@@ -221,8 +221,8 @@ fn text(alloc: Global, characters: &[char]) -> Result<Chars, NoMemory>
 }
 
 impl Table<char> {
-    /// Returns the number of the text, and adds the text if it is new. When memory runs out,
-    /// nothing changes.
+    /// Returns the number of the text, and adds the text if it is new. If memory runs out, nothing
+    /// changes.
     pub fn keep(&mut self, alloc: Global, label: &Chars) -> Result<usize, NoMemory>
         ensures kept { IfOk result (λ k. Keeps self.old (label.now ∷ []) self.new) }
         ensures number { IfOk result (λ k. slice_get self.new k ≡ Some label.now) }

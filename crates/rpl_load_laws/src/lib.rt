@@ -1,5 +1,5 @@
-//! Laws that hold for every loaded set of packages, for the expansion and the checks that follow
-//! it.
+//! Laws that hold for every loaded set of packages. The expansion, and the checks that follow it,
+//! rely on them.
 //!
 //! The crates that prepare a command use these laws: where the expansion and the check require
 //! something that holds for every set, a law provides it, and nothing is checked at run time.

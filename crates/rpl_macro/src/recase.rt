@@ -61,7 +61,7 @@ fn is_letter(c: char) -> bool
     (0x41 <= number && number <= 0x5a) || (0x61 <= number && number <= 0x7a)
 }
 
-/// Returns the class of one character in every case.
+/// Returns the class that contains one character in every case.
 fn every(alloc: Global, c: char) -> Result<Expr, NoMemory>
     ensures { IfOk result (λ e. expr_of e ≡ M.Class (folded (single c)) false) }
 {

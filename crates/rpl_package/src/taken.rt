@@ -1,4 +1,4 @@
-// Imports from modules whose names may already all be there.
+// Imports without a prefix, which enter the names of each module only once.
 ghost use Rattle.std.specs.Prelude.{◌≡◌, All, OnOk};
 ghost use Rattle.rpl_package.specs.inside.Taken.{is_plain};
 ghost use Rattle.rpl_scope.specs.Faults.{Gives};
@@ -18,8 +18,7 @@ fn is_plain(import: &Import) -> bool
 }
 
 /// Adds what an import brings in from a loaded module. `taken` holds the numbers of the modules
-/// whose names are all present already, so that they are not imported without a prefix a second
-/// time.
+/// whose names are all present already. They are not imported without a prefix a second time.
 pub fn bring(
     own: &mut Module,
     taken: &mut Vec<usize>,

@@ -46,8 +46,8 @@ pub fn printed_again()
         IsUtf8 s → IsCut s ts → IsPattern s ts x → HasFewTokens x → IsPrintedAgain x }
 {}
 
-/// The body of each rule of a module can be written, just like an expression that a whole text is
-/// read as.
+/// The body of each rule of a module is an expression that can be written, as is any expression
+/// that a whole text is read as.
 pub fn bodies_can_be_written()
     ensures { (s : List ℕ) (ts : List Lexeme) (m : ParsedModule) →
         IsUtf8 s → IsCut s ts → IsModule s ts m → BodiesWritten m.items }

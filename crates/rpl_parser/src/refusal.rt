@@ -1,4 +1,4 @@
-// Refusals of tokens.
+// The reasons why tokens are refused.
 ghost use Rattle.std.specs.Prelude.{◌≡◌};
 ghost use Rattle.rpl_parser.specs.inside.Refusals.{fault_at};
 ghost use Rattle.rpl_parser.specs.declared.refusal.Refusal.TheVariants.{Memory};
@@ -6,7 +6,7 @@ ghost use Rattle.rpl_parser.specs.declared.refusal.Refusal.TheVariants.{Memory};
 use crate::fault::{ParseFault, ParseKind};
 use std::alloc::{AllocError, AllocFailed};
 
-/// The error of a function of the descent.
+/// The error that the functions of the descent return.
 #[derive(Clone, Copy, Debug)]
 pub enum Refusal {
     /// Memory ran out.

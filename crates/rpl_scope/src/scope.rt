@@ -83,7 +83,7 @@ fn shared(from: &Module, number: usize, name: &Chars) -> Found
     }
 }
 
-/// Resolves a name after a prefix, in a statement with this start.
+/// Resolves a name with a prefix, in a statement with this start.
 fn prefixed(modules: &[Module], start: usize, name: &Chars, prefix: Option<Prefix>) -> Found
     ensures { result ≡ prefixed (modules_seen modules.now) start name.now prefix }
 {

@@ -28,7 +28,7 @@ pub fn reads_back()
         (y : M.Expr) × Reads (spell_exp (exp_tree x) []) y × (plain y ≡ plain (again x)) }
 {}
 
-/// The printed text of an expression is its tree as written: the text of each token, separated by
+/// The printed text of an expression is its tree as written: the texts of its tokens, separated by
 /// spaces.
 pub fn prints_tree()
     ensures { (x : M.Expr) → Good x → printed x ≡ write_exp (exp_tree x) [] }

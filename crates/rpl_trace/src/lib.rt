@@ -1,14 +1,14 @@
-//! Traces: the evaluations of a match, for users who want to see why a pattern matches or not.
-//! They are listed in the order in which they begin, each with its depth, its kind, where it
+//! Traces: the evaluations of a match, for users who want to see why a pattern does or does not
+//! match. They are listed in the order in which they begin, each with its depth, its kind, where it
 //! starts and how it ends.
 //!
 //! `trace` evaluates a checked goal on a text and prints each evaluation. The text is exactly the
-//! printed tree of `specs/Evaluations.antt`, which follows the meaning of `rpl_core` case by
-//! case. `end` is the byte offset where the outcome of that meaning ends, so a trace and a match
-//! agree. By `count_law`, a trace has as many lines as the outcome takes work. A trace is refused
-//! exactly when this number exceeds the limit, and the number of lines that are made never
-//! exceeds the limit. Nothing is recursive: the stack space is the same for every pattern, text
-//! and limit, and all other memory is in lists that grow with the number of lines.
+//! printed tree of `specs/Evaluations.antt`, which follows the meaning of `rpl_core` case by case.
+//! `end` is the byte offset where the outcome of that meaning ends, so a trace and a match agree.
+//! By `count_law`, a trace has as many lines as the outcome takes work. A trace is refused exactly
+//! when this number exceeds the limit, and no more lines than that are ever made. Nothing is
+//! recursive: the stack space is the same for every pattern, text and limit, and all other memory
+//! is in lists that grow with the number of lines.
 #![tactic(auto)]
 
 mod answer;

@@ -1,8 +1,8 @@
 //! Unicode's named sets of characters, and the characters that differ only in case.
 //!
 //! The sets of `rpl_classes`, which the parser and the macros use, are built on this crate.
-//! `class_ranges` promises exactly the characters in the named property, general category or
-//! script, and `UnknownClass` exactly when none has the name. `folds` promises exactly the
+//! `class_ranges` returns exactly the characters in the named property, general category or script,
+//! and returns `UnknownClass` exactly when none has the name. `folds` returns exactly the
 //! characters that share a simple case folding with a character of a range. Returned ranges are
 //! sorted, don't touch and contain no surrogates. The tables are those of the crate `unicode`;
 //! nothing is read from them before a call.

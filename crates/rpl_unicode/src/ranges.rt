@@ -53,7 +53,7 @@ fn cut(alloc: Global, ranges: &[ClassRange]) -> Result<Vec<ClassRange>, NoMemory
     Ok(parts)
 }
 
-/// Returns whether the ranges are nonempty, sorted and don't touch.
+/// Returns whether the ranges are nonempty and sorted and don't touch.
 fn are_canonical(ranges: &[ClassRange]) -> bool
     ensures { IsTrue result → IsCanonical ranges.now }
 {
@@ -67,8 +67,8 @@ fn are_canonical(ranges: &[ClassRange]) -> bool
     true
 }
 
-/// Returns the characters in the ranges as a class. Ranges that are sorted already, as most are,
-/// single ranges above all, are not copied again.
+/// Returns the characters in the ranges as a class. Ranges that are already sorted are not copied
+/// again. Most are, and a single range always is.
 pub(crate) fn class_of(alloc: Global, ranges: &[ClassRange]) -> Result<Class, NoMemory>
     ensures { IfOk result (λ k. IsListOf (in_ranges ranges.now) k.ranges.items) }
 {

@@ -45,7 +45,7 @@ fn past<'a>(front: &[u8], bytes: &'a [u8]) -> Option<&'a [u8]>
     }
 }
 
-/// Returns whether there are bytes that begin with a space or a tab.
+/// Returns whether there are bytes and they begin with a space or a tab.
 fn goes_on(rest: Option<&[u8]>) -> bool
     ensures { result ≡ goes_on (option_copied rest.entry) }
 {

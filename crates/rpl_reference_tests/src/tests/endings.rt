@@ -1,5 +1,5 @@
-// The result of a goal: the verdict of the check and the compiler, and its ending on a line, as
-// its meaning and as both machines give it.
+// The result of a goal: the verdict of the check and the compiler, and the goal's ending on a line
+// according to its meaning and to both machines.
 ghost use Rattle.std.specs.Prelude.{◌≡◌, ◌<◌};
 ghost use Rattle.rpl_machine.specs.Known.{IsMemoOf};
 
@@ -14,11 +14,11 @@ use std::alloc::{AllocError, Global};
 use std::marker::Brand;
 use std::sync::ledger::{Blank, Ledger};
 
-/// The most steps that a run may make.
+/// The greatest number of steps that a run may make.
 const BUDGET: u64 = 100_000;
 
-/// The most turns and calls that may be nested: `DEPTH` on a short text, and `LONG_DEPTH` on one
-/// of up to 140 characters.
+/// The greatest number of turns and calls that may be nested: `DEPTH` on a short text, and
+/// `LONG_DEPTH` on one of up to 140 characters.
 const DEPTH: u32 = 40;
 
 const LONG_DEPTH: u32 = 180;
@@ -184,8 +184,8 @@ fn is_same(one: &Ending, other: &Ending) -> bool {
     one.cost == other.cost && one.shown.as_str() == other.shown.as_str()
 }
 
-/// Returns whether two runs of the machine end as `due`, if they share what they learn about the
-/// program's searches: the first run learns it, and the second one uses it.
+/// Returns whether two runs of the machine have the ending `due` if they share what they learn
+/// about the program's searches: the first run learns it, and the second one uses it.
 pub(crate) fn is_learned(
     alloc: Global,
     program: &Program,

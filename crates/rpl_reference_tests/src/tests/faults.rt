@@ -63,8 +63,8 @@ impl Verdicts {
     }
 }
 
-/// On four thousand generated tables and patterns the check finds the same as the plain check,
-/// which tries all sets of rules.
+/// On four thousand generated tables and patterns, the check gives the same verdict as the plain
+/// check, which tries all sets of rules.
 #[test]
 fn faults_are_those_of_the_plain_check(rt: HostRuntime) -> Result<(), Fail> {
     let mut random = generator();

@@ -8,9 +8,9 @@ use std::test::Fail;
 
 const COUNT: u32 = 2_000;
 
-/// Returns the ending that is meant, if both machines give it in the same number of steps,
-/// whether or not they know the searches of the program, and that number is at most four times
-/// the work plus two. Returns an empty text if not.
+/// Returns the ending that is meant, if both machines give it in the same number of steps, whether
+/// or not they know the searches of the program, and that number is at most four times the work
+/// plus two. Otherwise returns an empty text.
 fn agreed(alloc: Global, made: Made, scratch: &mut Scratch) -> Result<String, AllocError> {
     let Made { rules, goal, text } = made;
     let meant = meant(alloc, &rules, &goal, text.as_str())?;

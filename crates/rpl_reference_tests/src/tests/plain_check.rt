@@ -5,10 +5,10 @@ use rpl_check::BehindCause;
 use rpl_core::{Peg, Rules};
 use std::alloc::{AllocError, Global};
 
-/// The most rules that a table has here.
+/// The greatest number of rules in a table here.
 const MOST: u32 = 3;
 
-/// A set of rules of a table: which rules are in it.
+/// A set of rules of a table: for each rule, whether the set contains it.
 type Marks = [bool; 3];
 
 /// The fault of a table or a pattern, if it has one. A rule is given by its number, the pattern
