@@ -16,7 +16,7 @@ use std::marker::Brand;
 use std::process::ExitCode;
 use std::sync::ledger::{Blank, Ledger};
 
-/// The most bytes of output that are kept before they are written.
+/// The greatest number of bytes of output that are held back before they are written.
 const OUTPUT_BUFFER: usize = 65_536;
 
 fn words(rt: &HostRuntime) -> io::Result<Vec<String>> {

@@ -247,7 +247,7 @@ fn run_words<F: Files, I: Source, O: Sink, E: Sink, L: Ledger>(
 }
 
 /// Runs the program. `words` are those after the program's name, and `input` is standard input.
-/// Takes no step of the machine.
+/// Makes no machine steps.
 pub fn columns<F: Files, I: Source, O: Sink, E: Sink, L: Ledger>(
     alloc: Global,
     words: &[String],
@@ -270,10 +270,10 @@ pub fn columns<F: Files, I: Source, O: Sink, E: Sink, L: Ledger>(
     ensures untouched { IsRefused (reading (words_of words.now)) → (files.new ≡ files.old) ×
         (input.new ≡ input.old) }
 
-    // It takes no step of the machine.
+    // It makes no machine steps.
     ensures idle { steps.new ≡ steps.old }
 
-    // All is flushed, unless a write failed or memory ran out.
+    // Everything is flushed, unless a write failed or memory ran out.
     ensures out_flushed { Flushes O.Sink (status_in result) out.new }
     ensures err_flushed { Flushes E.Sink (status_in result) err.new }
 {

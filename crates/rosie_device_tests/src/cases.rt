@@ -78,7 +78,7 @@ const BAD_LINE: &str = "\
         …!rosie: -: read failed¶
         …!rosie: -:1: not UTF-8¶rosie: -: read failed¶";
 
-/// Loading rules takes three calls: the open of the file, a read, and the end.
+/// Loading rules takes three calls: one opens the file, one reads its bytes, and one finds its end.
 const X_RULES: &str = "\
         !rosie: x.rpl: read failed¶
         !rosie: x.rpl: read failed¶
@@ -96,8 +96,8 @@ const MATCH: Case = Case {
     out: b"ab1\nab2\nab3\nab4\n",
     err: b"steps 7\nsteps 4\nsteps 7\nrosie: -:2: not UTF-8\n\
         steps 7\nrosie: g:1: not UTF-8\nsteps 7\n",
-    // The calls are, for the package, the open, three reads and the end; then for `f`, and then
-    // for `g`, the open, a read and the end.
+    // The package takes five calls: one opens it, three read its bytes, and one finds its end. Then
+    // `f` and `g` take three calls each, of which one reads bytes.
     files: "\
         !rosie: lib/p.rpl: read failed¶
         !rosie: lib/p.rpl: read failed¶
@@ -111,7 +111,7 @@ const MATCH: Case = Case {
         ab1¶ab2¶ab3¶!steps 7¶steps 4¶steps 7¶rosie: -:2: not UTF-8¶steps 7¶rosie: g: read failed¶
         ab1¶ab2¶ab3¶!steps 7¶steps 4¶steps 7¶rosie: -:2: not UTF-8¶steps 7¶rosie: g:1: not UTF-8¶\
         rosie: g: read failed¶",
-    // The reads give `ab2`, `¶ÿ¶`, `ab3`, `¶` and the end.
+    // The reads give `ab2`, `¶ÿ¶`, `ab3` and `¶`, and then find the end.
     input: "\
         ab1¶!steps 7¶steps 4¶rosie: -: read failed¶
         ab1¶!steps 7¶steps 4¶rosie: -: read failed¶
@@ -163,7 +163,8 @@ const MATCH: Case = Case {
     },
 };
 
-/// The rules and the file take three calls each: the open, a read, and the end.
+/// The rules and the file take three calls each: to open it, to read its bytes, and to find its
+/// end.
 const GREP: Case = Case {
     run: Run {
         words: "grep -a -f r.rpl n f -",

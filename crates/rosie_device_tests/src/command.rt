@@ -71,7 +71,7 @@ pub(crate) fn words_of(alloc: Global, text: &str) -> Result<Vec<String>, NoMemor
     Ok(words)
 }
 
-/// Returns the most bytes that a call of this device moves.
+/// Returns the greatest number of bytes that a call of this device moves.
 fn most_of(run: &Run<'_>, device: Device) -> usize
     ensures { 1 ≤ result }
 {

@@ -35,8 +35,9 @@ fn is_whole(case: &Case, got: &Outcome) -> bool {
     got.status == case.status && got.out.as_slice() == case.out && got.err.as_slice() == case.err
 }
 
-/// Returns the first row of a device that differs from the result of its call, or an empty text.
-/// If the number of the call to fail is past the device's last call, the run must be whole.
+/// Returns the first row of a device that differs from the result of its call, or an empty text. If
+/// the number of the failing call exceeds the number of the device's calls, the output must be
+/// complete.
 fn first_other(alloc: Global, case: &Case, device: Device) -> Result<&'static str, NoMemory> {
     let mut call = 1u64;
     for row in case.rows(device).lines() {

@@ -18,7 +18,7 @@ pub fn one_loading()
     ensures { OneLoading }
 {}
 
-/// Proves that the capture list of any trees writes out exactly those trees.
+/// Proves that the capture list of any trees represents exactly those trees.
 pub fn written_law()
     ensures { WrittenLaw }
 {}

@@ -2,8 +2,7 @@
 
 use rpl_encode::Style;
 
-/// The most bytes that a line may have. If the whole input is one line, the input may have as
-/// many.
+/// The greatest number of bytes in a line, or in the input if the whole input is one line.
 pub const MAX_LINE_BYTES: usize = 16_777_216;
 
 /// The settings for all lines, apart from the pattern.

@@ -29,7 +29,7 @@ pub trait LineJob {
     /// The piece of a line, given the input's name, the line's number and its text.
     ghost makes: { Self → List ℕ → ℕ → List ℕ → Piece };
 
-    /// Whether the job is known to make no step of the machine.
+    /// Whether the job is known to make no machine steps.
     ghost idle: { Type 0 } = { ⊥ };
 
     /// The texts of the last piece.
@@ -37,7 +37,7 @@ pub trait LineJob {
 
     ghost err_text: { Self → List ℕ };
 
-    /// The text that the job says at the end, if these lines are still to be given to it.
+    /// The text that the job adds at the end, if these are the lines still to be given to it.
     ghost last_text: { Self → List (List ℕ) → List ℕ } = { λ _ _. [] };
 
     /// Makes the piece of a line.

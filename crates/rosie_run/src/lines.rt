@@ -27,7 +27,7 @@ pub struct Reading {
     pub tool: Tool,
     /// Whether the whole input is one line.
     pub whole: bool,
-    /// The most bytes that a line may have.
+    /// The greatest number of bytes that a line may have.
     pub most: usize,
 }
 

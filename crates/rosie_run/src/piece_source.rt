@@ -39,7 +39,7 @@ pub trait PieceSource {
     /// The name of what it reads, used in the line that says that reading ended the run.
     ghost source_name: { Self → List ℕ };
 
-    /// Whether the source is known to make no step of the machine.
+    /// Whether the source is known to make no machine steps.
     ghost idle: { Type 0 } = { ⊥ };
 
     /// Whether it is known that no piece of the source ends the run.

@@ -17,7 +17,7 @@ pub struct Tally {
 }
 
 impl Tally {
-    /// Returns the tally of no pieces.
+    /// Returns the tally before any piece.
     #[tactic(auto, unfolding(crate::specs::Report::has))]
     pub fn new() -> Tally
         ensures { result ≡ tally_of [] }

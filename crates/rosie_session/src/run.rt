@@ -36,7 +36,7 @@ use std::alloc::Global;
 use std::mem;
 use std::sync::ledger::Ledger;
 
-/// The most bytes that a line of a session may have.
+/// The greatest number of bytes that a line of a session may have.
 const MAX_COMMAND_BYTES: usize = 1_048_576;
 
 /// The state that a session keeps from line to line. It is kept apart from the value that holds

@@ -15,7 +15,7 @@ use rpl_print::text_of;
 use rpl_text::Chars;
 use std::alloc::Global;
 
-/// The most bytes that an RPL file may have.
+/// The greatest number of bytes that an RPL file may have.
 const MAX_FILE_BYTES: usize = 1_048_576;
 
 /// Returns the refusal of the whole file, or `NoMemory` if there is no room for its line.

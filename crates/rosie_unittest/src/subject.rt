@@ -14,8 +14,8 @@ use rpl_core::Program;
 use rpl_package::Target;
 use std::alloc::{AllocError, Global};
 
-/// The most instructions that are kept: once there are more, all are dropped. The longest code
-/// has as many.
+/// The greatest number of instructions that are kept: once there are more, all are dropped. This is
+/// also the length of the longest code allowed.
 const MAX_KEPT: usize = 1_048_576;
 
 /// A goal with its code.

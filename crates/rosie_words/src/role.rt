@@ -8,7 +8,7 @@ ghost use Rattle.rosie_words.specs.Table.{option_named};
 
 use crate::table::{OptionName, option_named};
 
-/// The state that the words so far leave.
+/// The state after the words so far.
 #[derive(Clone, Copy)]
 pub(crate) enum Front<'a> {
     /// An option may follow.
