@@ -17,6 +17,12 @@ pub enum BehindCause {
 
 /// The reason why a table of rules or a pattern is refused. `rule` is the number of a rule in the
 /// table, or `None` if the fault is in the pattern itself.
+///
+/// # Examples
+///
+/// ```
+/// assert!(rt; matches!(check(alloc, rules), Err(CheckFault::EmptyLoop { rule: Some(0) })));
+/// ```
 #[derive(Debug, Drop, Error)]
 pub enum CheckFault {
     /// Memory ran out.

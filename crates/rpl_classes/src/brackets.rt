@@ -168,6 +168,13 @@ fn content_set(alloc: Global, text: &str, place: usize) -> Result<Set, SetFault>
 }
 
 /// The result of reading a bracket.
+///
+/// # Examples
+///
+/// ```
+/// let bracket = read_bracket(alloc, "[^a-z]")?;
+/// assert!(rt; bracket.negated && bracket.set.same(&letters));
+/// ```
 #[derive(Debug, Drop)]
 pub struct Bracket {
     /// The characters listed in the bracket.

@@ -3,6 +3,13 @@
 /// One capture of a run. A run's captures are listed in the order in which the machine made them.
 /// `specs/Forest.antt` defines which list represents which trees. Places are byte offsets from the
 /// start of the line.
+///
+/// # Examples
+///
+/// ```
+/// let caught = [Caught::Begin { label: 0, place: 2 }, Caught::Finish { place: 4 }];
+/// let forest = build(alloc, &caught)?;
+/// ```
 #[derive(Clone, Copy, Debug, PartialEq, Eq)]
 pub enum Caught {
     /// The start of a tree of the type with this number.
