@@ -5,8 +5,8 @@
 >>> pattern.search('from 10.0.0.9 port 22').text
 '10.0.0.9'
 
-What a pattern means comes from the command `rosie`, which this package runs. README.md, beside this package in the
-source, goes through it by examples.
+This package runs the command `rosie`, which does the matching. README.md, beside this package in the source, explains
+the package by examples.
 """
 from .command import Command, CommandMissing, find_command, find_packages
 from .faults import LineFault, PatternError, RosieError

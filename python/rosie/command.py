@@ -1,4 +1,4 @@
-"""Where the command `rosie` is, and how it is run once."""
+"""Finds the command `rosie`, and runs it once."""
 from __future__ import annotations
 
 import functools
@@ -15,7 +15,7 @@ LONGEST_WORD = 131072
 
 
 class CommandMissing(RosieError):
-    """The command `rosie` isn't where it was looked for."""
+    """The command `rosie` was not found."""
 
 
 class Done(NamedTuple):
@@ -27,16 +27,16 @@ class Done(NamedTuple):
 
 
 def folders_above() -> "list[str]":
-    """The folders in which this package may stand: of the source tree, and of an installation (PREFIX/share/rosie)."""
+    """The folders that may contain this package: that of the source tree, and that of an installation."""
     package = os.path.dirname(os.path.abspath(__file__))
     share = os.path.dirname(os.path.dirname(package))
     return [share, os.path.dirname(os.path.dirname(share))]
 
 
 def find_command(given: Optional[Path] = None) -> str:
-    """The path of the command: the given one, that of the variable ROSIE, the one beside this package, or that on PATH.
+    """The path of the command: the given one, that in the variable ROSIE, the one beside this package, or that on PATH.
 
-    Raises CommandMissing where there is none.
+    Raises CommandMissing if there is none.
     """
     source, prefix = folders_above()
     built = os.path.join(source, "crates", "rosie", "out", "rosie")
@@ -49,7 +49,7 @@ def find_command(given: Optional[Path] = None) -> str:
 
 
 def find_tool(name: str, command: str) -> Optional[str]:
-    """The path of a tool beside the command, as `rosie-why`, or None where there is none."""
+    """The path of a tool beside the command, such as `rosie-why`, or None if there is none."""
     source, prefix = folders_above()
     beside = [os.path.dirname(command), os.path.join(source, "bin"), os.path.join(prefix, "bin")]
     for folder in beside:
@@ -60,7 +60,7 @@ def find_tool(name: str, command: str) -> Optional[str]:
 
 
 def find_packages(command: str) -> Optional[str]:
-    """The folder of the packages that come with the command, or None where it isn't found."""
+    """The folder of the packages that come with the command, or None if it is not found."""
     source, prefix = folders_above()
     for path in dict.fromkeys([command, os.path.realpath(command)]):
         folder = os.path.dirname(os.path.dirname(path))
@@ -73,7 +73,7 @@ def find_packages(command: str) -> Optional[str]:
 
 
 def checked_words(words: Iterable[str]) -> "list[str]":
-    """The words, where a command line can hold them; else RosieError says why not."""
+    """The words, if a command line can hold them. Otherwise raises RosieError, which says why not."""
     made = list(words)
     for word in made:
         if "\0" in word:
@@ -84,9 +84,9 @@ def checked_words(words: Iterable[str]) -> "list[str]":
 
 
 class Command:
-    """The command at a path, with the folders in which it looks for packages.
+    """The command at a path, with the folders that it searches for packages.
 
-    `libpath` is where imports are looked for. By default that is `.`, and then the packages that come with the command.
+    `libpath` lists the folders to search for imports; by default `.`, and then the packages of the command.
     """
 
     def __init__(self, path: Optional[Path] = None, libpath: Union[None, str, Sequence[Path]] = None) -> None:
@@ -96,18 +96,18 @@ class Command:
         self.timeout: Optional[float] = None
 
     def limit(self, seconds: int, mebibytes: int) -> None:
-        """Bounds each run from here on: the seconds of a processor, and the memory."""
+        """Limits the processor seconds and the memory of each run from now on."""
         limits = f'ulimit -t {int(seconds)}; ulimit -v {int(mebibytes) * 1024}; exec "$0" "$@"'
         self._limits = ["/bin/sh", "-c", limits]
         self.timeout = 10 * seconds
 
     def bounded(self, words: Iterable[str]) -> "list[str]":
-        """These words of another program, with the bounds of this command."""
+        """The words that run another program with the limits of this command."""
         return [*self._limits, *words]
 
     @property
     def words(self) -> "list[str]":
-        """What starts the command."""
+        """The words that start the command."""
         return self.bounded([self.path])
 
     def _folders(self, libpath: Union[None, str, Sequence[Path]]) -> "list[str]":
@@ -131,7 +131,7 @@ class Command:
 
     @functools.cached_property
     def libpath_words(self) -> "list[str]":
-        """The words that say where imports are looked for."""
+        """The words that name the folders to search for imports."""
         return ["--libpath", ":".join(self.libpath)]
 
 

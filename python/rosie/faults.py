@@ -18,11 +18,11 @@ LONGEST_TEXT = 1048576
 
 
 class RosieError(Exception):
-    """The command couldn't be run, or ended as it never should."""
+    """The command could not be run, or ended in an unexpected way."""
 
 
 class Message(NamedTuple):
-    """A message of the command that names a place: `rosie: FILE:OFFSET: TEXT`. Of a whole file the offset is None."""
+    """A message of the command that names a place, `rosie: FILE:OFFSET: TEXT`. For a whole file, the offset is None."""
 
     file: str
     offset: Optional[int]
@@ -30,7 +30,7 @@ class Message(NamedTuple):
 
 
 class Place(NamedTuple):
-    """A place in a text: line and column (in characters) from 1, and the line itself."""
+    """A place in a text: line and column (in characters), counted from 1, and the line itself."""
 
     line: int
     column: int
@@ -38,7 +38,7 @@ class Place(NamedTuple):
 
 
 def read_message(written: str) -> Optional[Message]:
-    """The first message in what the command wrote to standard error; None where it names no file."""
+    """The first message that the command wrote to standard error, or None if it names no file."""
     head = re.match(r"rosie: (?!usage: )(.*)", written)
     if head is None:
         return None
@@ -51,7 +51,7 @@ def read_message(written: str) -> Optional[Message]:
 
 
 def place_in(text: bytes, offset: int) -> Place:
-    """The line and the column of a byte of a text."""
+    """The line and the column of a byte in a text."""
     start = text.rfind(b"\n", 0, offset) + 1
     end = text.find(b"\n", offset)
     line = text[start: len(text) if end < 0 else end]
@@ -73,10 +73,10 @@ def text_of_file(path: str) -> Optional[bytes]:
 class PatternError(RosieError):
     """A pattern, a text of rules or a file was refused.
 
-    `file` is the path, `(pattern)`, or `(rpl K)` for the K-th text of `rpl`. `offset` is the place in bytes from 0,
-    `line` and `column` the same from 1, with columns in characters; they are None where the fault is one of the whole
-    file. `message` is the text of the command, and `advice` has the hints of `rosie-at` on it, where that tool is
-    there and has any.
+    `file` is the path, `(pattern)`, or `(rpl K)` for the K-th text of `rpl`. `offset` is the place in bytes, counted
+    from 0; `line` and `column` give the same place, counted from 1, with the column in characters. All three are None
+    if the fault is about the whole file. `message` is the text of the message, and `advice` has the hints of
+    `rosie-at`, if that tool is installed.
     """
 
     def __init__(self, message: Message, pattern: str = "", rpl: Sequence[str] = (),
@@ -100,7 +100,7 @@ class PatternError(RosieError):
 
     @property
     def advice(self) -> "list[str]":
-        """What may help, a sentence each. It asks `rosie-at`, once."""
+        """The hints of `rosie-at`, one sentence each. The tool is asked only once."""
         if self._advice is None:
             self._advice = self._ask()
         return self._advice
@@ -130,8 +130,8 @@ class PatternError(RosieError):
 class LineFault(RosieError):
     """A line that has no answer.
 
-    `cause` says why, as `not UTF-8` or `budget spent`; `number` is the place of the line, from 1, and `line` has its
-    bytes.
+    `cause` says why, for example `not UTF-8` or `budget spent`; `number` is the number of the line, counted from 1, and
+    `line` has its bytes.
     """
 
     def __init__(self, number: int, cause: str, line: bytes = b"") -> None:

@@ -1,16 +1,16 @@
 """The protocol with the command: one answer for each line, in order.
 
-The command runs with `--steps`, and its standard error goes into the same pipe as its standard output. Of each line it
-then writes
+The command runs with `--steps`, and its standard error goes into the same pipe as its standard output. For each line,
+it then writes
 
-- the tree, which begins with `{`, and after it `steps N`, where the line matched,
-- `steps N` alone, where it didn't,
-- `rosie: -:NUMBER: CAUSE` alone, where it has no answer.
+- the tree, which begins with `{`, followed by `steps N`, if the line matched,
+- only `steps N`, if it did not match,
+- only `rosie: -:NUMBER: CAUSE`, if it has no answer.
 
-So the last line of each answer is no tree, and nothing of the input is written: no line of the input can be taken for
-an answer. The command writes out its standard output before it writes to standard error, and both before it waits for
-input; so an answer comes as soon as the line is there. That a process has answered all is known by counting, never by
-the end of its output.
+So the last line of each answer is not a tree. The command does not print input lines, so no line of the input can be
+mistaken for an answer. The command flushes its standard output before it writes to standard error, and flushes both
+before it waits for input, so each answer comes as soon as its line has arrived. The answers are counted; nothing waits
+for the end of the output.
 """
 from __future__ import annotations
 
@@ -31,7 +31,7 @@ FAULT = re.compile(rb"rosie: -:\d+: ([A-Za-z0-9 -]+)")
 
 
 class CommandEnded(RosieError):
-    """The command ended where it should have answered. `status` is its status, and `written` what it wrote last."""
+    """The command ended instead of answering. `status` is its exit status, and `written` is what it wrote last."""
 
     def __init__(self, status: int, written: str) -> None:
         super().__init__(status, written)
@@ -42,7 +42,7 @@ class CommandEnded(RosieError):
 
 
 def file_of(text: bytes) -> IO[bytes]:
-    """A file without a name that holds these bytes, to be read from its start; in memory, where that can be."""
+    """An unnamed file that holds these bytes, to be read from its start; in memory, if possible."""
     memory = getattr(os, "memfd_create", None)
     file = os.fdopen(memory("rosie"), "w+b") if memory else tempfile.TemporaryFile(prefix="rosie-")
     file.write(text)
@@ -53,8 +53,8 @@ def file_of(text: bytes) -> IO[bytes]:
 class LineProcess:
     """A process of the command that answers lines.
 
-    `code` is a compiled pattern, which the process reads as its code file. With `text` that is all of its input;
-    without, it is asked line by line.
+    `code` is a compiled pattern, which the process reads as its code file. With `text`, that text is its whole input;
+    without it, the process is asked line by line.
     """
 
     def __init__(self, words: Sequence[str], code: Optional[bytes] = None, text: Optional[bytes] = None) -> None:
@@ -93,7 +93,7 @@ class LineProcess:
         return answers[0] if answers else self.whole_answer()
 
     def exchange(self, text: bytes) -> List[Answer]:
-        """Writes whole lines; the answers that came meanwhile."""
+        """Writes whole lines, and returns the answers that came meanwhile."""
         answers: List[Answer] = []
         left = memoryview(text)[self._write(text):]
         while left:
@@ -118,7 +118,7 @@ class LineProcess:
             return len(text)
 
     def receive(self) -> List[Answer]:
-        """Waits until something comes; the answers that are whole then. Raises CommandEnded at the output's end."""
+        """Waits for output, and returns the complete answers. Raises CommandEnded at the end of the output."""
         read = os.read(self._out, READ_SIZE)
         if not read:
             self._raise_end()
@@ -163,7 +163,7 @@ class LineProcess:
         raise CommandEnded(self._process.returncode, written)
 
     def close(self) -> None:
-        """Ends the process. In a process that was forked, this lets go of the pipes alone."""
+        """Ends the process. In a forked process, this only closes the pipes."""
         if self._process.stdin is not None:
             self._process.stdin.close()
         self._stdout.close()

@@ -8,7 +8,7 @@ from .tree import Node, Record, copy_tree, read_tree, record_of, write_tree
 
 
 def takes(name: str, type_: str) -> bool:
-    """Whether a name means a type: it is the type, or what stands after a dot at its end."""
+    """Whether a name means a type: it is the type, or the end of the type after a dot."""
     return type_ == name or type_.endswith("." + name)
 
 
@@ -16,7 +16,7 @@ class Match:
     """What a pattern matched, with its parts.
 
     A match has a `type` (the name of its rule, or `*`), its `text`, its place in the line, and `parts`, the matches
-    right below it. `m['ip']` is the first match of that type at or below this one, with or without the name of its
+    directly below it. `m['ip']` is the first match of that type at or below this one, with or without the name of its
     package.
     """
 
@@ -35,12 +35,12 @@ class Match:
 
     @property
     def type(self) -> str:
-        """The name of the rule that matched, with its package, or `*` for a pattern that isn't a name."""
+        """The name of the rule that matched, with its package, or `*` if the pattern is not a name."""
         return self._node["type"]
 
     @property
     def text(self) -> str:
-        """The text that matched; of a `message`, the text of it."""
+        """The text that matched; for a `message`, the text of the message."""
         return self._node["data"]
 
     @property
@@ -50,7 +50,7 @@ class Match:
 
     @property
     def byte_span(self) -> Tuple[int, int]:
-        """The places, in bytes from 0, where the match begins and where it ends."""
+        """The places where the match begins and ends, in bytes counted from 0."""
         return self._node["s"] - 1, self._node["e"] - 1
 
     @property
@@ -64,7 +64,7 @@ class Match:
 
     @property
     def parts(self) -> "List[Match]":
-        """The matches right below this one."""
+        """The matches directly below this one."""
         return [Match(part, self._line) for part in self._node.get("subs", ())]
 
     def walk(self) -> "Iterator[Match]":
@@ -76,7 +76,7 @@ class Match:
             waiting.extend(reversed(node.get("subs", ())))
 
     def all(self, name: str) -> "List[Match]":
-        """All matches of this type, at and below this one; a name without a dot means that of any package."""
+        """All matches of this type, at or below this one. A name without a dot means that name in any package."""
         return [found for found in self.walk() if takes(name, found.type)]
 
     def get(self, name: str, default: "Optional[Match]" = None) -> "Optional[Match]":
@@ -100,15 +100,15 @@ class Match:
         return Match({**self._node, "type": type_}, self._line)
 
     def to_dict(self) -> Node:
-        """The tree as the command prints it, with `s` and `e` in bytes from 1."""
+        """The tree as the command prints it, with `s` and `e` in bytes counted from 1."""
         return copy_tree(self._node)
 
     def record(self) -> Record:
-        """The texts of the leaves below, by the last part of their types; a list where a name comes more than once."""
+        """The texts of the leaves below, keyed by the last part of their types; a list if a key occurs repeatedly."""
         return record_of(self._tree if isinstance(self._tree, bytes) else write_tree(self._tree))
 
     def pretty(self) -> str:
-        """The tree for reading: a line for each match, set in by its depth."""
+        """The tree as readable text: one line for each match, indented by its depth."""
         lines = []
         waiting = [(0, self._node)]
         while waiting:

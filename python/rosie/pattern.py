@@ -19,14 +19,14 @@ Idle = Dict[str, List[LineProcess]]
 
 
 def answer_of(number: int, answer: Answer, line: bytes) -> Answered:
-    """What the command answered to a line, as a value."""
+    """The command's answer to a line, as a value."""
     if answer is None:
         return None
     return LineFault(number, answer, line) if isinstance(answer, str) else Match(answer, line)
 
 
 def close_all(idle: Idle) -> None:
-    """Ends the processes that wait."""
+    """Ends the idle processes."""
     for waiting in idle.values():
         while waiting:
             waiting.pop().close()
@@ -45,7 +45,7 @@ class Stream(Generic[Made]):
         return next(self._answers)
 
     def close(self) -> None:
-        """Ends the process behind it; nothing more comes."""
+        """Ends the process behind it; there are no more answers."""
         self._answers.close()
 
     def __enter__(self) -> "Stream[Made]":
@@ -56,7 +56,7 @@ class Stream(Generic[Made]):
 
 
 class Waiting:
-    """Lines that wait for their answers."""
+    """Lines that have not been answered yet."""
 
     def __init__(self) -> None:
         self.lines: Deque[bytes] = deque()
@@ -78,16 +78,16 @@ class Pattern:
     """A pattern of the Rosie Pattern Language, compiled.
 
     Arguments:
-        pattern: the pattern, as `net.ip` or `{"a" [0-9]+}`; with `fixed`, the text that is looked for.
-        rpl: a text of rules, or several, that the pattern may use.
-        files: paths of files of rules.
-        libpath: folders in which packages are looked for; by default `.`, and then those that come with the command.
-        budget: the steps that a line may take.
-        command: the path of the command `rosie`, or a Command, whose library path then counts.
+        pattern: the pattern, such as `net.ip` or `{"a" [0-9]+}`; with `fixed`, the text to look for.
+        rpl: a text of rules that the pattern may use, or a list of such texts.
+        files: paths of files with rules.
+        libpath: the folders to search for packages; by default `.`, and then the packages that come with the command.
+        budget: the number of steps that a line may take.
+        command: the path of the command `rosie`, or a Command, whose library path is then used.
 
-    Raises PatternError where the command refuses the pattern, and RosieError where it can't be run. A pattern may be
-    used by many threads, and sent to other processes. `close` ends the processes that wait for texts; a pattern that
-    is used again starts others.
+    Raises PatternError if the command refuses the pattern, and RosieError if the command cannot be run. Many threads
+    may use the same pattern, and you can send it to other processes. `close` ends the idle processes; if you use the
+    pattern again, it starts new ones.
     """
 
     def __init__(self, pattern: str, *, rpl: Union[str, Sequence[str]] = (), files: Union[Path, Sequence[Path]] = (),
@@ -108,7 +108,7 @@ class Pattern:
         weakref.finalize(self, close_all, self._idle)
 
     def _checked(self, words: Sequence[str]) -> bytes:
-        """What the command writes; raises PatternError for what it refuses."""
+        """The output of the command. Raises PatternError if it refuses the pattern."""
         done = self._command.run(words)
         if done.status == 0:
             return done.out
@@ -116,7 +116,7 @@ class Pattern:
         raise self._refusal(written) or CommandEnded(done.status, written.split("\n")[0])
 
     def _refusal(self, written: str) -> Optional[PatternError]:
-        """The fault that the command reported, where it is one of the pattern or of what it uses."""
+        """The fault that the command reported, if it is in the pattern or in something that the pattern uses."""
         message = read_message(written)
         return message and PatternError(message, self.pattern, self._rpl, find_tool("rosie-at", self._command.path))
 
@@ -125,20 +125,20 @@ class Pattern:
     def match(self, text: Text) -> Optional[Match]:
         """The match at the start of a text, or None.
 
-        A line feed at the end is left out, as of a line; a text with others is matched as a whole (`-w`).
-        Raises LineFault where the text has no answer.
+        A line feed at the end is left out, as in a line; a text with other line feeds is matched as a whole (`-w`).
+        Raises LineFault if the text has no answer.
         """
         return self._one("match", text)
 
     def search(self, text: Text) -> Optional[Match]:
-        """The first match anywhere in a text, or None. Raises as `findall` does."""
+        """The first match anywhere in a text, or None. Raises the same exceptions as `findall`."""
         return next(iter(self.findall(text)), None)
 
     def findall(self, text: Text) -> List[Match]:
-        """All matches in a text, from left to right, none within another.
+        """All matches in a text, from left to right, without overlaps.
 
-        Raises LineFault where the text has no answer, and PatternError for a pattern that may match nothing: it can't
-        be searched for.
+        Raises LineFault if the text has no answer, and PatternError if the pattern may match nothing, because such a
+        pattern cannot be searched for.
         """
         try:
             found = self._one("grep", text)
@@ -157,7 +157,7 @@ class Pattern:
         return made
 
     def _hit(self, found: Match) -> Match:
-        """A hit of `grep` as a match of the pattern: where it is a name, that of its rule."""
+        """A hit of `grep` as a match of the pattern: if the pattern is a name, the match of its rule."""
         if self._is_name is None:
             written = self._command.run(["expand", *self._words, "--", self.pattern]).out
             self._is_name = bool(re.search(rb"^\* = \(call [^ ()]+\)$", written, re.MULTILINE))
@@ -166,22 +166,22 @@ class Pattern:
     # Any number of lines
 
     def over(self, lines: Lines) -> "Stream[Answered]":
-        """One answer for each line, in order: a Match, None, or a LineFault. Lines are taken as answers are asked for.
+        """One answer for each line, in order: a Match, None, or a LineFault. Lines are read as you ask for answers.
 
-        `lines` is a file, or anything that gives lines, with or without a line feed at their ends. A file in binary
-        mode is read as it comes, so each of its lines is answered at once; others may be answered when a later line is
-        there.
+        `lines` is a file, or any iterable of lines, with or without a line feed at their ends. A file in binary mode
+        is read as data arrives, so each of its lines is answered at once. With other sources, the answer to a line may
+        wait for the next line.
         """
         return Stream(self._over("match", batches_of(lines)))
 
     def search_over(self, lines: Lines) -> "Stream[Answered]":
-        """The same of a search: a Match is that of the line up to its last hit, and its parts are the hits."""
+        """The same for a search. A Match extends from the start of its line to the last hit; its parts are the hits."""
         return Stream(self._over("grep", batches_of(lines)))
 
     def records(self, lines: Lines, on_fault: "Optional[Callable[[LineFault], Any]]" = None) -> "Stream[Record]":
-        """A flat dict for each line that matches: the leaves of its tree, by the last part of their types.
+        """A flat dict for each line that matches: the texts of the leaves, keyed by the last part of their types.
 
-        A line that has no answer is given to `on_fault`, and else raised as a LineFault.
+        A line that has no answer is passed to `on_fault` as a LineFault; without `on_fault`, the LineFault is raised.
         """
         return Stream(self._records(lines, on_fault))
 
@@ -232,7 +232,7 @@ class Pattern:
         return answer
 
     def _take(self, word: str) -> LineProcess:
-        """A process that waits, or a new one. One that was started before a fork belongs to the other process."""
+        """An idle process, or a new one. A process that was started before a fork belongs to the parent."""
         while True:
             try:
                 process = self._idle[word].pop()
@@ -250,7 +250,7 @@ class Pattern:
             process.close()
 
     def close(self) -> None:
-        """Ends the processes that wait for texts."""
+        """Ends the idle processes."""
         close_all(self._idle)
 
     def __enter__(self) -> "Pattern":

@@ -1,4 +1,4 @@
-"""Why lines don't match: what `rosie-why` says of them."""
+"""Why lines do not match, as `rosie-why` explains it."""
 from __future__ import annotations
 
 import json
@@ -12,10 +12,10 @@ SECONDS = 10
 
 
 class Reason(NamedTuple):
-    """How far a pattern came on a line.
+    """How far a pattern got on a line.
 
-    `at` is the place in bytes from 0, where there is one, and `told` has sentences that say what was wanted there, and
-    what helps.
+    `at` is the place in bytes, counted from 0, if there is one. `told` has sentences that say what was expected there,
+    and hints.
     """
 
     at: Optional[int]
@@ -24,10 +24,10 @@ class Reason(NamedTuple):
 
 def reasons(command: Command, words: Sequence[str], pattern: str, lines: Sequence[bytes],
             search: bool = False) -> Dict[int, Reason]:
-    """The reasons for the lines that the pattern doesn't match, by their places in the list.
+    """The reasons for the lines that the pattern does not match, keyed by their indices in the list.
 
-    `words` are options of `trace`. With `search` the pattern may match anywhere in a line, otherwise at its start.
-    There is none where the tool isn't there, or where it takes too long.
+    `words` are options of `trace`. With `search`, the pattern may match anywhere in a line, otherwise only at its
+    start. There are no reasons if the tool is missing or takes too long.
     """
     tool = find_tool("rosie-why", command.path)
     if tool is None or not lines:
@@ -43,7 +43,7 @@ def reasons(command: Command, words: Sequence[str], pattern: str, lines: Sequenc
 
 
 def read_reasons(written: str, count: int) -> Dict[int, Reason]:
-    """The reasons in what the tool wrote: an object for each line, up to where it was stopped."""
+    """The reasons in the output of the tool: an object for each line, up to the point where it was stopped."""
     found: Dict[int, Reason] = {}
     for line in written.split("\n")[:-1]:
         made = json.loads(line)

@@ -1,11 +1,11 @@
 """Advice on messages of rosie: the probable place of a fault, and what to write instead, from the table advice.tsv.
 
-A row of the table says where a mistake is seen (`words`, a `pattern`, a `file`, a `line` or a `trace`), which message it leads to,
-how it looks, and what helps. `message` is a regular expression for the whole message, `looks` one for the text at the place of the
-fault, or the name of a detector of this module after `@`. In a hint `{0}` is what was found, and `{1}` to `{9}` are its parts.
-`when` says more: `any`, the mistake is also looked for elsewhere in the pattern; `novice`, nothing in the pattern stands in quotes;
+A row of the table says where a mistake is seen (`words`, a `pattern`, a `file`, a `line` or a `trace`), which message it causes,
+how it looks, and what to do. `message` is a regular expression for the whole message. `looks` is one for the text at the place of the
+fault, or the name of a detector in this module after `@`. In a hint, `{0}` is what was found, and `{1}` to `{9}` are its parts.
+`when` restricts the row: `any`, the mistake may be anywhere in the pattern; `novice`, nothing in the pattern is in quotes;
 `pattern`, only in the pattern of the command line; `text`, only within a text; `head`, anywhere in a statement that is none.
-Needs Python 3.9, and nothing beside it.
+Needs only Python 3.9.
 """
 import difflib
 import functools

@@ -1,7 +1,7 @@
-"""Says of each line that a pattern doesn't match how far it came, what was wanted there, and what helps.
+"""Finds out why lines do not match a pattern: how far it got, what was expected there, and hints.
 
-`rosie-why` prints these findings, `rosie-try` shows them, and the playground reads them as JSON: so all three say the
-same of a line. Needs Python 3.9, and nothing beside it.
+`rosie-why` prints these findings, `rosie-try` shows them, and the playground reads them as JSON, so all three say the
+same about a line. Needs only Python 3.9.
 """
 from rosie_reasons import SEARCHES, reasons
 from rosie_why import TOGETHER, Answers, Why, excerpt, lines_of

@@ -1,7 +1,7 @@
-"""Reads messages of rosie: the line and the column of the place, and the hints of the table advice.tsv.
+"""Reads messages of rosie: finds the line and the column of the place, and the hints in the table advice.tsv.
 
-A message may come from anywhere and name any file, so only a regular file is opened, and of it one MiB is read, as much as a text
-of RPL may have. Needs Python 3.9, and nothing beside it.
+A message may come from anywhere and name any file, so only regular files are opened, and at most one MiB is read, which is the
+limit for a text of RPL. Needs only Python 3.9.
 """
 import functools
 import os

@@ -1,7 +1,7 @@
-"""The hints on a line that a pattern doesn't match: what its trace, its text and the pattern show together.
+"""The hints about a line that a pattern does not match, from its trace, its text and the pattern together.
 
-Each row of advice.tsv on a trace has a detector here. It answers with the values for the hint, or None where it sees nothing.
-Needs Python 3.9, and nothing beside it.
+Each row of advice.tsv about a trace has a detector here, which returns the values for the hint, or None if it finds nothing.
+Needs only Python 3.9.
 """
 import functools
 import itertools

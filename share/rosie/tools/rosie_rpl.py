@@ -1,6 +1,6 @@
 """Reads the Rosie Pattern Language as far as advice needs it: its tokens, and the place where a statement goes wrong.
 
-A text is handed over as Latin-1, a character for each byte, so that places are those of rosie. Needs Python 3.9 alone.
+Texts are passed as Latin-1, one character for each byte, so that places are those of rosie. Needs only Python 3.9.
 """
 import re
 

@@ -1,7 +1,7 @@
 """Reads why a pattern doesn't match a line from the trace that rosie prints of it.
 
-`rosie_findings` makes of it what users read. Needs Python 3.9, and nothing beside it.
-Lines, patterns and file names are bytes all through: what a user typed comes out as it went in.
+`rosie_findings` turns it into what users read. Needs only Python 3.9.
+Lines, patterns and file names are always bytes, so what a user typed is printed unchanged.
 """
 import os
 import re
