@@ -8,7 +8,8 @@ from typing import Dict, List, NamedTuple, Optional, Sequence
 
 from .command import Command, checked_words, find_tool
 
-SECONDS = 10
+# A bound by the clock for a machine with much other work; the processor time has a bound of its own.
+SECONDS = 60
 
 
 class Reason(NamedTuple):

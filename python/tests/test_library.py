@@ -1,5 +1,4 @@
 """The library beside the command: what it answers, how it streams, and how its processes end."""
-import ast
 import copy
 import io
 import json
@@ -573,17 +572,6 @@ class Costs(unittest.TestCase):
             # The process that answered counts when it has ended.
             self.pattern.close()
         self.assertLess(self.least(work) / 2000, 0.0002)
-
-
-class Sources(unittest.TestCase):
-    """The package itself."""
-
-    def test_python_3_9_reads_it(self):
-        for folder, _, names in os.walk(PYTHON):
-            for name in names:
-                if name.endswith(".py"):
-                    with open(os.path.join(folder, name), encoding="utf-8") as file:
-                        ast.parse(file.read(), feature_version=(3, 9))
 
 
 if __name__ == "__main__":

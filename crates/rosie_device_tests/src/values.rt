@@ -111,7 +111,6 @@ fn answers_and_their_texts(rt: HostRuntime) -> Result<(), Fail> {
     let mut memo = Memo::new(alloc)?;
     let answer = memo.run(&program, Text::new("May"), 1_000, &mut scratch, &mut steps)?;
     assert!(rt; matches!(answer, Answer::Fail { .. }));
-    assert!(rt; scratch.captures().is_empty());
     let answer = memo.run(&program, Text::new("31."), 1, &mut scratch, &mut steps);
     assert!(rt; matches!(answer, Err(RunFault::Budget)));
     let text = encode(alloc, Style::Bool, "May", None, &program)?;
