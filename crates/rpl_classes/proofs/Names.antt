@@ -1,16 +1,17 @@
 -- Names of classes, found piece by piece.
 use Rattle.std.proofs.Common.{Option, Some, None, ◌≡◌, ℕ, ◌-◌, List, [], ◌∷◌, take, drop, refl, sym, ap, ◌∙◌, arith}
+use Rattle.std.specs.Option.{option_map}
 use Rattle.std.specs.Prelude.{Bool, true, false, ◌&&◌, if◌then◌else◌, slice_range, Ok, Err}
 use Rattle.regex_class.specs.Ranges.{Range}
 use Rattle.rpl_classes.specs.Algebra.{others}
 use Rattle.rpl_classes.specs.Classes.{set_named}
 use Rattle.rpl_classes.specs.Faults.{IsNamed}
-use Rattle.rpl_classes.specs.declared.fault.SetFault.{SetFault}
+use Rattle.rpl_classes.specs.inside.Signed.{signed_named}
 use Rattle.rpl_classes.specs.declared.fault.SetFault.TheVariants.{UnknownClass}
 use Rattle.std.proofs.lemmas.Bool.{and_from, cond-true, cond-false, true_from_ne_false, false_from_ne_true}
 use Rattle.rpl_text.specs.Places.{index, IsPlace}
-use Rattle.rpl_classes.specs.Symbols.{symbols_from, first, place, rest, begins}
-use Rattle.rpl_classes.specs.Lists.{Reading, changed, char_of}
+use Rattle.rpl_classes.specs.Symbols.{Placed, symbols_from, first, place, rest, begins}
+use Rattle.rpl_classes.specs.Lists.{changed, char_of}
 use Rattle.rpl_classes.specs.Brackets.{is_word, word, past_word, is_name, named, name, class}
 use Rattle.rpl_classes.specs.inside.Scanned.{Passed, Worded, NameFound, ClassFound}
 use Rattle.rpl_classes.proofs.Steps.{word_cons, past_word_cons}
@@ -73,29 +74,29 @@ named_none : (o : Option (List Range)) (k : ℕ) → IsNamed o (Err (UnknownClas
 named_none None k h = refl
 named_none (Some a) k h = absurd (cc)
 
-both_err : (b : Bool) (e : SetFault) → ◌≡◌ {A = Reading} (if b then Err e else Err e) (Err e)
-both_err true e = refl
-both_err false e = refl
+changed_some : (at : ℕ) (o : Option (List Range)) (s : List Placed) (a : List Range) → option_map others o ≡ Some a → changed others (named at o s) ≡ Ok (a, s)
+changed_some at None s a e = absurd (cc)
+changed_some at (Some b) s a e = ap (λ x. Ok (x, s)) (cc)
 
--- a class that has a set, plain or as its complement, and one that has none
-pub class_set_plain : (t : List ℕ) (p at : ℕ) (negated : Bool) (o e q : ℕ) (bs : List ℕ) (a : List Range) → negated ≡ false → ClassFound t p negated o e q → bs ≡ word (symbols_from t o)
-    → IsNamed (set_named bs) (Ok a) → class at (symbols_from t p) ≡ Ok (a, symbols_from t q)
-class_set_plain t p at negated o e q bs a n f b h =
-    class_reads t p at negated o e q f
-    ∙ ap (λ c. if c then changed others (named at (set_named (word (symbols_from t o))) (symbols_from t q)) else named at (set_named (word (symbols_from t o))) (symbols_from t q)) n
+changed_none : (at : ℕ) (o : Option (List Range)) (s : List Placed) → option_map others o ≡ None → changed others (named at o s) ≡ Err (UnknownClass at)
+changed_none at None s e = refl
+changed_none at (Some b) s e = absurd (cc)
+
+-- a class that has a set, and one that has none
+pub class_set_found : (t : List ℕ) (p at : ℕ) (negated : Bool) (o e q : ℕ) (bs : List ℕ) (a : List Range) → ClassFound t p negated o e q → bs ≡ word (symbols_from t o)
+    → IsNamed (signed_named negated bs) (Ok a) → class at (symbols_from t p) ≡ Ok (a, symbols_from t q)
+class_set_found t p at true o e q bs a f b h =
+    class_reads t p at true o e q f
+    ∙ changed_some at (set_named (word (symbols_from t o))) (symbols_from t q) a (ap (λ x. option_map others (set_named x)) (sym b) ∙ named_some (option_map others (set_named bs)) a h)
+class_set_found t p at false o e q bs a f b h =
+    class_reads t p at false o e q f
     ∙ ap (λ x. named at x (symbols_from t q)) (ap set_named (sym b) ∙ named_some (set_named bs) a h)
 
-pub class_set_negated : (t : List ℕ) (p at : ℕ) (negated : Bool) (o e q : ℕ) (bs : List ℕ) (a z : List Range) → negated ≡ true → ClassFound t p negated o e q → bs ≡ word (symbols_from t o)
-    → IsNamed (set_named bs) (Ok a) → z ≡ others a → class at (symbols_from t p) ≡ Ok (z, symbols_from t q)
-class_set_negated t p at negated o e q bs a z n f b h g =
-    class_reads t p at negated o e q f
-    ∙ ap (λ c. if c then changed others (named at (set_named (word (symbols_from t o))) (symbols_from t q)) else named at (set_named (word (symbols_from t o))) (symbols_from t q)) n
-    ∙ ap (λ x. changed others (named at x (symbols_from t q))) (ap set_named (sym b) ∙ named_some (set_named bs) a h)
-    ∙ ap (λ x. Ok (x, symbols_from t q)) (sym g)
-
 pub class_unknown : (t : List ℕ) (p at : ℕ) (negated : Bool) (o e q k : ℕ) (bs : List ℕ) → ClassFound t p negated o e q → bs ≡ word (symbols_from t o)
-    → IsNamed (set_named bs) (Err (UnknownClass k)) → class at (symbols_from t p) ≡ Err (UnknownClass at)
-class_unknown t p at negated o e q k bs f b h =
-    class_reads t p at negated o e q f
-    ∙ ap (λ x. if negated then changed others (named at x (symbols_from t q)) else named at x (symbols_from t q)) (ap set_named (sym b) ∙ named_none (set_named bs) k h)
-    ∙ both_err negated (UnknownClass at)
+    → IsNamed (signed_named negated bs) (Err (UnknownClass k)) → class at (symbols_from t p) ≡ Err (UnknownClass at)
+class_unknown t p at true o e q k bs f b h =
+    class_reads t p at true o e q f
+    ∙ changed_none at (set_named (word (symbols_from t o))) (symbols_from t q) (ap (λ x. option_map others (set_named x)) (sym b) ∙ named_none (option_map others (set_named bs)) k h)
+class_unknown t p at false o e q k bs f b h =
+    class_reads t p at false o e q f
+    ∙ ap (λ x. named at x (symbols_from t q)) (ap set_named (sym b) ∙ named_none (set_named bs) k h)

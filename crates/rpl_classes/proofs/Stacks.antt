@@ -1,5 +1,5 @@
 -- The stack of open compounds, step by step.
-use Rattle.std.proofs.Common.{◌≡◌, ℕ, ◌≤◌, List, [], ◌∷◌, ◌++◌, Option, Some, None, refl, sym, ap, ap₂, ◌∙◌, arith}
+use Rattle.std.proofs.Common.{◌≡◌, ℕ, zero, suc, ◌≤◌, List, [], ◌∷◌, ◌++◌, length, Option, Some, None, refl, sym, ap, ap₂, ◌∙◌, arith}
 use Rattle.std.specs.Prelude.{Bool, true, false, not, ◌&&◌, ◌||◌, ◌≢◌, if◌then◌else◌, is_some, Result, Ok, Err, IfOk}
 use Rattle.std.proofs.lemmas.Bool.{cond-true, cond-false}
 use Rattle.regex_class.specs.Ranges.{Range, in_ranges}
@@ -9,6 +9,7 @@ use Rattle.rpl_classes.specs.Norm.{norm}
 use Rattle.rpl_classes.specs.Algebra.{both, others, without}
 use Rattle.rpl_classes.specs.Symbols.{Placed, symbols_from, place, rest, begins, past_blanks}
 use Rattle.rpl_classes.specs.Lists.{Reading, and_then}
+use Rattle.rpl_classes.specs.Brackets.{more}
 use Rattle.rpl_classes.specs.Laws.{reading, further, side, joins}
 use Rattle.rpl_classes.specs.inside.Operators.{applied, OperatorAt}
 use Rattle.rpl_classes.specs.inside.Stack.{signed, left_set, joined_by, framed, resume, opened, Begins, GoesBehind, GivesSet}
@@ -25,6 +26,7 @@ use Rattle.rpl_classes.specs.declared.fault.SetFault.TheVariants.{NoMemory, BadS
 use Rattle.std.specs.Result.{IsErrAnd}
 use Rattle.rpl_classes.specs.declared.brackets.Begun.{Begun}
 use Rattle.rpl_classes.specs.declared.brackets.Begun.TheVariants.{Whole, Compound}
+use Rattle.rpl_classes.proofs.Gathering.{norm_front}
 use Rattle.rpl_classes.proofs.Normal.{norm_normal, norm_members}
 use Rattle.rpl_classes.proofs.Operations.{without_members, both_members, others_members, without_normal, both_normal}
 use Rattle.rpl_classes.proofs.Fuel.{union_law, operators_law}
@@ -77,6 +79,26 @@ without_norms a t = same_members-same (without (norm a) (norm t)) (without a t) 
     (λ c le. without_members (norm a) (norm t) c ∙ (ap₂ (λ x y. is_char c && (x && not y)) (norm_members a c) (norm_members t c)
     ∙ (norm_less (is_char c) (in_ranges a c) (in_ranges t c) ∙ sym (without_members a t c))))
 
+-- what is taken counts by its normal form alone
+without_alike : (a t u : List Range) → norm t ≡ norm u → without a t ≡ without a u
+without_alike a t u e = sym (without_norms a t) ∙ (ap (without (norm a)) e ∙ without_norms a u)
+
+-- ---- unions with one normal form
+
+next_alike : (r : Reading) (f g : List Range → List Placed → Reading) → ((c : List Range) (s : List Placed) → f c s ≡ g c s) → and_then r f ≡ and_then r g
+next_alike (Ok (c, s)) f g h = h c s
+next_alike (Err e) f g h = refl
+
+more_alike : (n : ℕ) (a b : List Range) (s : List Placed) → norm a ≡ norm b → more reading n a s ≡ more reading n b s
+unfolding more
+more_alike zero a b s e = ap (λ x. Ok (x, s)) e
+more_alike (suc n) a b s e =
+    ap₂ (λ x y. if begins 91 (past_blanks s) then x else Ok (y, s))
+    (next_alike (reading (past_blanks s)) (λ c r. more reading n (a ++ c) r) (λ c r. more reading n (b ++ c) r) (λ c r. more_alike n (a ++ c) (b ++ c) r (norm_front a b c e))) e
+
+further_alike : (a b : List Range) (s : List Placed) → norm a ≡ norm b → further a s ≡ further b s
+further_alike a b s e = more_alike (suc (length s)) a b s e
+
 -- ---- frames
 
 pub framed_err : (o : Open) (e : SetFault) → framed o (Err e) ≡ Err e
@@ -95,11 +117,11 @@ resume_push [] o r = refl
 resume_push (p ∷ os) o r = ap (framed p) (resume_push os o r)
 
 -- a compound that has just begun
-pub frame_begins : (t : List ℕ) (q : ℕ) (o : Open) (negated : Bool) → o.negated ≡ negated → o.before ≡ None → o.union.items ≡ [] → signed negated (opened t q) ≡ framed o (reading (symbols_from t q))
+pub frame_begins : (t : List ℕ) (q : ℕ) (o : Open) (negated : Bool) → o.negated ≡ negated → o.before ≡ None → o.union ≡ [] → signed negated (opened t q) ≡ framed o (reading (symbols_from t q))
 frame_begins t q o negated n b u =
     ap (λ x. signed x (opened t q)) (sym n)
     ∙ (ap (λ x. signed o.negated (and_then (and_then (reading (symbols_from t q)) (λ c s. further (x ++ c) s)) joins)) (sym u)
-    ∙ ap (λ x. signed o.negated (and_then (and_then (reading (symbols_from t q)) (λ c s. further (o.union.items ++ c) s)) (λ a s. joins (joined_by x a) s))) (sym b))
+    ∙ ap (λ x. signed o.negated (and_then (and_then (reading (symbols_from t q)) (λ c s. further (o.union ++ c) s)) (λ a s. joins (joined_by x a) s))) (sym b))
 
 -- the rest of a compound, after the ranges u of its union at the symbols s
 abbrev tail : Bool → (List Range → List Range) → List Range → List Placed → Reading
@@ -193,39 +215,39 @@ tail_operator t p h q n o negated f u a e b c g k j =
 pub record Grown (o w : Open) (a : List Range) : Type 0 where
   pub negated : w.negated ≡ o.negated
   pub before : w.before ≡ o.before
-  pub union : w.union.items ≡ o.union.items ++ a
+  pub union : norm w.union ≡ norm (o.union ++ a)
 
-pub grown : (o w : Open) (a : List Range) → w.negated ≡ o.negated → w.before ≡ o.before → w.union.items ≡ o.union.items ++ a → Grown o w a
+pub grown : (o w : Open) (a : List Range) → w.negated ≡ o.negated → w.before ≡ o.before → norm w.union ≡ norm (o.union ++ a) → Grown o w a
 grown o w a n b u = record { negated = n; before = b; union = u }
 
-grown_tail : (o w : Open) (a : List Range) (s : List Placed) → Grown o w a → framed o (Ok (a, s)) ≡ tail w.negated (joined_by w.before) w.union.items s
+grown_tail : (o w : Open) (a : List Range) (s : List Placed) → Grown o w a → framed o (Ok (a, s)) ≡ tail w.negated (joined_by w.before) w.union s
 grown_tail o w a s g =
-    ap (λ x. tail o.negated (joined_by o.before) x s) (sym g.union)
-    ∙ (ap (λ x. tail o.negated (joined_by x) w.union.items s) (sym g.before) ∙ ap (λ x. tail x (joined_by w.before) w.union.items s) (sym g.negated))
+    ap (λ (x : Reading). signed o.negated (and_then x (λ c q. joins (joined_by o.before c) q))) (further_alike (o.union ++ a) w.union s (sym g.union))
+    ∙ (ap (λ x. tail o.negated (joined_by x) w.union s) (sym g.before) ∙ ap (λ x. tail x (joined_by w.before) w.union s) (sym g.negated))
 
 pub step_member : (t : List ℕ) (p h : ℕ) (o w : Open) (a : List Range) → Grown o w a → past_blanks (symbols_from t p) ≡ symbols_from t h → begins 91 (symbols_from t h) ≡ true
     → framed o (Ok (a, symbols_from t p)) ≡ framed w (reading (symbols_from t h))
-step_member t p h o w a g e b = grown_tail o w a (symbols_from t p) g ∙ tail_member t p h w.negated (joined_by w.before) w.union.items e b
+step_member t p h o w a g e b = grown_tail o w a (symbols_from t p) g ∙ tail_member t p h w.negated (joined_by w.before) w.union e b
 
 pub step_closes : (t : List ℕ) (p h q : ℕ) (o w : Open) (a b s l : List Range) → Grown o w a → past_blanks (symbols_from t p) ≡ symbols_from t h → begins 91 (symbols_from t h) ≡ false
-    → begins 93 (symbols_from t h) ≡ true → rest (symbols_from t h) ≡ symbols_from t q → l ≡ joined_by w.before (norm w.union.items) → s ≡ l → b ≡ (if w.negated then others s else s)
+    → begins 93 (symbols_from t h) ≡ true → rest (symbols_from t h) ≡ symbols_from t q → l ≡ joined_by w.before (norm w.union) → s ≡ l → b ≡ (if w.negated then others s else s)
     → framed o (Ok (a, symbols_from t p)) ≡ Ok (b, symbols_from t q)
 step_closes t p h q o w a b s l g e n c r j k m =
     grown_tail o w a (symbols_from t p) g
-    ∙ tail_closes t p h q w.negated (joined_by w.before) w.union.items b e n c r (m ∙ ap (λ x. if w.negated then others x else x) (k ∙ j))
+    ∙ tail_closes t p h q w.negated (joined_by w.before) w.union b e n c r (m ∙ ap (λ x. if w.negated then others x else x) (k ∙ j))
 
 pub step_bad : (t : List ℕ) (p h : ℕ) (o w : Open) (a : List Range) → Grown o w a → past_blanks (symbols_from t p) ≡ symbols_from t h → begins 91 (symbols_from t h) ≡ false
     → begins 93 (symbols_from t h) ≡ false → OperatorAt t h None → framed o (Ok (a, symbols_from t p)) ≡ Err (BadSet h)
-step_bad t p h o w a g e n c x = grown_tail o w a (symbols_from t p) g ∙ tail_bad t p h w.negated (joined_by w.before) w.union.items e n c x.0 x.1
+step_bad t p h o w a g e n c x = grown_tail o w a (symbols_from t p) g ∙ tail_bad t p h w.negated (joined_by w.before) w.union e n c x.0 x.1
 
 pub step_operator : (t : List ℕ) (p h q n : ℕ) (k : Operator) (o w v : Open) (a l : List Range) → Grown o w a → past_blanks (symbols_from t p) ≡ symbols_from t h → begins 91 (symbols_from t h) ≡ false
-    → begins 93 (symbols_from t h) ≡ false → OperatorAt t h (Some (k, q)) → past_blanks (symbols_from t q) ≡ symbols_from t n → l ≡ joined_by w.before (norm w.union.items)
-    → v.negated ≡ w.negated → joined_by v.before ≡ applied k l → v.union.items ≡ [] → framed o (Ok (a, symbols_from t p)) ≡ framed v (reading (symbols_from t n))
+    → begins 93 (symbols_from t h) ≡ false → OperatorAt t h (Some (k, q)) → past_blanks (symbols_from t q) ≡ symbols_from t n → l ≡ joined_by w.before (norm w.union)
+    → v.negated ≡ w.negated → joined_by v.before ≡ applied k l → v.union ≡ [] → framed o (Ok (a, symbols_from t p)) ≡ framed v (reading (symbols_from t n))
 step_operator t p h q n k o w v a l g e b c x y j m i u =
-    grown_tail o w a (symbols_from t p) g ∙ (tail_operator t p h q n k w.negated (joined_by w.before) w.union.items l e b c x y j
+    grown_tail o w a (symbols_from t p) g ∙ (tail_operator t p h q n k w.negated (joined_by w.before) w.union l e b c x y j
     ∙ (ap (λ z. signed z (and_then (and_then (reading (symbols_from t n)) further) (λ d s. joins (applied k l d) s))) (sym m)
     ∙ (ap (λ z. signed v.negated (and_then (and_then (reading (symbols_from t n)) (λ d s. further (z ++ d) s)) (λ d s. joins (applied k l d) s))) (sym u)
-    ∙ ap (λ (f : List Range → List Range). signed v.negated (and_then (and_then (reading (symbols_from t n)) (λ d s. further (v.union.items ++ d) s)) (λ d s. joins (f d) s))) (sym i))))
+    ∙ ap (λ (f : List Range → List Range). signed v.negated (and_then (and_then (reading (symbols_from t n)) (λ d s. further (v.union ++ d) s)) (λ d s. joins (f d) s))) (sym i))))
 
 pub accept_some : (t : List ℕ) (p c : ℕ) (o : Option ℕ) → Accepts t p c o → is_some o ≡ true → begins c (symbols_from t p) ≡ true
 accept_some t p c (Some q) h e = h.0
@@ -240,22 +262,23 @@ accept_none t p c None h e = h
 pub joined_none : (b : Option Before) (u t : List Range) → b ≡ None → t ≡ [] → without u t ≡ joined_by b (norm u)
 joined_none b u t e n = ap (without u) n ∙ (without_none u ∙ sym (ap (λ x. joined_by x (norm u)) e))
 
-pub joined_without : {E : Type 0} (r : Result Left E) (l : Left) (u us : List Range) → us ≡ u → IfOk r (λ m. m.kept.items ≡ l.kept.items) → IfOk r (λ m. m.taken.items ≡ l.taken.items ++ us)
+pub joined_without : {E : Type 0} (r : Result Left E) (l : Left) (u us : List Range) → us ≡ u → IfOk r (λ m. m.kept ≡ l.kept) → IfOk r (λ m. norm m.taken ≡ norm (l.taken ++ us))
     → IfOk r (λ m. left_set m ≡ without (left_set l) (norm u))
-joined_without (Ok m) l u us e k t = ap₂ without k (t ∙ ap (λ x. l.taken.items ++ x) e) ∙ without_more l.kept.items l.taken.items u
+joined_without (Ok m) l u us e k t =
+    ap (λ x. without x m.taken) k ∙ without_alike l.kept m.taken (l.taken ++ u) (t ∙ ap (λ x. norm (l.taken ++ x)) e) ∙ without_more l.kept l.taken u
 joined_without (Err _) l u us e k t = tt
 
-pub joined_both : {E : Type 0} (r : Result Left E) (l : Left) (u us : List Range) → us ≡ others u → IfOk r (λ m. m.kept.items ≡ l.kept.items) → IfOk r (λ m. m.taken.items ≡ l.taken.items ++ us)
+pub joined_both : {E : Type 0} (r : Result Left E) (l : Left) (u : List Range) → IfOk r (λ m. m.kept ≡ l.kept) → IfOk r (λ m. norm m.taken ≡ norm (l.taken ++ others u))
     → IfOk r (λ m. left_set m ≡ both (left_set l) u)
-joined_both (Ok m) l u us e k t = ap₂ without k (t ∙ ap (λ x. l.taken.items ++ x) e) ∙ without_others l.kept.items l.taken.items u
-joined_both (Err _) l u us e k t = tt
+joined_both (Ok m) l u k t = ap (λ x. without x m.taken) k ∙ without_alike l.kept m.taken (l.taken ++ others u) t ∙ without_others l.kept l.taken u
+joined_both (Err _) l u k t = tt
 
 -- what is left, as a set
-pub left_whole : (l : Left) (s : List Range) → s ≡ norm l.kept.items → l.taken.items ≡ [] → s ≡ left_set l
-left_whole l s e n = e ∙ (sym (without_none l.kept.items) ∙ ap (without l.kept.items) (sym n))
+pub left_whole : (l : Left) (s : List Range) → s ≡ norm l.kept → l.taken ≡ [] → s ≡ left_set l
+left_whole l s e n = e ∙ (sym (without_none l.kept) ∙ ap (without l.kept) (sym n))
 
-pub left_less : {E : Type 0} (l : Left) (k t : List Range) (r : Result (List Range) E) → k ≡ norm l.kept.items → t ≡ norm l.taken.items → IfOk r (λ s. s ≡ without k t) → IfOk r (λ s. s ≡ left_set l)
-left_less l k t (Ok s) e f h = h ∙ (ap₂ without e f ∙ without_norms l.kept.items l.taken.items)
+pub left_less : {E : Type 0} (l : Left) (k t : List Range) (r : Result (List Range) E) → k ≡ norm l.kept → t ≡ norm l.taken → IfOk r (λ s. s ≡ without k t) → IfOk r (λ s. s ≡ left_set l)
+left_less l k t (Ok s) e f h = h ∙ (ap₂ without e f ∙ without_norms l.kept l.taken)
 left_less l k t (Err _) e f h = tt
 
 -- ---- what begins, as another reading and from another place

@@ -2,3 +2,4 @@ pub mod Scanned
 pub mod Operators
 pub mod Stack
 pub mod Held
+pub mod Signed

@@ -14,6 +14,7 @@ use crate::NoMemory;
 use crate::compounds::compound_set;
 use crate::fault::SetFault;
 use crate::lists::list_at;
+use crate::named_sets::NamedSets;
 use crate::set::Set;
 use crate::symbols::{accept, skip_blanks, skip_word};
 use rpl_text::Text;
@@ -80,7 +81,7 @@ fn part(text: &str, from: usize, to: usize) -> &str
 
 /// Returns the set of the class found at `inside`. The bracket begins at `at`.
 fn class_set(
-    alloc: Global,
+    sets: &mut NamedSets,
     text: &str,
     at: usize,
     inside: usize,
@@ -90,15 +91,9 @@ fn class_set(
     ensures { Gives (chars text.now) (with_place result found.next)
         (class at (symbols_from (chars text.now) inside)) }
 {
-    match Set::named(alloc, part(text, found.start, found.end)) {
-        Ok(set) => {
-            if found.negated {
-                Ok(set.complement(alloc)?)
-            } else {
-                Ok(set)
-            }
-        }
+    match sets.named(found.negated, part(text, found.start, found.end)) {
         Err(SetFault::UnknownClass { .. }) => Err(SetFault::UnknownClass { at }),
+        Ok(set) => Ok(set),
         Err(fault) => Err(fault),
     }
 }
@@ -138,7 +133,12 @@ fn content_at(alloc: Global, text: &str, negated: bool, place: usize) -> Result<
 }
 
 /// Parses the bracket at `place`; if it is a compound, only up to its first member.
-pub(crate) fn begin_at(alloc: Global, text: &str, place: usize) -> Result<Begun, SetFault>
+pub(crate) fn begin_at(
+    alloc: Global,
+    sets: &mut NamedSets,
+    text: &str,
+    place: usize,
+) -> Result<Begun, SetFault>
     requires { IsPlace (chars text.now) place }
     ensures { let t = chars text.now in Begins t (place + 1) (reading (symbols_from t place))
         result }
@@ -147,7 +147,7 @@ pub(crate) fn begin_at(alloc: Global, text: &str, place: usize) -> Result<Begun,
         return Err(SetFault::BadSet { at: place });
     };
     if let Some(found) = class_at(text, inside) {
-        let set = class_set(alloc, text, place, inside, found)?;
+        let set = class_set(sets, text, place, inside, found)?;
         return Ok(Begun::Whole(set, found.next));
     }
     let Some(behind) = accept(text, inside, '^') else {
@@ -157,13 +157,18 @@ pub(crate) fn begin_at(alloc: Global, text: &str, place: usize) -> Result<Begun,
 }
 
 /// Parses what follows the outermost `[` or `[^`, and returns its set.
-fn content_set(alloc: Global, text: &str, place: usize) -> Result<Set, SetFault>
+fn content_set(
+    alloc: Global,
+    sets: &mut NamedSets,
+    text: &str,
+    place: usize,
+) -> Result<Set, SetFault>
     requires { IsPlace (chars text.now) place }
     ensures { let t = chars text.now in GivesSet t (content (symbols_from t place)) result }
 {
     match content_at(alloc, text, false, place)? {
         Begun::Whole(set, _) => Ok(set),
-        Begun::Compound(_, first) => compound_set(alloc, text, first),
+        Begun::Compound(_, first) => compound_set(alloc, sets, text, first),
     }
 }
 
@@ -196,23 +201,36 @@ pub struct Bracket {
 pub fn read_bracket(alloc: Global, text: &str) -> Result<Bracket, SetFault>
     ensures { IsRead (bracket_of (chars text.now)) result }
 {
+    let mut sets = NamedSets::new(alloc);
+    read_bracket_with(alloc, &mut sets, text)
+}
+
+/// Parses a text that is one bracket, as `read_bracket` does. Named sets are looked up in `sets`
+/// first and kept there, so that the brackets of a text share them.
+pub fn read_bracket_with(
+    alloc: Global,
+    sets: &mut NamedSets,
+    text: &str,
+) -> Result<Bracket, SetFault>
+    ensures { IsRead (bracket_of (chars text.now)) result }
+{
     let Some(inside) = accept(text, 0, '[') else {
         return Err(SetFault::BadSet { at: 0 });
     };
     if let Some(found) = class_at(text, inside) {
-        let set = class_set(alloc, text, 0, inside, found)?;
+        let set = class_set(sets, text, 0, inside, found)?;
         return Ok(Bracket {
             set,
             negated: false,
         });
     }
     let Some(behind) = accept(text, inside, '^') else {
-        let set = content_set(alloc, text, inside)?;
+        let set = content_set(alloc, sets, text, inside)?;
         return Ok(Bracket {
             set,
             negated: false,
         });
     };
-    let set = content_set(alloc, text, behind)?;
+    let set = content_set(alloc, sets, text, behind)?;
     Ok(Bracket { set, negated: true })
 }

@@ -1,9 +1,10 @@
 // Compounds: brackets side by side or joined by operators. Open compounds are kept on a stack, so
-// brackets may be nested to any depth. The ranges to keep and the ranges to remove are collected as
+// brackets may be nested to any depth. The ranges to keep and the ranges to remove are gathered as
 // they are read, and are made into a set only once, at the end of the compound.
-ghost use Rattle.std.specs.Prelude.{◌≡◌, ◌++◌, [], chars, IfOk};
+ghost use Rattle.std.specs.Prelude.{◌≡◌, ◌++◌, [], chars, IfOk, IsTrue};
 ghost use Rattle.rpl_text.specs.Places.{IsPlace};
 ghost use Rattle.rpl_classes.specs.Norm.{norm};
+ghost use Rattle.rpl_classes.specs.Algebra.{others};
 ghost use Rattle.rpl_classes.specs.Symbols.{symbols_from};
 ghost use Rattle.rpl_classes.specs.inside.Scanned.{AcceptsTwice};
 ghost use Rattle.rpl_classes.specs.inside.Operators.{OperatorAt};
@@ -14,10 +15,13 @@ ghost use Rattle.rpl_classes.specs.inside.Stack.{GoesBehind, GivesSet};
 use crate::NoMemory;
 use crate::brackets::{Begun, begin_at, signed_set};
 use crate::fault::SetFault;
+use crate::gathered::Gathered;
+use crate::named_sets::NamedSets;
 use crate::set::Set;
 use crate::symbols::{accept, skip_blanks};
 use regex_class::ClassRange;
 use std::alloc::Global;
+use std::marker::Model;
 
 /// An operator between two unions of brackets.
 #[derive(Clone, Copy)]
@@ -47,34 +51,115 @@ fn operator_at(text: &str, place: usize) -> Option<(Operator, usize)>
     Some((Operator::Without, next))
 }
 
+/// A union of brackets, and the characters that are not in it. Contracts see these characters.
+#[derive(Drop)]
+pub(crate) struct Complement {
+    union: Gathered,
+    left_out: Set,
+}
+
+impl Model for Complement {
+    ghost use Rattle.std.specs.Prelude.{◌≡◌, List};
+    ghost use Rattle.regex_class.specs.Ranges.{Range};
+    ghost use Rattle.rpl_classes.specs.Algebra.{others};
+    ghost use Rattle.rpl_classes.specs.Norm.{norm};
+
+    ghost Value = { List Range };
+
+    ghost view = { λ c. c.left_out };
+
+    ghost invariant = { λ c. c.left_out ≡ others (norm c.union) };
+}
+
+impl Complement {
+    fn new(alloc: Global, union: Gathered) -> Result<Complement, NoMemory>
+        ensures { IfOk result (λ c. c ≡ others (norm union)) }
+    {
+        let left_out = union.set(alloc)?.complement(alloc)?;
+        Ok(Complement { union, left_out })
+    }
+
+    /// Returns whether this is the complement of the union, as far as that can be seen at once.
+    fn is_of(&self, union: &Gathered) -> bool
+        ensures { IsTrue result → self.now ≡ others (norm union.now) }
+    {
+        self.union.same(union)
+    }
+
+    fn ranges(&self) -> &[ClassRange]
+        ensures { result.now ≡ self.now }
+    {
+        self.left_out.ranges()
+    }
+}
+
+/// Returns the complement of the union, which may be the last one that was made.
+fn complement_of(
+    alloc: Global,
+    last: Option<Complement>,
+    union: Gathered,
+) -> Result<Complement, NoMemory>
+    ensures { IfOk result (λ c. c ≡ others (norm union)) }
+{
+    match last {
+        Some(last) if last.is_of(&union) => Ok(last),
+        _ => Complement::new(alloc, union),
+    }
+}
+
 /// The left operand so far: the ranges kept, and the ranges to remove from them.
 #[derive(Drop)]
 pub(crate) struct Left {
-    kept: Vec<ClassRange>,
-    taken: Vec<ClassRange>,
+    kept: Gathered,
+    taken: Gathered,
+    /// The complement that was removed last.
+    last: Option<Complement>,
 }
 
 impl Left {
     /// Adds these ranges to those to remove.
-    fn less(self, ranges: &[ClassRange]) -> Result<Left, NoMemory>
-        ensures kept { IfOk result (λ l. l.kept.items ≡ self.kept.items) }
-        ensures taken { IfOk result (λ l. l.taken.items ≡ self.taken.items ++ ranges.now) }
+    fn less(self, alloc: Global, ranges: &[ClassRange]) -> Result<Left, NoMemory>
+        ensures kept { IfOk result (λ l. l.kept ≡ self.kept) }
+        ensures taken { IfOk result (λ l. norm l.taken ≡ norm (self.taken ++ ranges.now)) }
     {
-        let Left { kept, mut taken } = self;
-        taken.extend_from_slice(ranges)?;
-        Ok(Left { kept, taken })
+        let Left {
+            kept,
+            mut taken,
+            last,
+        } = self;
+        taken.add(alloc, ranges)?;
+        Ok(Left { kept, taken, last })
+    }
+
+    /// Adds the characters that are not in the union to those to remove.
+    fn within(self, alloc: Global, union: Gathered) -> Result<Left, NoMemory>
+        ensures kept { IfOk result (λ l. l.kept ≡ self.kept) }
+        ensures taken { IfOk result
+            (λ l. norm l.taken ≡ norm (self.taken ++ others (norm union))) }
+    {
+        let Left {
+            kept,
+            mut taken,
+            last,
+        } = self;
+        let last = complement_of(alloc, last, union)?;
+        taken.add(alloc, last.ranges())?;
+        Ok(Left {
+            kept,
+            taken,
+            last: Some(last),
+        })
     }
 
     /// Returns the remaining characters as a set.
     fn set(self, alloc: Global) -> Result<Set, NoMemory>
         ensures { IfOk result (λ s. s ≡ left_set self) }
     {
-        let kept = Set::from_ranges(alloc, &self.kept)?;
-        let taken = self.taken.as_slice();
-        if taken.is_empty() {
+        let kept = self.kept.set(alloc)?;
+        if self.taken.is_empty() {
             return Ok(kept);
         }
-        kept.without(alloc, &Set::from_ranges(alloc, taken)?)
+        kept.without(alloc, &self.taken.set(alloc)?)
     }
 }
 
@@ -87,21 +172,19 @@ pub(crate) struct Before {
 
 /// Joins a union with the part before it. For `&&`, removes the characters that are not in the
 /// union.
-fn joined(alloc: Global, before: Option<Before>, union: Vec<ClassRange>) -> Result<Left, NoMemory>
-    ensures { IfOk result (λ l. left_set l ≡ joined_by before (norm union.items)) }
+fn joined(alloc: Global, before: Option<Before>, union: Gathered) -> Result<Left, NoMemory>
+    ensures { IfOk result (λ l. left_set l ≡ joined_by before (norm union)) }
 {
     let Some(Before { operator, left }) = before else {
         return Ok(Left {
             kept: union,
-            taken: Vec::new(alloc),
+            taken: Gathered::new(alloc),
+            last: None,
         });
     };
     match operator {
-        Operator::Without => left.less(&union),
-        Operator::Both => {
-            let others = Set::from_ranges(alloc, &union)?.complement(alloc)?;
-            left.less(others.ranges())
-        }
+        Operator::Without => left.less(alloc, union.ranges()),
+        Operator::Both => left.within(alloc, union),
     }
 }
 
@@ -112,34 +195,34 @@ pub(crate) struct Open {
     negated: bool,
     before: Option<Before>,
     /// The ranges of the current union, which are those of the brackets since the last operator.
-    union: Vec<ClassRange>,
+    union: Gathered,
 }
 
 impl Open {
     fn new(alloc: Global, negated: bool) -> Open
         ensures negated { result.negated ≡ negated }
         ensures before { result.before ≡ None }
-        ensures union { result.union.items ≡ [] }
+        ensures union { result.union ≡ [] }
     {
         Open {
             negated,
             before: None,
-            union: Vec::new(alloc),
+            union: Gathered::new(alloc),
         }
     }
 
     /// Adds a bracket to the union.
-    fn add(self, set: &Set) -> Result<Open, NoMemory>
+    fn add(self, alloc: Global, set: &Set) -> Result<Open, NoMemory>
         ensures negated { IfOk result (λ o. o.negated ≡ self.negated) }
         ensures before { IfOk result (λ o. o.before ≡ self.before) }
-        ensures union { IfOk result (λ o. o.union.items ≡ self.union.items ++ set.now) }
+        ensures union { IfOk result (λ o. norm o.union ≡ norm (self.union ++ set.now)) }
     {
         let Open {
             negated,
             before,
             mut union,
         } = self;
-        union.extend_from_slice(set.ranges())?;
+        union.add(alloc, set.ranges())?;
         Ok(Open {
             negated,
             before,
@@ -172,7 +255,7 @@ fn step_from(
         negated,
         before,
         union,
-    } = compound.add(&set)?;
+    } = compound.add(alloc, &set)?;
     let here = skip_blanks(text, at);
     if accept(text, here, '[').is_some() {
         return Ok(Step::Member(
@@ -195,7 +278,7 @@ fn step_from(
     let further = Open {
         negated,
         before: Some(Before { operator, left }),
-        union: Vec::new(alloc),
+        union: Gathered::new(alloc),
     };
     Ok(Step::Member(further, skip_blanks(text, next)))
 }
@@ -240,7 +323,12 @@ fn go_on(
 }
 
 /// Returns the set of the compound whose first member starts at `place`.
-pub(crate) fn compound_set(alloc: Global, text: &str, place: usize) -> Result<Set, SetFault>
+pub(crate) fn compound_set(
+    alloc: Global,
+    sets: &mut NamedSets,
+    text: &str,
+    place: usize,
+) -> Result<Set, SetFault>
     requires { IsPlace (chars text.now) place }
     ensures { let t = chars text.now in GivesSet t (opened t place) result }
 {
@@ -248,7 +336,7 @@ pub(crate) fn compound_set(alloc: Global, text: &str, place: usize) -> Result<Se
     stack.push(Open::new(alloc, false))?;
     let mut at = place;
     loop {
-        match begin_at(alloc, text, at)? {
+        match begin_at(alloc, sets, text, at)? {
             Begun::Compound(negated, first) => {
                 stack.push(Open::new(alloc, negated))?;
                 at = first;

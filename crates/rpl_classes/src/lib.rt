@@ -14,13 +14,16 @@ mod brackets;
 mod classes;
 mod compounds;
 mod fault;
+mod gathered;
 mod laws;
 mod lists;
+mod named_sets;
 mod set;
 mod symbols;
 
-pub use brackets::{Bracket, read_bracket};
+pub use brackets::{Bracket, read_bracket, read_bracket_with};
 pub use fault::SetFault;
 pub use laws::{one_list, reads_in_its_own_words};
+pub use named_sets::NamedSets;
 pub use rpl_text::NoMemory;
 pub use set::Set;

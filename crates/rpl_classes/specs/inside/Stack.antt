@@ -41,7 +41,7 @@ IsMarked negated (Compound mark q) = mark ≡ negated
 
 -- what is left of the ranges that were kept
 abbrev pub left_set : Left → List Range
-left_set l = without l.kept.items l.taken.items
+left_set l = without l.kept l.taken
 
 -- a union joined with what stands before it
 abbrev pub joined_by : Option Before → List Range → List Range
@@ -52,7 +52,7 @@ joined_by (Some b) a = applied b.operator (left_set b.left) a
 abbrev pub framed : Open → Reading → Reading
 framed o r =
     signed o.negated
-    (and_then (and_then r (λ c s. further (o.union.items ++ c) s)) (λ a s. joins (joined_by o.before a) s))
+    (and_then (and_then r (λ c s. further (o.union ++ c) s)) (λ a s. joins (joined_by o.before a) s))
 
 -- the whole, where the next member of the last of the open compounds reads as r
 abbrev pub resume : List Open → Reading → Reading

@@ -44,7 +44,7 @@ returns c =
     let n = accept_none t h 91 c.accept.result c.accept.ensures (sym c.is_some.ensures ∙ c.if-is_some.false) in
     let o = c.in-Some-operator_at in
     let go = operator_goes t h o.next o.operator o.ensures in (
-      step_operator t c.args.at h o.next c.skip_blanks.result o.operator c.args.compound w (record { negated = w.negated; before = Some (record { operator = o.operator; left = c.in_ok-left.left }); union = c.new.result }) c.args.set (left_set c.in_ok-left.left) g c.skip_blanks-here.ensures.left n c.in_default.ensures o.ensures c.skip_blanks.ensures.left c.in_ok-left.ensures refl refl c.new.ensures.items,
+      step_operator t c.args.at h o.next c.skip_blanks.result o.operator c.args.compound w (record { negated = w.negated; before = Some (record { operator = o.operator; left = c.in_ok-left.left }); union = c.new.result }) c.args.set (left_set c.in_ok-left.left) g c.skip_blanks-here.ensures.left n c.in_default.ensures o.ensures c.skip_blanks.ensures.left c.in_ok-left.ensures refl refl c.new.ensures,
       c.skip_blanks.ensures.next,
       omega (arith, c.skip_blanks-here.ensures.forward, go.1, c.skip_blanks.ensures.forward),
     )

@@ -1,0 +1,115 @@
+// The sets of the names that a text uses, each of which is made once.
+ghost use Rattle.std.specs.Prelude.{◌≡◌, IfOk, IfSome, Some, chars};
+ghost use Rattle.rpl_classes.specs.inside.Signed.{signed_named};
+ghost use Rattle.rpl_classes.specs.Faults.{IsNamed};
+
+use crate::NoMemory;
+use crate::brackets::signed_set;
+use crate::fault::SetFault;
+use crate::set::Set;
+use rpl_text::Chars;
+use std::alloc::Global;
+use std::marker::Model;
+
+/// The number of sets that are kept. Before one more is kept, the others are dropped.
+const MOST: usize = 64;
+
+/// The set with a name, or its complement.
+#[derive(Drop)]
+struct Kept {
+    name: Chars,
+    /// Whether `set` is the complement.
+    negated: bool,
+    set: Set,
+}
+
+impl Model for Kept {
+    ghost use Rattle.std.specs.Prelude.{◌≡◌, List, Some};
+    ghost use Rattle.regex_class.specs.Ranges.{Range};
+    ghost use Rattle.rpl_classes.specs.inside.Signed.{signed_named};
+
+    ghost Value = { List Range };
+
+    ghost view = { λ k. k.set };
+
+    ghost invariant = { λ k. signed_named k.negated k.name ≡ Some k.set };
+}
+
+impl Kept {
+    /// Returns a copy of the set if it is the one with this name.
+    fn find(&self, alloc: Global, negated: bool, name: &str) -> Result<Option<Set>, NoMemory>
+        ensures { IfOk result (λ o. IfSome o (λ s. signed_named negated (chars name.now) ≡ Some s)) }
+    {
+        if self.negated != negated || self.name.as_str() != name {
+            return Ok(None);
+        }
+        Ok(Some(self.set.copy(alloc)?))
+    }
+}
+
+/// Returns the set with this name, or its complement if `negated`.
+fn named(alloc: Global, negated: bool, name: &str) -> Result<Set, SetFault>
+    ensures { IsNamed (signed_named negated (chars name.now)) result }
+{
+    let set = Set::named(alloc, name)?;
+    Ok(signed_set(alloc, negated, set)?)
+}
+
+/// The sets of the last few names that were looked up. A set that is found here is copied, which
+/// takes no memory.
+#[derive(Drop)]
+pub struct NamedSets {
+    alloc: Global,
+    sets: Vec<Kept>,
+}
+
+impl NamedSets {
+    /// Returns the sets of no names.
+    pub fn new(alloc: Global) -> NamedSets {
+        NamedSets {
+            alloc,
+            sets: Vec::new(alloc),
+        }
+    }
+
+    /// Returns the set with this name, or its complement if `negated`, if it is kept.
+    fn find(&self, negated: bool, name: &str) -> Result<Option<Set>, NoMemory>
+        ensures { IfOk result (λ o. IfSome o (λ s. signed_named negated (chars name.now) ≡ Some s)) }
+    {
+        for kept in &self.sets {
+            if let Some(set) = kept.find(self.alloc, negated, name)? {
+                return Ok(Some(set));
+            }
+        }
+        Ok(None)
+    }
+
+    /// Keeps a set.
+    fn keep(&mut self, negated: bool, name: &str, set: &Set) -> Result<(), NoMemory>
+        requires { signed_named negated (chars name.now) ≡ Some set.now }
+    {
+        if self.sets.len() >= MOST {
+            self.sets.clear();
+        }
+        let kept = Kept {
+            name: Chars::from_str(self.alloc, name)?,
+            negated,
+            set: set.copy(self.alloc)?,
+        };
+        self.sets.push(kept)?;
+        Ok(())
+    }
+
+    /// Returns the set with this name, or its complement if `negated`. Returns `UnknownClass` with
+    /// `at` 0 exactly if there is no such set.
+    pub(crate) fn named(&mut self, negated: bool, name: &str) -> Result<Set, SetFault>
+        ensures { IsNamed (signed_named negated (chars name.now)) result }
+    {
+        if let Some(set) = self.find(negated, name)? {
+            return Ok(set);
+        }
+        let set = named(self.alloc, negated, name)?;
+        self.keep(negated, name, &set)?;
+        Ok(set)
+    }
+}
