@@ -14,7 +14,7 @@ use Rattle.rpl_compile_laws.specs.Termination.{IfEmpty, CallsBelow, AllCallBelow
 use Rattle.rpl_compile_laws.specs.Static.{may_halt, predicates_stay}
 use Rattle.rpl_compile_laws.proofs.Termination.{ends_holds}
 use Rattle.rpl_check.specs.inside.Accepted.{IsAccepted}
-use Rattle.rpl_check.specs.Checked.{IsWhole}
+use Rattle.rpl_check.specs.Checked.{IsWhole, NeverOpenLaw}
 use Rattle.rpl_check.specs.Facts.{IsLeast, Solves, Facts, passes, calls_here, front_calls_here, any_calls_here}
 use Rattle.rpl_core.specs.Lengths.{has_call, has_repetition, greatest}
 use Rattle.rpl_check.specs.Causes.{Cause, Recursive, Repetition, TooLong, cause_of, first_cause, first_cause_in, body_cause}
@@ -26,7 +26,7 @@ use Rattle.rpl_core.specs.Marks.{count}
 use Rattle.rpl_core.specs.Order.{IsInOrder}
 use Rattle.rpl_check.specs.inside.Rounds.{Reach}
 use Rattle.rpl_core.proofs.Counts.{count_lt, count_below}
-use Rattle.rpl_check.proofs.Exists.{facts_with}
+use Rattle.rpl_check.proofs.Exists.{facts_same, facts_with}
 use Rattle.rpl_check.proofs.Firsts.{or_none, first_none, selves_none, group_of}
 use Rattle.rpl_check.proofs.Following.{reach_on}
 use Rattle.rpl_check.proofs.Least.{here_called}
@@ -205,3 +205,19 @@ module _ (R : List Core) (m h : ℕ → Bool) (a : IsAccepted R m h) where
         goal = cg;
         rules = a.calls;
       }
+
+-- and so is each goal without faults over a table without faults
+pub whole_always : NeverOpenLaw
+whole_always R bs d g long o none cg clean =
+    whole_of R d.empties d.halting
+    (accepted R bs d.empties d.halting long o d.empties_least d.halting_least (λ reach all.
+    let f : Facts R = record {
+      empties = d.empties;
+      halting = d.halting;
+      reach = reach;
+      empties_least = d.empties_least;
+      halting_least = d.halting_least;
+      reach_least = all;
+    } in
+    ap (λ x. table_fault d.empties d.halting x R bs) (facts_same R f d).reach ∙ none))
+    g cg clean

@@ -1,4 +1,5 @@
-// Laws about the static facts alone.
+// Laws about the static facts alone, and about what has no fault.
+ghost use Rattle.rpl_check.specs.Checked.{NeverOpenLaw};
 ghost use Rattle.rpl_check.specs.Laws.{FactsLaw, OneFactsLaw};
 
 /// Every table whose calls stay inside it has static facts, so the contracts of this crate are
@@ -10,4 +11,10 @@ pub fn facts_law()
 /// A table has exactly one set of static facts.
 pub fn one_facts_law()
     ensures { OneFactsLaw }
+{}
+
+/// What passes `check` and `check_pattern` has a meaning on every text: at the depth that is
+/// defined for the text and the table, the outcome is never open.
+pub fn never_open_law()
+    ensures { NeverOpenLaw }
 {}

@@ -3,9 +3,9 @@
 //!
 //! `check` checks a whole table of rules, `check_pattern` a pattern over it. Each returns exactly
 //! the first fault in a stated order: a look-behind without a fixed bound, left recursion, a
-//! repetition whose body may be empty, or a halt under a predicate. A clause of `check_pattern`
-//! states that a pattern that passes has an outcome on every text, so the compiler needs no further
-//! premise. `specs/Facts.antt` and `specs/Faults.antt` define the faults.
+//! repetition whose body may be empty, or a halt under a predicate. A clause of `check_pattern`, and
+//! the law `never_open_law`, state that a pattern that passes has an outcome on every text, so the
+//! compiler needs no further premise. `specs/Facts.antt` and `specs/Faults.antt` define the faults.
 #![tactic(auto)]
 
 mod behinds;
@@ -24,5 +24,5 @@ mod rounds;
 
 pub use checked::{Checked, CheckedPeg, check, check_pattern};
 pub use fault::{BehindCause, CheckFault};
-pub use laws::{facts_law, one_facts_law};
+pub use laws::{facts_law, never_open_law, one_facts_law};
 pub use rpl_core::NoMemory;
