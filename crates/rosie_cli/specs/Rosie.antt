@@ -3,6 +3,77 @@
 -- The words come to a plan over the tree of files (`IsPlanned`), and the report is what that plan writes over the tree
 -- and the standard input, piece by piece, up to a piece that ends the run. `Headline` says what each answer tells of
 -- it. What holds of every plan, whether it is run or not, stands in `Laws`.
+--
+-- Read these files in this order:
+--   1. rosie_cli/Rosie      what a call leaves
+--   2. rosie_cli/Words      what the words ask for: a command, or a text that refuses them
+--   3. rosie_cli/Plans      what a plan is, and its pieces
+--   4. rosie_cli/Planned    the plan of each command
+--   5. rosie_run/Report     what a piece is, where a report ends, and its status
+--   6. rosie_run/Inputs     the pieces of the inputs, one input after the other
+--   7. rosie_run/Lines      the pieces of the lines of an input, and the texts of faults
+--   8. rosie_jobs/Lines     the piece of a line, by cases
+--   9. rosie_run/Outputs    what stands on the outputs, and what pieces add to it
+--  10. rosie_run/Headline   what each status says of the report
+--  11. rosie_run/Where      where reading stood when it ended a run
+--  12. rosie_cli/Sound      which runs are within every limit
+--
+-- You may stop at these relations. All words have one plan and no second one, by `one_plan`. The law beside a relation
+-- says of its value that there is no second one, and mostly that there is one.
+--   `IsPrepared` (rosie_prepare/Prepared)     the rules and the core of a pattern, by `one_preparation`
+--   `TableComes` (rosie_prepare/Prepared)     packages without a pattern, by `one_table`
+--   `IsCode` (rpl_core/Programs)              the code of a core, by `code_law` and `has_code_law`
+--   `Spells` (rpl_codefile/Spelling)          the bytes of a code, by `one_spelling` and `has_spelling`
+--   `IsLoaded` (rosie_jobs/Loaded)            the code of a file, by `one_loading`
+--   `IsSuite` (rosie_unittest/Suites)         the tests of a file, by `one_suite`
+--   `IsLoading` (rosie_session/Loading)       what the texts of a session come to, by `one_loading`
+--   `IsExpansion` (rosie_inspect/Expansions)  the text of `expand`, by `one_expansion`
+--   `IsNamesText` (rosie_inspect/Names)       the text of `list`, by `one_names_text`
+-- at these functions, whose values need no law:
+--   `reading` (rosie_words/Reading)           the command that words spell, or their first fault
+--   `words_of` (rosie_words/Reading)          strings as words
+--   `fault_line` (rosie_words/Printed)        the line of a fault of the words
+--   `usage` (rosie_words/Printed)             the text below it
+--   `world` (rpl_package/Loading)             the files of the folders, each as a module
+--   `load` (rpl_package/Roots)                the packages of the roots, and the paths that are asked for
+--   `all_listed` (rpl_package/Names)          the names that a pattern may use
+--   `compile_line` (rosie_prepare/Lines)      the line of a pattern whose code is too long
+--   `file_of` (rosie_io/Opening)              the bytes of the file with a path, if there is one
+--   `lines` (rosie_io/Lines)                  the lines of some bytes
+--   `feeds` (rosie_io/Lines)                  how many line feeds are among them
+--   `outcome` (rpl_core/Outcome)              what a core matches at the start of a text, and its work
+--   `run` (rpl_core/Run)                      what a code does with a text, and its steps
+--   `written` (rosie_jobs/Written)            the trees of a list of captures
+--   `print` (rpl_encode/Print)                the answer of a line in a style
+--   `trace` (rpl_trace/Evaluations)           the evaluations of a core on a text
+--   `printed` (rpl_trace/Printed)             their lines
+--   `set_named` (rpl_classes/Classes)         the set of a named class
+--   `class_text` (rosie_inspect/Classes)      its text
+--   `lines` (rosie_inspect/Listing)           the lines of a program
+--   `suite_pieces` (rosie_unittest/Trials)    the pieces of the tests of a file
+--   `sample` (rosie_sample/Lines)             the lines of a sample
+--   `sample_pieces` (rosie_sample/Counting)   its pieces
+--   `replay` (rosie_session/Replay)           the pieces of a session
+--   `turns` (rosie_session/Replay)            its answers, one by one
+--   `asked_in` (rosie_session/Replay)         the paths that its lines ask for
+-- and at the types that these speak of:
+--   `Word` (rosie_words/Table)                a word of a command line
+--   `Packages` (rpl_package/Roots)            packages, with their modules and rules
+--   `Expr` (rpl_syntax/Expression)            an expression
+--   `Row` (rpl_forms/Table)                   a rule of a table: its name, its block and its core
+--   `Core` (rpl_core/Core)                    a pattern without names
+--   `Instr` (rpl_core/Instr)                  an instruction of a code
+--   `OrLine` (rosie_jobs/Loaded)              a code, or the line that says why there is none
+--   `Outcome` (rpl_core/Meaning)              no match, or the place and the trees of a match, with the work
+--   `Answer` (rpl_core/Run)                   the same of a run, with its captures and its steps
+--   `Suite` (rosie_unittest/Suites)           the tests of a file, with what they have in common
+--   `Bench` (rosie_unittest/Trials)           what all tests of a file have in common
+--   `Trial` (rosie_unittest/Trials)           a test, with the rule that it tests
+--   `Subject` (rosie_unittest/Trials)         the code of such a rule, if it has one
+--   `Sampled` (rosie_sample/Runs)             a job, a seed and a number of lines
+--   `Loading` (rosie_session/Loading)         what each text of a session comes to
+--   `Session` (rosie_repl/Session)            the state of a session
+--   `Turn` (rosie_session/Replay)             the answer to a line of a session
 use Rattle.std.specs.Prelude.{ℕ, ◌≡◌, List, []}
 use Rattle.rosie_io.specs.declared.outside.Sink as K
 use Rattle.rosie_io.specs.declared.outside.Source as S
