@@ -1,10 +1,10 @@
-//! Defines what a pattern means, what the machine does, and with which code the machine does what a
-//! pattern means (`specs/`). Provides the types that hold patterns, rules and code. Every other
-//! crate that handles patterns builds on these: expansion makes a `Peg`, the compiler makes a
-//! `Program`, and the machine runs the program. The types promise that rules have distinct names
-//! and that every number in a program is in range. [`reached_rules`] finds exactly the rules that a
-//! goal reaches, and [`reached`] marks them in a list as long as the table. The laws state
-//! properties of the definitions alone. docs/MEANING.md explains the definitions in plain words.
+//! Defines what patterns mean, what the machine does, and what the code of each pattern is
+//! (`specs/`). Provides the types that hold patterns, rules and code. Every other crate that
+//! handles patterns builds on these: expansion makes a `Peg`, the compiler makes a `Program`, and
+//! the machine runs the program. The types promise that rules have distinct names and that every
+//! number in a program is in range. [`reached_rules`] finds exactly the rules that a goal reaches,
+//! and [`reached`] marks them in a list as long as the table. The laws state properties of the
+//! definitions alone. docs/MEANING.md explains the definitions in plain words.
 #![tactic(auto)]
 
 mod caught;
