@@ -34,7 +34,7 @@ struct Writes {
 }
 
 impl Case {
-    /// Returns the output if a call of this device fails: one row for each call.
+    /// Returns the output to expect when a call to this device fails, with one row for each call.
     pub(crate) fn rows(&self, device: Device) -> &'static str {
         match device {
             Device::Files => self.files,

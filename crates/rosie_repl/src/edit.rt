@@ -10,7 +10,7 @@ use rpl_text::read_number;
 pub enum Edit<'a> {
     /// `+ TEXT`: adds the text after the last one.
     Add(&'a str),
-    /// `= K TEXT`: replaces the text with the number K.
+    /// `= K TEXT`: replaces text number K with this text.
     Replace(u64, &'a str),
     /// `- K`: removes the text with the number K.
     Remove(u64),

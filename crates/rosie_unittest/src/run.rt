@@ -139,8 +139,8 @@ impl Suite {
         self.try_subject(&trial.test, subject, &mut kept.tester, steps)
     }
 
-    /// Runs the tests one after the other, writes a line for each that fails, and the counts at
-    /// the end. Code that is too long ends the run. Each rule is compiled when its first test is
+    /// Runs the tests one after the other, writes a line for each that fails, and writes the counts
+    /// at the end. Code that is too long ends the run. Each rule is compiled when its first test is
     /// run. All compiled code is dropped once its total length exceeds what is allowed for one
     /// rule.
     pub fn run<O: Sink, E: Sink, L: Ledger>(

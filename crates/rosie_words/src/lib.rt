@@ -1,8 +1,8 @@
 //! The words of the command line: each list of words either is one command with its options, or
 //! has one first fault.
 //!
-//! The crate serves the top call. [`read_words`] parses the words. Its contract says for all
-//! words which command they are, or which of their faults is the first. [`usage`] and
+//! The crate serves the top call. [`read_words`] parses the words. Its contract says, for every
+//! list of words, which command it is or which of its faults comes first. [`usage`] and
 //! [`fault_line`] return the texts that are printed for a fault.
 #![tactic(auto)]
 

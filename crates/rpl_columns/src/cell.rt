@@ -97,7 +97,7 @@ fn wants_quotes(byte: u8) -> bool
     byte == b',' || byte == b'"' || byte == b'\n' || byte == b'\r'
 }
 
-/// Returns whether the text is quoted.
+/// Returns whether the text must be put in quotes.
 fn is_to_be_quoted(spelled: &[u8]) -> bool
     ensures { result ≡ C.is_to_be_quoted (C.text_of spelled.now) }
 {

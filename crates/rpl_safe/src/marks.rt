@@ -16,7 +16,7 @@ pub(crate) struct Mark {
 /// The addresses where a run continues after an instruction, and their shapes.
 #[derive(Clone, Copy)]
 pub(crate) enum Next {
-    /// The instruction lacks what it needs.
+    /// The instruction needs an entry or an open tree that isn't there.
     Lacks,
     /// The run continues at no address known here: it fails, returns from a call, or ends.
     Nowhere,
