@@ -67,7 +67,8 @@ impl ModuleNames {
     }
 
     /// Adds a shared table, if there is room and none of its names is present yet, and returns
-    /// whether it was added. If memory runs out, nothing changes.
+    /// whether it was added. A table that has too many handles to count is not added. If memory
+    /// runs out, nothing changes.
     pub(crate) fn join(&mut self, names: &SharedNames) -> Result<bool, NoMemory>
         ensures ok { IfOk result (λ joined. self.new
             ≡ (if joined then self.old ++ names.now.value else self.old)) }
@@ -78,14 +79,16 @@ impl ModuleNames {
         if self.own.len() > 0 || !has_room(tables, names) || !have_none_of(tables, names) {
             return Ok(false);
         }
-        let copy: SharedNames = names.clone()?;
+        let Ok(copy) = names.clone() else {
+            return Ok(false);
+        };
         self.shared.push(copy)?;
         Ok(true)
     }
 
     /// Turns the module's own names into a table for other modules to share. Returns `None` if it
-    /// has no names of its own, or if it can share no more. The names stay the same, even if memory
-    /// runs out.
+    /// has no names of its own, if it can share no more, or if the table has too many handles to
+    /// count. The names stay the same, even if memory runs out.
     pub(crate) fn share(&mut self, alloc: Global) -> Result<Option<SharedNames>, NoMemory>
         ensures { self.new ≡ self.old }
     {
@@ -98,7 +101,7 @@ impl ModuleNames {
             Ok(shared) => {
                 let copy: Result<SharedNames, _> = shared.clone();
                 self.shared.push_reserved(shared);
-                Ok(Some(copy?))
+                Ok(copy.ok())
             }
             Err(failed) => {
                 self.own = failed.value;
