@@ -10,9 +10,10 @@ mod Spanning
 mod Locality
 mod Turnings
 mod Windows
+mod Growing
+mod Classes
 mod Misses
 mod Framing
-mod Growing
 mod Lessons
 mod Following
 mod Leaving
