@@ -13,5 +13,6 @@ pub mod Norms
 pub mod Folding
 pub mod MacroLaw
 pub mod Still
+pub mod Reprinted
 pub mod Printing
 pub mod Whole

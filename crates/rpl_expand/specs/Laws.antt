@@ -1,5 +1,5 @@
 -- What holds of every core.
-use Rattle.std.specs.Prelude.{◌≡◌, ℕ, Bool, true, false, ◌&&◌, not, List, Option, Some}
+use Rattle.std.specs.Prelude.{◌≡◌, ℕ, Bool, true, false, ◌&&◌, not, List, Option, Some, encode_utf8_all}
 use Rattle.regex_class.specs.Ranges.{Range}
 use Rattle.rpl_classes.specs.Algebra.{folded, widened}
 use Rattle.rpl_core.specs.Core.{Core, Seq, NoMore}
@@ -7,6 +7,7 @@ use Rattle.rpl_core.specs.Lengths.{has_call}
 use Rattle.rpl_core.specs.Parts.{some_inside}
 use Rattle.rpl_core.specs.Core as C
 use Rattle.rpl_forms.specs.Forms.{copies, halt_rule}
+use Rattle.rpl_forms.specs.Inlining.{Inners}
 use Rattle.rpl_macro.specs.Kinds.{kind_of}
 use Rattle.rpl_macro.specs.declared.kind.Macro.{Macro}
 use Rattle.rpl_macro.specs.Laws.{HasNoLetters}
@@ -14,11 +15,17 @@ use Rattle.rpl_macro.specs.Macros.{applied, halt}
 use Rattle.rpl_macro.specs.declared.casing.Casing.{Casing}
 use Rattle.rpl_macro.specs.declared.casing.Casing.TheVariants.{Plain, Folded}
 use Rattle.rpl_macro.specs.declared.kind.Macro.TheVariants.{Error}
+use Rattle.rpl_package.specs.Roots.{Packages}
+use Rattle.rpl_syntax.specs.Braces.{again, plain, unplaced}
 use Rattle.rpl_syntax.specs.Expression.{Expr, Text, Class, Any, Start, End, Boundary, Name, Cooked, Raw, Choice, Both}
 use Rattle.rpl_syntax.specs.Expression.{Prefix, Repeat, Marked, Note, Exprs, Nil, Cons, one}
 use Rattle.rpl_syntax.specs.Expression as X
+use Rattle.rpl_syntax.specs.Printed.{printed}
+use Rattle.rpl_syntax.specs.Readable.{Good}
+use Rattle.rpl_syntax.specs.Texts.{HasFewTokens, IsReadAs, Writable}
 use Rattle.rpl_syntax.specs.declared.name.QName.{QName}
 use Rattle.rpl_expand.specs.Expansion.{Scope, core, is_cooked}
+use Rattle.rpl_expand.specs.Sets.{goal_of}
 
 -- a group of one item is that item
 abbrev pub GroupOfOne : Type 0
@@ -91,3 +98,24 @@ abbrev pub MacroIsEquation : Type 0
 MacroIsEquation =
     (c : Casing) (s : Scope) (q : QName) (p : Expr) (k : Macro) → kind_of q.name ≡ Some k → s.rule halt ≡ halt_rule
     → core c s (X.Macro q p) ≡ core c s (applied k p)
+
+-- the braces that printing adds change no core
+abbrev pub BracesKeepCores : Type 0
+BracesKeepCores = (c : Casing) (s : Scope) (p : Expr) → core c s (again p) ≡ core c s p
+
+-- what a name stands for has nothing to do with its place in the text
+abbrev pub IgnoresPlaces : (QName → ℕ) → Type 0
+IgnoresPlaces rule = (q : QName) → rule (unplaced q) ≡ rule q
+
+-- So what differs from an expression in those braces and in the places of its names alone has the same core. That is
+-- what is read of its printed text, as `printed_reads_back` of `rpl_syntax` says.
+abbrev pub PrintingKeepsCores : Type 0
+PrintingKeepsCores =
+    (c : Casing) (s : Scope) (p q : Expr) → IgnoresPlaces s.rule → plain q ≡ plain (again p)
+    → core c s q ≡ core c s p
+
+-- And the printed text of a pattern, unless it has too many tokens for a text, is read as a pattern with the same core.
+abbrev pub PrintingKeepsPatterns : Type 0
+PrintingKeepsPatterns =
+    (p : Packages) (I : Inners) (e : Expr) → Good e → Writable e → HasFewTokens e
+    → (y : Expr) × IsReadAs (encode_utf8_all (printed e)) y × (goal_of p I y ≡ goal_of p I e)

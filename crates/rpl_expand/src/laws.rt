@@ -2,8 +2,9 @@
 ghost use Rattle.std.specs.Prelude.{◌≤◌};
 ghost use Rattle.rpl_core.specs.Core.{Core};
 ghost use Rattle.rpl_core.specs.Lengths.{least};
-ghost use Rattle.rpl_expand.specs.Laws.{ExactlyTurns, FoldsOnce, GroupOfOne, HasParts};
-ghost use Rattle.rpl_expand.specs.Laws.{MacroIsEquation};
+ghost use Rattle.rpl_expand.specs.Laws.{BracesKeepCores, ExactlyTurns, FoldsOnce, GroupOfOne};
+ghost use Rattle.rpl_expand.specs.Laws.{HasParts, MacroIsEquation};
+ghost use Rattle.rpl_expand.specs.Laws.{PrintingKeepsCores, PrintingKeepsPatterns};
 ghost use Rattle.rpl_expand.specs.Laws.{StillCallsNothing, UciKeepsOthers};
 ghost use Rattle.rpl_forms.specs.Sizes.{nodes};
 
@@ -12,13 +13,21 @@ pub fn group_of_one()
     ensures { GroupOfOne }
 {}
 
+/// The braces that printing adds change no core: in every casing, the expression that the printed
+/// text is read as has the core of the printed one, and so has it as a pattern of a set.
+pub fn printing_keeps_cores()
+    ensures braces { BracesKeepCores }
+    ensures read { PrintingKeepsCores }
+    ensures pattern { PrintingKeepsPatterns }
+{}
+
 /// The core of `e{n}` has exactly n copies of the core of `e`, unless `e` is a `( )` group.
 pub fn exactly_turns()
     ensures { ExactlyTurns }
 {}
 
 /// The core of an expression calls nothing if the expression has no name, no `~` and no `error`,
-/// and no adjacent items outside `{ }`.
+/// no adjacent items outside `{ }`, and no repeated `( )` group.
 pub fn still_calls_nothing()
     ensures { StillCallsNothing }
 {}

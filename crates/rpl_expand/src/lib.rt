@@ -27,8 +27,8 @@ mod table;
 
 pub use fault::ExpandFault;
 pub use laws::{
-    exactly_turns, group_of_one, least_within_nodes, macro_is_equation, still_calls_nothing,
-    uci_keeps_others,
+    exactly_turns, group_of_one, least_within_nodes, macro_is_equation, printing_keeps_cores,
+    still_calls_nothing, uci_keeps_others,
 };
 pub use print::{print_peg, push_peg};
 pub use rpl_text::NoMemory;
