@@ -1,6 +1,6 @@
 -- A line that is tried passes its budget only where that is due: what is loaded has a meaning on each text.
 use Rattle.std.proofs.Common.{ℕ, ◌≡◌, ◌<◌, true, false, List, [], length, refl, sym, ◌∙◌, ap, subst, arith}
-use Rattle.std.specs.Prelude.{Bool, Option, Some, None, Ok, Err, cond, nat_lt}
+use Rattle.std.specs.Prelude.{Bool, Option, Some, None, Ok, Err, cond, nat_lt, slice_get}
 use Rattle.std.proofs.lemmas.Grind.{merely}
 use Rattle.std.proofs.lemmas.List.{length-map}
 use Rattle.rosie_prepare.specs.Lines.{compile_line}
@@ -16,7 +16,7 @@ use Rattle.rpl_check.proofs.Firsts.{or_none}
 use Rattle.rpl_check.specs.Checked.{IsWhole}
 use Rattle.rpl_check.specs.Facts.{Facts}
 use Rattle.rpl_check.specs.Faults as F
-use Rattle.rpl_core.specs.Core.{Core}
+use Rattle.rpl_core.specs.Core.{Capture, Core}
 use Rattle.rpl_core.specs.Instr.{Instr}
 use Rattle.rpl_core.specs.Order.{IsInOrder}
 use Rattle.rpl_core.specs.Programs.{IsCode, calls}
@@ -109,11 +109,19 @@ module _ (p : Packages) (is : IsBuilt p) (d : TableFacts p) (small : table_too_l
   own_within i name t e =
       subst (λ (R : List Core). t.rule < length R) same_bodies (own_names_are_rules p is rules i name t same e).within
 
+  -- and its body is a capture where it is said to make a tree
+  pub own_root : (i : ℕ) (name : List ℕ) (t : Target) → own p i name ≡ Some t → t.captures ≡ true
+      → (label : List ℕ) × (q : Core) × (slice_get (bodies (table_of p)) t.rule ≡ Some (Capture label q))
+  own_root i name t e =
+      subst (λ (R : List Core). t.captures ≡ true
+      → (label : List ℕ) × (q : Core) × (slice_get R t.rule ≡ Some (Capture label q))) same_bodies
+      (own_names_are_rules p is rules i name t same e).captures
+
   -- a match of a pattern's goal is one tree
   goal_is_root : (e : Expr) → (label : List ℕ) × IsCapture (bodies (table_of p)) label (goal_in p e)
   goal_is_root e =
       let trees = subst (λ (I : Inners). MakeTrees (bodies_of rules) (captures_of p) (scope_of p None I)) same_inners
-      (trees_are_made p is rules same) in
+      (trees_are_made p is rules None same) in
       subst (λ (R : List Core). (label : List ℕ) × IsCapture R label (goal_in p e)) same_bodies
       (goal_root (bodies_of rules) (captures_of p) (scope_of p None (inners_from [] (table_of p))) e trees)
 

@@ -1,5 +1,4 @@
 -- The laws of loaded sets.
-use Rattle.std.proofs.Common.{None}
 use Rattle.rpl_scope.specs.Packages.{nth}
 use Rattle.rpl_package.proofs.Numbering.{nth_within}
 use Rattle.rpl_package.specs.Goals.{pattern_file}
@@ -36,7 +35,7 @@ pub scopes_are_over : ScopesAreOver
 scopes_are_over p h rs n same = scope_over p rs same (set_of p h).stock.sound n
 
 pub trees_are_made : TreesAreMade
-trees_are_made p h rs same = make_trees p rs same (set_of p h).stock.sound None
+trees_are_made p h rs n same = make_trees p rs same (set_of p h).stock.sound n
 
 pub own_names_are_rules : OwnNamesAreRules
 own_names_are_rules p h rs i n t same e = own_is_rule p rs same (set_of p h).stock.sound i n t e

@@ -10,7 +10,7 @@ use Rattle.rpl_forms.specs.Inlining.{Inners}
 use Rattle.rpl_forms.specs.Rows.{rows_of, inners_of}
 use Rattle.rpl_expand.specs.Expansion.{core}
 use Rattle.rpl_expand.specs.Laws.{HasParts}
-use Rattle.rpl_expand.specs.Sets.{captures_of, goal_of, scope_of, statement_at, statements, table_of}
+use Rattle.rpl_expand.specs.Sets.{goal_of, makes_tree, scope_of, statement_at, statements, table_of}
 use Rattle.rpl_expand.specs.Table.{Statement}
 use Rattle.rpl_expand.specs.Bound.{AreBound, IsOver, MakeTrees}
 use Rattle.rpl_macro.specs.Kinds.{kind_of}
@@ -98,11 +98,12 @@ ScopesAreOver =
     OfAllBuilt (λ p. (rs : List Rule) (n : Option ℕ) → AreRulesOf rs p
     → IsOver (bodies_of rs) (scope_of p n (inners_of rs)))
 
--- a name in the pattern that is said to make a tree is bound to a rule whose body is a capture
+-- a name in the statement of a rule, or with None in the pattern, that is said to make a tree is bound to a rule whose
+-- body is a capture
 abbrev pub TreesAreMade : Type 0
 TreesAreMade =
-    OfAllBuilt (λ p. (rs : List Rule) → AreRulesOf rs p
-    → MakeTrees (bodies_of rs) (captures_of p) (scope_of p None (inners_of rs)))
+    OfAllBuilt (λ p. (rs : List Rule) (n : Option ℕ) → AreRulesOf rs p
+    → MakeTrees (bodies_of rs) (λ q. makes_tree (resolved p n q)) (scope_of p n (inners_of rs)))
 
 -- the target is a rule of the table of these bodies, and its body is a capture where it is said to make a tree
 pub record IsRuleOf (R : List Core) (t : Target) : Type 0 where

@@ -58,8 +58,8 @@ pub fn scopes_are_over()
     ensures { ScopesAreOver }
 {}
 
-/// If a name in the pattern is marked as making a tree, that name is bound to a rule whose body
-/// is a capture.
+/// If a name in a statement or in the pattern is marked as making a tree, that name is bound to a
+/// rule whose body is a capture.
 pub fn trees_are_made()
     ensures { TreesAreMade }
 {}

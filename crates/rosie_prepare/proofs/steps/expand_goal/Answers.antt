@@ -20,4 +20,4 @@ returns-in-Ok-clause-root c =
     let p = set_seen c.args.set.now in
     let rs = rules_of c.args.rules.now in
     root_out (bodies_in c.args.rules.now) (core_of c.in-Ok.goal) (∥∥₁_map c.args.set.now.built (λ b.
-    c.in-Ok.ensures.root (trees_are_made p b rs c.requires)))
+    c.in-Ok.ensures.root (trees_are_made p b rs None c.requires)))
