@@ -11,10 +11,6 @@ use Rattle.rpl_core.specs.Instr.{Instr}
 use Rattle.rpl_core.specs.Programs.{IsCode}
 use Rattle.rpl_expand.specs.Faults as E
 use Rattle.rpl_expand.specs.Sets.{table_of}
-use Rattle.rpl_lexer.specs.Cut.{FailsAt, IsCut}
-use Rattle.rpl_lexer.specs.declared.fault.LexFault.{LexFault}
-use Rattle.rpl_lexer.specs.declared.token.Token.{Token}
-use Rattle.rpl_lexer.proofs.Computing.{either}
 use Rattle.rpl_load_laws.proofs.Lists.{nth_last, nth_more}
 use Rattle.rpl_load_laws.proofs.Steps.{both, else_fault, unless_fault}
 use Rattle.rpl_package.specs.Asking.{and_then, at_once, each_in_turn}
@@ -30,8 +26,8 @@ use Rattle.rpl_scope.specs.Packages.{Module, first_of, nth}
 use Rattle.rpl_scope.specs.declared.fault.LoadKind.TheVariants.{Duplicate, TooManyPackages}
 use Rattle.rpl_syntax.specs.Modules.{ParsedModule}
 use Rattle.rpl_syntax.specs.declared.name.QName.{QName}
-use Rattle.rpl_unittest.specs.Comments.{AllSay, FirstBad, IsBad, Reading, Says, comment_of, lines_of}
-use Rattle.rpl_unittest.specs.Comments.{reading_in, tests_by}
+use Rattle.rpl_unittest.proofs.Reading.{some_answer}
+use Rattle.rpl_unittest.specs.Comments.{HasBad, HasTests}
 use Rattle.rpl_unittest.specs.declared.test.Test.{Test}
 use Rattle.rosie_unittest.specs.Suites.{AreTrials, Comes, ComesAgain, IsSubject, IsSuite, Suite, Tells, bad, tests}
 use Rattle.rosie_unittest.specs.Suites.{goal_of, loading, read_again, subject_unless_long}
@@ -117,38 +113,6 @@ passed_is : (x : Or Packages) (p : Packages) → TableComes x (Ok p) → x ≡ O
 passed_is (Err f) p h = absurd (cc)
 passed_is (Ok q) p h = ap Ok (passes_is q p (table_too_large q) h)
 
--- ---- the tests of its text
-
-abbrev SaysOrBad : ℕ → Option (List ℕ) → Type 0
-SaysOrBad n o = ((tests : List Test) × Says n o tests) ⊎ IsBad o
-
-read_some : (n : ℕ) (rest : List ℕ) (ts : List Token) (r : Option Reading) → IsCut rest ts → reading_in rest ts ≡ r
-    → SaysOrBad n (Some rest)
-read_some n rest ts None cut e = inr (inr (ts, cut, e))
-read_some n rest ts (Some r) cut e = inl (tests_by n r, (ts, r, cut, e, refl))
-
-cut_some : (n : ℕ) (rest : List ℕ) → ((ts : List Token) × IsCut rest ts) ⊎ ((f : LexFault) × FailsAt rest f.at f.kind)
-    → SaysOrBad n (Some rest)
-cut_some n rest (inl c) = read_some n rest c.0 (reading_in rest c.0) c.1 refl
-cut_some n rest (inr f) = inr (inl (f.0.at, f.0.kind, f.1))
-
-says_some : (n : ℕ) (o : Option (List ℕ)) → SaysOrBad n o
-says_some n None = inl ([], refl)
-says_some n (Some rest) = cut_some n rest (either rest)
-
-abbrev AllOrBad : ℕ → List (List ℕ) → Type 0
-AllOrBad n lines = ((tests : List Test) × AllSay n lines tests) ⊎ ((k : ℕ) × FirstBad n lines k)
-
-next_some : (n : ℕ) (line : List ℕ) (more : List (List ℕ)) → SaysOrBad n (comment_of line) → AllOrBad (n + 1) more
-    → AllOrBad n (line ∷ more)
-next_some n line more (inr here) others = inr (n, inl (here, refl))
-next_some n line more (inl here) (inl others) = inl (here.0 ++ others.0, (here.0, others.0, here.1, others.1, refl))
-next_some n line more (inl here) (inr others) = inr (others.0, inr (here.0, here.1, others.1))
-
-all_some : (n : ℕ) (lines : List (List ℕ)) → AllOrBad n lines
-all_some n [] = inl ([], refl)
-all_some n (line ∷ more) = next_some n line more (says_some n (comment_of line)) (all_some (n + 1) more)
-
 -- ---- what they are tried with
 
 module _ (some_code : (R : List Core) (g : Core) → (code : List Instr) × IsCode R g code) where
@@ -166,8 +130,8 @@ module _ (some_code : (R : List Core) (g : Core) → (code : List Instr) × IsCo
       let more = trials_some R target ts in
       (record { test = t; subject = s.0 } ∷ more.0, (s.0, more.0, s.1, more.1, refl))
 
-  tells_some : (p : Packages) (m : ℕ) (b : Bench) (text : List ℕ) → AllOrBad 1 (lines_of text)
-      → (r : OrLine Suite) × Tells p m b text r
+  tells_some : (p : Packages) (m : ℕ) (b : Bench) (text : List ℕ)
+      → ((ts : List Test) × HasTests text ts) ⊎ ((k : ℕ) × HasBad text k) → (r : OrLine Suite) × Tells p m b text r
   tells_some p m b text (inl is) =
       let us = trials_some (bodies (table_of p)) (own p m) is.0 in
       (Ok (record { bench = b; trials = us.0 }), tests is.0 us.0 is.1 us.1 refl)
@@ -177,7 +141,7 @@ module _ (some_code : (R : List Core) (g : Core) → (code : List Instr) × IsCo
       → (r : OrLine Suite) × ComesAgain p file budget text r
   again_some p file budget (Err line) h = (Err line, refl)
   again_some p file budget (Ok text) h =
-      let is = tells_some p h.0 (bench_with file budget h.1) text (all_some 1 (lines_of text)) in
+      let is = tells_some p h.0 (bench_with file budget h.1) text (some_answer text) in
       (is.0, (h.0, h.1, h.2, h.3, is.1))
 
   module _ (tree : Tree) (folders : List (List ℕ)) (file : List ℕ) (budget : Option ℕ) where

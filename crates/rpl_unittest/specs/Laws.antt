@@ -1,5 +1,5 @@
 -- What holds of the tests of all files, and of all trees.
-use Rattle.std.specs.Prelude.{◌≡◌, ℕ, List}
+use Rattle.std.specs.Prelude.{◌≡◌, ◌⊎◌, ℕ, List}
 use Rattle.rpl_core.specs.Forest.{Forest, NoTree, Tree}
 use Rattle.rpl_core.specs.declared.caught.Caught.{Caught}
 use Rattle.rpl_tree.specs.Trees.{Builds}
@@ -8,8 +8,9 @@ use Rattle.rpl_unittest.specs.Comments.{HasTests, HasBad}
 use Rattle.rpl_unittest.specs.Seen.{AreOneTree}
 use Rattle.rpl_unittest.specs.declared.test.Test.{Test}
 
--- a text has its tests, or a first bad line, and never both
+-- a text has its tests, or a first bad line, one of the two alone, and never both
 pub record OneAnswer (text : List ℕ) : Type 0 where
+  pub some : ((tests : List Test) × HasTests text tests) ⊎ ((k : ℕ) × HasBad text k)
   pub tests : (a b : List Test) → HasTests text a → HasTests text b → a ≡ b
   pub bad : (j k : ℕ) → HasBad text j → HasBad text k → j ≡ k
   pub apart : (a : List Test) (k : ℕ) → HasTests text a → HasBad text k → ⊥

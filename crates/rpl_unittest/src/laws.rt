@@ -1,8 +1,8 @@
 // The laws of the tests of all files, and of all trees.
 ghost use Rattle.rpl_unittest.specs.Laws.{OneAnswerLaw, BuiltAsOneTree};
 
-/// Proves that a text has at most one list of tests, at most one first malformed line, and
-/// never both.
+/// Proves that a text has exactly one list of tests or exactly one first malformed line, and never
+/// both.
 pub fn one_answer()
     ensures { OneAnswerLaw }
 {}
