@@ -12,7 +12,7 @@ ghost use Rattle.rpl_parser.specs.Tokens.{fault_by, first_bad};
 ghost use Rattle.rpl_syntax.specs.Bounds.{least_of, most_of};
 
 use crate::fault::{ParseFault, ParseKind};
-use rpl_classes::{Set, SetFault, read_bracket};
+use rpl_classes::{NamedSets, Set, SetFault, read_bracket_with};
 use rpl_lexer::{
     Bounds, Token as Lexeme, TokenKind, bounds_of, decode_text, halves_of, keyword_of, number_of,
     punct_of, token_text,
@@ -73,11 +73,16 @@ fn place(fault: SetFault) -> usize
 
 /// Reads the set in the bracket at the byte offset `at`. If the bracket is bad, returns the empty
 /// set and the fault.
-fn class(alloc: Global, text: &str, at: usize) -> Result<(Token, Option<ParseFault>), AllocError>
+fn class(
+    alloc: Global,
+    sets: &mut NamedSets,
+    text: &str,
+    at: usize,
+) -> Result<(Token, Option<ParseFault>), AllocError>
     ensures token { IfOk result (λ x. x.0 ≡ class_token (bracket_of (chars text.now))) }
     ensures bad { IfOk result (λ x. x.1 ≡ class_fault at (bracket_of (chars text.now))) }
 {
-    match read_bracket(alloc, text) {
+    match read_bracket_with(alloc, sets, text) {
         Ok(bracket) => {
             let class = Token::Class {
                 set: bracket.set,
@@ -154,6 +159,7 @@ fn bounds_bad(at: usize, bounds: Bounds) -> Option<ParseFault>
 /// Converts a token, and returns its fault, if it has one.
 fn convert(
     alloc: Global,
+    sets: &mut NamedSets,
     text: &str,
     lexeme: Lexeme,
 ) -> Result<(Token, Option<ParseFault>), AllocError>
@@ -166,7 +172,7 @@ fn convert(
         TokenKind::Qualified => Ok((qualified(alloc, text, lexeme)?, None)),
         TokenKind::Keyword => Ok((Token::Keyword(keyword_of(text, lexeme)), None)),
         TokenKind::Text => Ok((Token::Text(decode_text(alloc, text, lexeme)?), None)),
-        TokenKind::Bracket => class(alloc, token_text(text, lexeme), lexeme.start),
+        TokenKind::Bracket => class(alloc, sets, token_text(text, lexeme), lexeme.start),
         TokenKind::Bounds => {
             let bounds = bounds_of(text, lexeme);
             Ok((bounds_token(bounds), bounds_bad(lexeme.start, bounds)))
@@ -184,8 +190,14 @@ pub struct Converted {
     pub bad: Option<ParseFault>,
 }
 
-/// Converts the tokens of a text, each of them once.
-pub fn convert_all(alloc: Global, text: &str, lexemes: &[Lexeme]) -> Result<Converted, AllocError>
+/// Converts the tokens of a text, each of them once. `sets` holds the sets of the classes in the
+/// text before these tokens.
+pub fn convert_all(
+    alloc: Global,
+    sets: &mut NamedSets,
+    text: &str,
+    lexemes: &[Lexeme],
+) -> Result<Converted, AllocError>
     requires { AllStand text.now lexemes.now }
     ensures tokens { IfOk result (λ c. c.tokens.items ≡ tokens_of text.now lexemes.now) }
     ensures bad { IfOk result (λ c. c.bad ≡ first_bad text.now lexemes.now) }
@@ -193,7 +205,7 @@ pub fn convert_all(alloc: Global, text: &str, lexemes: &[Lexeme]) -> Result<Conv
     let mut tokens = Vec::with_capacity(alloc, lexemes.len())?;
     let mut bad = None;
     for lexeme in lexemes {
-        let (token, fault) = convert(alloc, text, *lexeme)?;
+        let (token, fault) = convert(alloc, sets, text, *lexeme)?;
         tokens.push(token)?;
         bad = bad.or(fault);
     }

@@ -12,6 +12,7 @@ use crate::convert::convert_all;
 use crate::descent::expression;
 use crate::fault::{ParseFault, ParseKind};
 use crate::level::first_deep;
+use rpl_classes::NamedSets;
 use rpl_lexer::{Token as Lexeme, Tokens};
 use rpl_syntax::Expr;
 use std::alloc::Global;
@@ -44,7 +45,8 @@ fn read_shallow(alloc: Global, text: &str, lexemes: &[Lexeme]) -> Result<Expr, P
     ensures err { IfErr result (λ f. f.kind ≢ OutOfMemory → IsPatternFault text.now lexemes.now f) }
     ensures memory { IfErr result (λ f. f.kind ≡ OutOfMemory → f.at ≡ 0) }
 {
-    let converted = convert_all(alloc, text, lexemes)?;
+    let mut sets = NamedSets::new(alloc);
+    let converted = convert_all(alloc, &mut sets, text, lexemes)?;
     match expression(alloc, &converted.tokens) {
         Ok(read) => unless_bad(read, converted.bad),
         Err(refusal) => Err(refusal.fault_at(start_of(lexemes))),

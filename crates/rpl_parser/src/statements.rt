@@ -23,6 +23,7 @@ use crate::pattern::start_of;
 use crate::piece::first_piece;
 use crate::refusal::Refusal;
 use crate::walk::{Rest, Walk};
+use rpl_classes::NamedSets;
 use rpl_lexer::{Token as Lexeme, Tokens};
 use rpl_syntax::Module;
 use std::alloc::Global;
@@ -51,6 +52,7 @@ fn checked(
 /// nesting level is checked before any bracket is read.
 fn read_piece(
     alloc: Global,
+    sets: &mut NamedSets,
     text: &str,
     piece: &[Lexeme],
 ) -> Result<(Line, Option<ParseFault>), ParseFault>
@@ -64,7 +66,7 @@ fn read_piece(
             kind: ParseKind::TooDeep,
         });
     }
-    let converted = convert_all(alloc, text, piece)?;
+    let converted = convert_all(alloc, sets, text, piece)?;
     match read_line(alloc, &converted.tokens) {
         Ok(line) => Ok((line, converted.bad)),
         Err(refusal) => Err(refusal.fault_at(start_of(piece))),
@@ -74,19 +76,18 @@ fn read_piece(
 /// Parses one more piece and adds it to the module. `rest` holds the tokens after it.
 fn past(
     alloc: Global,
-    text: &str,
+    sets: &mut NamedSets,
     walk: &mut Walk,
     piece: &[Lexeme],
-    rest: &[Lexeme],
+    rest: Rest<'_>,
 ) -> Result<(), ParseFault>
-    requires piece { AllStand text.now piece.now }
-    requires rest { AllStand text.now rest.now }
-    ensures { Answers (λ _. walk_of walk.new) result
-        (step text.now (walk_of walk.old) (closes_later (tokens_of text.now rest.now)) piece.now) }
+    requires piece { AllStand rest.text.now piece.now }
+    requires rest { AllStand rest.text.now rest.tokens.now }
+    ensures { let s = rest.text.now in Answers (λ _. walk_of walk.new) result
+        (step s (walk_of walk.old) (closes_later (tokens_of s rest.tokens.now)) piece.now) }
 {
-    let (line, bad) = read_piece(alloc, text, piece)?;
+    let (line, bad) = read_piece(alloc, sets, rest.text, piece)?;
     let at = start_of(piece);
-    let rest = Rest { text, tokens: rest };
     checked(at, bad, walk.place(alloc, at, line, rest))
 }
 
@@ -95,11 +96,18 @@ fn read_all(alloc: Global, text: &str, lexemes: &[Lexeme]) -> Result<Module, Par
     requires { AllStand text.now lexemes.now }
     ensures { Answers said result (module_of text.now lexemes.now) }
 {
+    let mut sets = NamedSets::new(alloc);
     let mut walk = Walk::new(alloc);
     let mut left = lexemes;
     'pieces: while !left.is_empty() {
         let (piece, rest) = left.split_at(first_piece(text, left));
-        past(alloc, text, &mut walk, piece, rest)?;
+        past(
+            alloc,
+            &mut sets,
+            &mut walk,
+            piece,
+            Rest { text, tokens: rest },
+        )?;
         left = rest;
     }
     walk.finish()
