@@ -1,5 +1,5 @@
 -- A file comes to a code, or to a line.
-use Rattle.std.proofs.Common.{ℕ, List, length, Option, Some, None, refl, inl, inr, ⊎_elim}
+use Rattle.std.proofs.Common.{ℕ, List, length, Some, None, refl, inl, inr, ⊎_elim}
 use Rattle.std.proofs.lemmas.Bool.{cases_lt}
 use Rattle.std.specs.Prelude.{◌⊎◌, Ok, Err, codes}
 use Rattle.rosie_run.specs.Lines.{input_fault}
@@ -7,7 +7,8 @@ use Rattle.rpl_codefile.proofs.Deciding.{spelled_decided}
 use Rattle.rpl_codefile.specs.Spelling.{Spells, SpellsNone}
 use Rattle.rpl_core.specs.Instr.{Instr}
 use Rattle.rpl_codefile.proofs.Shapes.{safe_decided}
-use Rattle.rosie_jobs.specs.Loaded.{IsLoaded, IsRead, OrLine, max_code_bytes, refusal}
+use Rattle.rosie_jobs.specs.Laws.{SomeLoading}
+use Rattle.rosie_jobs.specs.Loaded.{IsRead, OrLine, max_code_bytes, refusal}
 
 by_spelling : (path bytes : List ℕ) → ((code : List Instr) × Spells code bytes) ⊎ SpellsNone bytes
     → (r : OrLine) × IsRead path bytes r
@@ -17,7 +18,7 @@ by_spelling path bytes (inl (code, spells)) = ⊎_elim
     (λ unsafe. (Err (input_fault path (codes "unsafe code")), inr ((code, spells, unsafe), refl)))
     (safe_decided code)
 
-pub some_loading : (path : List ℕ) (file : Option (List ℕ)) → (r : OrLine) × IsLoaded path file r
+pub some_loading : SomeLoading
 some_loading path None = (refusal path (codes "no such file"), refl)
 some_loading path (Some bytes) = ⊎_elim
     (λ long. (refusal path (codes "text too long"), inl (long, refl)))

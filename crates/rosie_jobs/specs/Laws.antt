@@ -39,7 +39,11 @@ RunsAsItsGoal =
     (s : Settings) (job : Job) → IsMeant job → (file : List ℕ) (n : ℕ) (line : List ℕ) → is_utf8 line ≡ true
     → match_makes s job file n line ≡ code_makes s job.code file n line
 
--- a file comes to one of them
+-- a file comes to a code or to a line
+abbrev pub SomeLoading : Type 0
+SomeLoading = (path : List ℕ) (file : Option (List ℕ)) → (r : OrLine) × IsLoaded path file r
+
+-- and to one alone
 abbrev pub OneLoading : Type 0
 OneLoading =
     (path : List ℕ) (file : Option (List ℕ)) (r s : OrLine) → IsLoaded path file r → IsLoaded path file s → r ≡ s

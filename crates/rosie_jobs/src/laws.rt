@@ -1,6 +1,7 @@
 //! The laws of all jobs.
 
-ghost use Rattle.rosie_jobs.specs.Laws.{RunsAsItsGoal, TracesAgree, OneLoading, WrittenLaw};
+ghost use Rattle.rosie_jobs.specs.Laws.{OneLoading, RunsAsItsGoal, SomeLoading, TracesAgree};
+ghost use Rattle.rosie_jobs.specs.Laws.{WrittenLaw};
 
 /// Proves that a trace and a match agree on each line that the limits of both allow.
 pub fn trace_agrees()
@@ -13,9 +14,10 @@ pub fn code_runs_as_its_goal()
     ensures { RunsAsItsGoal }
 {}
 
-/// Proves that a file has at most one result: its code, or the line that refuses it.
+/// Proves that a file has exactly one result: its code, or the line that refuses it.
 pub fn one_loading()
-    ensures { OneLoading }
+    ensures some { SomeLoading }
+    ensures only { OneLoading }
 {}
 
 /// Proves that the capture list of any trees represents exactly those trees.
