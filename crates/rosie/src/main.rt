@@ -1,4 +1,4 @@
-//! The program: the real streams and files, and one call of `rosie_cli::rosie`. This is the
+//! The program: the real streams and files, and one call to `rosie_cli::rosie`. This is the
 //! trusted edge: no contract says what a stream holds.
 //!
 //! If a word isn't UTF-8, the program writes nothing and ends with status 2. If there is not
@@ -28,7 +28,7 @@ fn words(rt: &HostRuntime) -> io::Result<Vec<String>> {
     Ok(words)
 }
 
-/// Returns the status if the words could not be read.
+/// Returns the exit status for an error in reading the words.
 fn status_without_words(error: io::Error) -> Status {
     if error.kind() == ErrorKind::OutOfMemory {
         Status::NoMemory

@@ -17,7 +17,7 @@ use rpl_print::text_of;
 use rpl_text::Chars;
 use std::alloc::Global;
 
-/// Plans the run of the code file at a path on each line of the inputs.
+/// Plans the run of a code file, given by its path, on each line of the inputs.
 pub(crate) fn plan_code<F: Files>(
     alloc: Global,
     path: Chars,

@@ -31,7 +31,7 @@ use std::alloc::Global;
 pub(crate) enum Purpose {
     /// The pattern is matched on each line of the inputs.
     Match(Settings, Paths),
-    /// The pattern is traced on each line of the inputs. The fields are the limit of the work on
+    /// The pattern is traced on each line of the inputs. The fields are the limit on the work for
     /// a line, whether a whole input is one line, and the inputs.
     Trace(u32, bool, Paths),
     /// The pattern is matched on the lines of a sample. The fields are the settings, the seed,

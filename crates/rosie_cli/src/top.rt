@@ -309,9 +309,9 @@ pub fn rosie<F: Files, I: Source, O: Sink, E: Sink, L: Ledger>(
     ensures untouched { IsRefused (asks words.now) → (files.new ≡ files.old) ×
         (input.new ≡ input.old) }
 
-    // Words that run no line, no test and no sample make no machine steps, whatever the files hold.
-    // The same is true of other words if loading is refused, provided that the contents of the
-    // files are visible or no path is asked for.
+    // If the words ask for no lines, tests or sample to be run, no machine steps are made, whatever
+    // the files hold. The same is true of other words if loading is refused, provided that the
+    // contents of the files are visible or no path is asked for.
     ensures idle { IsIdle (asks words.now) → steps.new ≡ steps.old }
     ensures unrun { (p : Planned) → IsTold F.tells p.asked
         → IsPlanned (asks words.now) (F.tree files.old) p → IsIdlePlan p.plan →

@@ -1,4 +1,4 @@
-//! The program `rosie-columns`: the real streams and files, and one call of
+//! The program `rosie-columns`: the real streams and files, and one call to
 //! `rosie_columns_cli::columns`. This is the trusted edge: no contract says what a stream
 //! holds.
 //!
@@ -29,7 +29,7 @@ fn words(rt: &HostRuntime) -> io::Result<Vec<String>> {
     Ok(words)
 }
 
-/// Returns the ending if the words could not be read.
+/// Returns the ending for an error in reading the words.
 fn ending_without_words(error: io::Error) -> Ending {
     if error.kind() == ErrorKind::OutOfMemory {
         Ending::Ran(Status::NoMemory)

@@ -255,7 +255,8 @@ fn has_columns(sheet: &Sheet) -> bool
     }
 }
 
-/// Returns the parsed command line if it has a column. Without names, standard input is read.
+/// Returns the parsed command line, if it has a column or needs none. Without names, standard
+/// input is read.
 fn whole(alloc: Global, asked: Asked) -> Result<Asked, WordFault>
     ensures ok { IfOk result (λ a. wholly asked ≡ Ok a) }
     ensures fault { IfErr result (λ e. e ≢ E.NoMemory → wholly asked ≡ Err e) }

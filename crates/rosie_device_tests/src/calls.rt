@@ -34,7 +34,7 @@ fn words_are_a_command(rt: HostRuntime) -> Result<(), Fail> {
     Ok(())
 }
 
-/// Returns the package set of one text, in which a day has two digits.
+/// Returns the package set made from one text, in which a day has two digits.
 fn days<F: Files>(alloc: Global, files: &mut F) -> Result<PackageSet, Fail> {
     let mut roots = Roots::new(alloc);
     roots.push(Root::Given(Chars::from_str(alloc, "day = [0-9]{2}")?))?;

@@ -84,8 +84,8 @@ const X_RULES: &str = "\
         !rosie: x.rpl: read failed¶
         !rosie: x.rpl: read failed¶";
 
-/// A pattern of an imported package, on two files, and on the standard input between them. Each
-/// call moves a few bytes.
+/// A pattern from an imported package, run on a file, on the standard input, and on another file.
+/// Each call moves a few bytes.
 const MATCH: Case = Case {
     run: Run {
         words: "match --steps -o line --libpath lib p.ab f - g",
@@ -120,8 +120,8 @@ const MATCH: Case = Case {
         ab1¶ab2¶ab3¶!steps 7¶steps 4¶steps 7¶rosie: -:2: not UTF-8¶steps 7¶rosie: -: read failed¶",
     writes: Writes {
         // Each answer takes two writes, and a flush, since its steps are reported. A line
-        // without an answer takes only a flush. One more flush follows when no whole line is
-        // left of what was read, and one at the end.
+        // without an answer takes only a flush. One more flush follows when the bytes that were
+        // read hold no further whole line, and one at the end.
         out: "\
         !
         ab1!
@@ -143,8 +143,8 @@ const MATCH: Case = Case {
         ab1¶ab2¶ab3¶ab4!steps 7¶steps 4¶steps 7¶rosie: -:2: not UTF-8¶steps 7¶rosie: g:1: not UTF-8¶
         …!steps 7¶steps 4¶steps 7¶rosie: -:2: not UTF-8¶steps 7¶rosie: g:1: not UTF-8¶
         …!…",
-        // The steps of a line take one write, and each fault takes two. A flush follows when no
-        // whole line is left of what was read, and one at the end.
+        // The steps of a line take one write, and each fault takes two. A flush follows when the
+        // bytes that were read hold no further whole line, and one at the end.
         err: "\
         ab1¶!
         ab1¶!steps 7¶
@@ -163,8 +163,8 @@ const MATCH: Case = Case {
     },
 };
 
-/// The rules and the file take three calls each: to open it, to read its bytes, and to find its
-/// end.
+/// The rules and the input `f` take three calls each: one opens the file, one reads its bytes, and
+/// one finds its end.
 const GREP: Case = Case {
     run: Run {
         words: "grep -a -f r.rpl n f -",
@@ -346,7 +346,7 @@ const COMPILE: Case = Case {
     writes: ONE_TEXT,
 };
 
-/// The code takes three calls. Then the input `h` is read.
+/// Loading the code takes three calls. Then the input `h` is read.
 const CODE_FILE: Case = Case {
     run: Run {
         words: "match --code-file x.code -o line h -",

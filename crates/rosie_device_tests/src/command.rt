@@ -21,7 +21,7 @@ pub(crate) enum Device {
     Err,
 }
 
-/// The call of a device that fails, counted from 1. With 0 no call fails.
+/// Which call to which device fails. Calls are counted from 1; with 0, none fails.
 #[derive(Clone, Copy)]
 pub(crate) struct Fault {
     pub(crate) device: Device,
@@ -71,7 +71,7 @@ pub(crate) fn words_of(alloc: Global, text: &str) -> Result<Vec<String>, NoMemor
     Ok(words)
 }
 
-/// Returns the greatest number of bytes that a call of this device moves.
+/// Returns the greatest number of bytes that a call to this device moves.
 fn most_of(run: &Run<'_>, device: Device) -> usize
     ensures { 1 ≤ result }
 {
@@ -85,7 +85,7 @@ fn most_of(run: &Run<'_>, device: Device) -> usize
     }
 }
 
-/// Returns the calls of this device that fail.
+/// Returns the calls to this device that fail.
 fn failing(alloc: Global, fault: Fault, device: Device) -> Result<Calls, NoMemory> {
     let call = if fault.device == device {
         fault.call
@@ -137,7 +137,7 @@ impl Devices {
     }
 }
 
-/// Runs the command. The call `fault` fails.
+/// Runs the command. The call that `fault` names fails.
 pub(crate) fn run_on(alloc: Global, run: &Run<'_>, fault: Fault) -> Result<Outcome, NoMemory> {
     let words = words_of(alloc, run.words)?;
     let mut devices = Devices::new(alloc, run, fault)?;

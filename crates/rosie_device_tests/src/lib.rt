@@ -1,10 +1,10 @@
-//! Tests of what a process doesn't show:
+//! Tests of what running the program as a process doesn't show:
 //!
 //! - a run of each command over files and streams in memory, in which each call of each device
 //!   fails in turn, with the status and every byte of the output worked out by hand;
 //! - trees in JSON, read back by `serde_json`;
 //! - system calls that a signal interrupts;
-//! - the calls of a list;
+//! - the methods of a list;
 //! - the public calls, from words and a pattern to an answer, and the public values of the crates
 //!   below. The examples in the comments of these crates are taken from here.
 //!

@@ -1,4 +1,4 @@
-// Each call of a list, made once.
+// Each method of a list, called at least once.
 use rpl_list::List;
 use std::test::Fail;
 

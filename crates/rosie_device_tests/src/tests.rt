@@ -22,7 +22,7 @@ fn row_of(alloc: Global, case: &Case, got: &Outcome) -> Result<String, NoMemory>
     format!(in alloc; "{out}!{err}")
 }
 
-/// Returns the status of a run in which a call of this device fails.
+/// Returns the status of a run in which a call to this device fails.
 fn status_of(device: Device) -> Status {
     match device {
         Device::Files | Device::Input => Status::ReadFault,
@@ -35,8 +35,8 @@ fn is_whole(case: &Case, got: &Outcome) -> bool {
     got.status == case.status && got.out.as_slice() == case.out && got.err.as_slice() == case.err
 }
 
-/// Returns the first row of a device that differs from the result of its call, or an empty text. If
-/// the number of the failing call exceeds the number of the device's calls, the output must be
+/// Returns the first of a device's rows that differs from the result of its call, or an empty text.
+/// If the number of the failing call exceeds the number of calls to the device, the output must be
 /// complete.
 fn first_other(alloc: Global, case: &Case, device: Device) -> Result<&'static str, NoMemory> {
     let mut call = 1u64;

@@ -57,7 +57,7 @@ fn members(node: &Value) -> usize {
     }
 }
 
-/// Returns whether this is the tree of a line of nested pairs, and no node has another member.
+/// Returns whether this is the tree of a line of nested pairs, with no further member in any node.
 fn is_tree(tree: &Value, line: &str) -> bool {
     let pairs = line.len() / 2;
     let mut node = tree;

@@ -6,10 +6,10 @@ ghost use Rattle.rosie_io.specs.inside.Giving.{given};
 
 use crate::ReadAnswer;
 
-/// How far the reading of some contents has come.
+/// How far some contents have been read.
 #[derive(Drop)]
 pub struct Progress {
-    /// The number of bytes given from the present contents.
+    /// The number of bytes given from the current contents.
     pub at: usize,
     /// The number of bytes given in all, capped at the greatest u64.
     pub taken: u64,

@@ -1,4 +1,4 @@
-//! The run of a program on a line, and the printing of its answer.
+//! Running a program on a line, and printing the answer.
 
 ghost use Rattle.std.specs.Prelude.{◌≡◌, ◌⊎◌, ◌≤◌, ◌^◌, ◌+◌, Some, length, chars};
 ghost use Rattle.std.specs.Prelude.{IfOk, OnOk, IsTrue};
@@ -27,8 +27,8 @@ use std::sync::ledger::Ledger;
 /// The number of entries for which the machine's lists have room at the start.
 const ENTRIES: u64 = 65_536;
 
-/// The run of a program on one line after the other, with the printing of its matches. All
-/// memory is kept from line to line.
+/// Runs a program on one line after the other, and prints its matches. All memory is kept from
+/// line to line.
 #[derive(Drop)]
 pub(crate) struct LineRun {
     pub(crate) settings: Settings,
@@ -121,7 +121,7 @@ impl LineRun {
             .print(style, line, Some(&self.forest), &self.fronts)
     }
 
-    /// Makes the piece of a line, for each outcome that the run may show.
+    /// Runs the program on a line, and makes the line's piece from the outcome.
     #[inline(always)]
     pub(crate) fn answer<L: Ledger>(
         &mut self,

@@ -27,7 +27,7 @@ pub(crate) struct Texts {
     pub(crate) told: String,
 }
 
-/// The end of the machine's run over a line.
+/// How the machine's run over a line ended.
 #[derive(Clone, Copy)]
 pub(crate) struct RunEnd {
     /// Whether the line matched.

@@ -52,8 +52,8 @@ fn load_roots<F: Files>(
     }
 }
 
-/// Loads the pattern over the packages of its roots, and adds its imports to them. Returns the
-/// line that reports the first fault, if there is one.
+/// Loads the pattern over the packages of its roots, and adds the packages that it imports.
+/// Returns the line that reports the first fault, if there is one.
 fn load_goal<F: Files>(
     alloc: Global,
     files: &mut F,

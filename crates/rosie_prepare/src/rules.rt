@@ -90,8 +90,8 @@ fn rule_names(alloc: Global, set: &PackageSet, rules: &[u32]) -> Result<String, 
     Ok(out)
 }
 
-/// Returns the line that reports a fault in a rule or in the pattern: this text, followed by what
-/// names the rule or stands for the pattern.
+/// Returns the line that reports a fault in a rule or in the pattern: this text, followed by the
+/// full name of the rule, or by `*` for the pattern.
 fn named_line(alloc: Global, place: &Place<'_>, text: &str) -> Result<String, NoMemory>
     ensures { IfOk result (λ line. string_bytes line
         ≡ L.rule_line (set_seen place.now.set.now) place.now.rule

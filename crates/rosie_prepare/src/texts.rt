@@ -49,7 +49,7 @@ pub(crate) fn parse_text(kind: ParseKind) -> &'static str
     }
 }
 
-/// Returns the message for a wrong use of a macro. The macro's name is to follow it.
+/// Returns the message for a wrong use of a macro. The caller appends the macro's name.
 pub(crate) fn macro_text(fault: MacroFault) -> &'static str
     ensures { result.now ≡ T.macro_text fault }
 {

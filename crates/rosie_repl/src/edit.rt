@@ -50,8 +50,8 @@ fn by_sign<'a>(sign: &str, rest: &'a str) -> Option<Edit<'a>>
 }
 
 /// Parses the command of a line. Returns `None` exactly when the line has none of the six forms.
-/// The number of a text may be any below 2^64. A text, a pattern or a line may be empty, and is
-/// all that follows the space.
+/// A text's number may be any number below 2^64. A text, a pattern or a line is all that follows
+/// the space, and may be empty.
 pub fn read_edit(line: &str) -> Option<Edit<'_>>
     ensures { some_seen result ≡ S.edit_of line.now }
 {

@@ -5,8 +5,8 @@
 //! `State` makes each change and undoes it. The command of a line, the state after a change, and
 //! the state after `undo` are exactly as defined (`specs/Edits.antt`, `specs/Session.antt`). The
 //! caller decides whether a change is accepted, by loading the state. For each earlier change a
-//! state holds only what is needed to undo it, so a change costs its own size, and `undo`
-//! allocates nothing.
+//! state holds only what is needed to undo it, so a change takes memory in proportion to its own
+//! size, and `undo` allocates nothing.
 #![tactic(auto)]
 
 mod edit;

@@ -86,7 +86,7 @@ impl State {
         Ok(true)
     }
 
-    /// Replaces a text by another.
+    /// Replaces a text with another.
     fn replace(&mut self, number: u64, text: &str) -> Result<bool, NoMemory>
         ensures { Changes (session_of self.old) (session_of self.new)
             (S.changed (Replace number (chars text.now)) (session_of self.old)) result }

@@ -34,7 +34,8 @@ pub fn say<O: Sink, E: Sink>(
     }
 }
 
-/// Returns the end of a run that reading ended. `file` is the name of the input that was read.
+/// Returns the reason why a run ends if reading stops it. `file` is the name of the input that was
+/// read.
 pub fn cut(alloc: Global, tool: Tool, why: ReadStop, file: &str) -> Ended
     ensures { IsCutOf result tool why file.now }
 {

@@ -46,7 +46,7 @@ pub(crate) fn write_both<O: Sink, E: Sink>(
     write_behind(out, err, err_text)
 }
 
-/// Writes a text on `err`, after the text on `out`: if there is a text, `out` is flushed first.
+/// Writes a text on `err`, after the text on `out`: unless `text` is empty, `out` is flushed first.
 #[inline(always)]
 fn write_behind<O: Sink, E: Sink>(out: &mut O, err: &mut E, text: &[u8]) -> Result<(), WriteFault>
     ensures out { O.tells → O.written out.new ≡ O.written out.old }

@@ -6,8 +6,8 @@ ghost use Rattle.rosie_sample.specs.Lines.{two_digits, level, date, dated, undat
 use crate::NoMemory;
 use rpl_print::push_decimal;
 
-/// Returns the zero that goes before a number of one digit, so that two digits are printed. It
-/// is empty for other numbers.
+/// Returns the zero that goes before a number of one digit, so that two digits are printed, or the
+/// empty text for any other number.
 fn zero_before(number: u32) -> &'static str
     ensures { result.now ≡ (if nat_lt number 10 then codes "0" else []) }
 {

@@ -90,7 +90,8 @@ impl SampleRun {
         Ok(mark)
     }
 
-    /// Matches the lines of the run, starting from where the sample is, and reports the counts.
+    /// Matches the lines of the run, starting at the sample's current position, and reports the
+    /// counts.
     pub fn run<O: Sink, E: Sink, L: Ledger>(
         &mut self,
         outputs: &mut Outputs<'_, O, E, L>,

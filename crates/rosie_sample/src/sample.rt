@@ -7,7 +7,7 @@ use crate::line::push_line;
 use std::alloc::Global;
 use std::marker::Model;
 
-/// The lines of a sample, one after the other. A new sample is before the first of them.
+/// The lines of a sample, one after the other. A new sample stands before its first line.
 #[derive(Debug, Drop)]
 pub struct Sample {
     number: u32,

@@ -1,7 +1,7 @@
 // The laws of all sessions.
 ghost use Rattle.rosie_session.specs.Laws.{BudgetLaw, NoStopLaw, OneLoading, TryLaw, UndoLaw};
 
-/// Proves that over each tree of files and library path there is at most one loading.
+/// Proves that over a given tree of files and library path, loading has at most one result.
 pub fn one_loading()
     ensures { OneLoading }
 {}
@@ -11,8 +11,8 @@ pub fn undo_law()
     ensures { UndoLaw }
 {}
 
-/// Proves that the answer to a tried line depends only on the kept texts and pattern, and
-/// changes neither.
+/// Proves that the answer to a tried line depends only on the kept texts and pattern, and that
+/// trying a line changes neither.
 pub fn try_law()
     ensures { TryLaw }
 {}

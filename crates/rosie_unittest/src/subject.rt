@@ -72,8 +72,8 @@ fn length_of(subject: &Subject) -> usize {
     }
 }
 
-/// Returns the index of a target's note: 0 for no target, and the rule's number plus one for any
-/// other.
+/// Returns the index of a target's note: 0 if there is no target, and otherwise the rule's number
+/// plus one.
 fn note_of(target: Option<Target>) -> usize {
     match target {
         None => 0,

@@ -33,7 +33,7 @@ fn with_text(test: Test) -> Test
     ensures same { result ≡ test }
     ensures text { IsText result.text }
 {
-    // Looking at the text makes it known that it consists of characters.
+    // After this look at the text, it is known to consist of characters.
     let _text = test.text.as_str();
     test
 }

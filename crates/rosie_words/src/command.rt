@@ -43,9 +43,9 @@ pub enum What {
 pub struct Command {
     /// The command and its arguments.
     pub what: What,
-    /// The files of `-f` and the texts of `--rpl`, in the order of the words.
+    /// The files from `-f` and the texts from `--rpl`, in the order of the words.
     pub roots: Roots,
-    /// The folders of `--libpath`; by default the one folder `.`.
+    /// The folders from `--libpath`; by default the one folder `.`.
     pub folders: LibPath,
     /// The style of `-o`; by default `Line` for `grep` and `Json` otherwise.
     pub style: Style,

@@ -41,7 +41,7 @@ fn first_escaped(spelled: &[u8]) -> Option<(u8, &[u8])>
 }
 
 /// Splits the first byte, which may be written as an escape, off a spelled text. Returns `None` if
-/// the text is empty or no text is spelled this way.
+/// the text is empty or begins with a malformed escape.
 fn first_byte(spelled: &[u8]) -> Option<(u8, &[u8])>
     ensures value { option_map (λ r. (r.0, r.1.now)) result ≡ C.first_in spelled.now }
     ensures fewer { IfSome result (λ r. length r.1.now < length spelled.now) }
@@ -90,7 +90,7 @@ fn put_doubled(out: &mut Vec<u8>, spelled: &[u8]) -> Result<(), NoMemory>
     Ok(())
 }
 
-/// Returns whether a text that contains this byte is quoted.
+/// Returns whether a text that contains this byte needs quotes.
 fn wants_quotes(byte: u8) -> bool
     ensures { result ≡ C.wants_quotes byte }
 {
@@ -134,7 +134,7 @@ pub(crate) fn put_csv(out: &mut Vec<u8>, spelled: &[u8]) -> Result<(), NoMemory>
     put_csv_slowly(out, spelled)
 }
 
-/// Does the same for a text that may contain escapes or bytes that need quotes.
+/// Does the same as `put_csv`, for a text that may contain escapes or bytes that need quotes.
 #[inline(never)]
 fn put_csv_slowly(out: &mut Vec<u8>, spelled: &[u8]) -> Result<(), NoMemory>
     ensures { OnOk result (out.new.items ≡ out.old.items ++ C.csv_cell (C.text_of spelled.now)) }
@@ -148,7 +148,7 @@ fn put_csv_slowly(out: &mut Vec<u8>, spelled: &[u8]) -> Result<(), NoMemory>
     Ok(())
 }
 
-/// Appends a byte in the form it has in tab-separated values.
+/// Appends a byte as it is written in tab-separated values.
 fn put_tsv_byte(out: &mut Vec<u8>, byte: u8) -> Result<(), NoMemory>
     ensures { OnOk result (out.new.items ≡ out.old.items ++ C.tsv_byte byte) }
 {
@@ -175,7 +175,7 @@ pub(crate) fn put_tsv(out: &mut Vec<u8>, spelled: &[u8]) -> Result<(), NoMemory>
     put_tsv_slowly(out, spelled)
 }
 
-/// Does the same for a text that may contain escapes.
+/// Does the same as `put_tsv`, for a text that may contain escapes.
 #[inline(never)]
 fn put_tsv_slowly(out: &mut Vec<u8>, spelled: &[u8]) -> Result<(), NoMemory>
     ensures { OnOk result (out.new.items ≡ out.old.items ++ C.tsv_cell (C.text_of spelled.now)) }

@@ -9,7 +9,7 @@ use rpl_print::push_quoted;
 use std::alloc::Global;
 use std::marker::Model;
 
-/// The part of its nodes that a column takes.
+/// The part of each node that a column takes.
 #[derive(Clone, Copy)]
 pub enum Part {
     /// The text of a node.
@@ -174,7 +174,8 @@ fn outer_and_inner(word: &str) -> (&str, Option<&str>)
     }
 }
 
-/// Returns the column with this name and the types before and after the `/`, if they are types.
+/// Returns the column with this name, given the texts before and after the `/`. Returns `None` if
+/// either is not a type.
 fn column_at(
     alloc: Global,
     name: &str,
@@ -216,7 +217,7 @@ fn column_at(
     }
 }
 
-/// Returns the column with this name and the path and part after it.
+/// Returns the column with this name, and with the path and the part that `word` gives.
 fn column_from(alloc: Global, name: &str, word: &str) -> Result<Option<Column>, NoMemory>
     ensures { IfOk result (λ c. c ≡ C.column_from name.now word.now) }
 {
@@ -254,7 +255,7 @@ fn is_named(label: &[u8], name: &[u8]) -> bool
 }
 
 impl Column {
-    /// Returns the column of a word `TYPE` or `NAME=TYPE`, if its type is valid.
+    /// Returns the column for a word `TYPE` or `NAME=TYPE`, if its type is valid.
     #[tactic(auto, unfolding(crate::specs::Columns::column_of))]
     pub fn of_word(alloc: Global, word: &str) -> Result<Option<Column>, NoMemory>
         ensures { IfOk result (λ c. c ≡ C.column_of word.now) }

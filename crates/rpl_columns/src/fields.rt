@@ -57,7 +57,7 @@ fn is_new(line: &[u8], known: &[Node], node: Node) -> bool
     node.is_leaf && !is_known(line, known, key_of(line, node))
 }
 
-/// Finds one node for each field name, in the order of the first occurrence of the names.
+/// Finds one node for each field name, in the order in which the names first occur.
 fn find_keys(keys: &mut Vec<Node>, line: &[u8], nodes: &[Node]) -> Result<(), NoMemory>
     ensures { OnOk result (map (F.key_of line.now) keys.new.items
         ≡ F.keys [] (map (seen line.now) nodes.now)) }

@@ -262,8 +262,8 @@ fn fill_blank(out: &mut Vec<u8>, start: usize) -> Result<(), NoMemory>
     Ok(())
 }
 
-/// Does the same if the format needs it: in CSV, a row of one empty cell would otherwise be an
-/// empty line.
+/// Does the same as `fill_blank`, if the format needs it: in CSV, a row of one empty cell would
+/// otherwise be an empty line.
 fn fill_cells(out: &mut Vec<u8>, format: Format, start: usize) -> Result<(), NoMemory>
     requires { start ≤ vec_len out.old }
     ensures { OnOk result (out.new.items ≡ take start out.old.items

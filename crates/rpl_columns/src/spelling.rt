@@ -167,7 +167,7 @@ fn string_end(line: &[u8], from: usize) -> usize
     }
 }
 
-/// Does the same, starting at a backslash.
+/// Does the same as `string_end`, starting at a backslash.
 #[inline(never)]
 fn escaped_end(line: &[u8], from: usize) -> usize
     requires within { from ≤ length line.now }
