@@ -1,14 +1,20 @@
-"""The style of the package: what pyflakes and pycodestyle say, short functions, and docstrings."""
+"""The style of the package: what ruff or tools of the same rules say, short functions, and docstrings."""
 import ast
 import os
+import shutil
 import subprocess
 import sys
 import unittest
-import shutil
 
 from helper import PYTHON
 
+try:
+    import mccabe
+except ImportError:
+    mccabe = None
 LONGEST_FUNCTION = 40
+# As in pyproject.toml.
+MOST_COMPLEX = 10
 
 
 def sources():
@@ -41,6 +47,28 @@ class Style(unittest.TestCase):
     def test_pycodestyle(self):
         # E402: the tests name the folder of the package before they import it. W503 and W504 exclude one another.
         self.check(tool("pycodestyle", "pycodestyle3"), "--max-line-length=120", "--ignore=E402,W503,W504")
+
+    def test_isort(self):
+        program = tool("isort")
+        if program is None:
+            self.skipTest("there is no isort")
+        done = subprocess.run([program, "--check-only", "--settings-path", PYTHON, *sources()], capture_output=True,
+                              text=True, check=False)
+        self.assertEqual((done.returncode, done.stdout + done.stderr), (0, ""))
+
+    @unittest.skipUnless(mccabe, "there is no mccabe for this Python")
+    def test_complexity(self):
+        faults, count = [], 0
+        for path in sources():
+            with open(path, encoding="utf-8") as file:
+                tree = ast.parse(file.read())
+            visitor = mccabe.PathGraphingAstVisitor()
+            visitor.preorder(tree, visitor)
+            made = [(graph.complexity(), graph.entity) for graph in visitor.graphs.values()]
+            faults += [(path, *each) for each in made if each[0] > MOST_COMPLEX]
+            count += len(made)
+        self.assertEqual(faults, [])
+        self.assertGreater(count, 300)
 
     def test_ruff(self):
         program = tool("ruff")

@@ -87,23 +87,16 @@ fn a_rule_that_repeats_nothing(rt: HostRuntime) -> Result<(), Fail> {
         block: None,
         body: Peg::Many(Box::new(alloc, Peg::End)?),
     })?;
-    assert!(rt;
-        matches!(
-            check(alloc, rules),
-            Err(CheckFault::EmptyLoop { rule: Some(0) })
-        )
-    );
+    let refused = check(alloc, rules);
+    assert!(rt; matches!(refused, Err(CheckFault::EmptyLoop { rule: Some(0) })));
     Ok(())
 }
 
 #[test]
 fn captures_and_nodes(rt: HostRuntime) -> Result<(), Fail> {
     let alloc = rt.alloc();
-    let caught = [
-        Caught::Begin { label: 0, place: 2 },
-        Caught::Finish { place: 4 },
-    ];
-    let forest = build(alloc, &caught)?;
+    let begin = Caught::Begin { label: 0, place: 2 };
+    let forest = build(alloc, &[begin, Caught::Finish { place: 4 }])?;
     let node = forest.get(0);
     assert!(rt; matches!(node, Some(node) if node.start == 2 && node.end == 4));
     assert!(rt; Forest::new(alloc).len() == 0);

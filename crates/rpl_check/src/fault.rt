@@ -21,7 +21,8 @@ pub enum BehindCause {
 /// # Examples
 ///
 /// ```
-/// assert!(rt; matches!(check(alloc, rules), Err(CheckFault::EmptyLoop { rule: Some(0) })));
+/// let refused = check(alloc, rules);
+/// assert!(rt; matches!(refused, Err(CheckFault::EmptyLoop { rule: Some(0) })));
 /// ```
 #[derive(Debug, Drop, Error)]
 pub enum CheckFault {

@@ -7,8 +7,8 @@
 /// # Examples
 ///
 /// ```
-/// let caught = [Caught::Begin { label: 0, place: 2 }, Caught::Finish { place: 4 }];
-/// let forest = build(alloc, &caught)?;
+/// let begin = Caught::Begin { label: 0, place: 2 };
+/// let forest = build(alloc, &[begin, Caught::Finish { place: 4 }])?;
 /// ```
 #[derive(Clone, Copy, Debug, PartialEq, Eq)]
 pub enum Caught {

@@ -13,8 +13,16 @@ from ..faults import RosieError
 from .checks import MEBIBYTES, SECONDS, Checked, check
 from .documents import Document, Documents, path_of
 from .features import Features
-from .rpc import INTERNAL_ERROR, INVALID_REQUEST, METHOD_NOT_FOUND, NOT_INITIALIZED, Message, Refusal, read_message
-from .rpc import write_message
+from .rpc import (
+    INTERNAL_ERROR,
+    INVALID_REQUEST,
+    METHOD_NOT_FOUND,
+    NOT_INITIALIZED,
+    Message,
+    Refusal,
+    read_message,
+    write_message,
+)
 
 # A text is checked when nothing was typed for so many seconds.
 QUIET_SECONDS = 0.15
