@@ -12,14 +12,14 @@ pub fn one_plan()
     ensures words { WordsHavePlans }
 {}
 
-/// Proves for any words that no line and no test is reported to exceed a budget that pays for
-/// it, and that code written as a file is safe.
+/// Proves for any words that no line or test is reported to exceed a budget that pays for it,
+/// and that code written as a file is safe.
 pub fn promise_law()
     ensures { PromiseLaw }
 {}
 
-/// Proves that `compile` writes, for a pattern, the spelling of safe code. `match` runs it as
-/// the code of that pattern, so the report is the same with the file as with the pattern.
+/// Proves that what `compile` writes for a pattern spells safe code. `match` runs it as the code
+/// of that pattern, so the report is the same with the file as with the pattern.
 pub fn compiled_is_run()
     ensures safe { SafeLaw }
     ensures code { RunsWhatIsCompiled }

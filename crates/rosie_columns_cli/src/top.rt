@@ -54,7 +54,7 @@ fn outputs_of<'a, O: Sink, E: Sink, L: Ledger>(
     }
 }
 
-/// The greatest number of bytes in a line: as many as an answer of `rosie` may have.
+/// The greatest number of bytes in a line: as many as an answer from `rosie` may have.
 const MAX_LINE_BYTES: usize = 67_108_864;
 
 /// Returns how the inputs are read.

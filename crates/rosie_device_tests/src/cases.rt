@@ -5,10 +5,10 @@
 // is for its first call, the last row for its last call.
 //
 // A line is answered once its line feed, or the end, has been read, and before more is read. A
-// text for `out` is written before one for `err`, and flushed before it. If a read of an input
-// may wait, what was written since the last read is flushed first, on both outputs, in a
-// session too. At the end both are flushed. The contents of a file are known before anything is
-// written.
+// text for `out` is written and flushed before a text for `err` is written. If a read of an input
+// may wait, both outputs are flushed first if anything was written since the last read; this
+// holds for a session too. At the end both are flushed. The contents of a file are known before
+// anything is written.
 use crate::command::{Device, Run};
 use crate::files::CODE;
 use rosie_cli::Status;

@@ -35,7 +35,7 @@ fn make_line(alloc: Global, listed: &Listed) -> Result<String, NoMemory>
     Ok(line)
 }
 
-/// Returns the lines of names, and drops the names: both may take much memory.
+/// Returns the lines of names, and drops the names: both may take a lot of memory.
 fn make_lines(alloc: Global, names: Names) -> Result<Vec<String>, NoMemory>
     ensures { IfOk result (λ lines. map (λ l. string_bytes l) lines.items
         ≡ map name_line names) }

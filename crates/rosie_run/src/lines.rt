@@ -157,7 +157,7 @@ impl<'a, J: LineJob> Lines<'a, J> {
 }
 
 impl<'a, J: LineJob, S: Source> SourceLines<'a, J, S> {
-    /// Returns the lines of a source that the reader still has to read.
+    /// Returns the lines that the reader still has to read from a source.
     pub(crate) fn new(
         file: &'a str,
         job: &'a mut J,

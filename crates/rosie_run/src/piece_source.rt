@@ -18,7 +18,7 @@ pub trait PieceSource {
     /// Whether both values work on the same things: the same job, the same input, and so on.
     ghost same: { Self → Self → Type 0 };
 
-    /// Whether a run that began with the first value may be at the second after this many
+    /// Whether a run that began at the first value may have reached the second after this many
     /// pieces, if it went on in this way.
     ghost leaves: { How → Self → Self → ℕ → Type 0 };
 

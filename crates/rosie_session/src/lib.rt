@@ -1,5 +1,5 @@
-//! A session: each of its lines is a command that changes the texts or the pattern, or tries a
-//! line, and is answered from the texts as they are then.
+//! A session. Each of its lines is a command that changes the texts or the pattern, or tries a
+//! line. Each command is answered from the texts as they are at that time.
 //!
 //! The crate serves the command `repl`. [`run_session`] reads the lines, keeps the state of
 //! `rosie_repl`, and loads it anew for each change and each tried line. `specs/Replay.antt`

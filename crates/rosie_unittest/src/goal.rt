@@ -27,7 +27,7 @@ fn goal_of(alloc: Global, target: Target) -> Result<Peg, NoMemory>
     Ok(Peg::Capture(root, Box::new(alloc, call)?))
 }
 
-/// Returns the goal for testing a rule of the table. It can be compiled as it is: a match of it
+/// Returns the goal for testing a rule of the table. It can be compiled as it is: each match
 /// is one tree, and the check finds no fault in a call.
 pub(crate) fn checked_goal(
     alloc: Global,

@@ -82,8 +82,8 @@ fn next_node(line: &[u8], reached: Reached) -> Option<Reached>
     Some(Reached { at, depth })
 }
 
-/// Parses a node. Returns it with the state where the next one begins; if no list is open in that
-/// state, the tree ends there.
+/// Parses a node. Returns it, and the state in which the next one begins; if no list is open in
+/// that state, the tree ends there.
 #[inline(always)]
 #[tactic(auto, unfolding(crate::specs::Nodes::step_in))]
 fn read_step(line: &[u8], reached: Reached) -> Option<(Node, Reached)>
