@@ -75,7 +75,7 @@ pub(crate) enum Front {
     Free,
     /// The name of a format must follow.
     Format,
-    /// The text to join texts with must follow.
+    /// The text that joins the texts of a cell must follow.
     Joint,
     /// All further words are names of inputs.
     Names,

@@ -9,7 +9,7 @@ use rpl_print::push_quoted;
 use std::alloc::Global;
 use std::marker::Model;
 
-/// The part of each node that a column takes.
+/// What a column takes from each of its nodes.
 #[derive(Clone, Copy)]
 pub enum Part {
     /// The text of a node.
