@@ -4,6 +4,7 @@ pub mod Made
 pub mod Expanded
 pub mod Compiled
 pub mod Coded
+pub mod Meant
 pub mod Tested
 pub mod Paying
 pub mod Whole

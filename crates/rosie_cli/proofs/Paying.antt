@@ -1,4 +1,5 @@
--- No line and no test passes a budget that pays for it, and a written code is safe, by the definitions alone.
+-- No line and no test passes a budget that pays for it, each goal means something on every text, and a written code is
+-- safe, by the definitions alone.
 use Rattle.std.proofs.Common.{ℕ, ◌≡◌, Bool, true, false, cond, List, length, ◌++◌, sym, subst, ⊎_elim}
 use Rattle.std.specs.Prelude.{Option, Some, None, Ok, Err, nat_lt, encode_utf8_all}
 use Rattle.regex_class.specs.Ranges.{Range}
@@ -27,12 +28,13 @@ use Rattle.rosie_cli.specs.Options.{settings_of}
 use Rattle.rosie_cli.specs.Planned.{IsMatch, IsPlannedAs, IsRun, IsRunning, input_names, job_with, matching}
 use Rattle.rosie_cli.specs.Planned.{sample_request, sampling, tracing, request, plan_unless_long}
 use Rattle.rosie_cli.specs.Plans.{Plan, Planned, Writes, refusal, whole_answer}
-use Rattle.rosie_cli.specs.Promises.{IsPromised}
+use Rattle.rosie_cli.specs.Promises.{HasMeaning, IsPromised}
 use Rattle.rosie_cli.specs.Replaying.{IsReplayed}
 use Rattle.rosie_cli.specs.Testing.{tried}
 use Rattle.rosie_cli.specs.Words.{Refuse, Do}
 use Rattle.rosie_cli.proofs.Coded.{code_is_safe}
-use Rattle.rosie_cli.proofs.Tested.{suite_pays}
+use Rattle.rosie_cli.proofs.Meant.{meaning_of, tries_mean}
+use Rattle.rosie_cli.proofs.Tested.{suite_good}
 
 -- a plan that is another
 by_plan : (p q : Plan) → p ≡ q → IsPromised q → IsPromised p
@@ -45,7 +47,8 @@ within false line plan h = h
 -- ---- what runs a pattern
 
 module _ (run : List Row → Job → Plan)
-    (good : (rows : List Row) (job : Job) → ((s : Settings) → J.PaysFor s job) → IsPromised (run rows job)) where
+    (good : (rows : List Row) (job : Job) → ((s : Settings) → J.PaysFor s job) → HasMeaning job
+    → IsPromised (run rows job)) where
   pays_ready : (w : PatternRequest) (tree : Tree) (asked : List (List ℕ)) (o : OrLine Ready) (plan : Plan)
       → IsPrepared tree w asked o → IsRun run o plan → IsPromised plan
   pays_ready w tree asked (Err line) plan is runs = by_plan plan (refusal line) runs tt
@@ -54,28 +57,31 @@ module _ (run : List Row → Job → Plan)
       let job = job_with r runs.0 in
       by_plan plan (plan_unless_long (run r.rules job) runs.0) runs.2
       (within (nat_lt 1048576 (length runs.0)) compile_line (run r.rules job)
-      (good r.rules job (λ s. pays_code s (bodies r.rules) r.goal runs.0 fit.whole runs.1)))
+      (good r.rules job (λ s. pays_code s (bodies r.rules) r.goal runs.0 fit.whole runs.1)
+      (meaning_of (bodies r.rules) r.goal runs.0 fit.whole fit.root)))
 
   pays_running : (w : PatternRequest) (tree : Tree) (p : Planned) → IsRunning run w tree p → IsPromised p.plan
   pays_running w tree p is = pays_ready w tree p.asked is.ready p.plan is.prepares is.runs
 
 pays_match : (s : Settings) (inputs : List (List ℕ)) (w : PatternRequest) (tree : Tree) (p : Planned)
     → IsRunning (matching s inputs) w tree p → IsPromised p.plan
-pays_match s inputs w tree p is = pays_running (matching s inputs) (λ rows job h. h s) w tree p is
+pays_match s inputs w tree p is = pays_running (matching s inputs) (λ rows job h means. (h s, means)) w tree p is
 
 pays_trace : (limit : ℕ) (whole : Bool) (inputs : List (List ℕ)) (w : PatternRequest) (tree : Tree) (p : Planned)
     → IsRunning (tracing limit whole inputs) w tree p → IsPromised p.plan
-pays_trace limit whole inputs w tree p is = pays_running (tracing limit whole inputs) (λ rows job h. tt) w tree p is
+pays_trace limit whole inputs w tree p is =
+    pays_running (tracing limit whole inputs) (λ rows job h means. (tt, means)) w tree p is
 
 pays_sample : (s : Settings) (seed lines : ℕ) (w : PatternRequest) (tree : Tree) (p : Planned)
     → IsRunning (sampling s seed lines) w tree p → IsPromised p.plan
-pays_sample s seed lines w tree p is = pays_running (sampling s seed lines) (λ rows job h. h s) w tree p is
+pays_sample s seed lines w tree p is =
+    pays_running (sampling s seed lines) (λ rows job h means. (h s, means)) w tree p is
 
 -- ---- the others
 
 pays_loaded : (s : Settings) (names : List (List ℕ)) (o : L.OrLine) → IsPromised (code_plan s names o)
 pays_loaded s names (Err line) = tt
-pays_loaded s names (Ok code) = tt
+pays_loaded s names (Ok code) = (tt, tt)
 
 pays_file : (s : Settings) (path : List ℕ) (names : List (List ℕ)) (tree : Tree) (p : Planned)
     → IsCodeLines s path names tree p → IsPromised p.plan
@@ -109,11 +115,12 @@ pays_tests : (folders : List (List ℕ)) (file : List ℕ) (budget : Option ℕ)
     (o : OrLine Suite) → IsSuite tree folders file budget p.asked o → p.plan ≡ tried o → IsPromised p.plan
 pays_tests folders file budget tree p (Err line) comes e = by_plan p.plan (refusal line) e tt
 pays_tests folders file budget tree p (Ok s) comes e =
-    by_plan p.plan (tried (Ok s)) e (suite_pays tree folders file budget p.asked s comes)
+    by_plan p.plan (tried (Ok s)) e (suite_good tree folders file budget p.asked s comes)
 
 pub pays_session : (folders : List (List ℕ)) (tree : Tree) (p : Planned) → IsReplayed folders tree p → IsPromised p.plan
 pays_session folders tree p is =
-    subst (λ (q : Planned). IsPromised q.plan) (sym is.plan) (pays_holds tree folders is.loading is.loads)
+    subst (λ (q : Planned). IsPromised q.plan) (sym is.plan)
+    (pays_holds tree folders is.loading is.loads, tries_mean tree folders is.loading is.loads)
 
 pays_matched : (c : Command) (o : Option (List ℕ)) (pattern : List ℕ) (inputs : List (List ℕ)) (tree : Tree)
     (p : Planned) → IsMatch c o pattern inputs tree p → IsPromised p.plan

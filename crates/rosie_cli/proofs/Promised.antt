@@ -139,9 +139,9 @@ plan_clean : (plan : Plan) (tree : List (List ℕ × List ℕ)) (input : List �
 plan_clean (Says ps) tree input due h = record { stays = h.0; answers = h.1 }
 plan_clean (Writes bytes) tree input due h = clean_cons (text_piece bytes) [] (refl, refl) clean_nil
 plan_clean (Tries b trials) tree input due h =
-    let clean = suite_clean b trials due h in record { stays = clean.stays; answers = clean.answers }
-plan_clean (Reads m whole names) tree input due h = clean_inputs m due whole tree input names h.standard h.files
-plan_clean (Samples r) tree input due h = clean_sample r due h
+    let clean = suite_clean b trials due.0 h in record { stays = clean.stays; answers = clean.answers }
+plan_clean (Reads m whole names) tree input due h = clean_inputs m due.0 whole tree input names h.standard h.files
+plan_clean (Samples r) tree input due h = clean_sample r due.0 h
 plan_clean (Replays w) tree input due h = record { stays = never_stops w input; answers = h }
 
 -- a sound run has neither

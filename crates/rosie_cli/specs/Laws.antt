@@ -41,8 +41,8 @@ SomePlan = (a : Asked) (tree : Tree) → IsOfCharacters a → (p : Planned) × I
 abbrev pub WordsHavePlans : Type 0
 WordsHavePlans = (words : List Word) (tree : Tree) → All IsUtf8 words → (p : Planned) × IsPlanned (asked words) tree p
 
--- no line and no test of what they come to is said to pass a budget that pays for it, and a code that is written as a
--- file is safe
+-- no line and no test of what they come to is said to pass a budget that pays for it, the goal of each means something
+-- on every text, and a code that is written as a file is safe
 abbrev pub PromiseLaw : Type 0
 PromiseLaw = (a : Asked) (tree : Tree) (p : Planned) → IsPlanned a tree p → IsPromised p.plan
 

@@ -12,8 +12,8 @@ pub fn one_plan()
     ensures words { WordsHavePlans }
 {}
 
-/// Proves for any words that no line or test is reported to exceed a budget that pays for it,
-/// and that code written as a file is safe.
+/// Proves for any words that no line or test is reported to exceed a budget that pays for it, that
+/// the goal of each has a meaning on every text, and that code written as a file is safe.
 pub fn promise_law()
     ensures { PromiseLaw }
 {}
