@@ -83,8 +83,8 @@ fn past(
 ) -> Result<(), ParseFault>
     requires piece { AllStand rest.text.now piece.now }
     requires rest { AllStand rest.text.now rest.tokens.now }
-    ensures { let s = rest.text.now in Answers (λ _. walk_of walk.new) result
-        (step s (walk_of walk.old) (closes_later (tokens_of s rest.tokens.now)) piece.now) }
+    ensures { let s = rest.entry.text.now in Answers (λ _. walk_of walk.new) result
+        (step s (walk_of walk.old) (closes_later (tokens_of s rest.entry.tokens.now)) piece.now) }
 {
     let (line, bad) = read_piece(alloc, sets, rest.text, piece)?;
     let at = start_of(piece);
