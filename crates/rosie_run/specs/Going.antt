@@ -8,7 +8,8 @@ use Rattle.rosie_run.specs.declared.ended.ReadStop.{ReadStop}
 use Rattle.rosie_run.specs.declared.mark.Mark.{Mark}
 use Rattle.rosie_run.specs.declared.tally.Tally.{Tally}
 use Rattle.rosie_run.specs.declared.tool.Tool.{Tool}
-use Rattle.std.specs.Prelude.{◌≡◌, ◌+◌, ◌∷◌, ℕ, List, [], Option, Some, None, Result, Ok, Err, string_bytes, true, false}
+use Rattle.std.specs.Prelude.{◌≡◌, ◌+◌, ◌∷◌, ℕ, List, [], Option, Some, None, Result, Ok, Err, string_bytes, true}
+use Rattle.std.specs.Prelude.{false}
 
 -- a run stands after the piece that was made last, or there was no further one, or there was no memory for it, or
 -- reading ended the run

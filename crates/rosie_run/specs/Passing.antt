@@ -47,7 +47,8 @@ MakesPiece (Ok (Some mark)) p out err steps0 steps1 = IsMade mark out err p × (
 MakesPiece (Ok None) p out err steps0 steps1 = ⊥
 MakesPiece (Err e) p out err steps0 steps1 = e ≡ E.NoMemory
 
-abbrev pub SaysFault : LineFault → Result (Option Mark) Ended → Tool → (file : List ℕ) → List ℕ → List ℕ → ℕ → ℕ → Type 0
+abbrev pub SaysFault : LineFault → Result (Option Mark) Ended → Tool → (file : List ℕ) → List ℕ → List ℕ → ℕ → ℕ
+    → Type 0
 SaysFault (F.TooLong n) result tool file out err steps0 steps1 =
     MakesPiece result (fault_piece (line_message tool file n (codes "line too long"))) out err steps0 steps1
 SaysFault (F.NotText n) result tool file out err steps0 steps1 =

@@ -1,5 +1,6 @@
 -- How far a run over a sample has come.
-use Rattle.std.specs.Prelude.{◌≡◌, ◌-◌, ◌*◌, ◌≤◌, ◌∷◌, ◌++◌, ℕ, List, [], Option, Some, None, String, codes, length, map}
+use Rattle.std.specs.Prelude.{◌≡◌, ◌-◌, ◌*◌, ◌≤◌, ◌∷◌, ◌++◌, ℕ, List, [], Option, Some, None, String, codes, length}
+use Rattle.std.specs.Prelude.{map}
 use Rattle.std.specs.Prelude.{false, string_bytes}
 use Rattle.rosie_jobs.specs.Jobs.{matcher_of}
 use Rattle.rosie_jobs.specs.Lines.{reading}
@@ -20,7 +21,8 @@ pub record CountsFit (s : SampleRun) : Type 0 where
 -- the pieces of the lines to come, as they are without being muted
 abbrev pub lines_left : SampleRun → List Piece
 lines_left s =
-    pieces_from (makes_of (matcher_of s.job)) (reading false) (codes "-") s.passed (sample s.sample.number (s.lines - s.passed))
+    pieces_from (makes_of (matcher_of s.job)) (reading false) (codes "-") s.passed
+    (sample s.sample.number (s.lines - s.passed))
 
 -- `done` were passed and are counted; the others come muted, and then what all of them come to
 pub record IsLeft (s : SampleRun) (ps : List Piece) : Type 0 where

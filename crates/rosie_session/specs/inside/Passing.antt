@@ -1,5 +1,6 @@
 -- The lines of a session as pieces: which are to come, what is made of a line, and what a run over them leaves.
-use Rattle.std.specs.Prelude.{◌≡◌, ◌+◌, ◌++◌, ◌⊎◌, ℕ, false, List, [], length, Option, Some, None, Result, Ok, Err, codes}
+use Rattle.std.specs.Prelude.{◌≡◌, ◌+◌, ◌++◌, ◌⊎◌, ℕ, false, List, [], length, Option, Some, None, Result, Ok, Err}
+use Rattle.std.specs.Prelude.{codes}
 use Rattle.std.specs.Prelude.{encode_utf8_all, slice_get, string_bytes}
 use Rattle.std.specs.List.{Contains}
 use Rattle.std.proofs.Math.Path.{refl}
@@ -72,7 +73,8 @@ pub record IsOver {F I : Type 0} (G : Ghosts F) (H : Ghosts I) (w : Loading) (s 
   pub loads : IsLoading (G.tree s.files.now) s.folders.now w
   pub told : IsTold G.tells (asked_by (turns_left H w s))
 
-pub record ComesFrom {F I : Type 0} (G : Ghosts F) (H : Ghosts I) (s : SessionLines F I) (ps : List Piece) : Type 0 where
+pub record ComesFrom {F I : Type 0} (G : Ghosts F) (H : Ghosts I) (s : SessionLines F I) (ps : List Piece) :
+    Type 0 where
   pub loading : Loading
   pub over : IsOver G H loading s
   pub is : ps ≡ pieces_of (turns_left H loading s)
@@ -119,7 +121,8 @@ FilesOf (Err fault) result unread f0 f1 = Still f0 f1 × (unread ≡ None)
 -- k turns were passed
 abbrev pub Onward : {F I : Type 0} → Ghosts F → Ghosts I → SessionLines F I → SessionLines F I → ℕ → Type 0
 Onward G H s z k =
-    (w : Loading) → IsOver G H w s → (done : List Turn) × (turns_left H w s ≡ done ++ turns_left H w z) × (length done ≡ k)
+    (w : Loading) → IsOver G H w s → (done : List Turn) × (turns_left H w s ≡ done ++ turns_left H w z)
+    × (length done ≡ k)
 
 -- a file wasn't read that the turn after k others asks for
 pub record InLoad {F I : Type 0} (G : Ghosts F) (H : Ghosts I) (s z : SessionLines F I) (k : ℕ) : Type 0 where
@@ -159,5 +162,9 @@ begins_session G H s = record {
   folders = refl;
   tree = refl;
   opens = refl;
-  leaves = (begins_since H s.kept.now.reader s.input.now, record { faults = refl; opens = refl }, λ w _. ([], refl, refl));
+  leaves = (
+    begins_since H s.kept.now.reader s.input.now,
+    record { faults = refl; opens = refl },
+    λ w _. ([], refl, refl),
+  );
 }
